@@ -1,0 +1,34 @@
+#!/usr/bin/env bash
+# Builds the program bench/NAME over the crates of this repository, in a folder beside the system's
+# temporary files, and prints where the built program lies.
+#
+#     bench/build.sh NAME
+#
+# A program bench/NAME is src/main.rt and crate.txt, the line "NAME: what it stands on".
+set -euo pipefail
+name=$1
+top=$(cd "$(dirname "$0")/.." && pwd)
+work=${AUTOLOCK_BENCH:-${TMPDIR:-/tmp}/autolock-bench}
+mkdir -p "$work/crates"
+for crate in "$top"/crates/*/; do
+  to="$work/crates/$(basename "$crate")"
+  mkdir -p "$to"
+  for part in src specs proofs; do
+    [ -d "$crate$part" ] || continue
+    rm -rf "${to:?}/$part"
+    cp -r "$crate$part" "$to/$part"
+  done
+done
+program="bench_$name"
+mkdir -p "$work/crates/$program"
+rm -rf "$work/crates/$program/src"
+cp -r "$top/bench/$name/src" "$work/crates/$program/src"
+cp "$top/HANDLES" "$work/HANDLES"
+{ cat "$top/crates.txt"; sed "s/^$name:/$program:/" "$top/bench/$name/crate.txt"; } > "$work/crates.txt"
+cd "$work/crates/$program"
+: > stdin
+rm -f "out/$program"
+# The program is run once without words, which it may refuse: only that it was built counts.
+rt run > "$work/$program.log" 2>&1 || true
+[ -x "out/$program" ] || { tail -n 20 "$work/$program.log" >&2; exit 1; }
+echo "$PWD/out/$program"

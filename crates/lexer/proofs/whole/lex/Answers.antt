@@ -1,0 +1,58 @@
+use Rattle.std.proofs.Common.{ℕ, List, ◌-◌, length, sym, ap, ◌∙◌, arith}
+use Rattle.source.specs.Tokens.{seen_kind}
+use Rattle.source.specs.Texts.{too_big}
+use Rattle.lexer.proofs.Steps.{begun, skip_le, unit_shortens}
+use Rattle.lexer.proofs.Ends.{tok_of, none_left, some_left, end_seen, went_on, all_found, all_rise, all_sliced, all_only, none_refused, stop_fault, stop_only, stop_refused}
+use Rattle.lexer.proofs.whole.lex.Goals as goal
+
+pub returns-then-text-gt-MOST_BYTES-clause-fault : goal.returns-then-text-gt-MOST_BYTES-clause-fault
+returns-then-text-gt-MOST_BYTES-clause-fault c = (rw (c.at.ensures.code, c.at.ensures.start) (too_big (omega arith)), c.at.ensures.detail)
+
+pub tokens-init : goal.tokens-init
+tokens-init c = rw c.new-tokens.ensures.items (record { state = begun (length c.args.text.now) c.args.text.now; short = omega arith })
+
+pub returns-then-is_empty-clause-found : goal.returns-then-is_empty-clause-found
+returns-then-is_empty-clause-found c =
+    let done = none_left c.after_gap-here.result.now c.is_empty.result c.is_empty.ensures c.if-is_empty.true in
+    rw c.in_ok-push.ensures.items (all_found c.args.text.now c.tokens.rest.now c.tokens.tokens.items c.tokens.invariant.state _ (end_seen c.args.text.now c.after_gap-here.result.now done) (sym c.after_gap-here.ensures ∙ done))
+
+pub returns-then-is_empty-clause-rise : goal.returns-then-is_empty-clause-rise
+returns-then-is_empty-clause-rise c =
+    let done = none_left c.after_gap-here.result.now c.is_empty.result c.is_empty.ensures c.if-is_empty.true in
+    rw c.in_ok-push.ensures.items (all_rise c.args.text.now c.tokens.rest.now c.tokens.tokens.items c.tokens.invariant.state _ (end_seen c.args.text.now c.after_gap-here.result.now done) (sym c.after_gap-here.ensures ∙ done))
+
+pub returns-then-is_empty-clause-slices : goal.returns-then-is_empty-clause-slices
+returns-then-is_empty-clause-slices c =
+    let done = none_left c.after_gap-here.result.now c.is_empty.result c.is_empty.ensures c.if-is_empty.true in
+    rw c.in_ok-push.ensures.items (all_sliced c.args.text.now c.tokens.rest.now c.tokens.tokens.items c.tokens.invariant.state _ (end_seen c.args.text.now c.after_gap-here.result.now done) (sym c.after_gap-here.ensures ∙ done))
+
+pub returns-then-is_empty-clause-only : goal.returns-then-is_empty-clause-only
+returns-then-is_empty-clause-only c = λ ts l h.
+    let done = none_left c.after_gap-here.result.now c.is_empty.result c.is_empty.ensures c.if-is_empty.true in
+    rw c.in_ok-push.ensures.items (all_only c.args.text.now c.tokens.rest.now c.tokens.tokens.items c.tokens.invariant.state _ (end_seen c.args.text.now c.after_gap-here.result.now done) (sym c.after_gap-here.ensures ∙ done) ts h)
+
+pub returns-then-is_empty-clause-refused : goal.returns-then-is_empty-clause-refused
+returns-then-is_empty-clause-refused c =
+    let done = none_left c.after_gap-here.result.now c.is_empty.result c.is_empty.ensures c.if-is_empty.true in
+    none_refused c.args.text.now c.tokens.rest.now c.tokens.tokens.items c.tokens.invariant.state (sym c.after_gap-here.ensures ∙ done) (omega arith)
+
+pub returns-in-Err-clause-fault : goal.returns-in-Err-clause-fault
+returns-in-Err-clause-fault c =
+    let some = some_left c.after_gap-here.result.now c.is_empty.result c.is_empty.ensures c.if-is_empty.false in
+    stop_fault c.args.text.now c.tokens.rest.now c.tokens.tokens.items c.tokens.invariant.state (λ e. some (c.after_gap-here.ensures ∙ e)) (omega arith) c.in-Err.stop c.at-in-Err.result (rw c.after_gap-here.ensures at c.in-Err.ensures) (rw c.after_gap-here.ensures at c.at-in-Err.ensures)
+
+pub returns-in-Err-clause-only : goal.returns-in-Err-clause-only
+returns-in-Err-clause-only c = λ ts l h.
+    let some = some_left c.after_gap-here.result.now c.is_empty.result c.is_empty.ensures c.if-is_empty.false in
+    stop_only c.args.text.now c.tokens.rest.now c.tokens.tokens.items c.tokens.invariant.state (λ e. some (c.after_gap-here.ensures ∙ e)) (omega arith) c.in-Err.stop c.at-in-Err.result (rw c.after_gap-here.ensures at c.in-Err.ensures) (rw c.after_gap-here.ensures at c.at-in-Err.ensures) ts h
+
+pub returns-in-Err-clause-refused : goal.returns-in-Err-clause-refused
+returns-in-Err-clause-refused c = λ code start h.
+    let some = some_left c.after_gap-here.result.now c.is_empty.result c.is_empty.ensures c.if-is_empty.false in
+    stop_refused c.args.text.now c.tokens.rest.now c.tokens.tokens.items c.tokens.invariant.state (λ e. some (c.after_gap-here.ensures ∙ e)) (omega arith) c.in-Err.stop c.at-in-Err.result (rw c.after_gap-here.ensures at c.in-Err.ensures) (rw c.after_gap-here.ensures at c.at-in-Err.ensures) code start h
+
+pub tokens-preserved : goal.tokens-preserved
+tokens-preserved c = record {
+  state = rw c.in_ok-push-2.ensures.items (went_on c.args.text.now c.tokens.rest.now c.tokens.tokens.items c.tokens.invariant.state _ c.in-Ok.token.1.now _ (rw c.after_gap-here.ensures at c.in-Ok.ensures) (ap (λ (at : List ℕ). tok_of (seen_kind c.in-Ok.token.0) (length c.args.text.now - length at) (length c.args.text.now - length c.in-Ok.token.1.now)) c.after_gap-here.ensures));
+  short = omega (arith, unit_shortens c.after_gap-here.result.now _ c.in-Ok.token.1.now c.in-Ok.ensures, skip_le c.tokens.rest.now, ap length c.after_gap-here.ensures);
+}

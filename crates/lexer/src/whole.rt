@@ -1,0 +1,69 @@
+//! The tokens of a text.
+
+ghost use Rattle.std.specs.Prelude.{◌≡◌, ◌≤◌, ℕ, List, IfOk, IfErr, MatchResult, length};
+ghost use Rattle.source.specs.declared.fault.Code.{Code};
+ghost use Rattle.source.specs.Faults.{IsFaultAt};
+ghost use Rattle.source.specs.Tokens.{Tok, seen};
+ghost use Rattle.source.specs.Texts.{HasTokens, DoRise, AreSlices, IsFault, IsRefusal, SOURCE_LIMIT};
+
+use crate::bytes::after_gap;
+use crate::unit::unit;
+use source::fault::{Code, Fault, Refusal};
+use source::span::Span;
+use source::token::{Kind, Token};
+use std::alloc::Global;
+
+/// The largest source, in bytes.
+const MOST_BYTES: usize = 1048576;
+
+/// The tokens of the text, the last one being its end; or its first fault: a bad character
+/// (`E01`), a number too large (`E02`), a name of over 64 bytes (`E15`), or, ahead of all else and
+/// at its first byte, a text of over 1,048,576 bytes (`E15`). Any bytes may be given.
+///
+/// The one other error is a refused growth.
+#[tactic(auto, using(crate::proofs::Steps::skip_le, crate::proofs::Steps::unit_shortens, crate::proofs::Steps::begun))]
+pub fn lex(alloc: Global, text: &[u8]) -> Result<Vec<Token>, Refusal>
+    // What is answered is the text's tokens.
+    ensures found { IfOk result (λ tokens. HasTokens text.now (seen tokens.items)) }
+    ensures slices { IfOk result (λ tokens. AreSlices text.now (seen tokens.items)) }
+    ensures rise { IfOk result (λ tokens. DoRise 0 (seen tokens.items)) }
+    // A text within the limit that has tokens gets them, unless memory runs out.
+    ensures only { (ts : List Tok) → length text.now ≤ SOURCE_LIMIT → HasTokens text.now ts → MatchResult result (λ tokens. seen tokens.items ≡ ts) (λ e. e ≡ Refusal.NoMemory) }
+    // A fault is a fault of the text.
+    ensures fault { IfErr result (IsRefusal text.now) }
+    // A text that has a fault is refused with that one, unless memory runs out.
+    ensures refused { (code : Code) (start : ℕ) → IsFault text.now code start → MatchResult result (λ _. ⊥) (IsFaultAt code start) }
+{
+    if text.len() > MOST_BYTES {
+        return Err(Refusal::Fault(Fault::at(alloc, Code::LimitExceeded, 0)));
+    }
+    let mut tokens = Vec::new(alloc);
+    let mut rest = text;
+    'tokens: loop {
+        let here = after_gap(rest);
+        let start = text.len() - here.len();
+        if here.is_empty() {
+            let end = Token {
+                kind: Kind::End,
+                span: Span { start, end: start },
+            };
+            tokens.push(end)?;
+            return Ok(tokens);
+        }
+        let (kind, behind) = match unit(alloc, here) {
+            Ok(token) => token,
+            Err(stop) => return Err(stop.at(alloc, start)),
+        };
+        let end = text.len() - behind.len();
+        tokens.push(Token {
+            kind,
+            span: Span { start, end },
+        })?;
+        rest = behind;
+    }
+}
+
+/// A law: a text has one list of tokens at most.
+pub fn one_list()
+    ensures { (text : List ℕ) (a b : List Tok) → HasTokens text a → HasTokens text b → a ≡ b }
+{}

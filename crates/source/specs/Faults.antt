@@ -1,0 +1,43 @@
+-- Where a fault stands, the line that reports it, and refusals that are one fault.
+use Rattle.std.specs.Prelude.{◌≡◌, ℕ, ◌+◌, List, [], ◌∷◌, ◌++◌, take, min, length, count_by, ◌==◌, not, codes, string_bytes}
+use Rattle.std.specs.List.{suffix_len}
+use Rattle.std.specs.Fmt.{decimal}
+use Rattle.source.specs.declared.fault.Code.{Code}
+use Rattle.source.specs.declared.fault.Fault as the_fault
+use Rattle.source.specs.declared.fault.Refusal.{Refusal}
+use Rattle.source.specs.declared.fault.Refusal.TheVariants.{Fault, NoMemory}
+use Rattle.source.specs.Codes.{code_name, code_text}
+
+-- a byte's line: 1 plus the number of line feeds before
+abbrev pub line_of : List ℕ → ℕ → ℕ
+line_of text at = 1 + count_by (λ byte. byte == 10) (take at text)
+
+-- its column: 1 plus the number of bytes since the last line feed
+abbrev pub column_of : List ℕ → ℕ → ℕ
+column_of text at = 1 + suffix_len (λ byte. not (byte == 10)) (take at text)
+
+-- what follows the code's text: the classes of a cycle, if there are any
+abbrev pub detail_text : List ℕ → List ℕ
+detail_text [] = []
+detail_text (byte ∷ bytes) = codes ": " ++ (byte ∷ bytes)
+
+-- FILE:LINE:COL: CODE TEXT
+unfoldable pub placed_text : List ℕ → ℕ → ℕ → List ℕ → List ℕ → List ℕ
+placed_text file line column name text =
+    file ++ codes ":" ++ decimal line ++ codes ":" ++ decimal column ++ codes ": " ++ name ++ codes " " ++ text
+
+-- the line that reports a fault; one past the text's end stands at its end
+abbrev pub fault_text : List ℕ → List ℕ → the_fault.Fault → List ℕ
+fault_text file text fault =
+    let at = min fault.start (length text) in
+    placed_text file (line_of text at) (column_of text at) (code_name fault.code) (code_text fault.code)
+    ++ detail_text (string_bytes fault.detail)
+
+-- the fault of this code at this byte, with no detail
+abbrev pub IsBare : Code → ℕ → the_fault.Fault → Type 0
+IsBare code start fault = (fault.code ≡ code) × (fault.start ≡ start) × (string_bytes fault.detail ≡ [])
+
+-- the refusal is that fault, or for want of memory
+abbrev pub IsFaultAt : Code → ℕ → Refusal → Type 0
+IsFaultAt code start (Fault fault) = IsBare code start fault
+IsFaultAt code start NoMemory = Unit {0}

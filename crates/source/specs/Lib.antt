@@ -1,0 +1,4 @@
+pub mod Codes
+pub mod Faults
+pub mod Tokens
+pub mod Texts

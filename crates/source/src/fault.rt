@@ -1,0 +1,177 @@
+//! Faults of a source text, and why a pass gives no answer.
+
+ghost use Rattle.std.specs.Prelude.{◌≡◌, [], string_bytes};
+ghost use Rattle.source.specs.declared.fault.Refusal.TheVariants.{NoMemory};
+ghost use Rattle.source.specs.Codes.{code_name, code_text};
+
+use std::alloc::{AllocError, AllocFailed, Global};
+use std::fmt;
+use thiserror::Error;
+
+/// What is wrong with a text. The documents call each by its printed name, `E01` to `E20`.
+#[derive(Clone, Copy, Debug, PartialEq, Eq)]
+pub enum Code {
+    /// `E01`: a byte that begins no token.
+    BadCharacter,
+    /// `E02`: a number over 9223372036854775807.
+    NumberTooLarge,
+    /// `E03`: a token with which no program begins.
+    UnexpectedToken,
+    /// `E04`: an opening sign inside 64 open ones.
+    NestedTooDeep,
+    /// `E05`: a name that is declared already.
+    DeclaredTwice,
+    /// `E06`: a name that is not declared, or not in scope, or no such field.
+    UnknownName,
+    /// `E07`: an expression, a constant or a name of another type or kind than is wanted.
+    WrongType,
+    /// `E08`: a call with too many or too few arguments.
+    WrongArgumentCount,
+    /// `E09`: a left side that can't be assigned to.
+    NotAssignable,
+    /// `E10`: a global or field that no lock protects and that is not final.
+    NeitherFinalNorProtected,
+    /// `E11`: an annotation whose last name is no lock.
+    ProtectedByNoLock,
+    /// `E12`: an annotation that passes a field that can change.
+    ProtectedByPassesNonFinal,
+    /// `E13`: an access under an object's lock through a base that can change.
+    UnstableBase,
+    /// `E14`: lock classes that no order fits.
+    LockOrderCycle,
+    /// `E15`: more of something than the language allows.
+    LimitExceeded,
+    /// `E16`: a final reference that no `init` gives.
+    FinalWithoutOpeningValue,
+    /// `E17`: an index past the pool, or a second `init` of one field.
+    InitOutOfRangeOrRepeated,
+    /// `E18`: a `return` that may not stand there, or one that is missing.
+    MisplacedReturn,
+    /// `E19`: a lock where a value is wanted.
+    LockAsValue,
+    /// `E20`: a helper that calls itself. Kept for a later language.
+    RecursiveHelper,
+}
+
+impl Code {
+    /// The code as it is printed, `E01` to `E20`.
+    pub fn name(self) -> &'static str
+        ensures { result.now ≡ code_name self }
+    {
+        match self {
+            Code::BadCharacter => "E01",
+            Code::NumberTooLarge => "E02",
+            Code::UnexpectedToken => "E03",
+            Code::NestedTooDeep => "E04",
+            Code::DeclaredTwice => "E05",
+            Code::UnknownName => "E06",
+            Code::WrongType => "E07",
+            Code::WrongArgumentCount => "E08",
+            Code::NotAssignable => "E09",
+            Code::NeitherFinalNorProtected => "E10",
+            Code::ProtectedByNoLock => "E11",
+            Code::ProtectedByPassesNonFinal => "E12",
+            Code::UnstableBase => "E13",
+            Code::LockOrderCycle => "E14",
+            Code::LimitExceeded => "E15",
+            Code::FinalWithoutOpeningValue => "E16",
+            Code::InitOutOfRangeOrRepeated => "E17",
+            Code::MisplacedReturn => "E18",
+            Code::LockAsValue => "E19",
+            Code::RecursiveHelper => "E20",
+        }
+    }
+
+    /// What the code says, in fixed words.
+    pub fn text(self) -> &'static str
+        ensures { result.now ≡ code_text self }
+    {
+        match self {
+            Code::BadCharacter => "bad character",
+            Code::NumberTooLarge => "number too large",
+            Code::UnexpectedToken => "unexpected token",
+            Code::NestedTooDeep => "nested too deep",
+            Code::DeclaredTwice => "declared twice",
+            Code::UnknownName => "unknown name",
+            Code::WrongType => "wrong type",
+            Code::WrongArgumentCount => "wrong number of arguments",
+            Code::NotAssignable => "not assignable",
+            Code::NeitherFinalNorProtected => "neither final nor protected",
+            Code::ProtectedByNoLock => "protected_by does not end at a lock",
+            Code::ProtectedByPassesNonFinal => "protected_by passes a field that is not final",
+            Code::UnstableBase => "unstable base",
+            Code::LockOrderCycle => "lock order cycle",
+            Code::LimitExceeded => "limit exceeded",
+            Code::FinalWithoutOpeningValue => "final reference without opening value",
+            Code::InitOutOfRangeOrRepeated => "init out of range or repeated",
+            Code::MisplacedReturn => "misplaced or missing return",
+            Code::LockAsValue => "lock used as a value",
+            Code::RecursiveHelper => "recursive helper",
+        }
+    }
+}
+
+impl fmt::Display for Code {
+    fn fmt<W: fmt::Write>(&self, f: &mut fmt::Formatter<W>) -> fmt::Result {
+        write!(f, "{} {}", self.name(), self.text())
+    }
+}
+
+/// What is wrong, and where.
+#[derive(Debug, Drop)]
+pub struct Fault {
+    /// What is wrong.
+    pub code: Code,
+    /// The byte at which it stands, counted from 0; the text's length stands for its end.
+    pub start: usize,
+    /// The lock classes of a cycle, as `A.l -> B.m -> A.l`; empty for every other code.
+    pub detail: String,
+}
+
+impl Fault {
+    /// The fault of this code at this byte, with no detail. Takes no memory.
+    pub fn at(alloc: Global, code: Code, start: usize) -> Fault
+        ensures code { result.code ≡ code }
+        ensures start { result.start ≡ start }
+        ensures detail { string_bytes result.detail ≡ [] }
+    {
+        Fault {
+            code,
+            start,
+            detail: String::new(alloc),
+        }
+    }
+}
+
+impl fmt::Display for Fault {
+    fn fmt<W: fmt::Write>(&self, f: &mut fmt::Formatter<W>) -> fmt::Result {
+        write!(f, "{} at byte {}", self.code, self.start)
+    }
+}
+
+/// Why a pass gives no answer.
+#[derive(Debug, Drop, Error)]
+pub enum Refusal {
+    /// The text has this fault.
+    #[error("{0}")]
+    Fault(Fault),
+    /// A growth was refused.
+    #[error("no memory")]
+    NoMemory,
+}
+
+impl From<AllocError> for Refusal {
+    ghost from_gives = { λ _ e. e ≡ NoMemory };
+
+    fn from(_e: AllocError) -> Refusal {
+        Refusal::NoMemory
+    }
+}
+
+impl<T: Drop> From<AllocFailed<T>> for Refusal {
+    ghost from_gives = { λ _ e. e ≡ NoMemory };
+
+    fn from(_e: AllocFailed<T>) -> Refusal {
+        Refusal::NoMemory
+    }
+}

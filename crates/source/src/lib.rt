@@ -1,0 +1,19 @@
+//! What every pass speaks of: places in a source text, its tokens, the faults that are found
+//! there, and the line that reports one.
+//!
+//! - [`span::Span`]: a part of the text.
+//! - [`token::Token`]: a token and where it stands; which tokens a text has is the relation
+//!   `HasTokens` of `specs/Texts.antt`.
+//! - [`fault::Code`], [`fault::Fault`], [`fault::Refusal`]: what is wrong, where, and why a pass
+//!   gives no answer.
+//! - [`line::fault_line`]: `FILE:LINE:COL: CODE TEXT`, as `specs/Faults.antt` defines it.
+//! - [`memory::NoMemory`]: the one error of calls that can only be refused memory.
+#![tactic(auto)]
+
+pub mod fault;
+pub mod line;
+pub mod memory;
+pub mod span;
+#[cfg(test)]
+mod tests;
+pub mod token;

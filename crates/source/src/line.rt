@@ -1,0 +1,71 @@
+//! The line that reports a fault.
+
+ghost use Rattle.std.specs.Prelude.{◌≡◌, ◌≤◌, IfOk, length, string_bytes};
+ghost use Rattle.source.specs.Faults.{line_of, column_of, placed_text, fault_text};
+
+use crate::fault::Fault;
+use crate::memory::NoMemory;
+use std::alloc::{AllocError, Global};
+
+/// The line of the byte at `at`, from 1.
+fn line_at(text: &[u8], at: usize) -> usize
+    requires { at ≤ length text.now }
+    ensures { result ≡ line_of text.now at }
+{
+    1 + text[..at].iter().filter(|byte| **byte == b'\n').count()
+}
+
+/// The column of the byte at `at`, from 1, in bytes.
+fn column_at(text: &[u8], at: usize) -> usize
+    requires { at ≤ length text.now }
+    ensures { result ≡ column_of text.now at }
+{
+    let mut column = 1;
+    for byte in &text[..at] {
+        if *byte == b'\n' {
+            column = 1;
+        } else {
+            column += 1;
+        }
+    }
+    column
+}
+
+/// `FILE:LINE:COL: CODE TEXT`.
+#[tactic(auto, unfolding(crate::specs::Faults::placed_text))]
+fn placed(
+    alloc: Global,
+    file: &str,
+    line: usize,
+    column: usize,
+    name: &str,
+    text: &str,
+) -> Result<String, AllocError>
+    ensures { IfOk result (λ whole. string_bytes whole ≡ placed_text file.now line column name.now text.now) }
+{
+    format!(in alloc; "{file}:{line}:{column}: {name} {text}")
+}
+
+/// The line that reports `fault` in the text of the file of this name: `FILE:LINE:COL: CODE TEXT`,
+/// for a cycle followed by `: ` and its classes. Lines and columns count from 1, columns in bytes.
+/// A fault past the end of the text is reported at its end. The only error is a refused growth.
+pub fn fault_line(alloc: Global, file: &str, text: &[u8], fault: &Fault) -> Result<String, NoMemory>
+    ensures { IfOk result (λ line. string_bytes line ≡ fault_text file.now text.now fault.now) }
+{
+    let at = fault.start.min(text.len());
+    let line = line_at(text, at);
+    let column = column_at(text, at);
+    let mut whole = placed(
+        alloc,
+        file,
+        line,
+        column,
+        fault.code.name(),
+        fault.code.text(),
+    )?;
+    if !fault.detail.is_empty() {
+        whole.push_str(": ")?;
+        whole.push_str(fault.detail.as_str())?;
+    }
+    Ok(whole)
+}
