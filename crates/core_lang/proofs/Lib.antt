@@ -1,0 +1,4 @@
+pub mod Turns
+pub mod SerialCalls
+pub mod Sound
+pub mod Fitting

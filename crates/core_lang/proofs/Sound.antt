@@ -1,0 +1,451 @@
+-- A well-typed section never goes astray, and leaves each value of its type.
+use Rattle.std.proofs.Common.{◌≡◌, ℕ, zero, suc, ◌+◌, ◌<◌, ◌^◌, List, [], ◌∷◌, ◌++◌, length, map, take, drop, Option, Some, None, Result, Ok, Err, Bool, true, false, ℤ, pos, negsuc, refl, sym, ap, ◌∙◌, subst, arith}
+use Rattle.std.proofs.lemmas.Bool.Decides.{nat_tests}
+use Rattle.std.proofs.lemmas.Option.{slice_get_within}
+use Rattle.std.specs.Prelude.{slice_get, slice_set, nat_lt, int_div, int_rem, ◌+ℤ◌, ◌-ℤ◌, ◌*ℤ◌, neg_ℤ, if◌then◌else◌, ⊤}
+use Rattle.core_lang.specs.declared.value.Value.{Value}
+use Rattle.core_lang.specs.declared.value.Value.TheVariants.{Int, Ref}
+use Rattle.core_lang.specs.declared.value.ValueType.{ValueType}
+use Rattle.core_lang.specs.declared.value.ValueType.TheVariants.{Integer, Reference}
+use Rattle.core_lang.specs.declared.value.Trap.TheVariants.{OutOfRange, Overflow, ZeroDivisor, TooManyPrints}
+use Rattle.core_lang.specs.declared.value.Failure.{Failure}
+use Rattle.core_lang.specs.declared.value.Failure.TheVariants.{Trap, Wrong}
+use Rattle.core_lang.specs.declared.shape.Array.{Array}
+use Rattle.core_lang.specs.declared.shape.Pool.{Pool}
+use Rattle.core_lang.specs.declared.shape.Object.{Object}
+use Rattle.core_lang.specs.declared.shape.Shape.{Shape}
+use Rattle.core_lang.specs.declared.tree.Operator.{Operator}
+use Rattle.core_lang.specs.declared.tree.Operator.TheVariants.{Plus, Minus, Times, Divide, Remainder}
+use Rattle.core_lang.specs.declared.tree.Comparison.{Comparison}
+use Rattle.core_lang.specs.declared.tree.Comparison.TheVariants.{Equal, Unequal, Less, LessEqual, Greater, GreaterEqual}
+use Rattle.core_lang.specs.declared.tree.FieldStep.{FieldStep}
+use Rattle.core_lang.specs.declared.tree.FieldStep.TheVariants as step
+use Rattle.core_lang.specs.declared.tree.Path.{Path}
+use Rattle.core_lang.specs.declared.tree.Expr.{Expr, Number, Null, Place, Global, Element', Member', Negate', Chain', Row_of-Operation, end_of-Operation, more_of-Operation}
+use Rattle.core_lang.specs.declared.tree.Condition.{Condition, Compare, Not', And', Or', Row_of-Condition, end_of-Condition, more_of-Condition}
+use Rattle.core_lang.specs.declared.tree.Stmt.{Stmt}
+use Rattle.core_lang.specs.declared.tree.Action.{Action, Bind, SetLocal, SetGlobal, SetElement, SetField, Print, If', IfElse', While', Row_of-Stmt, end_of-Stmt, more_of-Stmt}
+use Rattle.core_lang.specs.declared.tree.Return.{Return}
+use Rattle.core_lang.specs.declared.tree.Local.{Local}
+use Rattle.core_lang.specs.declared.typed.Cell.{Cell}
+use Rattle.core_lang.specs.declared.typed.Owner.{Owner}
+use Rattle.core_lang.specs.declared.typed.Typed.{Typed}
+use Rattle.core_lang.specs.Arithmetic.{fits, is_zero, number_of, arithmetic, on_values, negated, compared}
+use Rattle.core_lang.specs.Cells.{with, found, at_index, element_cell, reference_to, member_of, field_cell, final_value, not_null, read}
+use Rattle.core_lang.specs.Meaning.{State, Flow, GoesOn, Traps, Beyond, Astray, along, place_of, joined, value_of, chained, and_then, or_else, truth_of, all_true, any_true, given, after, choose, printed, written, stored, turns, effect_of, effects_of, sequence}
+use Rattle.core_lang.specs.Whole.{opening, default_of, default_local, returned, ending, concluded}
+use Rattle.core_lang.specs.Typing.{lookup, struct_of, HasType, HaveTypes, local_types, cell_types, final_target, field_type, array_type, pool_struct, LeadsTo, IsPathTo, IsOf, AreIntegers, CanCompare, IsTest, AreTests, GivesLocal, IsWellTyped, AreWellTyped, AllWellTyped, IsResult}
+use Rattle.core_lang.specs.WellFormed.{IsCell, IsLaidOut}
+use Rattle.core_lang.specs.Laws.{StaysTyped, NeverGoAstray}
+
+-- a result that is no failure but a trap, and that has the property
+abbrev Gives : {A : Type 0} → (A → Type 0) → Result A Failure → Type 0
+Gives P (Ok a) = P a
+Gives P (Err (Trap t)) = ⊤
+Gives P (Err Wrong) = ⊥
+
+gives_with : {A B : Type 0} (P : A → Type 0) (Q : B → Type 0) (r : Result A Failure) (f : A → Result B Failure) → Gives P r → ((a : A) → P a → Gives Q (f a)) → Gives Q (with r f)
+gives_with P Q (Ok a) f h k = k a h
+gives_with P Q (Err (Trap t)) f h k = tt
+gives_with P Q (Err Wrong) f h k = absurd h
+
+gives_if : {A : Type 0} (P : A → Type 0) (b : Bool) (r q : Result A Failure) → Gives P r → Gives P q → Gives P (if b then r else q)
+gives_if P true r q h k = h
+gives_if P false r q h k = k
+
+-- what a number names, and what follows from it
+lookup_some : {A B : Type 0} (r : Option A) (go : A → Option B) (b : B) → lookup r go ≡ Some b → (a : A) × (r ≡ Some a) × (go a ≡ Some b)
+lookup_some (Some a) go b e = (a, refl, e)
+lookup_some None go b e = cc
+
+-- ---- lists of values
+
+value_there : (shape : Shape) (ts : List ValueType) (vs : List Value) (i : ℕ) (t : ValueType) → HaveTypes shape ts vs → slice_get ts i ≡ Some t → Gives (HasType shape t) (found (slice_get vs i))
+value_there shape [] [] i t h e = cc
+value_there shape [] (v ∷ vs) i t h e = absurd h
+value_there shape (t1 ∷ ts) [] i t h e = absurd h
+value_there shape (t1 ∷ ts) (v ∷ vs) zero t h e = let same : t1 ≡ t = cc in subst (λ t. HasType shape t v) same h.0
+value_there shape (t1 ∷ ts) (v ∷ vs) (suc i) t h e = value_there shape ts vs i t h.1 e
+
+types_set : (shape : Shape) (ts : List ValueType) (vs : List Value) (i : ℕ) (t : ValueType) (v : Value) → HaveTypes shape ts vs → slice_get ts i ≡ Some t → HasType shape t v → HaveTypes shape ts (slice_set vs i v)
+types_set shape [] [] i t v h e w = h
+types_set shape [] (x ∷ vs) i t v h e w = absurd h
+types_set shape (t1 ∷ ts) [] i t v h e w = absurd h
+types_set shape (t1 ∷ ts) (x ∷ vs) zero t v h e w = let same : t ≡ t1 = cc in (subst (λ t. HasType shape t v) same w, h.1)
+types_set shape (t1 ∷ ts) (x ∷ vs) (suc i) t v h e w = (h.0, types_set shape ts vs i t v h.1 e w)
+
+mapped_there : {A B : Type 0} (f : A → B) (xs : List A) (i : ℕ) (x : A) → slice_get xs i ≡ Some x → slice_get (map f xs) i ≡ Some (f x)
+mapped_there f [] i x e = cc
+mapped_there f (y ∷ ys) zero x e = let same : y ≡ x = cc in ap (λ z. Some (f z)) same
+mapped_there f (y ∷ ys) (suc i) x e = mapped_there f ys i x e
+
+-- ---- operators
+
+number_sound : (shape : Shape) (z : ℤ) → Gives (HasType shape Integer) (number_of z)
+number_sound shape z = gives_if (HasType shape Integer) (fits z) (Ok (Int z)) (Err (Trap Overflow)) tt tt
+
+arithmetic_sound : (shape : Shape) (o : Operator) (a b : ℤ) → Gives (HasType shape Integer) (arithmetic o a b)
+arithmetic_sound shape Plus a b = number_sound shape (a +ℤ b)
+arithmetic_sound shape Minus a b = number_sound shape (a -ℤ b)
+arithmetic_sound shape Times a b = number_sound shape (a *ℤ b)
+arithmetic_sound shape Divide a b =
+    gives_if (HasType shape Integer) (is_zero b) (Err (Trap ZeroDivisor)) (number_of (int_div a b)) tt (number_sound shape (int_div a b))
+arithmetic_sound shape Remainder a b =
+    let inner = gives_if (HasType shape Integer) (fits (int_div a b)) (Ok (Int (int_rem a b))) (Err (Trap Overflow)) tt tt in
+    gives_if (HasType shape Integer) (is_zero b) (Err (Trap ZeroDivisor)) (if fits (int_div a b) then Ok (Int (int_rem a b)) else Err (Trap Overflow)) tt inner
+
+operate_sound : (shape : Shape) (o : Operator) (v w : Value) → HasType shape Integer v → HasType shape Integer w → Gives (HasType shape Integer) (on_values o v w)
+operate_sound shape o (Int a) (Int b) h k = arithmetic_sound shape o a b
+operate_sound shape o (Int a) (Ref r) h k = absurd k
+operate_sound shape o (Ref r) w h k = absurd h
+
+negate_sound : (shape : Shape) (v : Value) → HasType shape Integer v → Gives (HasType shape Integer) (negated v)
+negate_sound shape (Int a) h = number_sound shape (neg_ℤ a)
+negate_sound shape (Ref r) h = absurd h
+
+abbrev IsAny : Bool → Type 0
+IsAny b = ⊤
+
+equal_sound : (shape : Shape) (t : ValueType) (v w : Value) → HasType shape t v → HasType shape t w → Gives IsAny (compared Equal v w)
+equal_sound shape t (Int a) (Int b) h g = tt
+equal_sound shape t (Ref a) (Ref b) h g = tt
+equal_sound shape Integer (Int a) (Ref b) h g = absurd g
+equal_sound shape (Reference s) (Int a) (Ref b) h g = absurd h
+equal_sound shape Integer (Ref a) (Int b) h g = absurd h
+equal_sound shape (Reference s) (Ref a) (Int b) h g = absurd g
+
+unequal_sound : (shape : Shape) (t : ValueType) (v w : Value) → HasType shape t v → HasType shape t w → Gives IsAny (compared Unequal v w)
+unequal_sound shape t (Int a) (Int b) h g = tt
+unequal_sound shape t (Ref a) (Ref b) h g = tt
+unequal_sound shape Integer (Int a) (Ref b) h g = absurd g
+unequal_sound shape (Reference s) (Int a) (Ref b) h g = absurd h
+unequal_sound shape Integer (Ref a) (Int b) h g = absurd h
+unequal_sound shape (Reference s) (Ref a) (Int b) h g = absurd g
+
+less_sound : (shape : Shape) (v w : Value) → HasType shape Integer v → HasType shape Integer w → Gives IsAny (compared Less v w)
+less_sound shape (Int a) (Int b) h g = tt
+less_sound shape (Int a) (Ref b) h g = absurd g
+less_sound shape (Ref a) w h g = absurd h
+
+less_equal_sound : (shape : Shape) (v w : Value) → HasType shape Integer v → HasType shape Integer w → Gives IsAny (compared LessEqual v w)
+less_equal_sound shape (Int a) (Int b) h g = tt
+less_equal_sound shape (Int a) (Ref b) h g = absurd g
+less_equal_sound shape (Ref a) w h g = absurd h
+
+greater_sound : (shape : Shape) (v w : Value) → HasType shape Integer v → HasType shape Integer w → Gives IsAny (compared Greater v w)
+greater_sound shape (Int a) (Int b) h g = tt
+greater_sound shape (Int a) (Ref b) h g = absurd g
+greater_sound shape (Ref a) w h g = absurd h
+
+greater_equal_sound : (shape : Shape) (v w : Value) → HasType shape Integer v → HasType shape Integer w → Gives IsAny (compared GreaterEqual v w)
+greater_equal_sound shape (Int a) (Int b) h g = tt
+greater_equal_sound shape (Int a) (Ref b) h g = absurd g
+greater_equal_sound shape (Ref a) w h g = absurd h
+
+index_if : (P : ℕ → Type 0) (first count i : ℕ) (b : Bool) → ((j : ℕ) → j < count → P (first + j)) → nat_lt i count ≡ b →
+    Gives P (if b then Ok (first + i) else Err (Trap OutOfRange))
+index_if P first count i true each lt = each i (grind (arith, nat_tests))
+index_if P first count i false each lt = tt
+
+index_sound : (P : ℕ → Type 0) (shape : Shape) (first count : ℕ) (v : Value) → ((j : ℕ) → j < count → P (first + j)) → HasType shape Integer v →
+    Gives P (at_index first count v)
+index_sound P shape first count (Int (pos i)) each h = index_if P first count i (nat_lt i count) each refl
+index_sound P shape first count (Int (negsuc i)) each h = tt
+index_sound P shape first count (Ref r) each h = absurd h
+
+not_null_sound : (shape : Shape) (s : ℕ) (v : Value) → HasType shape (Reference s) v → Gives (HasType shape (Reference s)) (not_null v)
+not_null_sound shape s (Int n) h = absurd h
+not_null_sound shape s (Ref None) h = tt
+not_null_sound shape s (Ref (Some o)) h = h
+
+-- the struct of a pool's member is the pool's
+member_struct : (shape : Shape) (o : ℕ) (object : Object) (p : ℕ) (pool : Pool) →
+    slice_get shape.objects.items o ≡ Some object → object.pool ≡ p → slice_get shape.pools.items p ≡ Some pool → struct_of shape o ≡ Some pool.structure
+member_struct shape o object p pool here same there =
+    ap (λ (r : Option Object). lookup r (λ (x : Object). lookup (slice_get shape.pools.items x.pool) (λ (y : Pool). Some y.structure))) here
+    ∙ ap (λ (q : ℕ). lookup (slice_get shape.pools.items q) (λ (y : Pool). Some y.structure)) same
+    ∙ ap (λ (r : Option Pool). lookup r (λ (y : Pool). Some y.structure)) there
+
+module _ (program : Typed) (types : List ValueType) (laid : IsLaidOut program) where
+  abbrev Has : ValueType → Value → Type 0
+  Has t v = HasType program.shape t v
+
+  -- a cell of a type
+  abbrev IsCellOf : ValueType → ℕ → Type 0
+  IsCellOf t cell = slice_get (cell_types program) cell ≡ Some t
+
+  cell_type : (place : ℕ) (owner : Owner) (t : ValueType) → IsCell program place owner t → IsCellOf t place
+  cell_type place owner t is = mapped_there (λ (cell : Cell). cell.value_type) program.cells.items place is.cell is.here ∙ ap Some is.typed
+
+  -- the values of a state have their types
+  record IsTyped (s : State) : Type 0 where
+    locals : HaveTypes program.shape types s.locals
+    heap : HaveTypes program.shape (cell_types program) s.heap
+
+  element_sound : (array : ℕ) (v : Value) (t : ValueType) → array_type program array ≡ Some t → Has Integer v → Gives (IsCellOf t) (element_cell program.shape array v)
+  element_sound array v t e h =
+      let x = lookup_some (slice_get program.shape.arrays.items array) (λ (a : Array). Some a.element) t e in
+      let same : x.0.element ≡ t = let s : Some x.0.element ≡ Some t = x.2 in cc in
+      let each : (i : ℕ) → i < x.0.length → IsCellOf t (x.0.first + i) = λ i lt. cell_type _ _ _ (laid.array array x.0 x.1 i lt) ∙ ap Some same in
+      subst (λ (r : Option Array). Gives (IsCellOf t) (with (found r) (λ (a : Array). at_index a.first a.length v))) (sym x.1)
+      (index_sound (IsCellOf t) program.shape x.0.first x.0.length v each h)
+
+  few_enough : (o : ℕ) → o < length program.shape.objects.items → o < 2 ^ 32
+  few_enough o lt = let few = laid.few in grind arith
+
+  reference_if : (o s : ℕ) (b : Bool) → struct_of program.shape o ≡ Some s → o < 2 ^ 32 → nat_lt o (2 ^ 32) ≡ b →
+      Gives (Has (Reference s)) (if b then Ok (Ref (Some o)) else Err Wrong)
+  reference_if o s true is lt e = is
+  reference_if o s false is lt e = let wrong : ⊥ = grind (arith, nat_tests) in absurd wrong
+
+  member_sound : (pool : ℕ) (v : Value) (s : ℕ) → pool_struct program pool ≡ Some s → Has Integer v → Gives (Has (Reference s)) (member_of program.shape pool v)
+  member_sound pool v s e h =
+      let x = lookup_some (slice_get program.shape.pools.items pool) (λ (p : Pool). Some p.structure) s e in
+      let each : (i : ℕ) → i < x.0.length → (struct_of program.shape (x.0.first + i) ≡ Some s) × (x.0.first + i < length program.shape.objects.items) =
+      λ i lt. let o = laid.pool pool x.0 x.1 i lt in
+      (member_struct program.shape (x.0.first + i) o.0 pool x.0 o.1 o.2 x.1 ∙ x.2, slice_get_within program.shape.objects.items (x.0.first + i) o.0 o.1) in
+      subst (λ (r : Option Pool). Gives (Has (Reference s)) (with (found r) (λ (p : Pool). with (at_index p.first p.length v) reference_to))) (sym x.1)
+      (gives_with (λ o. (struct_of program.shape o ≡ Some s) × (o < length program.shape.objects.items)) (Has (Reference s)) (at_index x.0.first x.0.length v) reference_to
+      (index_sound (λ o. (struct_of program.shape o ≡ Some s) × (o < length program.shape.objects.items)) program.shape x.0.first x.0.length v each h)
+      (λ o k. let lt : o < 2 ^ 32 = few_enough o k.1 in reference_if o s (nat_lt o (2 ^ 32)) k.0 lt refl))
+
+  field_sound : (v : Value) (s f : ℕ) (t : ValueType) → Has (Reference s) v → field_type program s f ≡ Some t → Gives (IsCellOf t) (field_cell program.shape v f)
+  field_sound (Int n) s f t h e = absurd h
+  field_sound (Ref None) s f t h e = tt
+  field_sound (Ref (Some o)) s f t h e =
+      let x = lookup_some (slice_get program.shape.objects.items o) (λ (x : Object). lookup (slice_get program.shape.pools.items x.pool) (λ (y : Pool). Some y.structure)) s h in
+      subst (λ (r : Option Object). Gives (IsCellOf t) (with (found r) (λ (x : Object). Ok (x.cells + f)))) (sym x.1)
+      (cell_type _ _ _ (laid.field o x.0 x.1 s f t h e))
+
+  final_sound : (v : Value) (s f target : ℕ) → Has (Reference s) v → final_target program s f ≡ Some target → Gives (Has (Reference target)) (final_value program.shape v f)
+  final_sound (Int n) s f target h e = absurd h
+  final_sound (Ref None) s f target h e = tt
+  final_sound (Ref (Some o)) s f target h e =
+      let x = lookup_some (slice_get program.shape.objects.items o) (λ (x : Object). lookup (slice_get program.shape.pools.items x.pool) (λ (y : Pool). Some y.structure)) s h in
+      let named = laid.final o x.0 x.1 s f target h e in
+      subst (λ (r : Option Object). Gives (Has (Reference target)) (with (found r) (λ (x : Object). with (found (slice_get program.shape.finals.items (x.finals + f))) (λ n. Ok (Ref (Some n)))))) (sym x.1)
+      (subst (λ (r : Option ℕ). Gives (Has (Reference target)) (with (found r) (λ n. Ok (Ref (Some n))))) (sym named.1) named.2)
+
+  read_sound : (heap : List Value) (cell : ℕ) (t : ValueType) → HaveTypes program.shape (cell_types program) heap → IsCellOf t cell → Gives (Has t) (read heap cell)
+  read_sound heap cell t h e = value_there program.shape (cell_types program) heap cell t h e
+
+  along_sound : (heap : List Value) → HaveTypes program.shape (cell_types program) heap → (from to : ValueType) (v : Value) (fs : List FieldStep) → Has from v → LeadsTo program types from fs to →
+      Gives (Has to) (along program.shape heap v fs)
+  along_sound heap hh from to v [] h l = subst (λ t. Has t v) l h
+  along_sound heap hh Integer to v (f ∷ fs) h l = absurd l
+  along_sound heap hh (Reference s) to v (step.Final f ∷ fs) h l =
+      gives_with (Has (Reference l.0)) (Has to) (final_value program.shape v f) _ (final_sound v s f l.0 h l.1)
+      (λ w hw. along_sound heap hh (Reference l.0) to w fs hw l.2)
+  along_sound heap hh (Reference s) to v (step.Field f ∷ fs) h l =
+      gives_with (Has l.0) (Has to) (with (field_cell program.shape v f) (λ cell. read heap cell)) _
+      (gives_with (IsCellOf l.0) (Has l.0) (field_cell program.shape v f) (λ cell. read heap cell) (field_sound v s f l.0 h l.1) (λ cell c. read_sound heap cell l.0 hh c))
+      (λ w hw. along_sound heap hh l.0 to w fs hw l.2)
+
+  path_sound : (p : Path) (t : ValueType) (s : State) → IsTyped s → IsPathTo program types p t → Gives (Has t) (place_of p program.shape s.locals s.heap)
+  path_sound p t s ty is =
+      gives_with (Has is.0) (Has t) (found (slice_get s.locals p.local)) _ (value_there program.shape types s.locals p.local is.0 ty.locals is.1)
+      (λ v h. along_sound s.heap ty.heap is.0 t v p.fields.items h is.2)
+
+  joined_sound : (o : Operator) (r q : Result Value Failure) → Gives (Has Integer) r → Gives (Has Integer) q → Gives (Has Integer) (joined o r q)
+  joined_sound o r q h k = gives_with (Has Integer) (Has Integer) r _ h (λ v hv. gives_with (Has Integer) (Has Integer) q _ k (λ w hw. operate_sound program.shape o v w hv hw))
+
+  mutual
+    value_sound : (e : Expr) (t : ValueType) (s : State) → IsTyped s → IsOf program types e t → Gives (Has t) (value_of e program.shape s.locals s.heap)
+    value_sound (Number n) Integer s ty is = tt
+    value_sound (Number n) (Reference r) s ty is = absurd is
+    value_sound Null Integer s ty is = absurd is
+    value_sound Null (Reference r) s ty is = tt
+    value_sound (Place p) t s ty is = path_sound p t s ty is
+    value_sound (Global start cell) t s ty is = read_sound s.heap cell t ty.heap is
+    value_sound (Element' start array p index) t s ty is =
+        gives_with (Has Integer) (Has t) (value_of index program.shape s.locals s.heap) _ (value_sound index Integer s ty is.1)
+        (λ v h. gives_with (IsCellOf t) (Has t) (element_cell program.shape array v) _ (element_sound array v t is.0 h) (λ cell c. read_sound s.heap cell t ty.heap c))
+    value_sound (Member' pool p index) Integer s ty is = absurd is
+    value_sound (Member' pool p index) (Reference r) s ty is =
+        gives_with (Has Integer) (Has (Reference r)) (value_of index program.shape s.locals s.heap) _ (value_sound index Integer s ty is.1)
+        (λ v h. member_sound pool v r is.0 h)
+    value_sound (Negate' p e) Integer s ty is =
+        gives_with (Has Integer) (Has Integer) (value_of e program.shape s.locals s.heap) _ (value_sound e Integer s ty is) (λ v h. negate_sound program.shape v h)
+    value_sound (Negate' p e) (Reference r) s ty is = absurd is
+    value_sound (Chain' p first m rest) Integer s ty is =
+        chain_sound rest s (value_of first program.shape s.locals s.heap) ty is.1 (value_sound first Integer s ty is.0)
+    value_sound (Chain' p first m rest) (Reference r) s ty is = absurd is
+
+    chain_sound : {m : _} (row : Row_of-Operation m) (s : State) (left : Result Value Failure) → IsTyped s → AreIntegers program types row → Gives (Has Integer) left →
+        Gives (Has Integer) (chained row program.shape s.locals s.heap left)
+    chain_sound end_of-Operation s left ty is h = h
+    chain_sound (more_of-Operation o e rest) s left ty is h =
+        chain_sound rest s (joined o left (value_of e program.shape s.locals s.heap)) ty is.1 (joined_sound o left _ h (value_sound e Integer s ty is.0))
+
+  -- two values of one type, and a comparison that takes them
+  two_sound : (c : Comparison) (t : ValueType) (a b : Expr) (s : State) → IsTyped s → IsOf program types a t → IsOf program types b t →
+      ((v w : Value) → Has t v → Has t w → Gives IsAny (compared c v w)) →
+      Gives IsAny (with (value_of a program.shape s.locals s.heap) (λ x. with (value_of b program.shape s.locals s.heap) (λ y. compared c x y)))
+  two_sound c t a b s ty is js k =
+      gives_with (Has t) IsAny (value_of a program.shape s.locals s.heap) _ (value_sound a t s ty is)
+      (λ v h. gives_with (Has t) IsAny (value_of b program.shape s.locals s.heap) _ (value_sound b t s ty js) (λ w g. k v w h g))
+
+  compare_sound : (c : Comparison) (a b : Expr) (s : State) → IsTyped s → CanCompare program types c a b →
+      Gives IsAny (with (value_of a program.shape s.locals s.heap) (λ x. with (value_of b program.shape s.locals s.heap) (λ y. compared c x y)))
+  compare_sound Equal a b s ty is = two_sound Equal is.0 a b s ty is.1 is.2 (equal_sound program.shape is.0)
+  compare_sound Unequal a b s ty is = two_sound Unequal is.0 a b s ty is.1 is.2 (unequal_sound program.shape is.0)
+  compare_sound Less a b s ty is = two_sound Less Integer a b s ty is.0 is.1 (less_sound program.shape)
+  compare_sound LessEqual a b s ty is = two_sound LessEqual Integer a b s ty is.0 is.1 (less_equal_sound program.shape)
+  compare_sound Greater a b s ty is = two_sound Greater Integer a b s ty is.0 is.1 (greater_sound program.shape)
+  compare_sound GreaterEqual a b s ty is = two_sound GreaterEqual Integer a b s ty is.0 is.1 (greater_equal_sound program.shape)
+
+  and_sound : (r q : Result Bool Failure) → Gives IsAny r → Gives IsAny q → Gives IsAny (and_then r q)
+  and_sound (Ok true) q h k = k
+  and_sound (Ok false) q h k = tt
+  and_sound (Err (Trap t)) q h k = tt
+  and_sound (Err Wrong) q h k = h
+
+  or_sound : (r q : Result Bool Failure) → Gives IsAny r → Gives IsAny q → Gives IsAny (or_else r q)
+  or_sound (Ok true) q h k = tt
+  or_sound (Ok false) q h k = k
+  or_sound (Err (Trap t)) q h k = tt
+  or_sound (Err Wrong) q h k = h
+
+  mutual
+    test_sound : (c : Condition) (s : State) → IsTyped s → IsTest program types c → Gives IsAny (truth_of c program.shape s.locals s.heap)
+    test_sound (Compare c a b) s ty is = compare_sound c a b s ty is
+    test_sound (Not' p c) s ty is = gives_with IsAny IsAny (truth_of c program.shape s.locals s.heap) _ (test_sound c s ty is) (λ b h. tt)
+    test_sound (And' m before p last) s ty is = all_sound before s (truth_of last program.shape s.locals s.heap) ty is.0 (test_sound last s ty is.1)
+    test_sound (Or' m before p last) s ty is = any_sound before s (truth_of last program.shape s.locals s.heap) ty is.0 (test_sound last s ty is.1)
+
+    all_sound : {m : _} (row : Row_of-Condition m) (s : State) (last : Result Bool Failure) → IsTyped s → AreTests program types row → Gives IsAny last →
+        Gives IsAny (all_true row program.shape s.locals s.heap last)
+    all_sound end_of-Condition s last ty is h = h
+    all_sound (more_of-Condition c rest) s last ty is h = and_sound (truth_of c program.shape s.locals s.heap) _ (test_sound c s ty is.0) (all_sound rest s last ty is.1 h)
+
+    any_sound : {m : _} (row : Row_of-Condition m) (s : State) (last : Result Bool Failure) → IsTyped s → AreTests program types row → Gives IsAny last →
+        Gives IsAny (any_true row program.shape s.locals s.heap last)
+    any_sound end_of-Condition s last ty is h = h
+    any_sound (more_of-Condition c rest) s last ty is h = or_sound (truth_of c program.shape s.locals s.heap) _ (test_sound c s ty is.0) (any_sound rest s last ty is.1 h)
+
+  -- ---- statements
+
+  abbrev Stays : Flow → Type 0
+  Stays (GoesOn s) = IsTyped s
+  Stays (Traps t s) = IsTyped s
+  Stays Beyond = ⊤
+  Stays Astray = ⊥
+
+  given_sound : {A : Type 0} (P : A → Type 0) (r : Result A Failure) (s : State) (f : A → Flow) → IsTyped s → Gives P r → ((a : A) → P a → Stays (f a)) → Stays (given r s f)
+  given_sound P (Ok a) s f ty h k = k a h
+  given_sound P (Err (Trap x)) s f ty h k = ty
+  given_sound P (Err Wrong) s f ty h k = h
+
+  after_sound : (flow : Flow) (f : State → Flow) → Stays flow → ((s : State) → IsTyped s → Stays (f s)) → Stays (after flow f)
+  after_sound (GoesOn s) f h k = k s h
+  after_sound (Traps t s) f h k = h
+  after_sound Beyond f h k = h
+  after_sound Astray f h k = h
+
+  choose_sound : (b : Bool) (x y : Flow) → Stays x → Stays y → Stays (choose b x y)
+  choose_sound true x y h k = h
+  choose_sound false x y h k = k
+
+  write_sound : (cell : ℕ) (t : ValueType) (v : Value) (s : State) → IsTyped s → IsCellOf t cell → Has t v → Stays (written cell v s)
+  write_sound cell t v s ty e h =
+      given_sound (Has t) (read s.heap cell) s _ ty (read_sound s.heap cell t ty.heap e)
+      (λ old _. record { locals = ty.locals; heap = types_set program.shape (cell_types program) s.heap cell t v ty.heap e h })
+
+  store_sound : (local : ℕ) (e : Expr) (s : State) → IsTyped s → GivesLocal program types local e → Stays (given (value_of e program.shape s.locals s.heap) s (λ v. stored local v s))
+  store_sound local e s ty is =
+      given_sound (Has is.0) (value_of e program.shape s.locals s.heap) s _ ty (value_sound e is.0 s ty is.2)
+      (λ v h. given_sound (Has is.0) (found (slice_get s.locals local)) s _ ty (value_there program.shape types s.locals local is.0 ty.locals is.1)
+      (λ old _. record { locals = types_set program.shape types s.locals local is.0 v ty.locals is.1 h; heap = ty.heap }))
+
+  print_if : (b : Bool) (n : ℤ) (s : State) → IsTyped s → Stays (if b then GoesOn (record s { prints = s.prints ++ n ∷ [] }) else Traps TooManyPrints s)
+  print_if true n s ty = record { locals = ty.locals; heap = ty.heap }
+  print_if false n s ty = ty
+
+  print_sound : (v : Value) (s : State) → IsTyped s → Has Integer v → Stays (printed v s)
+  print_sound (Int n) s ty h = print_if (nat_lt (length s.prints) 256) n s ty
+  print_sound (Ref r) s ty h = absurd h
+
+  turns_sound : (n : ℕ) (test : State → Result Bool Failure) (body : State → Flow) → ((s : State) → IsTyped s → Gives IsAny (test s)) → ((s : State) → IsTyped s → Stays (body s)) →
+      (s : State) → IsTyped s → Stays (turns n test body s)
+  turns_sound zero test body ht hb s ty = given_sound IsAny (test s) s _ ty (ht s ty) (λ b _. choose_sound b _ _ tt ty)
+  turns_sound (suc n) test body ht hb s ty =
+      given_sound IsAny (test s) s _ ty (ht s ty) (λ b _. choose_sound b _ _ (after_sound (body s) _ (hb s ty) (turns_sound n test body ht hb)) ty)
+
+  mutual
+    effect_sound : (x : Action) (n : ℕ) (s : State) → IsTyped s → IsWellTyped program types x → Stays (effect_of x program.shape n s)
+    effect_sound (Bind local e) n s ty is = store_sound local e s ty is
+    effect_sound (SetLocal local e) n s ty is = store_sound local e s ty is
+    effect_sound (SetGlobal cell e) n s ty is =
+        given_sound (Has is.0) (value_of e program.shape s.locals s.heap) s _ ty (value_sound e is.0 s ty is.2) (λ v h. write_sound cell is.0 v s ty is.1 h)
+    effect_sound (SetElement array i e) n s ty is =
+        given_sound (Has Integer) (value_of i program.shape s.locals s.heap) s _ ty (value_sound i Integer s ty is.2)
+        (λ v h. given_sound (IsCellOf is.0) (element_cell program.shape array v) s _ ty (element_sound array v is.0 is.1 h)
+        (λ cell c. given_sound (Has is.0) (value_of e program.shape s.locals s.heap) s _ ty (value_sound e is.0 s ty is.3) (λ w hw. write_sound cell is.0 w s ty c hw)))
+    effect_sound (SetField p f e) n s ty is =
+        given_sound (Has (Reference is.0)) (with (place_of p program.shape s.locals s.heap) not_null) s _ ty
+        (gives_with (Has (Reference is.0)) (Has (Reference is.0)) (place_of p program.shape s.locals s.heap) _ (path_sound p (Reference is.0) s ty is.1) (λ v h. not_null_sound program.shape is.0 v h))
+        (λ v h. given_sound (Has is.2.0) (value_of e program.shape s.locals s.heap) s _ ty (value_sound e is.2.0 s ty is.2.2)
+        (λ w hw. given_sound (IsCellOf is.2.0) (field_cell program.shape v f) s _ ty (field_sound v is.0 f is.2.0 h is.2.1) (λ cell c. write_sound cell is.2.0 w s ty c hw)))
+    effect_sound (Print e) n s ty is = given_sound (Has Integer) (value_of e program.shape s.locals s.heap) s _ ty (value_sound e Integer s ty is) (λ v h. print_sound v s ty h)
+    effect_sound (If' c m a) n s ty is =
+        given_sound IsAny (truth_of c program.shape s.locals s.heap) s _ ty (test_sound c s ty is.0) (λ x _. choose_sound x _ _ (effects_sound a n s ty is.1) ty)
+    effect_sound (IfElse' c m a k b) n s ty is =
+        given_sound IsAny (truth_of c program.shape s.locals s.heap) s _ ty (test_sound c s ty is.0) (λ x _. choose_sound x _ _ (effects_sound a n s ty is.1) (effects_sound b n s ty is.2))
+    effect_sound (While' c m body) n s ty is =
+        turns_sound n (λ s. truth_of c program.shape s.locals s.heap) (effects_of body program.shape n) (λ s1 t1. test_sound c s1 t1 is.0) (λ s1 t1. effects_sound body n s1 t1 is.1) s ty
+
+    effects_sound : {m : _} (row : Row_of-Stmt m) (n : ℕ) (s : State) → IsTyped s → AreWellTyped program types row → Stays (effects_of row program.shape n s)
+    effects_sound end_of-Stmt n s ty is = ty
+    effects_sound (more_of-Stmt start x rest) n s ty is = after_sound (effect_of x program.shape n s) _ (effect_sound x n s ty is.0) (λ s1 t1. effects_sound rest n s1 t1 is.1)
+
+  sequence_sound : (xs : List Stmt) (n : ℕ) (s : State) → IsTyped s → AllWellTyped program types xs → Stays (sequence xs program.shape n s)
+  sequence_sound [] n s ty is = ty
+  sequence_sound (x ∷ xs) n s ty is = after_sound (effect_of x.action program.shape n s) _ (effect_sound x.action n s ty is.0) (λ s1 t1. sequence_sound xs n s1 t1 is.1)
+
+  -- ---- a whole section
+
+  returned_sound : (t : ValueType) (r : Result Value Failure) (s : State) → IsTyped s → Gives (Has t) r → StaysTyped program (Some t) (returned r s)
+  returned_sound t (Ok v) s ty h = (ty.heap, h)
+  returned_sound t (Err (Trap x)) s ty h = (ty.heap, tt)
+  returned_sound t (Err Wrong) s ty h = h
+
+  ending_sound : (result_type : Option ValueType) (result : Option Return) (s : State) → IsTyped s → IsResult program types result_type result →
+      StaysTyped program result_type (ending result program.shape s)
+  ending_sound None None s ty is = (ty.heap, tt)
+  ending_sound None (Some r) s ty is = absurd is
+  ending_sound (Some t) None s ty is = absurd is
+  ending_sound (Some t) (Some r) s ty is = returned_sound t (value_of r.value program.shape s.locals s.heap) s ty (value_sound r.value t s ty is)
+
+  concluded_sound : (result_type : Option ValueType) (result : Option Return) (flow : Flow) → IsResult program types result_type result → Stays flow →
+      StaysTyped program result_type (concluded result program.shape flow)
+  concluded_sound result_type result (GoesOn s) is h = ending_sound result_type result s h is
+  concluded_sound result_type result (Traps t s) is h = (h.heap, tt)
+  concluded_sound result_type result Beyond is h = tt
+  concluded_sound result_type result Astray is h = h
+
+-- ---- the opening state
+
+default_has : (shape : Shape) (t : ValueType) → HasType shape t (default_of t)
+default_has shape Integer = tt
+default_has shape (Reference s) = tt
+
+defaults_have : (shape : Shape) (locals : List Local) → HaveTypes shape (local_types locals) (map default_local locals)
+defaults_have shape [] = tt
+defaults_have shape (l ∷ ls) = (default_has shape l.value_type, defaults_have shape ls)
+
+opening_has : (shape : Shape) (k : ℕ) (locals : List Local) (arguments : List Value) → HaveTypes shape (local_types (take k locals)) arguments →
+    HaveTypes shape (local_types locals) (arguments ++ map default_local (drop (length arguments) locals))
+opening_has shape k locals [] h = defaults_have shape locals
+opening_has shape zero [] (v ∷ vs) h = absurd h
+opening_has shape zero (l ∷ ls) (v ∷ vs) h = absurd h
+opening_has shape (suc k) [] (v ∷ vs) h = absurd h
+opening_has shape (suc k) (l ∷ ls) (v ∷ vs) h = (h.0, opening_has shape k ls vs h.1)
+
+pub never_astray : NeverGoAstray
+never_astray program k n section arguments heap well is fit typed =
+    let types = local_types section.locals.items in
+    let good = well.sections k section is in
+    let start : IsTyped program types well.laid_out (opening section arguments heap) =
+    record { locals = opening_has program.shape section.parameters section.locals.items arguments fit; heap = typed } in
+    concluded_sound program types well.laid_out section.result_type section.result (sequence section.body.items program.shape n (opening section arguments heap)) good.result
+    (sequence_sound program types well.laid_out section.body.items n (opening section arguments heap) start good.body)

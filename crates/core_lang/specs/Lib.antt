@@ -1,0 +1,11 @@
+pub mod Traps
+pub mod Arithmetic
+pub mod Cells
+pub mod Meaning
+pub mod Whole
+pub mod Serial
+pub mod Typing
+pub mod Scopes
+pub mod WellFormed
+pub mod Laws
+pub mod Lists

@@ -1,0 +1,121 @@
+-- Programs whose numbers all name what they should, and whose sections are well typed.
+use Rattle.std.specs.Prelude.{◌≡◌, ℕ, ◌+◌, ◌<◌, ◌≤◌, List, [], ◌∷◌, length, slice_get, Some, ⊤}
+use Rattle.core_lang.specs.declared.value.Value.{Value}
+use Rattle.core_lang.specs.declared.value.ValueType.{ValueType}
+use Rattle.core_lang.specs.declared.shape.Array.{Array}
+use Rattle.core_lang.specs.declared.shape.Pool.{Pool}
+use Rattle.core_lang.specs.declared.shape.Object.{Object}
+use Rattle.core_lang.specs.declared.tree.Section.{Section}
+use Rattle.core_lang.specs.declared.typed.LockClass.{LockClass}
+use Rattle.core_lang.specs.declared.typed.LockClass.TheVariants as class
+use Rattle.core_lang.specs.declared.typed.LockField.{LockField}
+use Rattle.core_lang.specs.declared.typed.Protection.{Protection}
+use Rattle.core_lang.specs.declared.typed.Field.{Field}
+use Rattle.core_lang.specs.declared.typed.Struct.{Struct}
+use Rattle.core_lang.specs.declared.typed.GlobalVariable.{GlobalVariable}
+use Rattle.core_lang.specs.declared.typed.Owner.{Owner}
+use Rattle.core_lang.specs.declared.typed.Owner.TheVariants as owner
+use Rattle.core_lang.specs.declared.typed.Call.{Call}
+use Rattle.core_lang.specs.declared.typed.Cell.{Cell}
+use Rattle.core_lang.specs.declared.typed.Thread.{Thread}
+use Rattle.core_lang.specs.declared.typed.Typed.{Typed}
+use Rattle.core_lang.specs.Serial.{opening_heap}
+use Rattle.core_lang.specs.Typing.{struct_of, final_target, field_type, IsHeap, Fit, IsWellTypedSection}
+
+-- ---- where things lie
+
+-- at a place there is a cell, which is part of the owner and has the type
+pub record IsCell (program : Typed) (place : ℕ) (owner : Owner) (t : ValueType) : Type 0 where
+  pub cell : Cell
+  pub here : slice_get program.cells.items place ≡ Some cell
+  pub owned : cell.owner ≡ owner
+  pub typed : cell.value_type ≡ t
+
+-- a cell is where its owner has it
+abbrev pub IsCellOf : Typed → ℕ → Owner → Type 0
+IsCellOf program place (owner.Global g) =
+    (global : GlobalVariable) × (slice_get program.globals.items g ≡ Some global) × (place ≡ global.cell)
+IsCellOf program place (owner.Element array index) =
+    (a : Array) × (slice_get program.shape.arrays.items array ≡ Some a) × (index < a.length) × (place ≡ a.first + index)
+IsCellOf program place (owner.Field object field) =
+    (o : Object) × (slice_get program.shape.objects.items object ≡ Some o) × (place ≡ o.cells + field) ×
+    ((s : ℕ) × (t : ValueType) × (struct_of program.shape object ≡ Some s) × (field_type program s field ≡ Some t))
+
+-- each global, array, pool and object has its cells, its members and its final references, and no cell is part of anything else
+pub record IsLaidOut (program : Typed) : Type 0 where
+  pub few : length program.shape.objects.items ≤ 65536
+  pub global : (g : ℕ) (x : GlobalVariable) → slice_get program.globals.items g ≡ Some x →
+      (t : ValueType) × IsCell program x.cell (owner.Global g) t
+  pub array : (a : ℕ) (x : Array) → slice_get program.shape.arrays.items a ≡ Some x →
+      (i : ℕ) → i < x.length → IsCell program (x.first + i) (owner.Element a i) x.element
+  pub pool : (p : ℕ) (x : Pool) → slice_get program.shape.pools.items p ≡ Some x →
+      (i : ℕ) → i < x.length → (o : Object) × (slice_get program.shape.objects.items (x.first + i) ≡ Some o) × (o.pool ≡ p)
+  pub structure : (p : ℕ) (x : Pool) → slice_get program.shape.pools.items p ≡ Some x → x.structure < length program.structs.items
+  pub object : (o : ℕ) (x : Object) → slice_get program.shape.objects.items o ≡ Some x →
+      (p : Pool) × (slice_get program.shape.pools.items x.pool ≡ Some p) × (p.first ≤ o) × (o < p.first + p.length)
+  pub field : (o : ℕ) (x : Object) → slice_get program.shape.objects.items o ≡ Some x →
+      (s f : ℕ) (t : ValueType) → struct_of program.shape o ≡ Some s → field_type program s f ≡ Some t →
+      IsCell program (x.cells + f) (owner.Field o f) t
+  pub final : (o : ℕ) (x : Object) → slice_get program.shape.objects.items o ≡ Some x →
+      (s f target : ℕ) → struct_of program.shape o ≡ Some s → final_target program s f ≡ Some target →
+      (named : ℕ) × (slice_get program.shape.finals.items (x.finals + f) ≡ Some named) × (struct_of program.shape named ≡ Some target)
+  pub owner : (place : ℕ) (cell : Cell) → slice_get program.cells.items place ≡ Some cell → IsCellOf program place cell.owner
+
+-- ---- what protects the cells
+
+-- final references that lead from one struct to another
+abbrev pub FinalsLead : Typed → ℕ → List ℕ → ℕ → Type 0
+FinalsLead program from [] to = from ≡ to
+FinalsLead program from (f ∷ fs) to = (next : ℕ) × (final_target program from f ≡ Some next) × FinalsLead program next fs to
+
+-- final references, at most three, that lead from a struct to one with the lock; none lead to a global lock
+abbrev pub EndsAt : Typed → ℕ → List ℕ → LockClass → Type 0
+EndsAt program s through (class.Global name) = through ≡ []
+EndsAt program s through (class.Field structure lock) = (length through ≤ 3) × FinalsLead program s through structure
+
+-- an annotation that a field of the struct may have
+abbrev pub Protects : Typed → ℕ → Protection → Type 0
+Protects program s protection =
+    (c : LockClass) × (slice_get program.classes.items protection.class ≡ Some c) × EndsAt program s protection.through.items c
+
+-- a global lock
+abbrev pub IsGlobalLock : LockClass → Type 0
+IsGlobalLock (class.Global name) = ⊤
+IsGlobalLock (class.Field structure lock) = ⊥
+
+-- the number of a global lock's class
+abbrev pub IsGlobalClass : Typed → ℕ → Type 0
+IsGlobalClass program number = (c : LockClass) × (slice_get program.classes.items number ≡ Some c) × IsGlobalLock c
+
+-- the class of a struct's lock field, and the lock field of a class, name one another
+abbrev pub IsClassOf : Typed → ℕ → LockClass → Type 0
+IsClassOf program number (class.Global name) = ⊤
+IsClassOf program number (class.Field structure lock) =
+    (s : Struct) × (slice_get program.structs.items structure ≡ Some s) ×
+    ((field : LockField) × (slice_get s.locks.items lock ≡ Some field) × (field.class ≡ number))
+
+-- globals, arrays and fields have each a lock that may protect them
+pub record IsProtected (program : Typed) : Type 0 where
+  pub global : (g : ℕ) (x : GlobalVariable) → slice_get program.globals.items g ≡ Some x → IsGlobalClass program x.class
+  pub array : (a : ℕ) (x : Array) → slice_get program.shape.arrays.items a ≡ Some x → IsGlobalClass program x.class
+  pub field : (s f : ℕ) (x : Struct) (field : Field) → slice_get program.structs.items s ≡ Some x → slice_get x.fields.items f ≡ Some field →
+      Protects program s field.protection
+  pub lock_field : (s l : ℕ) (x : Struct) (lock : LockField) → slice_get program.structs.items s ≡ Some x → slice_get x.locks.items l ≡ Some lock →
+      slice_get program.classes.items lock.class ≡ Some (class.Field s l)
+  pub class_field : (number : ℕ) (c : LockClass) → slice_get program.classes.items number ≡ Some c → IsClassOf program number c
+
+-- ---- the whole
+
+-- a section of this number may be called with these arguments: the program has it, and they fit it
+unfoldable pub CanCall : Typed → ℕ → List Value → Type 0
+CanCall program number arguments =
+    (section : Section) × (slice_get program.sections.items number ≡ Some section) × Fit program section arguments
+
+-- each part of the program is as it should be
+pub record IsWellFormed (program : Typed) : Type 0 where
+  pub laid_out : IsLaidOut program
+  pub protected : IsProtected program
+  pub opens : IsHeap program (opening_heap program)
+  pub sections : (k : ℕ) (section : Section) → slice_get program.sections.items k ≡ Some section → IsWellTypedSection program section
+  pub scripts : (t k : ℕ) (thread : Thread) (call : Call) → slice_get program.threads.items t ≡ Some thread → slice_get thread.calls.items k ≡ Some call →
+      CanCall program call.section call.arguments.items

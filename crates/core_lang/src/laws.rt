@@ -1,0 +1,51 @@
+//! What holds of the meaning of every program: functions that do nothing, and whose contracts are the laws.
+
+ghost use Rattle.core_lang.specs.Laws.{MoreTurnsChangeNothing, HaveAtMostOneWhole, NeverGoAstray, OpeningIsTyped, OverIsWhole, WholeIsOver, SerialOfNone, SerialOfBoth, SerialSplits, HaveAtMostOneSerial, SettledAreSerial};
+
+/// What a run gives with some turns, it gives with more.
+pub fn more_turns_change_nothing()
+    ensures { MoreTurnsChangeNothing }
+{}
+
+/// A section has at most one run whole from its arguments and a heap.
+pub fn at_most_one_whole()
+    ensures { HaveAtMostOneWhole }
+{}
+
+/// A section of a well-formed program, called with arguments that fit it on a heap of the program, never goes astray,
+/// and leaves a heap of the program and an outcome of its result type.
+pub fn never_astray()
+    ensures { NeverGoAstray }
+{}
+
+/// The opening heap of a well-formed program is a heap of the program.
+pub fn opening_is_typed()
+    ensures { OpeningIsTyped }
+{}
+
+/// A call is run whole exactly where it is over within some turns.
+pub fn whole_within_some_turns()
+    ensures over { OverIsWhole }
+    ensures whole { WholeIsOver }
+{}
+
+/// No calls, run serially, end nothing and leave the heap as it is.
+pub fn serial_of_none()
+    ensures { SerialOfNone }
+{}
+
+/// Calls followed by further ones run serially as the first ones, and then the others from the heap that these leave.
+pub fn serial_of_both()
+    ensures both { SerialOfBoth }
+    ensures splits { SerialSplits }
+{}
+
+/// Calls run serially end in at most one way.
+pub fn at_most_one_serial()
+    ensures { HaveAtMostOneSerial }
+{}
+
+/// The calls that some turns settle are run serially, and the first of the others isn't settled.
+pub fn settled_are_serial()
+    ensures { SettledAreSerial }
+{}

@@ -1,0 +1,5 @@
+pub mod Numbers
+pub mod Steps
+pub mod Blocks
+pub mod Kept
+pub mod CanBeCalled

@@ -1,0 +1,35 @@
+use Rattle.std.proofs.Common.{◌∙◌, subst, refl}
+use Rattle.meaning.specs.Answer.{Follows}
+use Rattle.meaning.specs.Execution.{state_of}
+use Rattle.meaning.proofs.Blocks.{if_true, if_else_true, if_else_false, while_starts, while_turns}
+use Rattle.meaning.proofs.execution.Execution.+run.Goals as goal
+
+pub run-loop-left-init : goal.run-loop-left-init
+run-loop-left-init t c = record { same = while_starts _ _ _ _ _ _ c.in-While.is; keeps = refl }
+
+pub run-loop-left-preserved : goal.run-loop-left-preserved
+run-loop-left-preserved t c = record {
+  same =
+      while_turns c.in-While.condition c.deref-in-loop-left-2.result.now c.in-While.body c.args.shape.now c.args.turns c.loop-left.left (state_of c.loop-left.self) (state_of c.run_all-in-loop-left.new.self) _ _ _ c.if-left-eq0.false c.deref-in-loop-left.ensures.value c.cells-in-loop-left.ensures c.in_ok-is_true-in-While.ensures c.if-branch-3.true
+      c.deref-in-loop-left-2.ensures.value c.in_ok-run_all-in-While.ensures.follows
+      ∙ c.loop-left.invariant.same;
+  keeps = c.in_ok-run_all-in-While.ensures.keeps ∙ c.loop-left.invariant.keeps;
+}
+
+pub run-returns-then-branch-clause-follows : goal.run-returns-then-branch-clause-follows
+run-returns-then-branch-clause-follows t c =
+    subst (Follows c.run_all.result (state_of c.run_all.new.self))
+    (if_true _ _ _ _ _ _ _ _ _ _ c.in-If.is c.deref-in-If.ensures.value c.cells-in-If.ensures c.in_ok-is_true-in-If.ensures c.if-branch.true c.deref-then-branch.ensures.value)
+    c.run_all.ensures.follows
+
+pub run-returns-then-branch-2-clause-follows : goal.run-returns-then-branch-2-clause-follows
+run-returns-then-branch-2-clause-follows t c =
+    subst (Follows c.run_all-then-branch-2.result (state_of c.run_all-then-branch-2.new.self))
+    (if_else_true _ _ _ _ _ _ _ _ _ _ _ c.in-IfElse.is c.deref-in-IfElse.ensures.value c.cells-in-IfElse.ensures c.in_ok-is_true-in-IfElse.ensures c.if-branch-2.true c.deref-then-branch-2.ensures.value)
+    c.run_all-then-branch-2.ensures.follows
+
+pub run-returns-else-branch-2-clause-follows : goal.run-returns-else-branch-2-clause-follows
+run-returns-else-branch-2-clause-follows t c =
+    subst (Follows c.run_all-else-branch-2.result (state_of c.run_all-else-branch-2.new.self))
+    (if_else_false _ _ _ _ _ _ _ _ _ _ _ c.in-IfElse.is c.deref-in-IfElse.ensures.value c.cells-in-IfElse.ensures c.in_ok-is_true-in-IfElse.ensures c.if-branch-2.false c.deref-else-branch-2.ensures.value)
+    c.run_all-else-branch-2.ensures.follows

@@ -1,0 +1,5 @@
+pub mod Undo
+pub mod Answer
+pub mod Fitted
+pub mod Execution
+pub mod Heaps

@@ -1,0 +1,74 @@
+//! The values of all cells.
+
+ghost use Rattle.std.specs.Prelude.{◌≡◌, ◌<◌, length, slice_get, IfOk};
+ghost use Rattle.std.specs.Bool.{Decides};
+ghost use Rattle.core_lang.specs.Serial.{opening_heap};
+ghost use Rattle.meaning.specs.Heaps.{HasCells};
+
+use core_lang::typed::Typed;
+use core_lang::value::Value;
+use source::memory::NoMemory;
+use std::alloc::Global;
+use std::marker::Model;
+
+/// The values of all cells of a program, by the cell's number. As a value it is the list of them.
+#[derive(Drop)]
+pub struct Heap {
+    pub(crate) cells: Vec<Value>,
+    // Whether the run under way has written the cell: false wherever there is none.
+    pub(crate) is_written: Vec<bool>,
+}
+
+impl Model for Heap {
+    ghost use Rattle.std.specs.Prelude.{◌≡◌, List, length, replicate, false};
+    ghost use Rattle.core_lang.specs.declared.value.Value.{Value as Held};
+
+    ghost Value = { List Held };
+
+    ghost view = { λ h. h.cells.items };
+
+    ghost invariant = { λ h. h.is_written.items ≡ replicate (length h.cells.items) false };
+}
+
+impl Heap {
+    /// The opening heap of a program: each cell's opening value.
+    ///
+    /// # Errors
+    ///
+    /// Want of memory.
+    pub fn open(alloc: Global, program: &Typed) -> Result<Heap, NoMemory>
+        ensures opens { IfOk result (λ heap. heap ≡ opening_heap program.now) }
+        ensures cells { IfOk result (λ heap. HasCells program.now heap) }
+    {
+        let mut cells = Vec::with_capacity(alloc, program.cells.len())?;
+        for cell in &program.cells {
+            cells.push(cell.opening)?;
+        }
+        let is_written = vec![in alloc; false; cells.len()]?;
+        Ok(Heap { cells, is_written })
+    }
+
+    /// What a cell of the heap holds. Takes no memory.
+    pub fn get(&self, cell: usize) -> Value
+        requires { cell < length self.now }
+        ensures { slice_get self.now cell ≡ Some result }
+    {
+        self.cells[cell]
+    }
+
+    /// Whether the heap has as many cells as a program. Takes no memory.
+    pub fn has_cells_of(&self, program: &Typed) -> bool
+        ensures { Decides result (HasCells program.now self.now) }
+    {
+        self.cells.len() == program.cells.len()
+    }
+
+    // A heap without cells.
+    #[inline]
+    pub(crate) fn empty(alloc: Global) -> Heap {
+        Heap {
+            cells: Vec::new(alloc),
+            is_written: Vec::new(alloc),
+        }
+    }
+}

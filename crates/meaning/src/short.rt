@@ -1,0 +1,163 @@
+//! The short way to the value of an expression that is a number. It answers nothing where there is no number, or where
+//! it would cost more to say; the exact evaluation tells then.
+
+ghost use Rattle.std.specs.Prelude.{◌≡◌, Ok, IfSome};
+ghost use Rattle.core_lang.specs.Arithmetic.{on_values, negated};
+ghost use Rattle.core_lang.specs.Cells.{element_cell, read, with};
+ghost use Rattle.core_lang.specs.Meaning.{place_of, value_of};
+
+use crate::access::{cell_of_element, follow};
+use crate::operators::{negate, operate};
+use core_lang::shape::Shape;
+use core_lang::tree::{Expr, Operator, Path};
+use core_lang::value::Value;
+
+/// The number that an expression gives, if it is found the short way.
+#[inline(always)]
+#[cycle(short)]
+pub fn number(e: &Expr, shape: &Shape, locals: &[Value], heap: &[Value]) -> Option<i64>
+    ensures { IfSome result (λ n. value_of e.now shape.now locals.now heap.now ≡ Ok (Value.Int n)) }
+{
+    if let Expr::Number(n) = e {
+        return Some(*n);
+    }
+    if let Expr::Place(path) = e {
+        if path.fields.is_empty() {
+            return int_at(locals, path.local);
+        }
+    }
+    if let Expr::Chain { .. } = e {
+        return chain(e, shape, locals, heap);
+    }
+    other_number(e, shape, locals, heap)
+}
+
+// The forms that `number` leaves. It only passes them on, so a leaf costs no frame.
+#[inline(never)]
+#[cycle(short)]
+fn other_number(e: &Expr, shape: &Shape, locals: &[Value], heap: &[Value]) -> Option<i64>
+    ensures { IfSome result (λ n. value_of e.now shape.now locals.now heap.now ≡ Ok (Value.Int n)) }
+{
+    match e {
+        Expr::Number(n) => Some(*n),
+        Expr::Null => None,
+        Expr::Place(path) => number_at_end(path, shape, locals, heap),
+        Expr::Global { cell, .. } => int_at(heap, *cell as usize),
+        Expr::Element { .. } => element(e, shape, locals, heap),
+        Expr::Member { .. } => None,
+        Expr::Negate(_) => negation(e, shape, locals, heap),
+        Expr::Chain { .. } => chain(e, shape, locals, heap),
+    }
+}
+
+#[inline(never)]
+#[cycle(short)]
+fn negation(e: &Expr, shape: &Shape, locals: &[Value], heap: &[Value]) -> Option<i64>
+    ensures { IfSome result (λ n. value_of e.now shape.now locals.now heap.now ≡ Ok (Value.Int n)) }
+{
+    let Expr::Negate(e) = e else {
+        return None;
+    };
+    negated_number(number(e, shape, locals, heap)?)
+}
+
+#[inline(never)]
+#[cycle(short)]
+fn element(e: &Expr, shape: &Shape, locals: &[Value], heap: &[Value]) -> Option<i64>
+    ensures { IfSome result (λ n. value_of e.now shape.now locals.now heap.now ≡ Ok (Value.Int n)) }
+{
+    let Expr::Element { array, index, .. } = e else {
+        return None;
+    };
+    let index = number(index, shape, locals, heap)?;
+    number_in(shape, heap, *array, index)
+}
+
+#[inline(never)]
+#[cycle(short)]
+#[tactic(auto, using(crate::proofs::Steps::chains))]
+fn chain(e: &Expr, shape: &Shape, locals: &[Value], heap: &[Value]) -> Option<i64>
+    ensures { IfSome result (λ n. value_of e.now shape.now locals.now heap.now ≡ Ok (Value.Int n)) }
+{
+    let Expr::Chain { first, rest } = e else {
+        return None;
+    };
+    let mut left = known(first, shape, locals, heap)?;
+    for operation in rest {
+        let right = known(&operation.operand, shape, locals, heap)?;
+        left = calculated(operation.operator, left, right)?;
+    }
+    int_in(left)
+}
+
+// The same as a value.
+#[inline(always)]
+#[cycle(short)]
+fn known(e: &Expr, shape: &Shape, locals: &[Value], heap: &[Value]) -> Option<Value>
+    ensures { IfSome result (λ v. value_of e.now shape.now locals.now heap.now ≡ Ok v) }
+{
+    match number(e, shape, locals, heap) {
+        Some(n) => Some(Value::Int(n)),
+        None => None,
+    }
+}
+
+#[inline(always)]
+fn int_in(value: Value) -> Option<i64>
+    ensures { IfSome result (λ n. value ≡ Value.Int n) }
+{
+    match value {
+        Value::Int(n) => Some(n),
+        Value::Ref(_) => None,
+    }
+}
+
+#[inline(always)]
+fn int_at(values: &[Value], place: usize) -> Option<i64>
+    ensures { IfSome result (λ n. read values.now place ≡ Ok (Value.Int n)) }
+{
+    match values.get(place) {
+        Some(Value::Int(n)) => Some(*n),
+        _ => None,
+    }
+}
+
+#[inline(never)]
+fn number_at_end(path: &Path, shape: &Shape, locals: &[Value], heap: &[Value]) -> Option<i64>
+    ensures { IfSome result (λ n. place_of path.now shape.now locals.now heap.now ≡ Ok (Value.Int n)) }
+{
+    match follow(path, shape, locals, heap) {
+        Ok(Value::Int(n)) => Some(n),
+        _ => None,
+    }
+}
+
+#[inline(always)]
+fn number_in(shape: &Shape, heap: &[Value], array: usize, index: i64) -> Option<i64>
+    ensures { IfSome result (λ n. with (element_cell shape.now array (Value.Int index)) (read heap.now) ≡ Ok (Value.Int n)) }
+{
+    match cell_of_element(shape, array, Value::Int(index)) {
+        Ok(cell) => int_at(heap, cell),
+        Err(_) => None,
+    }
+}
+
+#[inline(always)]
+fn negated_number(n: i64) -> Option<i64>
+    ensures { IfSome result (λ m. negated (Value.Int n) ≡ Ok (Value.Int m)) }
+{
+    match negate(Value::Int(n)) {
+        Ok(Value::Int(n)) => Some(n),
+        _ => None,
+    }
+}
+
+#[inline(always)]
+fn calculated(operator: Operator, left: Value, right: Value) -> Option<Value>
+    ensures { IfSome result (λ v. on_values operator left right ≡ Ok v) }
+{
+    match operate(operator, left, right) {
+        Ok(value) => Some(value),
+        Err(_) => None,
+    }
+}

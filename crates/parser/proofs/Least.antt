@@ -1,0 +1,187 @@
+-- The least place of a fault of returns.
+use Rattle.std.proofs.Common.{◌≡◌, ℕ, suc, ◌-◌, ◌<◌, ◌≤◌, Bool, true, false, List, [], ◌∷◌, length, take, Option, Some, None, refl, sym, ap, ◌∙◌, subst, arith, get_or, min, inl, inr}
+use Rattle.std.specs.Prelude.{◌⊎◌}
+use Rattle.std.proofs.lemmas.Bool.{cases_lt}
+use Rattle.source.specs.declared.span.Span.{Span}
+use Rattle.syntax.specs.declared.tree.Stmt as the_stmt
+use Rattle.syntax.specs.Returns.{IsReturn, is_return, HasReturn, this_returns, later_returns, HasEarlyReturn, this_early, later_early, EndsInReturn, last_returns, ends_later, IsSectionFault, no_result, early, missing, IsReturnFault, this_section, later_section, ReturnsRight, IsFirstReturnFault}
+use Rattle.syntax.specs.Trees.{Ident, ValueType, Expr, Variable, Thread, Stmt, let_local, var_local, assign, print, return_value, Stmts, no_stmts, stmt, Section, Decl, lock, global, atomic, thread}
+use Rattle.syntax.specs.Views.{stmt_of, stmts_of}
+use Rattle.parser.specs.Returning.{earlier, own_return, least_return, least_early, is_return as returns, does_end, missing_at, section_fault_of, decl_fault, least_fault}
+
+-- ---- the lesser of places
+
+pub earlier-none : (a : Option ℕ) → earlier a None ≡ a
+earlier-none None = refl
+earlier-none (Some a) = refl
+
+pub earlier-assoc : (a b c : Option ℕ) → earlier (earlier a b) c ≡ earlier a (earlier b c)
+earlier-assoc None b c = refl
+earlier-assoc (Some a) None c = refl
+earlier-assoc (Some a) (Some b) None = refl
+earlier-assoc (Some a) (Some b) (Some c) = ap Some (omega arith)
+
+-- ---- the statements of a `Vec`
+
+-- the statements but the last
+pub early_of : (xs : List the_stmt.Stmt) → least_return (stmts_of (take (length xs - 1) xs)) ≡ least_early (stmts_of xs)
+early_of [] = refl
+early_of (x ∷ []) = refl
+early_of (x ∷ y ∷ ys) =
+    let e : suc (suc (length ys)) - 1 ≡ suc (length ys) = omega arith in
+    let f : suc (length ys) - 1 ≡ length ys = omega arith in
+    ap (λ n. least_return (stmts_of (take n (x ∷ y ∷ ys)))) e ∙ ap (earlier (own_return (stmt_of x))) (ap (λ n. least_return (stmts_of (take n (y ∷ ys)))) (sym f) ∙ early_of (y ∷ ys))
+
+-- the last statement
+pub ends_of : (xs : List the_stmt.Stmt) (x : the_stmt.Stmt) → 1 ≤ length xs → x ≡ get_or xs (length xs - 1) x → returns (stmt_of x) ≡ does_end (stmts_of xs)
+ends_of [] x some e = absurd (omega arith)
+ends_of (y ∷ []) x some e = ap (λ (z : the_stmt.Stmt). returns (stmt_of z)) e
+ends_of (y ∷ z ∷ zs) x some e =
+    let one : suc (suc (length zs)) - 1 ≡ suc (length zs) = omega arith in
+    let two : suc (length zs) - 1 ≡ length zs = omega arith in
+    ends_of (z ∷ zs) x (omega arith) (e ∙ ap (λ n. get_or (y ∷ z ∷ zs) n x) one ∙ ap (λ n. get_or (z ∷ zs) n x) (sym two))
+
+-- ---- what the least is of
+
+-- the least of the numbers that P has, or that it has none
+abbrev pub IsLeast : (ℕ → Type 0) → Option ℕ → Type 0
+IsLeast P None = (at : ℕ) → P at → ⊥
+IsLeast P (Some n) = P n × ((other : ℕ) → P other → n ≤ other)
+
+-- of numbers that are P's or Q's
+module _ (P Q R : ℕ → Type 0) (from_left : (n : ℕ) → P n → R n) (from_right : (n : ℕ) → Q n → R n) (split : (n : ℕ) → R n → P n ⊎ Q n) where
+  pub least_of_both : (a b : Option ℕ) → IsLeast P a → IsLeast Q b → IsLeast R (earlier a b)
+  least_of_both None None p q = λ n r. elim (split n r) [ inl h ↦ p n h | inr h ↦ q n h ]
+  least_of_both None (Some b) p q = (from_right b q.0, λ n r. elim (split n r) [ inl h ↦ absurd (p n h) | inr h ↦ q.1 n h ])
+  least_of_both (Some a) None p q = (from_left a p.0, λ n r. elim (split n r) [ inl h ↦ p.1 n h | inr h ↦ absurd (q n h) ])
+  least_of_both (Some a) (Some b) p q = (lesser (cases_lt a b), λ n r. elim (split n r) [ inl h ↦ omega (arith, p.1 n h) | inr h ↦ omega (arith, q.1 n h) ])
+    where
+      lesser : (a < b) ⊎ (b ≤ a) → R (min a b)
+      lesser (inl h) = subst R (omega (arith, h)) (from_left a p.0)
+      lesser (inr h) = subst R (omega (arith, h)) (from_right b q.0)
+
+-- of numbers that are P's and no others
+pub least_same : (P R : ℕ → Type 0) (o : Option ℕ) → ((n : ℕ) → P n → R n) → ((n : ℕ) → R n → P n) → IsLeast P o → IsLeast R o
+least_same P R None there back p = λ n r. p n (back n r)
+least_same P R (Some a) there back p = (there a p.0, λ n r. p.1 n (back n r))
+
+-- ---- statements
+
+same_place : {at : Span} {e : Expr} {n : ℕ} → IsReturn (return_value at e) n → at.start ≤ n
+same_place is_return = omega arith
+
+own_least : (s : Stmt) → IsLeast (IsReturn s) (own_return s)
+own_least (return_value at e) = (is_return, λ n h. same_place h)
+own_least (let_local l) = λ n h. elim h [ ]
+own_least (var_local l) = λ n h. elim h [ ]
+own_least (assign p e) = λ n h. elim h [ ]
+own_least (print at e) = λ n h. elim h [ ]
+
+split_return : {s : Stmt} {more : Stmts} (n : ℕ) → HasReturn (stmt s more) n → IsReturn s n ⊎ HasReturn more n
+split_return n (this_returns h) = inl h
+split_return n (later_returns h) = inr h
+
+return_least : (ss : Stmts) → IsLeast (HasReturn ss) (least_return ss)
+return_least no_stmts = λ n h. elim h [ ]
+return_least (stmt s more) = least_of_both (IsReturn s) (HasReturn more) (HasReturn (stmt s more)) (λ n h. this_returns h) (λ n h. later_returns h) split_return (own_return s) (least_return more) (own_least s) (return_least more)
+
+early_one : {s : Stmt} {n : ℕ} → HasEarlyReturn (stmt s no_stmts) n → ⊥
+early_one (later_early h) = elim h [ ]
+
+split_early : {s next : Stmt} {more : Stmts} (n : ℕ) → HasEarlyReturn (stmt s (stmt next more)) n → IsReturn s n ⊎ HasEarlyReturn (stmt next more) n
+split_early n (this_early h) = inl h
+split_early n (later_early h) = inr h
+
+early_least : (ss : Stmts) → IsLeast (HasEarlyReturn ss) (least_early ss)
+early_least no_stmts = λ n h. elim h [ ]
+early_least (stmt s no_stmts) = λ n h. early_one h
+early_least (stmt s (stmt next more)) = least_of_both (IsReturn s) (HasEarlyReturn (stmt next more)) (HasEarlyReturn (stmt s (stmt next more))) (λ n h. this_early h) (λ n h. later_early h) split_early (own_return s) (least_early (stmt next more)) (own_least s) (early_least (stmt next more))
+
+-- the last statement is a `return`, or not
+is_last : (s : Stmt) → returns s ≡ true → EndsInReturn (stmt s no_stmts)
+is_last (return_value at e) h = last_returns is_return
+is_last (let_local l) h = absurd cc
+is_last (var_local l) h = absurd cc
+is_last (assign p e) h = absurd cc
+is_last (print at e) h = absurd cc
+
+last_is : {s : Stmt} {n : ℕ} → IsReturn s n → returns s ≡ true
+last_is is_return = refl
+
+ends_true : (ss : Stmts) → does_end ss ≡ true → EndsInReturn ss
+ends_true no_stmts h = absurd cc
+ends_true (stmt s no_stmts) h = is_last s h
+ends_true (stmt s (stmt next more)) h = ends_later (ends_true (stmt next more) h)
+
+none_ends : EndsInReturn no_stmts → ⊥
+none_ends h = elim h [ ]
+
+true_ends : {ss : Stmts} → EndsInReturn ss → does_end ss ≡ true
+true_ends (last_returns h) = last_is h
+true_ends (ends_later {more = no_stmts} h) = absurd (none_ends h)
+true_ends (ends_later {more = stmt next more} h) = true_ends h
+
+-- ---- sections
+
+-- a section with a result that no `return` ends
+abbrev IsMissing : Stmts → ℕ → ℕ → Type 0
+IsMissing ss close n = (EndsInReturn ss → ⊥) × (n ≡ close)
+
+missing_least : (ss : Stmts) (close : ℕ) (b : Bool) → does_end ss ≡ b → IsLeast (IsMissing ss close) (missing_at b close)
+missing_least ss close true e = λ n h. h.0 (ends_true ss e)
+missing_least ss close false e = ((λ h. let t = true_ends h in absurd cc, refl), λ n h. omega (arith, h.1))
+
+module _ (s : Section) where
+  no_result_back : s.result ≡ None → (n : ℕ) → IsSectionFault s n → HasReturn s.body.stmts n
+  no_result_back e n (no_result r h) = h
+  no_result_back e n (early r h) = absurd cc
+  no_result_back e n (missing r h) = absurd cc
+
+  split_fault : {t : ValueType} → s.result ≡ Some t → (n : ℕ) → IsSectionFault s n → HasEarlyReturn s.body.stmts n ⊎ IsMissing s.body.stmts s.body.close.start n
+  split_fault e n (no_result r h) = absurd cc
+  split_fault e n (early r h) = inl h
+  split_fault e n (missing r h) = inr (h, refl)
+
+  missing_there : {t : ValueType} → s.result ≡ Some t → (n : ℕ) → IsMissing s.body.stmts s.body.close.start n → IsSectionFault s n
+  missing_there e n h = subst (IsSectionFault s) (sym h.1) (missing e h.0)
+
+  section_by : (r : Option ValueType) → s.result ≡ r → IsLeast (IsSectionFault s) (section_fault_of r s.body.stmts s.body.close.start)
+  section_by None e = least_same (HasReturn s.body.stmts) (IsSectionFault s) (least_return s.body.stmts) (λ n h. no_result e h) (no_result_back e) (return_least s.body.stmts)
+  section_by (Some t) e =
+      least_of_both (HasEarlyReturn s.body.stmts) (IsMissing s.body.stmts s.body.close.start) (IsSectionFault s) (λ n h. early e h) (missing_there e) (split_fault e) (least_early s.body.stmts) (missing_at (does_end s.body.stmts) s.body.close.start) (early_least s.body.stmts) (missing_least s.body.stmts s.body.close.start (does_end s.body.stmts) refl)
+
+-- ---- programs
+
+split_section : {s : Section} {ds : List Decl} (n : ℕ) → IsReturnFault (atomic s ∷ ds) n → IsSectionFault s n ⊎ IsReturnFault ds n
+split_section n (this_section h) = inl h
+split_section n (later_section h) = inr h
+
+lock_back : {x : Ident} {ds : List Decl} (n : ℕ) → IsReturnFault (lock x ∷ ds) n → IsReturnFault ds n
+lock_back n (later_section h) = h
+
+global_back : {v : Variable} {ds : List Decl} (n : ℕ) → IsReturnFault (global v ∷ ds) n → IsReturnFault ds n
+global_back n (later_section h) = h
+
+thread_back : {t : Thread} {ds : List Decl} (n : ℕ) → IsReturnFault (thread t ∷ ds) n → IsReturnFault ds n
+thread_back n (later_section h) = h
+
+pub fault_least : (ds : List Decl) → IsLeast (IsReturnFault ds) (least_fault ds)
+fault_least [] = λ n h. elim h [ ]
+fault_least (atomic s ∷ ds) = least_of_both (IsSectionFault s) (IsReturnFault ds) (IsReturnFault (atomic s ∷ ds)) (λ n h. this_section h) (λ n h. later_section h) split_section (decl_fault (atomic s)) (least_fault ds) (section_by s s.result refl) (fault_least ds)
+fault_least (lock x ∷ ds) = least_same (IsReturnFault ds) (IsReturnFault (lock x ∷ ds)) (least_fault ds) (λ n h. later_section h) lock_back (fault_least ds)
+fault_least (global v ∷ ds) = least_same (IsReturnFault ds) (IsReturnFault (global v ∷ ds)) (least_fault ds) (λ n h. later_section h) global_back (fault_least ds)
+fault_least (thread t ∷ ds) = least_same (IsReturnFault ds) (IsReturnFault (thread t ∷ ds)) (least_fault ds) (λ n h. later_section h) thread_back (fault_least ds)
+
+-- what the pass found
+
+pub returns_right : (ds : List Decl) → least_fault ds ≡ None → ReturnsRight ds
+returns_right ds e = subst (IsLeast (IsReturnFault ds)) e (fault_least ds)
+
+pub first_fault : (ds : List Decl) (n : ℕ) → least_fault ds ≡ Some n → IsFirstReturnFault ds n
+first_fault ds n e = subst (IsLeast (IsReturnFault ds)) e (fault_least ds)
+
+pub not_right : (ds : List Decl) (n : ℕ) → least_fault ds ≡ Some n → ReturnsRight ds → ⊥
+not_right ds n e right = right n (first_fault ds n e).0
+
+pub same_first : (ds : List Decl) (n m : ℕ) → least_fault ds ≡ Some n → IsFirstReturnFault ds m → n ≡ m
+same_first ds n m e f = let g = first_fault ds n e in omega (arith, g.1 m f.0, f.1 n g.0)

@@ -1,0 +1,198 @@
+-- The law of expressions.
+use Rattle.std.proofs.Common.{◌≡◌, ℕ, zero, suc, ◌+◌, ◌≤◌, Bool, true, false, cond, List, [], ◌∷◌, Option, Some, None, Ok, refl, sym, ap, ◌∙◌, subst, arith, le_trans, le_refl}
+use Rattle.std.specs.Prelude.{IfSome}
+use Rattle.source.specs.declared.span.Span.{Span}
+use Rattle.source.specs.declared.token.Sign.{Sign}
+use Rattle.source.specs.declared.token.Sign.TheVariants.{OpenParen, CloseParen, Semicolon, Plus, Minus, Star, Slash, Percent}
+use Rattle.source.specs.Tokens.{Lexeme, name, word, mark, end, Tok}
+use Rattle.source.specs.Tokens as lexeme
+use Rattle.syntax.specs.declared.tree.Op.{Op}
+use Rattle.syntax.specs.declared.tree.Op.TheVariants.{Add, Sub, Mul, Div, Rem}
+use Rattle.syntax.specs.declared.tree.Level.{Level}
+use Rattle.syntax.specs.declared.tree.Level.TheVariants.{Term, Sum}
+use Rattle.syntax.specs.declared.tree.Prefix.{Prefix}
+use Rattle.syntax.specs.declared.tree.Prefix.TheVariants.{Negate}
+use Rattle.syntax.specs.Trees.{lone, Expr, int, place, paren, prefix, Links, no_links, link}
+use Rattle.syntax.specs.Grammar.{tok, sign_of, level_of, prefix_sign, rank, below, PRIM, UNARY, ANY, is_lone, IsExpr, is_int, is_place, is_paren, is_prefix, is_chain, IsLinks, are_no_links, is_link, open_after, IsOpening}
+use Rattle.parser.specs.Reading.{◌>>=◌, Reader, same_sign, refused, too_deep, op_of, before_rest, op_at, link_from, next_link, add_link, links_at, chained, chain_at, in_parens, prim_from, prefix_of, prefix_from, prefix_at, unary_from, unary_with, expr_with, prim_at, operand_at, expr_at, ended_at}
+use Rattle.parser.proofs.Law.{same_sign-true, LawAt, Then, Says, Law, then_law, last_law, give_law, at_rest, said, implies, Head, refuses, deepens, takes, first_law, prefixed, IsTok, is_tok}
+use Rattle.parser.proofs.Laws.{NextAt, NextLaw, SaysNext, many_law}
+use Rattle.parser.proofs.Joined.{Done, done, Both, both, nowhere, Part, ends_with, then_part, production, sign_part}
+
+abbrev pub zero_expr : Expr
+zero_expr = int (record { value = 0; span = nowhere })
+
+-- a chain of lower rank stands where one of higher rank may
+pub raise : {n m : ℕ} {e : Expr} {ts rest : List Tok} → n ≤ m → IsExpr n e ts rest → IsExpr m e ts rest
+raise le is_int = is_int
+raise le (is_place h) = is_place h
+raise le (is_paren h) = is_paren h
+raise le (is_prefix low h) = is_prefix (le_trans low le) h
+raise le (is_chain low first more) = is_chain (le_trans low le) first more
+
+below_rank : (k : Level) → below k ≤ rank k
+below_rank Term = omega arith
+below_rank Sum = omega arith
+
+pub chained_is : (k : Level) (x : Expr) (l : Links) (ts mid rest : List Tok) → IsExpr (below k) x ts mid → IsLinks k l mid rest → IsExpr (rank k) (chained k x l) ts rest
+chained_is k x no_links ts mid rest first are_no_links = raise (below_rank k) first
+chained_is k x (link op y more) ts mid rest first ls = is_chain (le_refl (rank k)) first ls
+
+-- what an operator's token is
+pub op_meant : (k : Level) (kind : Lexeme) → IfSome (op_of k kind) (λ op. (kind ≡ mark (sign_of op)) × (level_of op ≡ k))
+op_meant Sum (mark Plus) = (refl, refl)
+op_meant Sum (mark Minus) = (refl, refl)
+op_meant Term (mark Star) = (refl, refl)
+op_meant Term (mark Slash) = (refl, refl)
+op_meant Term (mark Percent) = (refl, refl)
+op_meant _ _ = tt
+
+op_level : (op : Op) (d : ℕ) → open_after d (mark (sign_of op)) ≡ d
+op_level Add d = refl
+op_level Sub d = refl
+op_level Mul d = refl
+op_level Div d = refl
+op_level Rem d = refl
+
+op_no_opening : (op : Op) → IsOpening (mark (sign_of op)) → ⊥
+op_no_opening Add h = h
+op_no_opening Sub h = h
+op_no_opening Mul h = h
+op_no_opening Div h = h
+op_no_opening Rem h = h
+
+-- an operator and its operand
+pub record IsLink (k : Level) (o : Op × Expr) (ts rest : List Tok) : Type 0 where
+  pub at : Span
+  pub operand : List Tok
+  pub level : level_of o.0 ≡ k
+  pub first : ts ≡ tok (mark (sign_of o.0)) at ∷ operand
+  pub is : IsExpr (below k) o.1 operand rest
+
+link_is : (k : Level) (o : Op × Expr) (l : Links) (ts mid rest : List Tok) → IsLink k o ts mid → IsLinks k l mid rest → IsLinks k (link o.0 o.1 l) ts rest
+link_is k o l ts mid rest a b =
+    subst (λ (us : List Tok). IsLinks k (link o.0 o.1 l) us rest) (sym a.first) (subst (λ (j : Level). IsLinks j (link o.0 o.1 l) (tok (mark (sign_of o.0)) a.at ∷ a.operand) rest) a.level (is_link (subst (λ (j : Level). IsExpr (below j) o.1 a.operand mid) (sym a.level) a.is) (subst (λ (j : Level). IsLinks j l mid rest) (sym a.level) b)))
+
+module _ (limit : ℕ) where
+  module _ (operand : Reader Expr) (k : Level) (d : ℕ) (law : Law limit (IsExpr (below k)) operand 1 d d) where
+    abbrev linked : Op → Reader (Op × Expr)
+    linked op ts = operand ts >>= λ x. Ok ((op, x.0), x.1)
+
+    found_link : (t : Tok) (ts : List Tok) (o : Option Op) → op_of k t.kind ≡ o → IfSome o (λ op. (t.kind ≡ mark (sign_of op)) × (level_of op ≡ k)) → NextAt limit (IsLink k) (next_link operand k) d (t ∷ ts) (link_from operand (before_rest o ts))
+    unfolding op_at
+    found_link t ts None e h = λ other same. ap (λ (us : List Tok). next_link operand k us) same.1 ∙ ap (λ o. link_from operand (before_rest o same.0)) e
+    found_link t ts (Some op) e h =
+        let stays : open_after d t.kind ≡ d = ap (open_after d) h.0 ∙ op_level op d in
+        let inner : Law limit (at_rest (IsLink k) t) (linked op) 1 d d =
+        last_law limit (IsExpr (below k)) (at_rest (IsLink k) t) operand (λ x. (op, x)) 1 d d law (λ x rest ts1 is1. record { at = t.span; operand = ts1; level = h.1; first = ap (λ (j : Lexeme). tok j t.span ∷ ts1) h.0; is = is1 }) in
+        prefixed limit (IsLink k) (Says (linked op)) (SaysNext (next_link operand k)) 1 d d t (λ us q s. ap (λ o. link_from operand (before_rest o us)) e ∙ ap Some s) ts (λ bad. op_is_no_end op (sym h.0 ∙ bad)) (λ o. absurd (op_no_opening op (subst IsOpening h.0 o))) (linked op ts) (subst (λ n. LawAt limit (at_rest (IsLink k) t) (Says (linked op)) 1 n d ts (linked op ts)) (sym stays) (inner ts))
+      where
+        op_is_no_end : (op : Op) → mark (sign_of op) ≡ end → ⊥
+        op_is_no_end op e = cc
+
+    next_link_law : NextLaw limit (IsLink k) (next_link operand k) d
+    unfolding op_at
+    next_link_law [] = λ other same. ap (λ (us : List Tok). next_link operand k us) same
+    next_link_law (t ∷ ts) = found_link t ts (op_of k t.kind) refl (op_meant k t.kind)
+
+    pub links_law : Law limit (IsLinks k) (links_at operand k) 0 d d
+    links_law = many_law limit (IsLink k) (IsLinks k) no_links add_link (next_link operand k) d next_link_law (λ ts. are_no_links) (λ x l ts mid rest a b. link_is k x l ts mid rest a b)
+
+    pub chain_law : Law limit (IsExpr (rank k)) (chain_at operand k) 1 d d
+    unfolding chain_at
+    chain_law =
+        then_law limit (IsExpr (below k)) (IsExpr (rank k)) operand (λ x ts. links_at operand k ts >>= λ l. Ok (chained k x l.0, l.1)) 1 0 d d d law (λ rest. (rest, λ x. (chained k x no_links, λ ts first. chained_is k x no_links ts rest rest first are_no_links))) (λ x. last_law limit (IsLinks k) (Then (IsExpr (below k)) (IsExpr (rank k)) x) (links_at operand k) (chained k x) 0 d d links_law (λ l rest ts1 ls ts2 first. chained_is k x l ts2 ts1 rest first ls))
+
+  -- ---- operators before an operand
+
+  prefix_meant : (kind : Lexeme) → IfSome (prefix_of kind) (λ op. kind ≡ mark (prefix_sign op))
+  prefix_meant (mark Minus) = refl
+  prefix_meant _ = tt
+
+  prefix_level : (op : Prefix) (d : ℕ) → open_after d (mark (prefix_sign op)) ≡ d
+  prefix_level Negate d = refl
+
+  prefix_no_opening : (op : Prefix) → IsOpening (mark (prefix_sign op)) → ⊥
+  prefix_no_opening Negate h = h
+
+  prefix_is_no_end : (op : Prefix) → mark (prefix_sign op) ≡ end → ⊥
+  prefix_is_no_end op e = cc
+
+  module _ (prim : Reader Expr) (d : ℕ) (law : Law limit (IsExpr PRIM) prim 1 d d) where
+    abbrev prefixed_by : Prefix → Span → Reader Expr
+    prefixed_by op at ts = prim ts >>= λ e. Ok (prefix op at e.0, e.1)
+
+    found_prefix : (t : Tok) (ts : List Tok) (o : Option Prefix) → prefix_of t.kind ≡ o → IfSome o (λ op. t.kind ≡ mark (prefix_sign op)) → LawAt limit (IsExpr UNARY) (Says (unary_with prim)) 1 d d (t ∷ ts) (unary_from prim (prefix_from o t.span ts) (t ∷ ts))
+    unfolding unary_with prefix_at
+    found_prefix t ts None e h = said limit (IsExpr UNARY) (Says prim) (Says (unary_with prim)) 1 d d (t ∷ ts) (λ us q same s. ap (λ (vs : List Tok). unary_with prim vs) same.1 ∙ ap (λ o. unary_from prim (prefix_from o t.span same.0) (t ∷ same.0)) e ∙ ap prim (sym same.1) ∙ s) (prim (t ∷ ts)) (implies limit (IsExpr PRIM) (IsExpr UNARY) (Says prim) 1 d d (t ∷ ts) (λ x us rest is. raise (omega arith) is) (prim (t ∷ ts)) (law (t ∷ ts)))
+    found_prefix t ts (Some op) e h =
+        let stays : open_after d t.kind ≡ d = ap (open_after d) h ∙ prefix_level op d in
+        let same : t ≡ tok (mark (prefix_sign op)) t.span = ap (λ (k : Lexeme). tok k t.span) h in
+        let inner : Law limit (at_rest (IsExpr UNARY) t) (prefixed_by op t.span) 1 d d =
+        last_law limit (IsExpr PRIM) (at_rest (IsExpr UNARY) t) prim (prefix op t.span) 1 d d law (λ x rest ts1 is. subst (λ (u : Tok). IsExpr UNARY (prefix op t.span x) (u ∷ ts1) rest) (sym same) (is_prefix (omega arith) is)) in
+        prefixed limit (IsExpr UNARY) (Says (prefixed_by op t.span)) (Says (unary_with prim)) 1 d d t (λ us q s. ap (λ o. unary_from prim (prefix_from o t.span us) (t ∷ us)) e ∙ s) ts (λ bad. prefix_is_no_end op (sym h ∙ bad)) (λ o. absurd (prefix_no_opening op (subst IsOpening h o))) (prefixed_by op t.span ts) (subst (λ n. LawAt limit (at_rest (IsExpr UNARY) t) (Says (prefixed_by op t.span)) 1 n d ts (prefixed_by op t.span ts)) (sym stays) (inner ts))
+
+    unary_nothing : LawAt limit (IsExpr UNARY) (Says (unary_with prim)) 1 d d [] (prim [])
+    unfolding unary_with prefix_at
+    unary_nothing = said limit (IsExpr UNARY) (Says prim) (Says (unary_with prim)) 1 d d [] (λ us q same s. ap (λ (vs : List Tok). unary_with prim vs) same ∙ ap prim (sym same) ∙ s) (prim []) (implies limit (IsExpr PRIM) (IsExpr UNARY) (Says prim) 1 d d [] (λ x us rest is. raise (omega arith) is) (prim []) (law []))
+
+    pub unary_law : Law limit (IsExpr UNARY) (unary_with prim) 1 d d
+    unfolding unary_with prefix_at
+    unary_law [] = unary_nothing
+    unary_law (t ∷ ts) = found_prefix t ts (prefix_of t.kind) refl (prefix_meant t.kind)
+
+  -- ---- numbers, places and parentheses
+
+  paren_head : (parens : Span → Reader Expr) (d : ℕ) → ((at : Span) → Head limit (IsExpr PRIM) d d (mark OpenParen) at (parens at)) → (m : Sign) (at : Span) (b : Bool) → same_sign m OpenParen ≡ b → Head limit (IsExpr PRIM) d d (mark m) at (λ ts. cond b (parens at ts) (refused ts))
+  paren_head parens d h m at true e = subst (λ (s : Sign). Head limit (IsExpr PRIM) d d (mark s) at (parens at)) (sym (same_sign-true m OpenParen e)) (h at)
+  paren_head parens d h m at false e = refuses (λ ts. refl)
+
+  prim_head : (parens : Span → Reader Expr) (d : ℕ) → ((at : Span) → Head limit (IsExpr PRIM) d d (mark OpenParen) at (parens at)) → (k : Lexeme) (at : Span) → Head limit (IsExpr PRIM) d d k at (prim_from parens k at)
+  prim_head parens d h (lexeme.int n) at = takes 0 (λ e. cc) (λ o. absurd o) (give_law limit (at_rest (IsExpr PRIM) (tok (lexeme.int n) at)) (int (record { value = n; span = at })) d (λ ts. is_int))
+  prim_head parens d h (name x) at = takes 0 (λ e. cc) (λ o. absurd o) (give_law limit (at_rest (IsExpr PRIM) (tok (name x) at)) (place (lone (record { text = x; span = at }))) d (λ ts. is_place is_lone))
+  prim_head parens d h (mark m) at = paren_head parens d h m at (same_sign m OpenParen) refl
+  prim_head parens d h _ at = refuses (λ ts. refl)
+
+  pub any_part : {P : Type 0} (f : Reader Expr) (d : ℕ) → (P → Law limit (IsExpr ANY) f 1 d d) → Part limit P (IsExpr ANY) f 1 d d
+  any_part f d law = record { law = law; can = λ rest. (zero_expr, tok (lexeme.int 0) nowhere ∷ rest, is_int) }
+
+  parens_is : {y : Expr} {at : Span} {ts rest : List Tok} → Both (IsExpr ANY) (λ e. Both (IsTok (mark CloseParen)) (λ c. Done (paren at e))) y ts rest → IsExpr PRIM y (tok (mark OpenParen) at ∷ ts) rest
+  parens_is (both e (both is_tok done)) = is_paren e
+
+  parens_law : (inner : Reader Expr) (d : ℕ) → Law limit (IsExpr ANY) inner 1 (suc d) (suc d) → (at : Span) → Law limit (at_rest (IsExpr PRIM) (tok (mark OpenParen) at)) (in_parens inner at) 1 (suc d) d
+  parens_law inner d law at =
+      production limit (at_rest (IsExpr PRIM) (tok (mark OpenParen) at))
+      (then_part limit (any_part inner (suc d) (λ p. law)) (then_part limit (sign_part limit CloseParen (suc d) (λ o. o)) (ends_with limit (λ x. paren at x.0.1))))
+      (λ y ts rest r. parens_is r)
+
+  pub prim_law : (room d : ℕ) → d + room ≡ limit → Law limit (IsExpr PRIM) (prim_at room) 1 d d
+  unfolding prim_at
+  prim_law zero d sum = first_law limit (IsExpr PRIM) (prim_from (λ at. too_deep)) d d (prim_head (λ at. too_deep) d (λ at. deepens tt (omega arith) (λ rest. (paren at zero_expr, tok (lexeme.int 0) nowhere ∷ tok (mark CloseParen) at ∷ rest, is_paren is_int)) (λ ts. refl)))
+  prim_law (suc room) d sum =
+      let inner = chain_law (chain_at (unary_with (prim_at room)) Term) Sum (suc d) (chain_law (unary_with (prim_at room)) Term (suc d) (unary_law (prim_at room) (suc d) (prim_law room (suc d) (omega arith)))) in
+      first_law limit (IsExpr PRIM) (prim_from (in_parens (expr_with (prim_at room)))) d d (prim_head (in_parens (expr_with (prim_at room))) d (λ at. takes 1 (λ e. cc) (λ o. omega arith) (parens_law (expr_with (prim_at room)) d inner at)))
+
+  pub operand_law : (k : Level) (room d : ℕ) → d + room ≡ limit → Law limit (IsExpr (below k)) (operand_at k room) 1 d d
+  operand_law Term room d sum = unary_law (prim_at room) d (prim_law room d sum)
+  operand_law Sum room d sum = chain_law (operand_at Term room) Term d (unary_law (prim_at room) d (prim_law room d sum))
+
+  pub expr_law : (room d : ℕ) → d + room ≡ limit → Law limit (IsExpr ANY) (expr_at room) 1 d d
+  expr_law room d sum = chain_law (operand_at Sum room) Sum d (operand_law Sum room d sum)
+
+-- an expression and its semicolon
+pub data IsEnded (e : Expr) (ts rest : List Tok) : Type 0 where
+  ended : {semicolon : Span} → IsExpr ANY e ts (tok (mark Semicolon) semicolon ∷ rest) → IsEnded e ts rest
+
+ended_is : {e : Expr} {ts rest : List Tok} → Both (IsExpr ANY) (λ e. Both (IsTok (mark Semicolon)) (λ s. Done e)) e ts rest → IsEnded e ts rest
+ended_is (both e (both is_tok done)) = ended e
+
+module _ (limit room d : ℕ) (sum : d + room ≡ limit) where
+  pub ended_law : Law limit IsEnded (ended_at room) 1 d d
+  unfolding ended_at
+  ended_law =
+      production limit IsEnded
+      (then_part limit (any_part limit (expr_at room) d (λ p. expr_law limit room d sum)) (then_part limit (sign_part limit Semicolon d (λ o. o)) (ends_with limit (λ x. x.0.1))))
+      (λ y ts rest r. ended_is r)
+
+  pub ended_part : {P : Type 0} → Part limit P IsEnded (ended_at room) 1 d d
+  ended_part = record { law = λ p. ended_law; can = λ rest. (zero_expr, tok (lexeme.int 0) nowhere ∷ tok (mark Semicolon) nowhere ∷ rest, ended is_int) }

@@ -1,0 +1,189 @@
+//! Types, constants, parameters, and lists of them.
+
+ghost use Rattle.std.specs.Prelude.{◌≡◌, map};
+ghost use Rattle.source.specs.Tokens.{seen};
+ghost use Rattle.source.specs.declared.token.Sign.TheVariants.{Colon, Dot, Equals};
+ghost use Rattle.source.specs.Tokens.{word, mark};
+ghost use Rattle.source.specs.declared.token.Keyword.TheVariants.{ProtectedBy};
+ghost use Rattle.syntax.specs.Views.{ident, type_of, const_of, param_of, protection_of, option_of};
+ghost use Rattle.parser.specs.Reading.{Gives, type_at, const_at, name_at, param_at, params_at, listed_at, after_at, after_each, maybe_at, protection_at};
+
+use crate::stop::Stop;
+use crate::take::{
+    after_sign, is_same, is_sign_next, is_word_next, take_int, take_name, take_open, take_sign,
+    take_word,
+};
+use source::token::{Keyword, Kind, Sign, Token};
+use std::alloc::Global;
+use syntax::tree::{Const, Name, Number, Param, Protection, ValueType};
+
+/// A type.
+#[tactic(auto, unfolding(crate::specs::Reading::type_at))]
+pub fn value_type(tokens: &[Token]) -> Result<(ValueType, &[Token]), Stop>
+    ensures { Gives (λ x. (type_of x.0, seen x.1.now)) result (type_at (seen tokens.now)) }
+{
+    let [first, rest @ ..] = tokens else {
+        return Err(Stop::Unexpected(0));
+    };
+    match &first.kind {
+        Kind::Word(Keyword::Int) => Ok((ValueType::Int, rest)),
+        _ => Err(Stop::Unexpected(tokens.len())),
+    }
+}
+
+/// A constant.
+#[tactic(auto, unfolding(crate::specs::Reading::const_at))]
+pub fn constant(tokens: &[Token]) -> Result<(Const, &[Token]), Stop>
+    ensures { Gives (λ x. (const_of x.0, seen x.1.now)) result (const_at (seen tokens.now)) }
+{
+    let [first, rest @ ..] = tokens else {
+        return Err(Stop::Unexpected(0));
+    };
+    match &first.kind {
+        Kind::Int(value) => Ok((
+            Const::Int(Number {
+                value: *value,
+                span: first.span,
+            }),
+            rest,
+        )),
+        Kind::Mark(mark) => {
+            if !is_same(*mark, Sign::Minus) {
+                return Err(Stop::Unexpected(tokens.len()));
+            }
+            let (number, rest) = take_int(rest)?;
+            Ok((Const::Negative(first.span, number), rest))
+        }
+        _ => Err(Stop::Unexpected(tokens.len())),
+    }
+}
+
+/// A parameter.
+#[tactic(auto, unfolding(crate::specs::Reading::param_at))]
+fn param(alloc: Global, tokens: &[Token]) -> Result<(Param, &[Token]), Stop>
+    ensures { Gives (λ x. (param_of x.0, seen x.1.now)) result (param_at (seen tokens.now)) }
+{
+    let (value_type, rest) = value_type(tokens)?;
+    let (name, rest) = take_name(alloc, rest)?;
+    Ok((Param { name, value_type }, rest))
+}
+
+/// Parameters with commas between them, up to a closing parenthesis.
+fn param_list(alloc: Global, tokens: &[Token]) -> Result<(Vec<Param>, &[Token]), Stop>
+    ensures { Gives (λ x. (map param_of x.0.items, seen x.1.now)) result (listed_at param_at (seen tokens.now)) }
+{
+    let mut params = Vec::new(alloc);
+    if is_sign_next(tokens, Sign::CloseParen) {
+        return Ok((params, tokens));
+    }
+    let (first, mut rest) = param(alloc, tokens)?;
+    params.push(first)?;
+    while let Some(after) = after_sign(rest, Sign::Comma) {
+        let (next, after) = param(alloc, after)?;
+        params.push(next)?;
+        rest = after;
+    }
+    Ok((params, rest))
+}
+
+/// Parameters in parentheses.
+#[tactic(auto, unfolding(crate::specs::Reading::params_at))]
+pub fn params(alloc: Global, tokens: &[Token], room: u32) -> Result<(Vec<Param>, &[Token]), Stop>
+    ensures { Gives (λ x. (map param_of x.0.items, seen x.1.now)) result (params_at room (seen tokens.now)) }
+{
+    let (_, rest) = take_open(tokens, Sign::OpenParen, room)?;
+    let (params, rest) = param_list(alloc, rest)?;
+    let (_, rest) = take_sign(rest, Sign::CloseParen)?;
+    Ok((params, rest))
+}
+
+/// Constants with commas between them, up to a closing parenthesis.
+pub fn constants(alloc: Global, tokens: &[Token]) -> Result<(Vec<Const>, &[Token]), Stop>
+    ensures { Gives (λ x. (map const_of x.0.items, seen x.1.now)) result (listed_at const_at (seen tokens.now)) }
+{
+    let mut constants = Vec::new(alloc);
+    if is_sign_next(tokens, Sign::CloseParen) {
+        return Ok((constants, tokens));
+    }
+    let (first, mut rest) = constant(tokens)?;
+    constants.push(first)?;
+    while let Some(after) = after_sign(rest, Sign::Comma) {
+        let (next, after) = constant(after)?;
+        constants.push(next)?;
+        rest = after;
+    }
+    Ok((constants, rest))
+}
+
+/// Names, each behind a dot.
+fn names_after_dots(alloc: Global, tokens: &[Token]) -> Result<(Vec<Name>, &[Token]), Stop>
+    ensures { Gives (λ x. (map ident x.0.items, seen x.1.now)) result (after_each Dot name_at (seen tokens.now)) }
+{
+    let mut names = Vec::new(alloc);
+    let mut rest = tokens;
+    while let Some(after) = after_sign(rest, Sign::Dot) {
+        let (next, after) = take_name(alloc, after)?;
+        names.push(next)?;
+        rest = after;
+    }
+    Ok((names, rest))
+}
+
+/// An annotation.
+#[tactic(auto, unfolding(crate::specs::Reading::protection_at))]
+fn some_protection(
+    alloc: Global,
+    tokens: &[Token],
+    room: u32,
+) -> Result<(Protection, &[Token]), Stop>
+    ensures { Gives (λ x. (protection_of x.0, seen x.1.now)) result (protection_at room (seen tokens.now)) }
+{
+    let (_, after) = take_word(tokens, Keyword::ProtectedBy)?;
+    let (_, after) = take_open(after, Sign::OpenParen, room)?;
+    let (first, after) = take_name(alloc, after)?;
+    let (rest, after) = names_after_dots(alloc, after)?;
+    let (_, after) = take_sign(after, Sign::CloseParen)?;
+    Ok((Protection { first, rest }, after))
+}
+
+/// An annotation, or nothing.
+#[tactic(auto, unfolding(crate::specs::Reading::maybe_at))]
+pub fn protection(
+    alloc: Global,
+    tokens: &[Token],
+    room: u32,
+) -> Result<(Option<Protection>, &[Token]), Stop>
+    ensures { Gives (λ x. (option_of protection_of x.0, seen x.1.now)) result (maybe_at (word ProtectedBy) (protection_at room) (seen tokens.now)) }
+{
+    if !is_word_next(tokens, Keyword::ProtectedBy) {
+        return Ok((None, tokens));
+    }
+    let (protection, rest) = some_protection(alloc, tokens, room)?;
+    Ok((Some(protection), rest))
+}
+
+/// A constant behind `=`, or nothing.
+#[tactic(auto, unfolding(crate::specs::Reading::maybe_at, crate::specs::Reading::after_at))]
+pub fn opening_value(tokens: &[Token]) -> Result<(Option<Const>, &[Token]), Stop>
+    ensures { Gives (λ x. (option_of const_of x.0, seen x.1.now)) result (maybe_at (mark Equals) (after_at Equals const_at) (seen tokens.now)) }
+{
+    if !is_sign_next(tokens, Sign::Equals) {
+        return Ok((None, tokens));
+    }
+    let (_, rest) = take_sign(tokens, Sign::Equals)?;
+    let (value, rest) = constant(rest)?;
+    Ok((Some(value), rest))
+}
+
+/// A type behind `:`, or nothing.
+#[tactic(auto, unfolding(crate::specs::Reading::maybe_at, crate::specs::Reading::after_at))]
+pub fn result_type(tokens: &[Token]) -> Result<(Option<ValueType>, &[Token]), Stop>
+    ensures { Gives (λ x. (option_of type_of x.0, seen x.1.now)) result (maybe_at (mark Colon) (after_at Colon type_at) (seen tokens.now)) }
+{
+    if !is_sign_next(tokens, Sign::Colon) {
+        return Ok((None, tokens));
+    }
+    let (_, rest) = take_sign(tokens, Sign::Colon)?;
+    let (value_type, rest) = value_type(rest)?;
+    Ok((Some(value_type), rest))
+}

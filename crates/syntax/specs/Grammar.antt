@@ -1,0 +1,248 @@
+-- The grammar: which tokens spell which tree.
+-- Each fact is between a part of a tree, the tokens from its first one on, and the tokens after it.
+use Rattle.std.specs.Prelude.{◌≡◌, ℕ, zero, suc, ◌<◌, ◌≤◌, List, [], ◌∷◌, ◌++◌, Option, Some, None}
+use Rattle.source.specs.declared.span.Span.{Span}
+use Rattle.source.specs.declared.token.Keyword.TheVariants as keyword
+use Rattle.source.specs.declared.token.Sign.{Sign}
+use Rattle.source.specs.declared.token.Sign.TheVariants.{OpenBrace, CloseBrace, OpenParen, CloseParen, OpenBracket, CloseBracket, Semicolon, Comma, Colon, Dot, Equals, Plus, Minus, Star, Slash, Percent}
+use Rattle.source.specs.Tokens.{Lexeme, name, word, mark, end, Tok}
+use Rattle.source.specs.Tokens as lexeme
+use Rattle.syntax.specs.declared.tree.Op.{Op}
+use Rattle.syntax.specs.declared.tree.Op.TheVariants.{Add, Sub, Mul, Div, Rem}
+use Rattle.syntax.specs.declared.tree.Level.{Level}
+use Rattle.syntax.specs.declared.tree.Level.TheVariants.{Term, Sum}
+use Rattle.syntax.specs.declared.tree.Prefix.{Prefix}
+use Rattle.syntax.specs.declared.tree.Prefix.TheVariants.{Negate}
+use Rattle.syntax.specs.declared.tree.Number.{Number}
+use Rattle.syntax.specs.Trees.{Ident, ValueType, int_type, Const, int_const, negative, Place, lone, Expr, int, place, paren, prefix, chain, Links, no_links, link, Local, Stmt, let_local, var_local, assign, print, return_value, Stmts, no_stmts, stmt, Block, Protection, Variable, Param, Section, Call, Item, call, Items, no_items, item, Thread, Decl, lock, global, atomic, thread}
+
+abbrev pub tok : Lexeme → Span → Tok
+tok k at = record { kind = k; span = at }
+
+-- a name and a number as tokens
+abbrev pub name_tok : Ident → Tok
+name_tok n = tok (name n.text) n.span
+
+abbrev pub int_tok : Number → Tok
+int_tok n = tok (lexeme.int n.value) n.span
+
+-- ---- parts that may be left out, and lists
+
+-- the part, or nothing
+pub data IsOptional {A : Type 0} (R : A → List Tok → List Tok → Type 0) : Option A → List Tok → List Tok → Type 0 where
+  left_out : {ts : List Tok} → IsOptional R None ts ts
+  given : {x : A} {ts rest : List Tok} → R x ts rest → IsOptional R (Some x) ts rest
+
+-- any number of parts, one after the other
+pub data AreMany {A : Type 0} (R : A → List Tok → List Tok → Type 0) : List A → List Tok → List Tok → Type 0 where
+  no_more : {ts : List Tok} → AreMany R [] ts ts
+  one_more : {x : A} {xs : List A} {ts mid rest : List Tok} → R x ts mid → AreMany R xs mid rest → AreMany R (x ∷ xs) ts rest
+
+-- a part behind a sign
+pub data IsAfter {A : Type 0} (s : Sign) (R : A → List Tok → List Tok → Type 0) : A → List Tok → List Tok → Type 0 where
+  after : {x : A} {at : Span} {ts rest : List Tok} → R x ts rest → IsAfter s R x (tok (mark s) at ∷ ts) rest
+
+-- any number of parts, with commas between them
+pub data AreListed {A : Type 0} (R : A → List Tok → List Tok → Type 0) : List A → List Tok → List Tok → Type 0 where
+  none_listed : {ts : List Tok} → AreListed R [] ts ts
+  listed : {x : A} {xs : List A} {ts mid rest : List Tok} → R x ts mid → AreMany (IsAfter Comma R) xs mid rest → AreListed R (x ∷ xs) ts rest
+
+-- ---- names, types, constants
+
+pub data IsName : Ident → List Tok → List Tok → Type 0 where
+  is_name : {x : Ident} {ts : List Tok} → IsName x (name_tok x ∷ ts) ts
+
+pub data IsType : ValueType → List Tok → List Tok → Type 0 where
+  is_int_type : {at : Span} {ts : List Tok} → IsType int_type (tok (word keyword.Int) at ∷ ts) ts
+
+pub data IsConst : Const → List Tok → List Tok → Type 0 where
+  is_int_const : {n : Number} {ts : List Tok} → IsConst (int_const n) (int_tok n ∷ ts) ts
+  is_negative : {n : Number} {sign : Span} {ts : List Tok} → IsConst (negative sign n) (tok (mark Minus) sign ∷ int_tok n ∷ ts) ts
+
+-- ---- expressions
+
+abbrev pub sign_of : Op → Sign
+sign_of Add = Plus
+sign_of Sub = Minus
+sign_of Mul = Star
+sign_of Div = Slash
+sign_of Rem = Percent
+
+abbrev pub level_of : Op → Level
+level_of Add = Sum
+level_of Sub = Sum
+level_of Mul = Term
+level_of Div = Term
+level_of Rem = Term
+
+abbrev pub prefix_sign : Prefix → Sign
+prefix_sign Negate = Minus
+
+-- how loosely an expression binds, from a lone one up to any
+abbrev pub PRIM : ℕ
+PRIM = 0
+
+abbrev pub UNARY : ℕ
+UNARY = 1
+
+-- a chain of a level binds by its rank, and its operands bind tighter
+abbrev pub rank : Level → ℕ
+rank Term = 2
+rank Sum = 3
+
+abbrev pub below : Level → ℕ
+below Term = 1
+below Sum = 2
+
+-- any expression
+abbrev pub ANY : ℕ
+ANY = 3
+
+pub data IsPlace : Place → List Tok → List Tok → Type 0 where
+  is_lone : {x : Ident} {ts : List Tok} → IsPlace (lone x) (name_tok x ∷ ts) ts
+
+mutual
+  -- an expression that binds so loosely at most
+  pub data IsExpr : ℕ → Expr → List Tok → List Tok → Type 0 where
+    is_int : {n : ℕ} {v : Number} {ts : List Tok} → IsExpr n (int v) (int_tok v ∷ ts) ts
+    is_place : {n : ℕ} {p : Place} {ts rest : List Tok} → IsPlace p ts rest → IsExpr n (place p) ts rest
+    is_paren : {n : ℕ} {e : Expr} {at close : Span} {ts rest : List Tok}
+        → IsExpr ANY e ts (tok (mark CloseParen) close ∷ rest)
+        → IsExpr n (paren at e) (tok (mark OpenParen) at ∷ ts) rest
+    is_prefix : {n : ℕ} {op : Prefix} {e : Expr} {at : Span} {ts rest : List Tok}
+        → UNARY ≤ n → IsExpr PRIM e ts rest
+        → IsExpr n (prefix op at e) (tok (mark (prefix_sign op)) at ∷ ts) rest
+    is_chain : {n : ℕ} {k : Level} {first x : Expr} {op : Op} {more : Links} {ts mid rest : List Tok}
+        → rank k ≤ n → IsExpr (below k) first ts mid → IsLinks k (link op x more) mid rest
+        → IsExpr n (chain k first (link op x more)) ts rest
+
+  -- operators of a level, each with its operand
+  pub data IsLinks : Level → Links → List Tok → List Tok → Type 0 where
+    are_no_links : {k : Level} {ts : List Tok} → IsLinks k no_links ts ts
+    is_link : {op : Op} {x : Expr} {more : Links} {at : Span} {ts mid rest : List Tok}
+        → IsExpr (below (level_of op)) x ts mid → IsLinks (level_of op) more mid rest
+        → IsLinks (level_of op) (link op x more) (tok (mark (sign_of op)) at ∷ ts) rest
+
+-- ---- statements
+
+-- `let` and `var`, behind their first word
+pub data IsLocal : Local → List Tok → List Tok → Type 0 where
+  is_local : {l : Local} {colon equals semicolon : Span} {ts mid rest : List Tok}
+      → IsType l.value_type ts (tok (mark Equals) equals ∷ mid)
+      → IsExpr ANY l.value mid (tok (mark Semicolon) semicolon ∷ rest)
+      → IsLocal l (name_tok l.name ∷ tok (mark Colon) colon ∷ ts) rest
+
+pub data IsStmt : Stmt → List Tok → List Tok → Type 0 where
+  is_let : {l : Local} {ts rest : List Tok} → IsLocal l ts rest → IsStmt (let_local l) (tok (word keyword.Let) l.start ∷ ts) rest
+  is_var : {l : Local} {ts rest : List Tok} → IsLocal l ts rest → IsStmt (var_local l) (tok (word keyword.Var) l.start ∷ ts) rest
+  is_assign : {p : Place} {e : Expr} {equals semicolon : Span} {ts mid rest : List Tok}
+      → IsPlace p ts (tok (mark Equals) equals ∷ mid)
+      → IsExpr ANY e mid (tok (mark Semicolon) semicolon ∷ rest)
+      → IsStmt (assign p e) ts rest
+  is_print : {e : Expr} {start semicolon : Span} {ts rest : List Tok}
+      → IsExpr ANY e ts (tok (mark Semicolon) semicolon ∷ rest)
+      → IsStmt (print start e) (tok (word keyword.Print) start ∷ ts) rest
+  is_return : {e : Expr} {start semicolon : Span} {ts rest : List Tok}
+      → IsExpr ANY e ts (tok (mark Semicolon) semicolon ∷ rest)
+      → IsStmt (return_value start e) (tok (word keyword.Return) start ∷ ts) rest
+
+pub data IsStmts : Stmts → List Tok → List Tok → Type 0 where
+  are_no_stmts : {ts : List Tok} → IsStmts no_stmts ts ts
+  are_stmts : {s : Stmt} {more : Stmts} {ts mid rest : List Tok}
+      → IsStmt s ts mid → IsStmts more mid rest → IsStmts (stmt s more) ts rest
+
+pub data IsBlock : Block → List Tok → List Tok → Type 0 where
+  is_block : {b : Block} {begin : Span} {ts rest : List Tok}
+      → IsStmts b.stmts ts (tok (mark CloseBrace) b.close ∷ rest)
+      → IsBlock b (tok (mark OpenBrace) begin ∷ ts) rest
+
+-- ---- declarations
+
+pub data IsProtection : Protection → List Tok → List Tok → Type 0 where
+  is_protection : {p : Protection} {start begin close : Span} {ts rest : List Tok}
+      → AreMany (IsAfter Dot IsName) p.rest ts (tok (mark CloseParen) close ∷ rest)
+      → IsProtection p (tok (word keyword.ProtectedBy) start ∷ tok (mark OpenParen) begin ∷ name_tok p.first ∷ ts) rest
+
+pub data IsVariable : Variable → List Tok → List Tok → Type 0 where
+  is_variable : {v : Variable} {semicolon : Span} {ts1 ts2 ts3 rest : List Tok}
+      → IsType v.value_type ts1 (name_tok v.name ∷ ts2)
+      → IsOptional IsProtection v.protection ts2 ts3
+      → IsOptional (IsAfter Equals IsConst) v.value ts3 (tok (mark Semicolon) semicolon ∷ rest)
+      → IsVariable v ts1 rest
+
+pub data IsParam : Param → List Tok → List Tok → Type 0 where
+  is_param : {p : Param} {ts rest : List Tok} → IsType p.value_type ts (name_tok p.name ∷ rest) → IsParam p ts rest
+
+pub data IsSection : Section → List Tok → List Tok → Type 0 where
+  is_section : {s : Section} {before after : Span} {ts1 ts2 ts3 rest : List Tok}
+      → AreListed IsParam s.params ts1 (tok (mark CloseParen) after ∷ ts2)
+      → IsOptional (IsAfter Colon IsType) s.result ts2 ts3
+      → IsBlock s.body ts3 rest
+      → IsSection s (name_tok s.name ∷ tok (mark OpenParen) before ∷ ts1) rest
+
+pub data IsCall : Call → List Tok → List Tok → Type 0 where
+  is_call : {c : Call} {before after semicolon : Span} {ts rest : List Tok}
+      → AreListed IsConst c.arguments ts (tok (mark CloseParen) after ∷ tok (mark Semicolon) semicolon ∷ rest)
+      → IsCall c (name_tok c.section ∷ tok (mark OpenParen) before ∷ ts) rest
+
+pub data IsItem : Item → List Tok → List Tok → Type 0 where
+  is_call_item : {c : Call} {ts rest : List Tok} → IsCall c ts rest → IsItem (call c) ts rest
+
+pub data IsItems : Items → List Tok → List Tok → Type 0 where
+  are_no_items : {ts : List Tok} → IsItems no_items ts ts
+  are_items : {i : Item} {more : Items} {ts mid rest : List Tok}
+      → IsItem i ts mid → IsItems more mid rest → IsItems (item i more) ts rest
+
+pub data IsThread : Thread → List Tok → List Tok → Type 0 where
+  is_thread : {t : Thread} {begin close : Span} {ts rest : List Tok}
+      → IsItems t.items ts (tok (mark CloseBrace) close ∷ rest)
+      → IsThread t (name_tok t.name ∷ tok (mark OpenBrace) begin ∷ ts) rest
+
+pub data IsDecl : Decl → List Tok → List Tok → Type 0 where
+  is_lock : {x : Ident} {start semicolon : Span} {rest : List Tok}
+      → IsDecl (lock x) (tok (word keyword.Lock) start ∷ name_tok x ∷ tok (mark Semicolon) semicolon ∷ rest) rest
+  is_global : {v : Variable} {start : Span} {ts rest : List Tok} → IsVariable v ts rest → IsDecl (global v) (tok (word keyword.Global) start ∷ ts) rest
+  is_atomic : {s : Section} {start : Span} {ts rest : List Tok} → IsSection s ts rest → IsDecl (atomic s) (tok (word keyword.Atomic) start ∷ ts) rest
+  is_thread_decl : {t : Thread} {start : Span} {ts rest : List Tok} → IsThread t ts rest → IsDecl (thread t) (tok (word keyword.Thread) start ∷ ts) rest
+
+-- the tokens spell the program, whatever the nesting: declarations, and the end of the text
+pub data Spells : List Decl → List Tok → Type 0 where
+  spells : {ds : List Decl} {at : Span} {ts : List Tok} → AreMany IsDecl ds ts (tok end at ∷ []) → Spells ds ts
+
+-- ---- nesting
+
+abbrev pub one_less : ℕ → ℕ
+one_less zero = zero
+one_less (suc n) = n
+
+-- how many opening signs are still open after a token, given how many were before it
+abbrev pub open_after : ℕ → Lexeme → ℕ
+open_after n (mark OpenBrace) = suc n
+open_after n (mark OpenParen) = suc n
+open_after n (mark OpenBracket) = suc n
+open_after n (mark CloseBrace) = one_less n
+open_after n (mark CloseParen) = one_less n
+open_after n (mark CloseBracket) = one_less n
+open_after n _ = n
+
+-- and after tokens
+abbrev pub nesting : ℕ → List Tok → ℕ
+nesting n [] = n
+nesting n (t ∷ ts) = nesting (open_after n t.kind) ts
+
+abbrev pub IsOpening : Lexeme → Type 0
+IsOpening (mark OpenBrace) = Unit {0}
+IsOpening (mark OpenParen) = Unit {0}
+IsOpening (mark OpenBracket) = Unit {0}
+IsOpening _ = ⊥
+
+abbrev pub LIMIT : ℕ
+LIMIT = 64
+
+-- each opening sign has a nesting below the limit
+abbrev pub IsShallow : List Tok → Type 0
+IsShallow ts = (before after : List Tok) (t : Tok) → ts ≡ before ++ t ∷ after → IsOpening t.kind → nesting 0 before < LIMIT
+
+-- the tokens have this tree
+abbrev pub HasTree : List Tok → List Decl → Type 0
+HasTree ts ds = Spells ds ts × IsShallow ts

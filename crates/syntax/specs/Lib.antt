@@ -1,0 +1,5 @@
+pub mod Trees
+pub mod Views
+pub mod Grammar
+pub mod Returns
+pub mod Faults

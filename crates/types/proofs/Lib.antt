@@ -1,0 +1,16 @@
+pub mod Least
+pub mod CoreRows
+pub mod Tables
+pub mod Joined
+pub mod Chains
+pub mod Bodies
+pub mod Declarations
+pub mod Programs
+pub mod Members
+pub mod Orders
+pub mod TrueFaults
+pub mod AllFaults
+pub mod Faultless
+pub mod Resolved
+pub mod Extended
+pub mod Formed

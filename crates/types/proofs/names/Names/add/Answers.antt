@@ -1,0 +1,15 @@
+use Rattle.std.proofs.Common.{◌≡◌, ◌∙◌, sym, subst, ap, Some, None, string_bytes, rules, arith, String, Global, List, ℕ}
+use Rattle.std.specs.Map.{update}
+use Rattle.std.specs.Str.{bytes_eq}
+use Rattle.std.proofs.lemmas.Grind.{common_steps}
+use Rattle.std.proofs.lemmas.Map.Text.{hash_map_updates_text}
+use Rattle.types.specs.Found.{found}
+use Rattle.types.proofs.Tables.{table-first}
+use Rattle.types.proofs.names.Names.add.Goals as goal
+
+pub returns-in_ok-insert : goal.returns-in_ok-insert
+returns-in_ok-insert c = λ q.
+    let same : string_bytes c.in_ok-clone.field-0 ≡ string_bytes c.args.name.now = search rules in
+    let none : found c.args.self.now (string_bytes c.args.name.now) ≡ None = search rules in
+    hash_map_updates_text (string_bytes c.in_ok-clone.field-0) c.args.self.now.places c.insert.new.self (Some c.args.place) c.in_ok-insert.ensures.updates q
+    ∙ ap (λ (k : List ℕ). update bytes_eq (found c.args.self.now) k (Some c.args.place) q) same ∙ table-first (found c.args.self.now) (string_bytes c.args.name.now) q c.args.place none

@@ -1,0 +1,13 @@
+pub mod Core
+pub mod CoreViews
+pub mod Scopes
+pub mod Limits
+pub mod Resolution
+pub mod Resolved
+pub mod Faults
+pub mod Order
+pub mod FaultLists
+pub mod Leasts
+pub mod Found
+pub mod Views
+pub mod Parts

@@ -1,0 +1,45 @@
+//! Names and their places.
+
+ghost use Rattle.std.specs.Prelude.{◌≡◌, ℕ, List, IfOk, OnOk, Some, None, is_some, if◌then◌else◌, string_bytes};
+ghost use Rattle.std.specs.Str.{bytes_eq};
+ghost use Rattle.std.specs.Option.{option_or};
+ghost use Rattle.types.specs.Found.{found};
+
+use indexmap::IndexMap;
+use std::alloc::{AllocError, Global};
+
+/// The places of names, in order of declaration.
+#[derive(Drop)]
+pub struct Names {
+    pub places: IndexMap<String, usize>,
+}
+
+impl Names {
+    pub fn new(alloc: Global) -> Names
+        ensures { (q : List ℕ) → found result q ≡ None }
+    {
+        Names {
+            places: IndexMap::new(alloc),
+        }
+    }
+
+    /// The place of a name.
+    pub fn find(&self, name: &str) -> Option<usize>
+        ensures { result ≡ found self.now name.now }
+    {
+        match self.places.get(name) {
+            Some(place) => Some(*place),
+            None => None,
+        }
+    }
+
+    /// Adds a name with its place, if it isn't there yet.
+    pub fn add(&mut self, alloc: Global, name: &String, place: usize) -> Result<(), AllocError>
+        ensures { OnOk result ((q : List ℕ) → found self.new q ≡ option_or (found self.old q) (if bytes_eq q (string_bytes name.now) then Some place else None)) }
+    {
+        if self.places.get(name.as_str()).is_none() {
+            self.places.insert(name.clone()?, place)?;
+        }
+        Ok(())
+    }
+}
