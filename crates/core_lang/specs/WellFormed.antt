@@ -20,6 +20,7 @@ use Rattle.core_lang.specs.declared.typed.Cell.{Cell}
 use Rattle.core_lang.specs.declared.typed.Thread.{Thread}
 use Rattle.core_lang.specs.declared.typed.Typed.{Typed}
 use Rattle.core_lang.specs.Serial.{opening_heap}
+use Rattle.core_lang.specs.Scopes.{IsWellScoped}
 use Rattle.core_lang.specs.Typing.{struct_of, final_target, field_type, IsHeap, Fit, IsWellTypedSection}
 
 -- ---- where things lie
@@ -117,5 +118,6 @@ pub record IsWellFormed (program : Typed) : Type 0 where
   pub protected : IsProtected program
   pub opens : IsHeap program (opening_heap program)
   pub sections : (k : ℕ) (section : Section) → slice_get program.sections.items k ≡ Some section → IsWellTypedSection program section
+  pub scopes : (k : ℕ) (section : Section) → slice_get program.sections.items k ≡ Some section → IsWellScoped section
   pub scripts : (t k : ℕ) (thread : Thread) (call : Call) → slice_get program.threads.items t ≡ Some thread → slice_get thread.calls.items k ≡ Some call →
       CanCall program call.section call.arguments.items

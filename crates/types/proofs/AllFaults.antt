@@ -1,16 +1,16 @@
 -- Each true fault is in the list.
-use Rattle.std.proofs.Common.{◌≡◌, ℕ, zero, suc, ◌+◌, ◌<◌, ◌≤◌, List, [], ◌∷◌, ◌++◌, length, Option, Some, None, Bool, true, false, refl, sym, ap, ◌∙◌, subst, if◌then◌else◌, append_assoc, arith}
+use Rattle.std.proofs.Common.{◌≡◌, ℕ, suc, ◌+◌, ◌<◌, ◌≤◌, List, [], ◌∷◌, ◌++◌, length, Option, Some, None, Bool, true, false, refl, sym, ap, ◌∙◌, subst, if◌then◌else◌, append_assoc, arith}
 use Rattle.std.specs.Prelude.{nat_le, nat_lt, ◌==◌, ◌&&◌}
 use Rattle.std.proofs.lemmas.Bool.Decides.{nat_tests}
 use Rattle.source.specs.Texts.{NUMBER_LIMIT}
 use Rattle.source.specs.declared.fault.Code.{Code}
 use Rattle.source.specs.declared.fault.Code.TheVariants.{NumberTooLarge, DeclaredTwice, UnknownName, WrongType, WrongArgumentCount, NotAssignable, NeitherFinalNorProtected, ProtectedByNoLock, LimitExceeded, LockAsValue}
-use Rattle.syntax.specs.Trees.{Ident, Const, int_const, negative, Place, lone, Expr, int, place, paren, prefix, chain, Links, no_links, link, Local, Stmt, let_local, var_local, assign, print, return_value, Stmts, no_stmts, stmt, Protection, Variable, Param, Section, Call, Item, call, Items, no_items, item, Thread, Decl, lock, global, atomic, thread}
+use Rattle.syntax.specs.Trees.{Ident, Const, lone, Expr, int, place, paren, prefix, chain, Links, no_links, link, Stmt, let_local, var_local, assign, print, return_value, Stmts, no_stmts, stmt, Protection, Variable, Param, Section, Call, call, Items, no_items, item, Decl, lock, global, atomic, thread}
 use Rattle.core_lang.specs.declared.tree.LocalKind.{LocalKind}
 use Rattle.core_lang.specs.declared.tree.LocalKind.TheVariants as kind
 use Rattle.types.specs.declared.note.Mistake.{Mistake}
 use Rattle.types.specs.Core as core
-use Rattle.types.specs.Scopes.{Scope, Meaning, a_local, a_decl, nothing, meaning, place_of, the_decl, the_local, declared, name_of, alike, count, bound, entered, entry}
+use Rattle.types.specs.Scopes.{Scope, a_local, a_decl, meaning, place_of, the_decl, the_local, declared, name_of, alike, count, bound, entered, entry}
 use Rattle.types.specs.Limits.{limit_of, PARAMETER_LIMIT, LOCAL_LIMIT, CALL_LIMIT}
 use Rattle.types.specs.Resolution.{after, is_var}
 use Rattle.types.specs.Faults.{Within, itself, in_parentheses, in_prefix, in_first, in_links, InLinks, in_operand, in_rest, Among, here, later, Asks, of_let, of_var, of_assign, of_print, of_return, Has, first, further, HasStmt, in_section, HasExpr, in_stmt, Binds, parameter, a_let, a_var, InItems, this_call, later_call, HasCall, in_thread, InConsts, this_const, later_const, HasConst, opening, argument, number_in, IsTooLarge, expression, constant, IsDeclaredTwice, two_decls, two_locals, top_level, IsUnknown, as_value, as_target, as_section, as_lock, IsSectionOrThread, IsSection, IsWrongType, no_value, no_section, IsWrongCount, wrong_count, IsNotAssignable, to_fixed, to_decl, IsUnprotected, unprotected, IsLock, EndsAtNoLock, no_lone_lock, calls_of, calls_in, IsOverLimit, too_many, too_many_calls, too_many_parameters, too_many_locals, IsLockAsValue, lock_value, lock_target, IsFault, too_large, declared_twice, unknown, wrong_type, miscounted, not_assignable, without_lock, ends_at_no_lock, over_limit, lock_as_value}

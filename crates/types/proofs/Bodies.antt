@@ -1,6 +1,6 @@
 -- Statements and parameters one after another.
 use Rattle.std.proofs.Common.{◌≡◌, ℕ, ◌+◌, ◌<◌, List, ◌++◌, Option, length, drop, get_or, sym, ap, ◌∙◌}
-use Rattle.std.specs.Prelude.{option_map, map, nat_le}
+use Rattle.std.specs.Prelude.{map, nat_le}
 use Rattle.source.specs.declared.fault.Code.TheVariants.{LimitExceeded}
 use Rattle.types.specs.declared.note.Mistake.{Mistake}
 use Rattle.syntax.specs.declared.tree.Stmt as tree

@@ -1,5 +1,5 @@
 -- Chains and their links, one after another.
-use Rattle.std.proofs.Common.{◌≡◌, ℕ, ◌+◌, ◌<◌, List, ◌++◌, Option, Vec, Global, length, drop, get_or, sym, ap, ◌∙◌}
+use Rattle.std.proofs.Common.{◌≡◌, ℕ, ◌+◌, ◌<◌, List, Option, Vec, Global, length, drop, get_or, sym, ap, ◌∙◌}
 use Rattle.std.specs.Prelude.{option_map, Box}
 use Rattle.types.specs.declared.note.Mistake.{Mistake}
 use Rattle.syntax.specs.declared.tree.Level.{Level}

@@ -1,7 +1,7 @@
 -- What a program is like as its declarations are resolved one after another.
-use Rattle.std.proofs.Common.{◌≡◌, ℕ, zero, suc, ◌+◌, ◌<◌, ◌≤◌, List, [], ◌∷◌, ◌++◌, length, take, Option, Some, None, Bool, true, false, refl, sym, ap, ◌∙◌, subst, inl, inr, arith, append_assoc}
+use Rattle.std.proofs.Common.{◌≡◌, ℕ, suc, ◌<◌, List, [], ◌∷◌, ◌++◌, length, take, Option, Some, None, Bool, true, false, refl, sym, ap, ◌∙◌, subst, inl, inr, arith, append_assoc}
 use Rattle.std.specs.Prelude.{slice_get, nat_lt, if◌then◌else◌}
-use Rattle.syntax.specs.Trees.{Ident, Const, Protection, Variable, Section, Items, Thread, Decl, lock, global, atomic, thread}
+use Rattle.syntax.specs.Trees.{Ident, Protection, Variable, Section, Items, Thread, Decl, lock, global, atomic, thread}
 use Rattle.core_lang.specs.declared.value.Value.{Value}
 use Rattle.core_lang.specs.declared.value.ValueType.TheVariants.{Integer}
 use Rattle.core_lang.specs.declared.typed.Cell.{Cell}
@@ -9,7 +9,7 @@ use Rattle.core_lang.specs.declared.typed.Owner.TheVariants as owner
 use Rattle.types.specs.Core as core
 use Rattle.types.specs.Scopes.{◌>>=◌, the_decl, alike, count, number_at}
 use Rattle.types.specs.Limits.{CELL_LIMIT}
-use Rattle.types.specs.Resolution.{cell_at, typed_section, typed_items, class_in, class_of, opening_value, nothing_yet, with_class, with_section, with_thread, with_global, global_with, section_more, thread_more, extended, extended_if, resolved_from, resolved}
+use Rattle.types.specs.Resolution.{cell_at, typed_section, typed_items, class_in, class_of, opening_value, nothing_yet, with_class, with_section, with_thread, with_global, global_with, section_more, thread_more, extended, resolved_from, resolved}
 use Rattle.types.proofs.Faultless.{decl_got}
 use Rattle.types.proofs.Declarations.{get_push, get_left, get_last, get_lt, take_front, take_all, count_push}
 use Rattle.types.proofs.Resolved.{count_lt, IsInt, opening_int}

@@ -1,28 +1,26 @@
 -- A tree without faults stands for a program.
-use Rattle.std.proofs.Common.{◌≡◌, ℕ, zero, suc, ◌+◌, ◌<◌, ◌≤◌, ℤ, List, [], ◌∷◌, ◌++◌, length, take, Option, Some, None, Bool, true, false, refl, sym, ap, ◌∙◌, subst, if◌then◌else◌, append_assoc, arith}
-use Rattle.std.specs.Prelude.{slice_get, nat_le, nat_lt, ◌==◌, ◌&&◌}
+use Rattle.std.proofs.Common.{◌≡◌, ℕ, zero, suc, ◌+◌, ◌<◌, ℤ, List, [], ◌∷◌, ◌++◌, length, take, Option, Some, None, Bool, true, false, refl, sym, ap, ◌∙◌, subst, if◌then◌else◌, append_assoc, arith}
+use Rattle.std.specs.Prelude.{slice_get, nat_le, nat_lt, ◌==◌}
 use Rattle.std.proofs.lemmas.Bool.Decides.{nat_tests}
-use Rattle.source.specs.declared.span.Span.{Span}
 use Rattle.source.specs.Texts.{NUMBER_LIMIT}
-use Rattle.source.specs.declared.fault.Code.TheVariants.{NumberTooLarge, DeclaredTwice, UnknownName, WrongType, WrongArgumentCount, NotAssignable, NeitherFinalNorProtected, ProtectedByNoLock, LimitExceeded, LockAsValue}
+use Rattle.source.specs.declared.fault.Code.TheVariants.{NumberTooLarge, WrongArgumentCount, NotAssignable, LimitExceeded}
 use Rattle.syntax.specs.declared.tree.Number.{Number}
 use Rattle.syntax.specs.declared.tree.Op.{Op}
-use Rattle.syntax.specs.Trees.{Ident, ValueType, int_type, Const, int_const, negative, Place, lone, Expr, int, place, paren, prefix, chain, Links, no_links, link, Local, Stmt, let_local, var_local, assign, print, return_value, Stmts, no_stmts, stmt, Protection, Variable, Param, Section, Call, Item, call, Items, no_items, item, Thread, Decl, lock, global, atomic, thread}
+use Rattle.syntax.specs.Trees.{Ident, ValueType, Const, int_const, negative, lone, Expr, int, place, paren, prefix, chain, Links, no_links, link, Stmt, let_local, var_local, assign, print, return_value, Stmts, no_stmts, stmt, Protection, Variable, Section, call, Items, no_items, item, Decl, lock, global, atomic, thread}
 use Rattle.syntax.specs.Returns.{IsReturn, is_return, HasReturn, this_returns, later_returns, HasEarlyReturn, this_early, later_early, EndsInReturn, last_returns, ends_later, IsSectionFault, no_result, early, missing, IsReturnFault, this_section, later_section, ReturnsRight}
 use Rattle.core_lang.specs.declared.value.Value.{Value}
 use Rattle.core_lang.specs.declared.value.Value.TheVariants.{Int}
-use Rattle.core_lang.specs.declared.tree.LocalKind.{LocalKind}
 use Rattle.types.specs.declared.note.Mistake.{Mistake}
 use Rattle.types.specs.declared.stmt.Target.{Target}
 use Rattle.types.specs.declared.stmt.Target.TheVariants as target
 use Rattle.types.specs.Core as core
-use Rattle.types.specs.Scopes.{◌>>=◌, Scope, Meaning, a_local, a_decl, nothing, meaning, local_or, declared_as, named, place_of, the_decl, the_local, local_name, declared, name_of, alike, count, number_at, entry}
+use Rattle.types.specs.Scopes.{◌>>=◌, Scope, Meaning, a_local, a_decl, nothing, meaning, local_or, declared_as, named, place_of, the_decl, the_local, declared, name_of, alike, count, number_at, entry}
 use Rattle.types.specs.Limits.{limit_of, CELL_LIMIT}
-use Rattle.types.specs.Resolution.{number_value, const_value, const_values, added, cell_at, operator_of, named_value, negated, parenthesised, chained, linked, literal, typed, typed_links, Part, does, gives, acts, binds, is_var, target_of, assigns, prints, returns, after, after_all, typed_stmt, Body, nothing_behind, preceded, typed_body, type_of, section_with, section_of, typed_section, call_of, typed_item, typed_items, class_in, class_of, opening_value, nothing_yet, with_class, with_section, with_thread, with_global, global_with, section_more, thread_more, extended, extended_if, resolved_from, resolved}
-use Rattle.types.specs.Faults.{number_in, Has, first, further, calls_in}
+use Rattle.types.specs.Resolution.{number_value, const_value, const_values, added, cell_at, operator_of, named_value, negated, parenthesised, chained, linked, literal, typed, typed_links, Part, does, gives, binds, is_var, target_of, assigns, prints, returns, after, after_all, typed_stmt, Body, preceded, typed_body, section_with, section_of, typed_section, call_of, typed_item, typed_items, class_in, class_of, opening_value, nothing_yet, with_class, with_section, with_thread, with_global, global_with, section_more, thread_more, extended, resolved_from, resolved}
+use Rattle.types.specs.Faults.{Has, first, further, calls_in}
 use Rattle.types.specs.FaultLists as list
 use Rattle.types.specs.FaultLists.{one, one_if, number_faults, const_faults, consts_faults, expr_faults, link_faults, local_faults, no_target, stmt_faults, stmts_faults, param_faults, lock_faults, protection_faults, opening_faults, call_faults, item_faults, items_faults, decl_faults, each_faults, again, count_faults, name_faults, program_faults}
-use Rattle.types.proofs.TrueFaults.{after_same, entered_same, le_of}
+use Rattle.types.proofs.TrueFaults.{entered_same}
 
 -- there is one
 abbrev pub Is : {A : Type 0} → Option A → Type 0

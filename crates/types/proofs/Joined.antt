@@ -1,6 +1,6 @@
 -- Lists of parts that are judged one after another.
 use Rattle.std.proofs.Common.{◌≡◌, ℕ, suc, ◌+◌, ◌<◌, List, [], ◌∷◌, ◌++◌, Option, Some, None, Vec, Global, length, drop, get_or, drop-cons, add-one, refl, sym, ap, ◌∙◌, append_assoc}
-use Rattle.std.specs.Prelude.{option_map, map}
+use Rattle.std.specs.Prelude.{option_map}
 use Rattle.syntax.specs.declared.tree.Op.{Op}
 use Rattle.core_lang.specs.declared.tree.Operation as o
 use Rattle.core_lang.specs.declared.tree.Expr as e

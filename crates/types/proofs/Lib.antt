@@ -12,5 +12,6 @@ pub mod TrueFaults
 pub mod AllFaults
 pub mod Faultless
 pub mod Resolved
+pub mod Scoped
 pub mod Extended
 pub mod Formed

@@ -1,5 +1,5 @@
 -- The faults of a list, and the least.
-use Rattle.std.proofs.Common.{◌≡◌, ℕ, List, [], ◌∷◌, ◌++◌, Option, Some, None, Bool, true, false, ◌⊎◌, inl, inr, refl, sym, subst, if◌then◌else◌}
+use Rattle.std.proofs.Common.{◌≡◌, ℕ, List, [], ◌∷◌, ◌++◌, Some, None, Bool, true, false, ◌⊎◌, inl, inr, refl, sym, subst, if◌then◌else◌}
 use Rattle.source.specs.declared.fault.Code.{Code}
 use Rattle.types.specs.declared.note.Mistake.{Mistake}
 use Rattle.syntax.specs.Trees.{Decl}

@@ -1,27 +1,24 @@
 -- What a resolved program is like.
-use Rattle.std.proofs.Common.{◌≡◌, ℕ, zero, suc, ◌+◌, ◌<◌, ◌≤◌, ℤ, List, [], ◌∷◌, ◌++◌, length, take, Option, Some, None, Bool, true, false, refl, sym, ap, ◌∙◌, subst, inl, inr, if◌then◌else◌, arith}
+use Rattle.std.proofs.Common.{◌≡◌, ℕ, zero, suc, ◌+◌, ◌<◌, ◌≤◌, ℤ, List, [], ◌∷◌, ◌++◌, length, take, Option, Some, None, Bool, true, false, refl, sym, ap, ◌∙◌, subst, if◌then◌else◌, arith}
 use Rattle.std.specs.Prelude.{slice_get, nat_lt, ◌==◌, pos}
 use Rattle.std.proofs.lemmas.Bool.{eqb-true}
-use Rattle.std.proofs.lemmas.Bool.Decides.{nat_tests}
 use Rattle.syntax.specs.declared.tree.Op.{Op}
-use Rattle.syntax.specs.Trees.{Ident, ValueType, int_type, Const, int_const, negative, Place, lone, Expr, int, place, paren, prefix, chain, Links, no_links, link, Stmt, let_local, var_local, assign, print, return_value, Stmts, no_stmts, stmt, Protection, Variable, Param, Section, Call, Item, call, Items, no_items, item, Thread, Decl, lock, global, atomic, thread}
+use Rattle.syntax.specs.Trees.{Ident, ValueType, int_type, Const, int_const, negative, lone, Expr, int, place, paren, prefix, chain, Links, no_links, link, Stmt, let_local, var_local, assign, print, return_value, Stmts, no_stmts, stmt, Variable, Param, Section, call, Items, no_items, item, Decl, lock, global, atomic, thread}
 use Rattle.core_lang.specs.declared.value.Value.{Value}
 use Rattle.core_lang.specs.declared.value.Value.TheVariants.{Int, Ref}
 use Rattle.core_lang.specs.declared.value.ValueType as core_type
 use Rattle.core_lang.specs.declared.value.ValueType.TheVariants.{Integer, Reference}
 use Rattle.core_lang.specs.declared.tree.LocalKind.{LocalKind}
 use Rattle.core_lang.specs.declared.tree.LocalKind.TheVariants.{Parameter, Let, Var}
-use Rattle.core_lang.specs.declared.typed.Cell.{Cell}
-use Rattle.core_lang.specs.declared.typed.Owner.TheVariants as owner
 use Rattle.types.specs.declared.stmt.Target.{Target}
 use Rattle.types.specs.declared.stmt.Target.TheVariants as target
 use Rattle.types.specs.Core as core
 use Rattle.types.specs.Scopes.{◌>>=◌, Scope, Meaning, a_local, a_decl, nothing, meaning, local_or, declared_as, place_of, the_decl, the_local, local_name, alike, count, number_at, bound, entered, entry}
 use Rattle.types.specs.Limits.{CELL_LIMIT}
-use Rattle.types.specs.Resolution.{number_value, const_value, const_values, added, cell_at, operator_of, named_value, negated, parenthesised, chained, linked, literal, typed, typed_links, Part, does, gives, acts, binds, is_var, target_of, assigns, prints, returns, after, after_all, typed_stmt, Body, nothing_behind, preceded, typed_body, type_of, section_with, section_of, typed_section, call_of, typed_item, typed_items, class_in, class_of, opening_value, nothing_yet, with_class, with_section, with_thread, with_global, global_with, section_more, thread_more, extended, extended_if, resolved_from, resolved}
+use Rattle.types.specs.Resolution.{number_value, const_value, const_values, added, named_value, negated, parenthesised, chained, linked, literal, typed, typed_links, Part, does, gives, acts, binds, is_var, target_of, assigns, prints, returns, after, after_all, typed_stmt, Body, nothing_behind, preceded, typed_body, section_with, section_of, typed_section, call_of, typed_item, typed_items, opening_value}
 use Rattle.types.proofs.TrueFaults.{after_same, entered_same}
-use Rattle.types.proofs.Faultless.{got, decl_got, HasCells}
-use Rattle.types.proofs.Declarations.{get_push, get_left, get_last, get_lt, take_front, take_all, count_push}
+use Rattle.types.proofs.Faultless.{got, decl_got}
+use Rattle.types.proofs.Declarations.{get_lt}
 
 -- ---- expressions, by how many locals and cells there are
 
@@ -40,15 +37,15 @@ abbrev mutual
   AllInBounds n m core.no_operations = Unit {0}
   AllInBounds n m (core.operation op e rest) = InBounds n m e × AllInBounds n m rest
 
-abbrev IfIn : ℕ → ℕ → Option core.Expr → Type 0
+abbrev pub IfIn : ℕ → ℕ → Option core.Expr → Type 0
 IfIn n m (Some e) = InBounds n m e
 IfIn n m None = Unit {0}
 
-abbrev IfAllIn : ℕ → ℕ → Option core.Operations → Type 0
+abbrev pub IfAllIn : ℕ → ℕ → Option core.Operations → Type 0
 IfAllIn n m (Some os) = AllInBounds n m os
 IfAllIn n m None = Unit {0}
 
-abbrev Stands : ℕ → ℕ → Meaning → Type 0
+abbrev pub Stands : ℕ → ℕ → Meaning → Type 0
 Stands n m (a_local i l) = i < n
 Stands n m (a_decl i (lock x)) = Unit {0}
 Stands n m (a_decl i (global v)) = i < m
@@ -92,7 +89,7 @@ module _ (n m : ℕ) (sc : Scope) (few : length sc.locals ≤ n) (all : (v : Var
   stands_local q None e mm h = h
   stands_local q (Some r) e mm h = let lt = get_lt sc.locals r.1 r.0 (got sc.locals (place_of local_name sc.locals q) r e) in omega (arith, lt)
 
-  stands : (q : List ℕ) → Stands n m (meaning sc q)
+  pub stands : (q : List ℕ) → Stands n m (meaning sc q)
   stands q = stands_local q (the_local sc.locals q) refl (declared_as (the_decl sc.decls q)) (stands_declared q (the_decl sc.decls q) refl)
 
   cell_in : (b : Bool) (i start : ℕ) → i < m → IfIn n m ((if b then Some i else None) >>= λ cell. Some (core.global start cell))
@@ -218,11 +215,11 @@ returns_in : (n m start : ℕ) (o : Option core.Expr) → IfIn n m o → PartIn 
 returns_in n m start None h = tt
 returns_in n m start (Some e) h = h
 
-length_push : {A : Type 0} (xs : List A) (x : A) → length (xs ++ x ∷ []) ≡ suc (length xs)
+pub length_push : {A : Type 0} (xs : List A) (x : A) → length (xs ++ x ∷ []) ≡ suc (length xs)
 length_push [] x = refl
 length_push (y ∷ xs) x = ap suc (length_push xs x)
 
-bound_more : (sc : Scope) (k : LocalKind) (x : Ident) → length (bound sc k x).locals ≡ suc (length sc.locals)
+pub bound_more : (sc : Scope) (k : LocalKind) (x : Ident) → length (bound sc k x).locals ≡ suc (length sc.locals)
 bound_more sc k x = length_push sc.locals _
 
 after_more : (sc : Scope) (s : Stmt) → length sc.locals ≤ length (after sc s).locals
@@ -292,7 +289,7 @@ entered_integers : (sc : Scope) (ps : List Param) → AllIntegers sc.locals → 
 entered_integers sc [] h = h
 entered_integers sc (p ∷ ps) h = entered_integers (bound sc Parameter p.name) ps (integers_push sc.locals _ h refl)
 
-entered_length : (sc : Scope) (ps : List Param) → length (entered sc ps).locals ≡ length sc.locals + length ps
+pub entered_length : (sc : Scope) (ps : List Param) → length (entered sc ps).locals ≡ length sc.locals + length ps
 entered_length sc [] = omega arith
 entered_length sc (p ∷ ps) = let e = entered_length (bound sc Parameter p.name) ps in let f = bound_more sc Parameter p.name in omega (arith, e, f)
 

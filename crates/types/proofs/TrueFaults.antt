@@ -1,12 +1,11 @@
 -- Each fault of the list is a true one.
-use Rattle.std.proofs.Common.{◌≡◌, ℕ, ◌+◌, ◌<◌, ◌≤◌, List, [], ◌∷◌, ◌++◌, length, Option, Some, None, Bool, true, false, ◌⊎◌, inl, inr, refl, sym, ap, ◌∙◌, subst, if◌then◌else◌, append_assoc, arith}
+use Rattle.std.proofs.Common.{◌≡◌, ℕ, ◌+◌, ◌<◌, ◌≤◌, List, [], ◌∷◌, ◌++◌, length, Option, Some, None, Bool, true, false, refl, sym, ap, ◌∙◌, subst, if◌then◌else◌, append_assoc, arith}
 use Rattle.std.specs.Prelude.{nat_le, nat_lt, ◌==◌, ◌&&◌}
 use Rattle.std.proofs.lemmas.Bool.{eqb-true}
 use Rattle.std.proofs.lemmas.Bool.Decides.{nat_tests}
 use Rattle.source.specs.Texts.{NUMBER_LIMIT}
 use Rattle.source.specs.declared.fault.Code.TheVariants.{NumberTooLarge, DeclaredTwice, UnknownName, WrongType, WrongArgumentCount, NotAssignable, NeitherFinalNorProtected, ProtectedByNoLock, LimitExceeded, LockAsValue}
-use Rattle.syntax.specs.declared.tree.Number.{Number}
-use Rattle.syntax.specs.Trees.{Ident, Const, int_const, negative, Place, lone, Expr, int, place, paren, prefix, chain, Links, no_links, link, Local, Stmt, let_local, var_local, assign, print, return_value, Stmts, no_stmts, stmt, Protection, Variable, Param, Section, Call, Item, call, Items, no_items, item, Thread, Decl, lock, global, atomic, thread}
+use Rattle.syntax.specs.Trees.{Ident, Const, lone, Expr, int, place, paren, prefix, chain, Links, no_links, link, Stmt, let_local, var_local, assign, print, return_value, Stmts, no_stmts, stmt, Protection, Variable, Param, Section, Call, call, Items, no_items, item, Decl, lock, global, atomic, thread}
 use Rattle.core_lang.specs.declared.tree.LocalKind.{LocalKind}
 use Rattle.core_lang.specs.declared.tree.LocalKind.TheVariants as kind
 use Rattle.types.specs.declared.note.Mistake.{Mistake}
@@ -14,7 +13,7 @@ use Rattle.types.specs.Core as core
 use Rattle.types.specs.Scopes.{Scope, Meaning, a_local, a_decl, nothing, meaning, place_of, the_decl, the_local, declared, name_of, alike, count, bound, entered, entry}
 use Rattle.types.specs.Limits.{limit_of, PARAMETER_LIMIT, LOCAL_LIMIT, CALL_LIMIT}
 use Rattle.types.specs.Resolution.{after, is_var}
-use Rattle.types.specs.Faults.{Within, itself, in_parentheses, in_prefix, in_first, in_links, InLinks, in_operand, in_rest, Among, here, later, Asks, of_let, of_var, of_assign, of_print, of_return, Has, first, further, HasStmt, in_section, HasExpr, in_stmt, Binds, parameter, a_let, a_var, InItems, this_call, later_call, HasCall, in_thread, InConsts, this_const, later_const, HasConst, opening, argument, number_in, expression, constant, two_decls, two_locals, top_level, as_value, as_target, as_section, as_lock, no_value, no_section, wrong_count, to_fixed, to_decl, unprotected, IsLock, no_lone_lock, calls_of, calls_in, too_many, too_many_calls, too_many_parameters, too_many_locals, lock_value, lock_target, IsFault, too_large, declared_twice, unknown, wrong_type, miscounted, not_assignable, without_lock, ends_at_no_lock, over_limit, lock_as_value}
+use Rattle.types.specs.Faults.{Within, itself, in_parentheses, in_prefix, in_first, in_links, InLinks, in_operand, in_rest, Among, here, later, Asks, of_let, of_var, of_assign, of_print, of_return, Has, first, further, HasStmt, in_section, HasExpr, in_stmt, Binds, parameter, a_let, a_var, InItems, this_call, later_call, HasCall, in_thread, InConsts, this_const, later_const, HasConst, opening, argument, number_in, expression, constant, two_decls, two_locals, top_level, as_value, as_target, as_section, as_lock, no_value, no_section, wrong_count, to_fixed, to_decl, unprotected, no_lone_lock, calls_of, calls_in, too_many, too_many_calls, too_many_parameters, too_many_locals, lock_value, lock_target, too_large, declared_twice, unknown, wrong_type, miscounted, not_assignable, without_lock, ends_at_no_lock, over_limit, lock_as_value}
 use Rattle.types.specs.FaultLists as list
 use Rattle.types.specs.FaultLists.{one, one_if, number_faults, const_faults, consts_faults, expr_faults, link_faults, taken, local_faults, no_target, stmt_faults, stmts_faults, param_faults, lock_faults, protection_faults, opening_faults, call_faults, item_faults, items_faults, decl_faults, each_faults, again, count_faults, name_faults, program_faults}
 use Rattle.types.proofs.Members.{In, IsTrue_of, both, of_one, of_if}

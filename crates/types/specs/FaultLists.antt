@@ -1,18 +1,17 @@
 -- The faults of a program, in the order in which they are looked for.
-use Rattle.std.specs.Prelude.{ℕ, ◌+◌, List, [], ◌∷◌, ◌++◌, length, nat_le, nat_lt, ◌==◌, ◌&&◌, ◌||◌, Bool, if◌then◌else◌, Option, Some, None}
+use Rattle.std.specs.Prelude.{ℕ, ◌+◌, List, [], ◌∷◌, ◌++◌, length, nat_le, nat_lt, ◌==◌, ◌&&◌, Bool, if◌then◌else◌, Option, Some, None}
 use Rattle.source.specs.declared.fault.Code.{Code}
 use Rattle.source.specs.declared.fault.Code.TheVariants.{NumberTooLarge, DeclaredTwice, UnknownName, WrongType, WrongArgumentCount, NotAssignable, NeitherFinalNorProtected, ProtectedByNoLock, LimitExceeded, LockAsValue}
 use Rattle.source.specs.Texts.{NUMBER_LIMIT}
 use Rattle.syntax.specs.declared.tree.Number.{Number}
-use Rattle.syntax.specs.Trees.{Ident, Const, Place, lone, Expr, int, place, paren, prefix, chain, Links, no_links, link, Local, Stmt, let_local, var_local, assign, print, return_value, Stmts, no_stmts, stmt, Protection, Variable, Param, Section, Call, Item, call, Items, no_items, item, Thread, Decl, lock, global, atomic, thread}
+use Rattle.syntax.specs.Trees.{Ident, Const, lone, Expr, int, place, paren, prefix, chain, Links, no_links, link, Stmt, let_local, var_local, assign, print, return_value, Stmts, no_stmts, stmt, Protection, Param, Item, call, Items, no_items, item, Decl, lock, global, atomic, thread}
 use Rattle.types.specs.declared.note.Mistake.{Mistake}
-use Rattle.core_lang.specs.declared.tree.LocalKind.{LocalKind}
-use Rattle.core_lang.specs.declared.tree.LocalKind.TheVariants.{Parameter, Let, Var}
+use Rattle.core_lang.specs.declared.tree.LocalKind.TheVariants.{Parameter}
 use Rattle.types.specs.Core as core
 use Rattle.types.specs.Scopes.{Scope, Meaning, a_local, a_decl, nothing, meaning, place_of, the_decl, the_local, declared, name_of, alike, count, bound, entry}
 use Rattle.types.specs.Order.{lesser}
 use Rattle.types.specs.Limits.{limit_of, PARAMETER_LIMIT, LOCAL_LIMIT, CALL_LIMIT}
-use Rattle.types.specs.Resolution.{after, after_all, is_var}
+use Rattle.types.specs.Resolution.{after, is_var}
 use Rattle.types.specs.Faults.{number_in, calls_of, calls_in}
 
 abbrev pub fault : Code → ℕ → Mistake

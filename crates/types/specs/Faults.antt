@@ -1,5 +1,5 @@
 -- Where each fault of names and types stands.
-use Rattle.std.specs.Prelude.{◌≡◌, ℕ, ◌+◌, ◌≤◌, ◌<◌, List, [], ◌∷◌, ◌++◌, length, Option, Some, None, string_bytes}
+use Rattle.std.specs.Prelude.{◌≡◌, ℕ, ◌+◌, ◌≤◌, ◌<◌, List, [], ◌∷◌, ◌++◌, length, Some, None, string_bytes}
 use Rattle.source.specs.declared.span.Span.{Span}
 use Rattle.source.specs.Texts.{NUMBER_LIMIT}
 use Rattle.source.specs.declared.fault.Code.{Code}
@@ -10,13 +10,13 @@ use Rattle.syntax.specs.declared.tree.Number.{Number}
 use Rattle.syntax.specs.declared.tree.Op.{Op}
 use Rattle.syntax.specs.declared.tree.Level.{Level}
 use Rattle.syntax.specs.declared.tree.Prefix.{Prefix}
-use Rattle.syntax.specs.Trees.{Ident, Const, int_const, negative, Place, lone, Expr, int, place, paren, prefix, chain, Links, no_links, link, Local, Stmt, let_local, var_local, assign, print, return_value, Stmts, no_stmts, stmt, Protection, Variable, Param, Section, Call, Item, call, Items, no_items, item, Thread, Decl, lock, global, atomic, thread}
+use Rattle.syntax.specs.Trees.{Ident, Const, int_const, negative, Place, lone, Expr, int, place, paren, prefix, chain, Links, link, Local, Stmt, let_local, var_local, assign, print, return_value, Stmts, stmt, Protection, Variable, Param, Section, Call, Item, call, Items, no_items, item, Thread, Decl, lock, global, atomic, thread}
 use Rattle.core_lang.specs.declared.tree.LocalKind.{LocalKind}
 use Rattle.core_lang.specs.declared.tree.LocalKind.TheVariants as kind
 use Rattle.types.specs.Core as core
-use Rattle.types.specs.Scopes.{Scope, Meaning, a_local, a_decl, nothing, meaning, place_of, the_decl, the_local, declared, name_of, alike, count, entry}
+use Rattle.types.specs.Scopes.{Scope, a_local, a_decl, nothing, meaning, place_of, the_decl, the_local, declared, name_of, alike, count, entry}
 use Rattle.types.specs.Limits.{limit_of, PARAMETER_LIMIT, LOCAL_LIMIT, CALL_LIMIT}
-use Rattle.types.specs.Resolution.{after, is_var}
+use Rattle.types.specs.Resolution.{after}
 
 -- ---- where things stand
 

@@ -1,9 +1,9 @@
 -- What the loops have so far, if nothing in it is missing.
-use Rattle.std.specs.Prelude.{List, [], ◌∷◌, ◌++◌, map, Option, Some, None}
+use Rattle.std.specs.Prelude.{List, [], ◌∷◌, ◌++◌, Option, Some, None}
 use Rattle.syntax.specs.declared.tree.Op.{Op}
 use Rattle.core_lang.specs.declared.tree.Operation as the_operation
 use Rattle.core_lang.specs.declared.tree.Expr as the_expr
-use Rattle.types.specs.Core.{Operations, no_operations, operation, Stmt, Return}
+use Rattle.types.specs.Core.{Operations, operation, Stmt, Return}
 use Rattle.types.specs.CoreViews.{core_expr}
 use Rattle.types.specs.Resolution.{operator_of, Part, does, gives, Body}
 

@@ -1,12 +1,10 @@
 -- The program that a tree stands for: each name replaced by the number of what it means, every expression typed.
-use Rattle.std.specs.Prelude.{ℕ, ◌+◌, ℤ, pos, neg_ℤ, nat_le, nat_lt, Bool, true, false, List, [], ◌∷◌, ◌++◌, length, ◌==◌, Option, Some, None, if◌then◌else◌}
-use Rattle.source.specs.declared.span.Span.{Span}
+use Rattle.std.specs.Prelude.{ℕ, ℤ, pos, neg_ℤ, nat_le, nat_lt, Bool, true, false, List, [], ◌∷◌, ◌++◌, length, ◌==◌, Option, Some, None, if◌then◌else◌}
 use Rattle.source.specs.Texts.{NUMBER_LIMIT}
 use Rattle.syntax.specs.declared.tree.Number.{Number}
 use Rattle.syntax.specs.declared.tree.Op.{Op}
 use Rattle.syntax.specs.declared.tree.Op.TheVariants.{Add, Sub, Mul, Div, Rem}
-use Rattle.syntax.specs.declared.tree.Prefix.TheVariants.{Negate}
-use Rattle.syntax.specs.Trees.{Ident, ValueType, int_type, Const, int_const, negative, Place, lone, Expr, int, place, paren, prefix, chain, Links, no_links, link, Stmt, let_local, var_local, assign, print, return_value, Stmts, no_stmts, stmt, Protection, Variable, Param, Section, Call, Item, call, Items, no_items, item, Thread, Decl, lock, global, atomic, thread}
+use Rattle.syntax.specs.Trees.{Ident, ValueType, int_type, Const, int_const, negative, lone, Expr, int, place, paren, prefix, chain, Links, no_links, link, Stmt, let_local, var_local, assign, print, return_value, Stmts, no_stmts, stmt, Protection, Section, Item, call, Items, no_items, item, Decl, lock, global, atomic, thread}
 use Rattle.core_lang.specs.declared.value.Value.{Value}
 use Rattle.core_lang.specs.declared.value.Value.TheVariants.{Int}
 use Rattle.core_lang.specs.declared.value.ValueType as core_type
@@ -15,7 +13,6 @@ use Rattle.core_lang.specs.declared.tree.Operator.{Operator}
 use Rattle.core_lang.specs.declared.tree.Operator.TheVariants.{Plus, Minus, Times, Divide, Remainder}
 use Rattle.core_lang.specs.declared.tree.LocalKind.{LocalKind}
 use Rattle.core_lang.specs.declared.tree.LocalKind.TheVariants.{Parameter, Let, Var}
-use Rattle.core_lang.specs.declared.typed.Cell.{Cell}
 use Rattle.core_lang.specs.declared.typed.Owner.TheVariants as owner
 use Rattle.types.specs.declared.stmt.Target.{Target}
 use Rattle.types.specs.declared.stmt.Target.TheVariants as target

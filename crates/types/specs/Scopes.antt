@@ -1,5 +1,5 @@
 -- What names mean.
-use Rattle.std.specs.Prelude.{ℕ, zero, suc, ◌+◌, List, [], ◌∷◌, ◌++◌, take, Option, Some, None, Bool, true, false, slice_get, length, if◌then◌else◌}
+use Rattle.std.specs.Prelude.{ℕ, suc, List, [], ◌∷◌, ◌++◌, take, Option, Some, None, Bool, true, false, slice_get, if◌then◌else◌}
 use Rattle.std.specs.Str.{bytes_eq}
 use Rattle.syntax.specs.Trees.{Ident, Decl, lock, global, atomic, thread, Param}
 use Rattle.core_lang.specs.declared.value.ValueType.TheVariants.{Integer}

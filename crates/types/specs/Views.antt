@@ -1,9 +1,8 @@
 -- What the checker's values stand for.
-use Rattle.std.specs.Prelude.{◌≡◌, ℕ, List, [], ◌∷◌, Option, map, option_map}
+use Rattle.std.specs.Prelude.{List, map, option_map}
 use Rattle.syntax.specs.declared.tree.Decl as the_decl
 use Rattle.syntax.specs.Trees.{Decl}
 use Rattle.syntax.specs.Views.{decl_of}
-use Rattle.core_lang.specs.declared.tree.Local as the_local
 use Rattle.types.specs.Core as core
 use Rattle.types.specs.CoreViews.{core_local, core_locals, core_stmt, core_return}
 use Rattle.types.specs.Scopes.{Scope, Meaning, a_local, a_decl, nothing, name_of, local_name}

@@ -1,4 +1,4 @@
-use Rattle.std.proofs.Common.{◌≡◌, rules, subst, ap, sym, ◌∙◌, List, [], drop}
+use Rattle.std.proofs.Common.{◌≡◌, subst, ap, sym, ◌∙◌, List, [], drop}
 use Rattle.std.specs.Prelude.{IfOk, option_map}
 use Rattle.std.proofs.Math.ListN.{drop_of_length-le}
 use Rattle.syntax.specs.Views.{links_of}

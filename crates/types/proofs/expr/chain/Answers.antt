@@ -1,4 +1,4 @@
-use Rattle.std.proofs.Common.{rules, arith}
+use Rattle.std.proofs.Common.{arith}
 use Rattle.std.proofs.lemmas.Grind.{common_steps}
 use Rattle.types.proofs.CoreRows.{core_chain_view}
 use Rattle.types.proofs.expr.chain.Goals as goal

@@ -1,6 +1,5 @@
-use Rattle.std.proofs.Common.{◌≡◌, rules, sym, ◌∙◌, subst}
+use Rattle.std.proofs.Common.{sym, ◌∙◌, subst}
 use Rattle.syntax.specs.Views.{tree_of}
-use Rattle.types.specs.Order.{goes_before}
 use Rattle.types.specs.FaultLists.{program_faults}
 use Rattle.types.proofs.Members.{least_in, least_none, In}
 use Rattle.types.proofs.Orders.{none_before}

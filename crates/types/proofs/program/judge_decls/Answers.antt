@@ -1,4 +1,3 @@
-use Rattle.std.proofs.Common.{rules}
 use Rattle.types.specs.Views.{program_of}
 use Rattle.types.proofs.Programs.{decl_step, decl_fault_step}
 use Rattle.types.proofs.program.judge_decls.Goals as goal

@@ -1,4 +1,3 @@
-use Rattle.std.proofs.Common.{rules}
 use Rattle.types.specs.Views.{scope_of, program_of}
 use Rattle.types.proofs.Bodies.{param_fault_step, param_scope_step}
 use Rattle.types.proofs.section.judge_params.Goals as goal

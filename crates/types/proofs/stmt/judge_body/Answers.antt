@@ -1,4 +1,4 @@
-use Rattle.std.proofs.Common.{◌≡◌, rules, List, [], drop, sym, ap, ◌∙◌}
+use Rattle.std.proofs.Common.{◌≡◌, List, [], drop, sym, ap, ◌∙◌}
 use Rattle.std.proofs.Math.ListN.{drop_of_length-le}
 use Rattle.std.specs.Prelude.{option_map}
 use Rattle.syntax.specs.declared.tree.Stmt as tree

@@ -1,4 +1,3 @@
-use Rattle.std.proofs.Common.{rules}
 use Rattle.types.specs.Views.{program_of}
 use Rattle.types.proofs.Programs.{item_step, item_fault_step}
 use Rattle.types.proofs.thread.judge_items.Goals as goal

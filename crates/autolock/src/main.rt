@@ -1,0 +1,100 @@
+//! The program `autolock`: reads its words, opens the files that they name, and runs the engine of
+//! the command on them.
+//!
+//! It exits with 0 where what was asked for was written, 1 where the program's text has a fault, 2
+//! where the words are none of its own, 3 where reading or writing failed, 4 where memory ran out,
+//! 7 where a call is not settled by the given turns; `--help` exits with 0.
+#![tactic(auto)]
+
+use clap::Error;
+use clap::error::ErrorKind;
+use driver::{
+    Sink, SourceText, Status, serial, tell_cannot_read, tell_cannot_write, tell_no_memory,
+};
+use std::alloc::{AllocError, Global};
+use std::io::Write;
+use std::process::ExitCode;
+use std::{env, fs, io};
+use words::{Line, words};
+
+/// Runs the engine of a line.
+fn run_line<E: Write>(rt: &HostRuntime, line: Line<'_>, err: &mut Sink<E>) -> Status {
+    match line {
+        Line::Serial(file, turns) => {
+            let Ok(opened) = fs::open(rt, file) else {
+                tell_cannot_read(err, file);
+                return Status::Failed;
+            };
+            let mut source = SourceText::new(opened);
+            let mut out = Sink::new(rt.stdout());
+            serial(rt.alloc(), &mut source, file, turns, &mut out, err)
+        }
+    }
+}
+
+/// Prints what `clap` says of the words: help on standard output, anything else on standard error.
+fn tell_words<E: Write>(rt: &HostRuntime, error: &Error, err: &mut Sink<E>) -> Status {
+    match error.kind() {
+        ErrorKind::OutOfMemory => {
+            tell_no_memory(err);
+            Status::OutOfMemory
+        }
+        ErrorKind::DisplayHelp => match error.print(rt) {
+            Ok(()) => Status::Done,
+            Err(_) => {
+                tell_cannot_write(err);
+                Status::Failed
+            }
+        },
+        _ => {
+            let _ = error.print(rt);
+            Status::BadWords
+        }
+    }
+}
+
+/// The words of the process, of which the first is the program's name.
+fn arguments(rt: &HostRuntime) -> io::Result<Vec<String>> {
+    let mut all = Vec::new(rt.alloc());
+    for argument in env::args(rt)? {
+        all.push(argument)?;
+    }
+    Ok(all)
+}
+
+/// The same as slices.
+fn slices(alloc: Global, arguments: &[String]) -> Result<Vec<&str>, AllocError> {
+    let mut all = Vec::with_capacity(alloc, arguments.len())?;
+    for argument in arguments {
+        all.push(argument.as_str())?;
+    }
+    Ok(all)
+}
+
+/// Reads the words, and runs what they ask for.
+fn run<E: Write>(rt: &HostRuntime, err: &mut Sink<E>) -> Status {
+    let arguments = match arguments(rt) {
+        Ok(arguments) => arguments,
+        Err(error) if error.kind() == io::ErrorKind::OutOfMemory => {
+            tell_no_memory(err);
+            return Status::OutOfMemory;
+        }
+        Err(_) => {
+            err.put(b"autolock: the words are no text\n");
+            return Status::BadWords;
+        }
+    };
+    let Ok(slices) = slices(rt.alloc(), &arguments) else {
+        tell_no_memory(err);
+        return Status::OutOfMemory;
+    };
+    match words(rt.alloc(), &slices) {
+        Ok(line) => run_line(rt, line, err),
+        Err(error) => tell_words(rt, &error, err),
+    }
+}
+
+fn main(rt: HostRuntime) -> ExitCode {
+    let mut err = Sink::new(rt.stderr());
+    ExitCode::from(run(&rt, &mut err).code())
+}

@@ -1,0 +1,5 @@
+pub mod RefusalLemmas
+pub mod CameLemmas
+pub mod SerialLemmas
+pub mod WritingLemmas
+pub mod FaultlessLemmas

@@ -1,0 +1,40 @@
+use Rattle.std.proofs.Common.{◌≡◌, ◌∙◌, map, sym, subst}
+use Rattle.std.proofs.lemmas.List.{map-append}
+use Rattle.core_lang.specs.Serial.{Scheduled, all_calls}
+use Rattle.core_lang.specs.WellFormed.{CanCall}
+use Rattle.driver.specs.Running.{scheduled_of}
+use Rattle.driver.proofs.CameLemmas.{Each, Each-at, can_call_all, drop_next, settled_step, unsettled_step}
+use Rattle.driver.proofs.running.run_scripts.Goals as goal
+
+pub run_whole-requires-clause-call : goal.run_whole-requires-clause-call
+run_whole-requires-clause-call c =
+    let all : map scheduled_of c.deref-next-items.result.now ≡ all_calls c.args.typed.now = rw c.deref-next-items.ensures.value c.in_ok-calls.ensures in
+    let can = subst (Each (λ (s : Scheduled). CanCall c.args.typed.now s.call.section s.call.arguments)) (sym all) (can_call_all c.args.typed.now c.requires) in
+    rw c.deref.ensures.value
+    (Each-at scheduled_of (λ (s : Scheduled). CanCall c.args.typed.now s.call.section s.call.arguments) c.deref-next-items.result.now c.loop-next.next-index c.next-item.result
+    can c.loop-next-test.true c.next-item.is)
+
+pub returns-in_default-clause-came : goal.returns-in_default-clause-came
+returns-in_default-clause-came c =
+    let next = drop_next scheduled_of c.deref-next-items.result.now c.loop-next.next-index c.next-item.result c.loop-next-test.true c.next-item.is in
+    let same = rw c.in_default.is at c.in_ok-run.ensures.answer in
+    let beyond = rw (c.in_default.is, c.deref.ensures.value) at (c.in_ok-run.ensures.beyond c.requires c.loop-next.invariant.typed) in
+    let step = unsettled_step _ _ _ _ (scheduled_of c.next-item.result) _ _ (rw next at c.loop-next.invariant.came) beyond in
+    (step.0, same.1 ∙ step.1, step.2)
+
+pub returns-in_default-clause-beyond : goal.returns-in_default-clause-beyond
+returns-in_default-clause-beyond c =
+    let next = drop_next scheduled_of c.deref-next-items.result.now c.loop-next.next-index c.next-item.result c.loop-next-test.true c.next-item.is in
+    let beyond = rw (c.in_default.is, c.deref.ensures.value) at (c.in_ok-run.ensures.beyond c.requires c.loop-next.invariant.typed) in
+    (unsettled_step _ _ _ _ (scheduled_of c.next-item.result) _ _ (rw next at c.loop-next.invariant.came) beyond).3
+
+pub loop-next-preserved : goal.loop-next-preserved
+loop-next-preserved c =
+    let next = drop_next scheduled_of c.deref-next-items.result.now c.loop-next.next-index c.next-item.result c.loop-next-test.true c.next-item.is in
+    let over = rw (c.in-Some.is, c.deref.ensures.value) at c.in_ok-run.ensures.answer in
+    let step = settled_step _ _ _ _ (scheduled_of c.next-item.result) _ _ _ (rw next at c.loop-next.invariant.came) over in
+    record {
+      came = rw (c.in_ok-push.ensures.items, map-append, c.in_ok-record_of.ensures) step;
+      cells = c.in_ok-run.ensures.cells;
+      typed = c.in_ok-run.ensures.typed c.requires c.loop-next.invariant.typed;
+    }

@@ -1,0 +1,33 @@
+-- From a text to its program, or to its fault.
+use Rattle.std.specs.Prelude.{ℕ, List}
+use Rattle.core_lang.specs.declared.typed.Typed.{Typed}
+use Rattle.source.specs.declared.fault.Fault as the_fault
+use Rattle.source.specs.declared.fault.Refusal.{Refusal}
+use Rattle.source.specs.declared.fault.Refusal.TheVariants.{Fault, NoMemory}
+use Rattle.source.specs.Tokens.{Tok}
+use Rattle.source.specs.Texts as text
+use Rattle.syntax.specs.Trees.{Decl}
+use Rattle.syntax.specs.Faults as grammar
+use Rattle.types.specs.Faults as names
+use Rattle.types.specs.Resolved.{Resolves}
+
+-- a fault of the text; of the tokens of a text that has some; of the tree of tokens that have one
+pub data HasFault (source : List ℕ) (fault : the_fault.Fault) : Type 0 where
+  of_text : text.IsRefusal source (Fault fault) → HasFault source fault
+  of_tokens : (tokens : List Tok) → text.HasTokens source tokens → grammar.IsRefusal tokens (Fault fault) → HasFault source fault
+  of_tree : (tokens : List Tok) (tree : List Decl) → text.HasTokens source tokens → grammar.HasRightTree tokens tree
+      → names.IsRefusal tree (Fault fault) → HasFault source fault
+
+-- the text has these tokens, the tokens this tree, and the program is what the tree means; and the text has no fault
+pub record Accepts (source : List ℕ) (program : Typed) : Type 0 where
+  pub tokens : List Tok
+  pub tree : List Decl
+  pub has_tokens : text.HasTokens source tokens
+  pub has_tree : grammar.HasRightTree tokens tree
+  pub resolves : Resolves tree program
+  pub faultless : (fault : the_fault.Fault) → HasFault source fault → ⊥
+
+-- a text was refused for a fault that it has, or for want of memory
+abbrev pub IsRefusal : List ℕ → Refusal → Type 0
+IsRefusal source NoMemory = Unit {0}
+IsRefusal source (Fault fault) = HasFault source fault

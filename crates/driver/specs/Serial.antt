@@ -1,0 +1,67 @@
+-- What `serial` answers.
+use Rattle.std.specs.Prelude.{◌≡◌, ℕ, List, [], ◌∷◌, ◌++◌, map}
+use Rattle.core_lang.specs.declared.typed.Typed.{Typed}
+use Rattle.core_lang.specs.Serial.{Scheduled, Invocation, Ended, all_calls, run_call, serial_run, SerialFromOpening}
+use Rattle.core_lang.specs.Whole.{Beyond_turns}
+use Rattle.report.specs.Entry.{Entry}
+use Rattle.report.specs.History.{line, history_of, unsettled_of}
+use Rattle.source.specs.declared.fault.Fault.{Fault}
+use Rattle.source.specs.Faults.{fault_text}
+use Rattle.driver.specs.declared.status.Status.{Status}
+use Rattle.driver.specs.declared.status.Status.TheVariants.{Done, Refused, Unsettled}
+use Rattle.driver.specs.Programs.{Accepts, HasFault}
+
+-- what is called
+abbrev pub calls_of : List Scheduled → List Invocation
+calls_of ss = map (λ (s : Scheduled). s.call) ss
+
+-- a call of a script and how it ended, as an entry
+abbrev pub entry : Scheduled → Ended → Entry
+entry s e = record {
+  thread = s.thread;
+  step = s.step;
+  section = s.call.section;
+  arguments = s.call.arguments;
+  outcome = e.outcome;
+  prints = e.prints;
+}
+
+-- calls and how they ended, as entries
+abbrev pub entries : List Scheduled → List Ended → List Entry
+entries [] es = []
+entries (s ∷ ss) [] = []
+entries (s ∷ ss) (e ∷ es) = entry s e ∷ entries ss es
+
+-- the turns settle all calls: out is the history text of their serial meaning, err is empty
+pub record IsHistory (turns : ℕ) (program : Typed) (out err : List ℕ) : Type 0 where
+  pub settled : (serial_run program turns).unsettled ≡ []
+  pub serial : SerialFromOpening program (calls_of (all_calls program)) (serial_run program turns).ends (serial_run program turns).heap
+  pub written : out ≡ history_of program (entries (all_calls program) (serial_run program turns).ends) (serial_run program turns).heap
+  pub told : err ≡ []
+
+-- the turns settle the calls before this one, and this one meets a loop past them: out is the text of the serial meaning of
+-- those before, and names this one; err is empty
+pub record StopsAtCall (turns : ℕ) (program : Typed) (out err : List ℕ) : Type 0 where
+  pub before : List Scheduled
+  pub this : Scheduled
+  pub after : List Scheduled
+  pub parts : all_calls program ≡ before ++ this ∷ after
+  pub unsettled : (serial_run program turns).unsettled ≡ calls_of (this ∷ after)
+  pub serial : SerialFromOpening program (calls_of before) (serial_run program turns).ends (serial_run program turns).heap
+  pub beyond : run_call program turns this.call (serial_run program turns).heap ≡ Beyond_turns
+  pub written : out ≡ unsettled_of program (entries before (serial_run program turns).ends) this.thread this.step
+  pub told : err ≡ []
+
+-- the text has a fault: out is empty, err is the line of that fault
+pub record IsRefused (file text out err : List ℕ) : Type 0 where
+  pub fault : Fault
+  pub has_fault : HasFault text fault
+  pub written : out ≡ []
+  pub told : err ≡ line (fault_text file text fault)
+
+-- what `serial` answers for a text
+abbrev pub SerialAnswers : ℕ → List ℕ → List ℕ → Status → List ℕ → List ℕ → Type 0
+SerialAnswers turns file text Done out err = (program : Typed) × Accepts text program × IsHistory turns program out err
+SerialAnswers turns file text Unsettled out err = (program : Typed) × Accepts text program × StopsAtCall turns program out err
+SerialAnswers turns file text Refused out err = IsRefused file text out err
+SerialAnswers turns file text status out err = ⊥

@@ -1,0 +1,75 @@
+//! What an engine answers, as a function of the bytes that it read.
+
+ghost use Rattle.std.specs.Prelude.{◌≡◌, IfOk, string_bytes};
+ghost use Rattle.core_lang.specs.WellFormed.{IsWellFormed};
+ghost use Rattle.driver.specs.Answers.{IsRun, IsFaultAnswer};
+ghost use Rattle.driver.specs.Serial.{SerialAnswers};
+
+use crate::program::program_of;
+use crate::running::{run_scripts, values};
+use crate::status::Status;
+use core_lang::typed::Typed;
+use report::{history_text, unsettled_text};
+use source::fault::{Fault, Refusal};
+use source::line::fault_line;
+use source::memory::NoMemory;
+use std::alloc::Global;
+
+/// The status, and what goes to the two outputs.
+#[derive(Debug, Drop)]
+pub struct Answer {
+    /// How the command ended.
+    pub status: Status,
+    /// What goes to standard output.
+    pub out: String,
+    /// What goes to standard error.
+    pub err: String,
+}
+
+/// The line of a fault.
+fn refused(alloc: Global, file: &str, text: &[u8], fault: &Fault) -> Result<Answer, NoMemory>
+    ensures { IfOk result (IsFaultAnswer file.now text.now fault.now) }
+{
+    let mut err = fault_line(alloc, file, text, fault)?;
+    err.push_str("\n")?;
+    Ok(Answer {
+        status: Status::Refused,
+        out: String::new(alloc),
+        err,
+    })
+}
+
+/// The text of a program's run.
+fn ran(alloc: Global, program: &Typed, turns: u64) -> Result<Answer, NoMemory>
+    requires { IsWellFormed program.now }
+    ensures { IfOk result (IsRun turns program.now) }
+{
+    let ran = run_scripts(alloc, program, turns)?;
+    let err = String::new(alloc);
+    match ran.unsettled {
+        None => {
+            let values = values(alloc, &ran.heap, program.cells.len())?;
+            Ok(Answer {
+                status: Status::Done,
+                out: history_text(alloc, program, &ran.records, &values)?,
+                err,
+            })
+        }
+        Some((thread, step)) => Ok(Answer {
+            status: Status::Unsettled,
+            out: unsettled_text(alloc, program, &ran.records, thread, step)?,
+            err,
+        }),
+    }
+}
+
+/// What `serial` answers for the text of the file of this name.
+pub fn serial_answer(alloc: Global, file: &str, text: &[u8], turns: u64) -> Result<Answer, NoMemory>
+    ensures { IfOk result (λ answer. SerialAnswers turns file.now text.now answer.status (string_bytes answer.out) (string_bytes answer.err)) }
+{
+    match program_of(alloc, text) {
+        Ok(program) => ran(alloc, &program, turns),
+        Err(Refusal::Fault(fault)) => refused(alloc, file, text, &fault),
+        Err(Refusal::NoMemory) => Err(NoMemory),
+    }
+}

@@ -1,0 +1,28 @@
+//! The engines of the commands, each over a reader for each file, a writer `out` and a writer `err`.
+//!
+//! An engine reads everything, then computes the status and both texts as a function of the bytes,
+//! then writes each text once. So where memory is refused, nothing of the text has been written.
+//!
+//! - [`serial`]: all calls of a program one after another. `specs/Serial.antt` says what it answers,
+//!   and `specs/Programs.antt` which program a text is, or which fault it has.
+//! - [`Status`]: how a command ended, which is the exit status.
+//! - [`SourceText`], [`Sink`]: readers and writers that remember whether they failed.
+//! - [`tell_cannot_read`], [`tell_cannot_write`], [`tell_no_memory`]: the messages that the program
+//!   itself may have to give too.
+#![tactic(auto)]
+
+mod answer;
+mod engine;
+mod program;
+mod running;
+mod schedule;
+mod sink;
+mod source_text;
+mod status;
+#[cfg(test)]
+mod tests;
+
+pub use engine::{serial, tell_cannot_read, tell_cannot_write, tell_no_memory};
+pub use sink::Sink;
+pub use source_text::{ReadError, SourceText};
+pub use status::Status;

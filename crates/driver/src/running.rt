@@ -1,0 +1,94 @@
+//! The serial run of a program's calls.
+
+ghost use Rattle.std.specs.Prelude.{◌≡◌, IfOk, OnOk, length, map};
+ghost use Rattle.core_lang.specs.Serial.{all_calls, opening_heap};
+ghost use Rattle.core_lang.specs.WellFormed.{IsWellFormed};
+ghost use Rattle.meaning.specs.Heaps.{HasCells};
+ghost use Rattle.report.specs.Entry.{entry_of};
+ghost use Rattle.driver.specs.Running.{scheduled_of, ended_of, IsRan, StopsBeyond, came};
+ghost use Rattle.driver.specs.Serial.{entry};
+
+use crate::schedule::{ScheduledCall, schedule};
+use core_lang::typed::Typed;
+use core_lang::value::Value;
+use meaning::heap::Heap;
+use meaning::run::{End, run_whole};
+use report::Record;
+use source::memory::NoMemory;
+use std::alloc::Global;
+
+/// How far the calls of a program came.
+#[derive(Drop)]
+pub struct Ran {
+    /// The calls that were settled.
+    pub records: Vec<Record>,
+    /// The values of all cells after them.
+    pub heap: Heap,
+    /// The thread and the number of the first call that was not settled, if there is one.
+    pub unsettled: Option<(usize, usize)>,
+}
+
+/// What a text says of a call that ended like this.
+fn record_of(alloc: Global, call: &ScheduledCall<'_>, end: End) -> Result<Record, NoMemory>
+    ensures { IfOk result (λ made. entry_of made ≡ entry (scheduled_of call.now) (ended_of end)) }
+{
+    let End { outcome, prints } = end;
+    Ok(Record {
+        thread: call.thread,
+        step: call.step,
+        section: call.call.section,
+        arguments: Vec::from_slice(alloc, &call.call.arguments)?,
+        outcome,
+        prints,
+    })
+}
+
+/// Runs all calls of a program one after another, thread 0's whole script first, as far as so many
+/// turns of each execution of a loop settle them.
+pub fn run_scripts(alloc: Global, typed: &Typed, turns: u64) -> Result<Ran, NoMemory>
+    requires { IsWellFormed typed.now }
+    ensures came { IfOk result (IsRan (came typed.now turns (opening_heap typed.now) (all_calls typed.now))) }
+    ensures cells { IfOk result (λ ran. HasCells typed.now ran.heap) }
+    ensures beyond { OnOk result (StopsBeyond typed.now turns (came typed.now turns (opening_heap typed.now) (all_calls typed.now))) }
+{
+    let calls = schedule(alloc, typed)?;
+    let mut heap = Heap::open(alloc, typed)?;
+    let mut records = Vec::with_capacity(alloc, calls.len())?;
+    for next in &calls {
+        let call = next.call;
+        let run = run_whole(
+            alloc,
+            typed,
+            call.section,
+            &call.arguments,
+            &mut heap,
+            turns,
+        )?;
+        let Some(end) = run else {
+            let unsettled = Some((next.thread, next.step));
+            return Ok(Ran {
+                records,
+                heap,
+                unsettled,
+            });
+        };
+        records.push(record_of(alloc, next, end)?)?;
+    }
+    Ok(Ran {
+        records,
+        heap,
+        unsettled: None,
+    })
+}
+
+/// The values of all cells.
+pub fn values(alloc: Global, heap: &Heap, cells: usize) -> Result<Vec<Value>, NoMemory>
+    requires { cells ≡ length heap.now }
+    ensures { IfOk result (λ all. all.items ≡ heap.now) }
+{
+    let mut all = Vec::with_capacity(alloc, cells)?;
+    for cell in 0..cells {
+        all.push(heap.get(cell))?;
+    }
+    Ok(all)
+}

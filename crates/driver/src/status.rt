@@ -1,0 +1,37 @@
+//! How a command ended.
+
+ghost use Rattle.std.specs.Prelude.{◌≡◌};
+ghost use Rattle.driver.specs.Statuses.{exit_status};
+
+/// How a command ended.
+#[derive(Clone, Copy, Debug, PartialEq, Eq)]
+pub enum Status {
+    /// 0: what was asked for was written.
+    Done,
+    /// 1: the program's text has a fault, which standard error names.
+    Refused,
+    /// 2: the words of the command line are none that this program reads.
+    BadWords,
+    /// 3: a file could not be opened, or a reader or the writer failed.
+    Failed,
+    /// 4: a growth was refused.
+    OutOfMemory,
+    /// 7: a call is not settled by the turns that were given.
+    Unsettled,
+}
+
+impl Status {
+    /// The exit status of the process.
+    pub fn code(self) -> u8
+        ensures { result ≡ exit_status self }
+    {
+        match self {
+            Status::Done => 0,
+            Status::Refused => 1,
+            Status::BadWords => 2,
+            Status::Failed => 3,
+            Status::OutOfMemory => 4,
+            Status::Unsettled => 7,
+        }
+    }
+}

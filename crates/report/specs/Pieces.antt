@@ -1,0 +1,77 @@
+-- The pieces of the texts, as bytes. Numbers are decimal, without leading zeros.
+use Rattle.std.specs.Prelude.{ℕ, ◌-◌, List, [], ◌∷◌, ◌++◌, Option, Some, None, codes, slice_get, string_bytes, option_and_then}
+use Rattle.std.specs.Option.{option_map_or}
+use Rattle.std.specs.List.{flat_map}
+use Rattle.std.specs.Fmt.{decimal, signed_decimal}
+use Rattle.core_lang.specs.declared.value.Value.{Value}
+use Rattle.core_lang.specs.declared.value.Value.TheVariants.{Int, Ref}
+use Rattle.core_lang.specs.declared.value.Outcome.{Outcome}
+use Rattle.core_lang.specs.declared.value.Outcome.TheVariants.{Ends, Returns, Traps}
+use Rattle.core_lang.specs.declared.shape.Shape.{Shape}
+use Rattle.core_lang.specs.declared.shape.Pool.{Pool}
+use Rattle.core_lang.specs.declared.typed.Typed.{Typed}
+use Rattle.core_lang.specs.declared.typed.Owner.{Owner}
+use Rattle.core_lang.specs.declared.typed.Owner.TheVariants.{Global, Element, Field}
+use Rattle.core_lang.specs.Traps.{trap_number}
+
+-- an index in brackets
+abbrev pub index_text : ℕ → List ℕ
+index_text index = codes "[" ++ decimal index ++ codes "]"
+
+-- the name of a section
+abbrev pub section_name : Typed → ℕ → List ℕ
+section_name typed section = option_map_or (λ s. string_bytes s.name) (slice_get typed.sections.items section) []
+
+-- the pool that an object is a member of
+abbrev pub pool_of : Shape → ℕ → Option Pool
+pool_of shape object = option_and_then (λ o. slice_get shape.pools.items o.pool) (slice_get shape.objects.items object)
+
+-- an object as p[0], by its place in its pool
+abbrev pub object_text : Shape → ℕ → List ℕ
+object_text shape object = option_map_or (λ pool. string_bytes pool.name ++ index_text (object - pool.first)) (pool_of shape object) []
+
+-- a number, null, or an object
+abbrev pub value_text : Shape → Value → List ℕ
+value_text shape (Int number) = signed_decimal number
+value_text shape (Ref None) = codes "null"
+value_text shape (Ref (Some object)) = object_text shape object
+
+-- the values with a comma and a space between
+abbrev pub values_text : Shape → List Value → List ℕ
+values_text shape [] = []
+values_text shape (first ∷ rest) = value_text shape first ++ flat_map (λ value. codes ", " ++ value_text shape value) rest
+
+-- a call's thread and its number there
+abbrev pub place_text : ℕ → ℕ → List ℕ
+place_text thread step = decimal thread ++ codes " " ++ decimal step
+
+-- what is called, with its arguments
+abbrev pub invocation_text : Typed → ℕ → List Value → List ℕ
+invocation_text typed section arguments = section_name typed section ++ codes "(" ++ values_text typed.shape arguments ++ codes ")"
+
+-- how a call ended
+abbrev pub outcome_text : Shape → Outcome → List ℕ
+outcome_text shape Ends = codes "ends"
+outcome_text shape (Returns value) = codes "returns " ++ value_text shape value
+outcome_text shape (Traps trap) = codes "traps " ++ decimal (trap_number trap)
+
+-- the name of a global that is no array
+abbrev pub global_name : Typed → ℕ → List ℕ
+global_name typed global = option_map_or (λ g. string_bytes g.name) (slice_get typed.globals.items global) []
+
+-- the name of an array
+abbrev pub array_name : Shape → ℕ → List ℕ
+array_name shape array = option_map_or (λ a. string_bytes a.name) (slice_get shape.arrays.items array) []
+
+-- the name of a field of an object
+abbrev pub field_name : Typed → ℕ → ℕ → List ℕ
+field_name typed object field =
+    option_map_or (λ f. string_bytes f.name)
+    (option_and_then (λ s. slice_get s.fields.items field)
+    (option_and_then (λ pool. slice_get typed.structs.items pool.structure) (pool_of typed.shape object))) []
+
+-- a cell as n, a[0] or p[0].x
+abbrev pub owner_text : Typed → Owner → List ℕ
+owner_text typed (Global global) = global_name typed global
+owner_text typed (Element array index) = array_name typed.shape array ++ index_text index
+owner_text typed (Field object field) = object_text typed.shape object ++ codes "." ++ field_name typed object field

@@ -1,0 +1,193 @@
+//! Pieces of a text, each put at the end of what is there. The one error is a refused growth.
+
+ghost use Rattle.std.specs.Prelude.{◌≡◌, ◌++◌, OnOk, string_bytes};
+ghost use Rattle.std.specs.Option.{option_copied};
+ghost use Rattle.std.specs.Fmt.{decimal, signed_decimal};
+ghost use Rattle.report.specs.Pieces as text;
+
+use core_lang::shape::{Pool, Shape};
+use core_lang::typed::{Owner, Typed};
+use core_lang::value::{Outcome, Value};
+use std::alloc::AllocError;
+
+/// A number without a sign.
+fn push_number(out: &mut String, number: usize) -> Result<(), AllocError>
+    ensures { OnOk result (string_bytes out.new ≡ string_bytes out.old ++ decimal number) }
+{
+    write!(out, "{number}")
+}
+
+/// A number with a sign, which is written where it is negative.
+pub fn push_signed(out: &mut String, number: i64) -> Result<(), AllocError>
+    ensures { OnOk result (string_bytes out.new ≡ string_bytes out.old ++ signed_decimal number) }
+{
+    write!(out, "{number}")
+}
+
+/// `[3]`
+fn push_index(out: &mut String, index: usize) -> Result<(), AllocError>
+    ensures { OnOk result (string_bytes out.new ≡ string_bytes out.old ++ text.index_text index) }
+{
+    out.push_str("[")?;
+    push_number(out, index)?;
+    out.push_str("]")
+}
+
+/// The name of a section.
+fn push_section(out: &mut String, typed: &Typed, section: usize) -> Result<(), AllocError>
+    ensures { OnOk result (string_bytes out.new ≡ string_bytes out.old ++ text.section_name typed.now section) }
+{
+    match typed.sections.get(section) {
+        Some(section) => out.push_str(section.name.as_str()),
+        None => Ok(()),
+    }
+}
+
+/// The pool that an object is a member of.
+fn pool_of(shape: &Shape, object: usize) -> Option<&Pool>
+    ensures { option_copied result ≡ text.pool_of shape.now object }
+{
+    match shape.objects.get(object) {
+        Some(object) => shape.pools.get(object.pool),
+        None => None,
+    }
+}
+
+/// An object as `p[0]`.
+fn push_object(out: &mut String, shape: &Shape, object: usize) -> Result<(), AllocError>
+    ensures { OnOk result (string_bytes out.new ≡ string_bytes out.old ++ text.object_text shape.now object) }
+{
+    match pool_of(shape, object) {
+        Some(pool) => {
+            out.push_str(pool.name.as_str())?;
+            push_index(out, object.saturating_sub(pool.first as usize))
+        }
+        None => Ok(()),
+    }
+}
+
+/// A number, `null` or an object.
+pub fn push_value(out: &mut String, shape: &Shape, value: Value) -> Result<(), AllocError>
+    ensures { OnOk result (string_bytes out.new ≡ string_bytes out.old ++ text.value_text shape.now value) }
+{
+    match value {
+        Value::Int(number) => push_signed(out, number),
+        Value::Ref(None) => out.push_str("null"),
+        Value::Ref(Some(object)) => push_object(out, shape, object as usize),
+    }
+}
+
+/// Values with a comma and a space between.
+fn push_values(out: &mut String, shape: &Shape, values: &[Value]) -> Result<(), AllocError>
+    ensures { OnOk result (string_bytes out.new ≡ string_bytes out.old ++ text.values_text shape.now values.now) }
+{
+    let Some((first, rest)) = values.split_first() else {
+        return Ok(());
+    };
+    push_value(out, shape, *first)?;
+    for value in rest {
+        out.push_str(", ")?;
+        push_value(out, shape, *value)?;
+    }
+    Ok(())
+}
+
+/// A call's thread and its number there, as `1 0`.
+pub fn push_place(out: &mut String, thread: usize, step: usize) -> Result<(), AllocError>
+    ensures { OnOk result (string_bytes out.new ≡ string_bytes out.old ++ text.place_text thread step) }
+{
+    push_number(out, thread)?;
+    out.push_str(" ")?;
+    push_number(out, step)
+}
+
+/// What is called, as `inc(1, p[0])`.
+pub fn push_invocation(
+    out: &mut String,
+    typed: &Typed,
+    section: usize,
+    arguments: &[Value],
+) -> Result<(), AllocError>
+    ensures { OnOk result (string_bytes out.new ≡ string_bytes out.old ++ text.invocation_text typed.now section arguments.now) }
+{
+    push_section(out, typed, section)?;
+    out.push_str("(")?;
+    push_values(out, &typed.shape, arguments)?;
+    out.push_str(")")
+}
+
+/// How a call ended.
+pub fn push_outcome(out: &mut String, shape: &Shape, outcome: Outcome) -> Result<(), AllocError>
+    ensures { OnOk result (string_bytes out.new ≡ string_bytes out.old ++ text.outcome_text shape.now outcome) }
+{
+    match outcome {
+        Outcome::Ends => out.push_str("ends"),
+        Outcome::Returns(value) => {
+            out.push_str("returns ")?;
+            push_value(out, shape, value)
+        }
+        Outcome::Traps(trap) => {
+            out.push_str("traps ")?;
+            push_number(out, trap.number() as usize)
+        }
+    }
+}
+
+/// The name of a global that is no array.
+fn push_global(out: &mut String, typed: &Typed, global: usize) -> Result<(), AllocError>
+    ensures { OnOk result (string_bytes out.new ≡ string_bytes out.old ++ text.global_name typed.now global) }
+{
+    match typed.globals.get(global) {
+        Some(global) => out.push_str(global.name.as_str()),
+        None => Ok(()),
+    }
+}
+
+/// The name of an array.
+fn push_array(out: &mut String, shape: &Shape, array: usize) -> Result<(), AllocError>
+    ensures { OnOk result (string_bytes out.new ≡ string_bytes out.old ++ text.array_name shape.now array) }
+{
+    match shape.arrays.get(array) {
+        Some(array) => out.push_str(array.name.as_str()),
+        None => Ok(()),
+    }
+}
+
+/// The name of a field of an object.
+fn push_field(
+    out: &mut String,
+    typed: &Typed,
+    object: usize,
+    field: usize,
+) -> Result<(), AllocError>
+    ensures { OnOk result (string_bytes out.new ≡ string_bytes out.old ++ text.field_name typed.now object field) }
+{
+    let Some(pool) = pool_of(&typed.shape, object) else {
+        return Ok(());
+    };
+    let Some(structure) = typed.structs.get(pool.structure) else {
+        return Ok(());
+    };
+    match structure.fields.get(field) {
+        Some(field) => out.push_str(field.name.as_str()),
+        None => Ok(()),
+    }
+}
+
+/// A cell as `n`, `a[0]` or `p[0].x`.
+pub fn push_owner(out: &mut String, typed: &Typed, owner: Owner) -> Result<(), AllocError>
+    ensures { OnOk result (string_bytes out.new ≡ string_bytes out.old ++ text.owner_text typed.now owner) }
+{
+    match owner {
+        Owner::Global(global) => push_global(out, typed, global),
+        Owner::Element { array, index } => {
+            push_array(out, &typed.shape, array)?;
+            push_index(out, index)
+        }
+        Owner::Field { object, field } => {
+            push_object(out, &typed.shape, object)?;
+            out.push_str(".")?;
+            push_field(out, typed, object, field)
+        }
+    }
+}

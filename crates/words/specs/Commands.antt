@@ -1,0 +1,39 @@
+-- The commands, as clap's definitions see them.
+use Rattle.std.specs.Prelude.{◌≡◌, [], ◌∷◌, Some, true, false, codes}
+use Rattle.clap.specs.Words.{App, Rule, Text, app_of, new_app, new_rule, with_rule, with_subcommand}
+use Rattle.clap.specs.declared.builder.command.Command.{Command}
+use Rattle.clap.specs.declared.builder.command.Command.TheViews.{out-Command}
+use Rattle.clap.specs.declared.builder.value_parser.ValueParser.TheVariants as vp
+
+-- a file's name, which must be given
+abbrev pub file_rule : Text → Rule
+file_rule id = record (new_rule id) { required = true }
+
+-- --turns N, from 0 to 1000000000, by default 1000000
+abbrev pub turns_rule : Rule
+turns_rule = record (new_rule (codes "turns")) {
+  long = Some (codes "turns");
+  value_names = 1;
+  defaults = codes "1000000" ∷ [];
+  parser = Some (vp.Unsigned 0 1000000000);
+}
+
+-- a command over one file
+abbrev pub with_file : Text → App
+with_file name = with_rule (new_app name) (file_rule (codes "FILE"))
+
+-- a command that takes --turns N besides
+abbrev pub with_turns : App → App
+with_turns app = with_rule app turns_rule
+
+-- a command that must have a subcommand
+abbrev pub needs_subcommand : App → App
+needs_subcommand app = record app { top = record app.top { subcommand_required = true } }
+
+-- the whole command line: autolock serial [--turns N] FILE
+abbrev pub autolock : App
+autolock = with_subcommand (needs_subcommand (new_app (codes "autolock"))) (with_turns (with_file (codes "serial"))).top
+
+-- the command is that one, and has no global argument
+abbrev pub IsCommand : App → Command → Type 0
+IsCommand app command = (app_of command ≡ app) × ((out-Command command).has_globals ≡ false)

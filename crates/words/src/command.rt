@@ -1,0 +1,51 @@
+//! The commands and their arguments.
+
+ghost use Rattle.std.specs.Prelude.{◌≡◌, IfOk, false};
+ghost use Rattle.clap.specs.Words.{rule_of};
+ghost use Rattle.words.specs.Commands.{IsCommand, file_rule, turns_rule, with_file, with_turns, autolock};
+
+use clap::builder::ValueParser;
+use clap::{Arg, Command};
+use std::alloc::{AllocError, Global};
+
+/// An argument that must be given, and stands for itself.
+fn file_argument<'a>(alloc: Global, id: &'a str) -> Arg<'a>
+    ensures rule { rule_of result ≡ file_rule id.entry.now }
+    ensures local { result.global ≡ false }
+{
+    Arg::new(alloc, id).required(true)
+}
+
+/// `--turns N`.
+fn turns_argument<'a>(alloc: Global) -> Arg<'a>
+    ensures rule { rule_of result ≡ turns_rule }
+    ensures local { result.global ≡ false }
+{
+    Arg::new(alloc, "turns")
+        .long("turns")
+        .value_name("N")
+        .help("How many turns an execution of a loop may take")
+        .value_parser(ValueParser::unsigned(0, 1_000_000_000))
+        .default_value("1000000")
+}
+
+/// A command over one file.
+fn file_command<'a>(alloc: Global, name: &'a str, about: &'a str) -> Result<Command<'a>, AllocError>
+    ensures { IfOk result (IsCommand (with_file name.entry.now)) }
+{
+    Command::new(alloc, name)
+        .about(about)
+        .arg(file_argument(alloc, "FILE").help("The program's text"))
+}
+
+/// The whole command line.
+pub fn command<'a>(alloc: Global) -> Result<Command<'a>, AllocError>
+    ensures { IfOk result (IsCommand autolock) }
+{
+    let about = "Run all calls one after another, and write the history";
+    let serial = file_command(alloc, "serial", about)?.arg(turns_argument(alloc))?;
+    Command::new(alloc, "autolock")
+        .about("Programs with atomic sections: locks inferred from protected_by annotations")
+        .subcommand_required(true)
+        .subcommand(serial)
+}

@@ -1,0 +1,15 @@
+//! The command line, read by `clap`.
+//!
+//! [`words`] answers the [`Line`] that the words of a command line mean; `specs/Commands.antt` is
+//! the command as `clap`'s definitions see it, and `specs/Lines.antt` says what a line is of the
+//! matches that those definitions give.
+#![tactic(auto)]
+
+mod command;
+mod line;
+mod reading;
+#[cfg(test)]
+mod tests;
+
+pub use line::{DEFAULT_TURNS, Line};
+pub use reading::words;

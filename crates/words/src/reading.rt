@@ -1,0 +1,54 @@
+//! From words to a line.
+
+ghost use Rattle.std.specs.Prelude.{◌≡◌, IfOk, IfSome, map};
+ghost use Rattle.clap.specs.Words.{found_of, rows_of, subcommand_of};
+ghost use Rattle.words.specs.Commands.{autolock};
+ghost use Rattle.words.specs.Lines.{name_in, IsTurns, IsLine, IsLineOf};
+
+use crate::command::command;
+use crate::line::{DEFAULT_TURNS, Line};
+use clap::error::ErrorKind;
+use clap::{ArgMatches, Error};
+use std::alloc::Global;
+
+/// The value of a name, or nothing where it has none.
+fn name<'a>(matches: &ArgMatches<'a>, id: &str) -> &'a str
+    ensures { result.now ≡ name_in id.now (rows_of (found_of matches.now)) }
+{
+    matches.get_str(id).unwrap_or("")
+}
+
+/// The value of `--turns`, which has a default.
+fn turns(matches: &ArgMatches<'_>) -> u64
+    ensures { IsTurns (rows_of (found_of matches.now)) result }
+{
+    matches.get_one::<u64>("turns").unwrap_or(DEFAULT_TURNS)
+}
+
+/// The line of a command, or `None` where there is no such command.
+fn line<'a>(command: &str, matches: &ArgMatches<'a>) -> Option<Line<'a>>
+    ensures { IfSome result (IsLine command.now (rows_of (found_of matches.now))) }
+{
+    let file = name(matches, "FILE");
+    match command {
+        "serial" => Some(Line::Serial(file, turns(matches))),
+        _ => None,
+    }
+}
+
+/// What the words of a command line ask for, of which the first is the program's name.
+///
+/// An error is `clap`'s: its kind says whether help was asked for, memory was refused, or the words
+/// are no line; its text is what a user is to see.
+pub fn words<'a>(alloc: Global, words: &'a [&'a str]) -> Result<Line<'a>, Error>
+    ensures { IfOk result (IsLineOf (subcommand_of autolock (map (λ word. word.now) words.entry.now))) }
+{
+    let mut command = command(alloc)?;
+    let matches = command.try_get_matches_from_mut(words)?;
+    if let Some((name, inner)) = matches.subcommand() {
+        if let Some(line) = line(name, inner) {
+            return Ok(line);
+        }
+    }
+    Err(command.error(ErrorKind::MissingSubcommand, "a command is missing")?)
+}
