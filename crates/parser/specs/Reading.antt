@@ -8,17 +8,14 @@ use Rattle.source.specs.declared.token.Sign.TheVariants.{OpenBrace, CloseBrace, 
 use Rattle.source.specs.Tokens.{Lexeme, name, word, mark, end, Tok}
 use Rattle.source.specs.Tokens as lexeme
 use Rattle.syntax.specs.declared.tree.Op.{Op}
-use Rattle.syntax.specs.declared.tree.Op.TheVariants as op
 use Rattle.syntax.specs.declared.tree.Op.TheVariants.{Add, Sub, Mul, Div, Rem}
 use Rattle.syntax.specs.declared.tree.Level.{Level}
-use Rattle.syntax.specs.declared.tree.Level.TheVariants.{Term, Sum, Conjunction, Disjunction}
+use Rattle.syntax.specs.declared.tree.Level.TheVariants.{Term, Sum}
 use Rattle.syntax.specs.declared.tree.Prefix.{Prefix}
-use Rattle.syntax.specs.declared.tree.Prefix.TheVariants as prefix_case
-use Rattle.syntax.specs.declared.tree.Comparison.{Comparison}
-use Rattle.syntax.specs.declared.tree.Comparison.TheVariants as comparison
+use Rattle.syntax.specs.declared.tree.Prefix.TheVariants.{Negate}
 use Rattle.syntax.specs.declared.tree.Number.{Number}
 use Rattle.syntax.specs.Trees as tree
-use Rattle.syntax.specs.Trees.{Ident, ValueType, int_type, ref_type, Const, int_const, negative, null_const, member_const, Place, lone, element, path, Expr, int, null, place, paren, prefix, chain, compare, Links, no_links, link, Local, Stmt, let_local, var_local, assign, if_then, while, print, return_value, Stmts, no_stmts, stmt, Otherwise, no_else, else_do, Block, Protection, Member, lock_member, final_member, field_member, Param, Section, Items, no_items, Decl, lock, struct, global, array, pool, init, atomic, thread}
+use Rattle.syntax.specs.Trees.{Ident, ValueType, int_type, Const, int_const, negative, Place, lone, Expr, int, place, paren, prefix, chain, Links, no_links, link, Local, Stmt, let_local, var_local, assign, print, return_value, Stmts, no_stmts, stmt, Block, Protection, Variable, Param, Section, Items, no_items, Decl, lock, global, atomic, thread}
 use Rattle.parser.specs.declared.stop.Stop.{Stop}
 use Rattle.parser.specs.declared.stop.Stop.TheVariants.{Unexpected, TooDeep, NoMemory}
 
@@ -249,21 +246,10 @@ after_at s part ts = do
   x ← part at.1
   Ok (x.0, x.1)
 
--- one part or another, by whether a token of this kind comes next
-abbrev pub chosen : {A : Type 0} → Reader A → Reader A → Bool → Reader A
-chosen f g true ts = f ts
-chosen f g false ts = g ts
-
-unfoldable pub choose : {A : Type 0} → Lexeme → Reader A → Reader A → Reader A
-choose k f g ts = chosen f g (is_next k ts) ts
-
 -- ---- types and constants
 
 abbrev pub type_from : Lexeme → Span → Reader ValueType
 type_from (word Int) at ts = Ok (int_type, ts)
-type_from (word Ref) at ts = do
-  target ← name_at ts
-  Ok (ref_type target.0, target.1)
 type_from _ at ts = refused ts
 
 unfoldable pub type_at : Reader ValueType
@@ -275,29 +261,13 @@ negative_from at ts = do
   n ← int_at ts
   Ok (negative at n.0, n.1)
 
--- a number in brackets
-unfoldable pub index_at : ℕ → Reader Number
-index_at room ts = do
-  begin ← open_at OpenBracket room ts
-  n ← int_at begin.1
-  close ← sign_at CloseBracket n.1
-  Ok (n.0, close.1)
+abbrev pub const_from : Lexeme → Span → Reader Const
+const_from (lexeme.int n) at ts = Ok (int_const (record { value = n; span = at }), ts)
+const_from (mark m) at ts = if same_sign m Minus then negative_from at ts else refused ts
+const_from _ at ts = refused ts
 
--- a member, behind its pool's name
-abbrev pub member_from : ℕ → Ident → Reader Const
-member_from room x ts = do
-  n ← index_at room ts
-  Ok (member_const x n.0, n.1)
-
-abbrev pub const_from : ℕ → Lexeme → Span → Reader Const
-const_from room (lexeme.int n) at ts = Ok (int_const (record { value = n; span = at }), ts)
-const_from room (name x) at ts = member_from room (record { text = x; span = at }) ts
-const_from room (word Null) at ts = Ok (null_const at, ts)
-const_from room (mark m) at ts = if same_sign m Minus then negative_from at ts else refused ts
-const_from room _ at ts = refused ts
-
-unfoldable pub const_at : ℕ → Reader Const
-const_at room = first_at (const_from room)
+unfoldable pub const_at : Reader Const
+const_at = first_at const_from
 
 -- ---- expressions
 
@@ -307,8 +277,6 @@ op_of Sum (mark Minus) = Some Sub
 op_of Term (mark Star) = Some Mul
 op_of Term (mark Slash) = Some Div
 op_of Term (mark Percent) = Some Rem
-op_of Conjunction (mark And) = Some op.And
-op_of Disjunction (mark Or) = Some op.Or
 op_of _ _ = None
 
 abbrev pub before_rest : {A : Type 0} → Option A → List Tok → Option (A × List Tok)
@@ -343,34 +311,6 @@ chain_at operand k ts = do
   l ← links_at operand k first.1
   Ok (chained k first.0 l.0, l.1)
 
--- an element, behind its array's or pool's name
-unfoldable pub element_at : ℕ → Reader Expr → Ident → Reader Place
-element_at room inner x ts = do
-  begin ← open_at OpenBracket room ts
-  e ← inner begin.1
-  close ← sign_at CloseBracket e.1
-  Ok (element x e.0, close.1)
-
--- one field or more, each behind a dot
-unfoldable pub fields_at : Reader (List Ident)
-fields_at ts = do
-  dot ← sign_at Dot ts
-  first ← name_at dot.1
-  more ← after_each Dot name_at first.1
-  Ok (first.0 ∷ more.0, more.1)
-
-abbrev pub path_at : Ident → Reader Place
-path_at x ts = do
-  fs ← fields_at ts
-  Ok (path x fs.0, fs.1)
-
-abbrev pub alone_at : Ident → Reader Place
-alone_at x ts = Ok (lone x, ts)
-
--- a place, behind its first name
-abbrev pub place_at : ℕ → Reader Expr → Ident → Reader Place
-place_at room inner x = choose (mark OpenBracket) (element_at room inner x) (choose (mark Dot) (path_at x) (alone_at x))
-
 -- what stands in parentheses, after the opening one
 abbrev pub in_parens : Reader Expr → Span → Reader Expr
 in_parens inner at ts = do
@@ -378,27 +318,15 @@ in_parens inner at ts = do
   c ← sign_at CloseParen e.1
   Ok (paren at e.0, c.1)
 
-abbrev pub parens_at : ℕ → Reader Expr → Span → Reader Expr
-parens_at zero inner at ts = too_deep ts
-parens_at (suc room) inner at ts = in_parens inner at ts
-
--- with what stands behind an opening sign read by inner
-abbrev pub prim_from : ℕ → Reader Expr → Lexeme → Span → Reader Expr
-prim_from room inner (lexeme.int n) at ts = Ok (int (record { value = n; span = at }), ts)
-prim_from room inner (word Null) at ts = Ok (null at, ts)
-prim_from room inner (name x) at ts = do
-  p ← place_at room inner (record { text = x; span = at }) ts
-  Ok (place p.0, p.1)
-prim_from room inner (mark m) at ts = if same_sign m OpenParen then parens_at room inner at ts else refused ts
-prim_from room inner _ at ts = refused ts
-
-unfoldable pub prim_with : ℕ → Reader Expr → Reader Expr
-prim_with room inner = first_at (prim_from room inner)
+abbrev pub prim_from : (Span → Reader Expr) → Lexeme → Span → Reader Expr
+prim_from parens (lexeme.int n) at ts = Ok (int (record { value = n; span = at }), ts)
+prim_from parens (name x) at ts = Ok (place (lone (record { text = x; span = at })), ts)
+prim_from parens (mark m) at ts = if same_sign m OpenParen then parens at ts else refused ts
+prim_from parens _ at ts = refused ts
 
 -- an operator before an operand
 abbrev pub prefix_of : Lexeme → Option Prefix
-prefix_of (mark Minus) = Some prefix_case.Negate
-prefix_of (mark Not) = Some prefix_case.Not
+prefix_of (mark Minus) = Some Negate
 prefix_of _ = None
 
 abbrev pub prefix_from : Option Prefix → Span → List Tok → Option ((Prefix × Span) × List Tok)
@@ -418,62 +346,24 @@ unary_from prim (Some p) ts = do
 unfoldable pub unary_with : Reader Expr → Reader Expr
 unary_with prim ts = unary_from prim (prefix_at ts) ts
 
-abbrev pub comparison_of : Lexeme → Option Comparison
-comparison_of (mark DoubleEquals) = Some comparison.Equal
-comparison_of (mark NotEquals) = Some comparison.NotEqual
-comparison_of (mark Less) = Some comparison.Less
-comparison_of (mark LessEquals) = Some comparison.LessOrEqual
-comparison_of (mark Greater) = Some comparison.Greater
-comparison_of (mark GreaterEquals) = Some comparison.GreaterOrEqual
-comparison_of _ = None
+abbrev pub expr_with : Reader Expr → Reader Expr
+expr_with prim = chain_at (chain_at (unary_with prim) Term) Sum
 
-unfoldable pub comparison_at : List Tok → Option (Comparison × List Tok)
-comparison_at [] = None
-comparison_at (t ∷ ts) = before_rest (comparison_of t.kind) ts
-
--- what may stand behind a sum
-abbrev pub compared_from : Reader Expr → Expr → Option (Comparison × List Tok) → Reader Expr
-compared_from sum left None ts = Ok (left, ts)
-compared_from sum left (Some c) ts = do
-  right ← sum c.1
-  Ok (compare left c.0 right.0, right.1)
-
--- a sum, or two with a comparison between them
-unfoldable pub compared_with : Reader Expr → Reader Expr
-compared_with sum ts = do
-  left ← sum ts
-  compared_from sum left.0 (comparison_at left.1) left.1
-
-abbrev pub sum_with : Reader Expr → Reader Expr
-sum_with prim = chain_at (chain_at (unary_with prim) Term) Sum
+unfoldable pub prim_at : ℕ → Reader Expr
+prim_at zero = first_at (prim_from (λ at. too_deep))
+prim_at (suc room) = first_at (prim_from (in_parens (expr_with (prim_at room))))
 
 -- the operands of a level, and its expressions
-abbrev pub operand_with : Level → Reader Expr → Reader Expr
-operand_with Term prim = unary_with prim
-operand_with Sum prim = chain_at (unary_with prim) Term
-operand_with Conjunction prim = compared_with (sum_with prim)
-operand_with Disjunction prim = chain_at (compared_with (sum_with prim)) Conjunction
-
-abbrev pub level_with : Level → Reader Expr → Reader Expr
-level_with k prim = chain_at (operand_with k prim) k
-
--- an expression behind an opening sign, where room signs could be opened before it
-unfoldable pub inside_at : ℕ → Reader Expr
-inside_at zero = refused
-inside_at (suc room) = level_with Disjunction (prim_with room (inside_at room))
-
-abbrev pub prim_at : ℕ → Reader Expr
-prim_at room = prim_with room (inside_at room)
-
 abbrev pub operand_at : Level → ℕ → Reader Expr
-operand_at k room = operand_with k (prim_at room)
+operand_at Term room = unary_with (prim_at room)
+operand_at Sum room = chain_at (unary_with (prim_at room)) Term
 
 abbrev pub level_at : Level → ℕ → Reader Expr
-level_at k room = level_with k (prim_at room)
+level_at k room = chain_at (operand_at k room) k
 
 -- any expression
 abbrev pub expr_at : ℕ → Reader Expr
-expr_at room = level_at Disjunction room
+expr_at room = level_at Sum room
 
 -- ---- statements
 
@@ -494,77 +384,31 @@ local_at room start ts = do
   e ← ended_at room equals.1
   Ok (record { start = start; name = x.0; value_type = t.0; value = e.0 }, e.1)
 
--- behind the first name of what is assigned to
+-- behind the name that is assigned to
 unfoldable pub assign_at : ℕ → Ident → Reader Stmt
 assign_at room x ts = do
-  p ← place_at room (inside_at room) x ts
-  equals ← sign_at Equals p.1
+  equals ← sign_at Equals ts
   e ← ended_at room equals.1
-  Ok (assign p.0 e.0, e.1)
+  Ok (assign (lone x) e.0, e.1)
 
--- an expression in parentheses
-unfoldable pub condition_at : ℕ → Reader Expr
-condition_at room ts = do
-  before ← open_at OpenParen room ts
-  e ← inside_at room before.1
-  after ← sign_at CloseParen e.1
-  Ok (e.0, after.1)
-
--- statements in braces, read by body behind the opening one
-unfoldable pub braced_with : ℕ → Reader Stmts → Reader (Stmts × Span)
-braced_with room body ts = do
-  begin ← open_at OpenBrace room ts
-  ss ← body begin.1
-  close ← sign_at CloseBrace ss.1
-  Ok ((ss.0, close.0), close.1)
-
-abbrev pub some_else : ℕ → Reader Stmts → Reader Otherwise
-some_else room body ts = do
-  start ← word_at Else ts
-  b ← braced_with room body start.1
-  Ok (else_do b.0.0 b.0.1, b.1)
-
-abbrev pub nothing_else : Reader Otherwise
-nothing_else ts = Ok (no_else, ts)
-
-abbrev pub else_with : ℕ → Reader Stmts → Reader Otherwise
-else_with room body = choose (word Else) (some_else room body) nothing_else
-
--- behind the word `if`
-unfoldable pub if_with : ℕ → Reader Stmts → Span → Reader Stmt
-if_with room body start ts = do
-  e ← condition_at room ts
-  b ← braced_with room body e.1
-  o ← else_with room body b.1
-  Ok (if_then start e.0 b.0.0 b.0.1 o.0, o.1)
-
--- behind the word `while`
-unfoldable pub while_with : ℕ → Reader Stmts → Span → Reader Stmt
-while_with room body start ts = do
-  e ← condition_at room ts
-  b ← braced_with room body e.1
-  Ok (while start e.0 b.0.0 b.0.1, b.1)
-
-abbrev pub stmt_from : ℕ → Reader Stmts → Lexeme → Span → Reader Stmt
-stmt_from room body (name x) at ts = assign_at room (record { text = x; span = at }) ts
-stmt_from room body (word Let) at ts = do
+abbrev pub stmt_from : ℕ → Lexeme → Span → Reader Stmt
+stmt_from room (name x) at ts = assign_at room (record { text = x; span = at }) ts
+stmt_from room (word Let) at ts = do
   l ← local_at room at ts
   Ok (let_local l.0, l.1)
-stmt_from room body (word Var) at ts = do
+stmt_from room (word Var) at ts = do
   l ← local_at room at ts
   Ok (var_local l.0, l.1)
-stmt_from room body (word If) at ts = if_with room body at ts
-stmt_from room body (word While) at ts = while_with room body at ts
-stmt_from room body (word Print) at ts = do
+stmt_from room (word Print) at ts = do
   e ← ended_at room ts
   Ok (print at e.0, e.1)
-stmt_from room body (word Return) at ts = do
+stmt_from room (word Return) at ts = do
   e ← ended_at room ts
   Ok (return_value at e.0, e.1)
-stmt_from room body _ at ts = refused ts
+stmt_from room _ at ts = refused ts
 
-unfoldable pub stmt_with : ℕ → Reader Stmts → Reader Stmt
-stmt_with room body = first_at (stmt_from room body)
+unfoldable pub stmt_at : ℕ → Reader Stmt
+stmt_at room = first_at (stmt_from room)
 
 unfoldable pub stmts_with : Reader Stmt → Reader Stmts
 stmts_with stmt_reader = many_at no_stmts stmt (next_until (mark CloseBrace) stmt_reader)
@@ -572,13 +416,14 @@ stmts_with stmt_reader = many_at no_stmts stmt (next_until (mark CloseBrace) stm
 -- statements behind an opening brace, where room signs could be opened before it
 unfoldable pub stmts_in : ℕ → Reader Stmts
 stmts_in zero = refused
-stmts_in (suc room) = stmts_with (stmt_with room (stmts_in room))
+stmts_in (suc room) = stmts_with (stmt_at room)
 
-abbrev pub stmt_at : ℕ → Reader Stmt
-stmt_at room = stmt_with room (stmts_in room)
-
-abbrev pub braced_at : ℕ → Reader (Stmts × Span)
-braced_at room = braced_with room (stmts_in room)
+unfoldable pub block_at : ℕ → Reader Block
+block_at room ts = do
+  begin ← open_at OpenBrace room ts
+  ss ← stmts_in room begin.1
+  close ← sign_at CloseBrace ss.1
+  Ok (record { stmts = ss.0; close = close.0 }, close.1)
 
 -- ---- declarations
 
@@ -591,31 +436,15 @@ protection_at room ts = do
   close ← sign_at CloseParen more.1
   Ok (record { first = first.0; rest = more.0 }, close.1)
 
--- an annotation, or nothing
-abbrev pub maybe_protection : ℕ → Reader (Option Protection)
-maybe_protection room = maybe_at (word ProtectedBy) (protection_at room)
-
--- a global that is an array, and one that is none, behind its type and name
-unfoldable pub array_at : ℕ → ValueType → Ident → Reader Decl
-array_at room t x ts = do
-  n ← index_at room ts
-  p ← maybe_protection room n.1
-  semicolon ← sign_at Semicolon p.1
-  Ok (array (record { name = x; value_type = t; length = n.0; protection = p.0 }), semicolon.1)
-
-unfoldable pub variable_at : ℕ → ValueType → Ident → Reader Decl
-variable_at room t x ts = do
-  p ← maybe_protection room ts
-  v ← maybe_at (mark Equals) (after_at Equals (const_at room)) p.1
-  semicolon ← sign_at Semicolon v.1
-  Ok (global (record { name = x; value_type = t; protection = p.0; value = v.0 }), semicolon.1)
-
 -- behind the word `global`
-unfoldable pub global_at : ℕ → Reader Decl
-global_at room ts = do
+unfoldable pub variable_at : ℕ → Reader Variable
+variable_at room ts = do
   t ← type_at ts
   x ← name_at t.1
-  choose (mark OpenBracket) (array_at room t.0 x.0) (variable_at room t.0 x.0) x.1
+  p ← maybe_at (word ProtectedBy) (protection_at room) x.1
+  v ← maybe_at (mark Equals) (after_at Equals const_at) p.1
+  semicolon ← sign_at Semicolon v.1
+  Ok (record { name = x.0; value_type = t.0; protection = p.0; value = v.0 }, semicolon.1)
 
 unfoldable pub param_at : Reader Param
 param_at ts = do
@@ -637,39 +466,22 @@ section_at room ts = do
   x ← name_at ts
   ps ← params_at room x.1
   r ← maybe_at (mark Colon) (after_at Colon type_at) ps.1
-  b ← braced_at room r.1
-  Ok (record { name = x.0; params = ps.0; result = r.0; body = record { stmts = b.0.0; close = b.0.1 } }, b.1)
-
--- constants behind an opening parenthesis, where room signs could be opened before it
-unfoldable pub consts_in : ℕ → Reader (List Const)
-consts_in zero = refused
-consts_in (suc room) = listed_at (const_at room)
+  b ← block_at room r.1
+  Ok (record { name = x.0; params = ps.0; result = r.0; body = b.0 }, b.1)
 
 unfoldable pub call_at : ℕ → Reader tree.Call
 call_at room ts = do
   x ← name_at ts
   before ← open_at OpenParen room x.1
-  cs ← consts_in room before.1
+  cs ← listed_at const_at before.1
   after ← sign_at CloseParen cs.1
   semicolon ← sign_at Semicolon after.1
   Ok (record { section = x.0; arguments = cs.0 }, semicolon.1)
 
-abbrev pub call_item : ℕ → Reader tree.Item
-call_item room ts = do
+unfoldable pub item_at : ℕ → Reader tree.Item
+item_at room ts = do
   c ← call_at room ts
   Ok (tree.call c.0, c.1)
-
-unfoldable pub repeat_with : ℕ → Reader Items → Reader tree.Item
-repeat_with room body ts = do
-  start ← word_at Repeat ts
-  n ← int_at start.1
-  begin ← open_at OpenBrace room n.1
-  is ← body begin.1
-  close ← sign_at CloseBrace is.1
-  Ok (tree.repeat n.0 is.0, close.1)
-
-unfoldable pub item_with : ℕ → Reader Items → Reader tree.Item
-item_with room body = choose (word Repeat) (repeat_with room body) (call_item room)
 
 unfoldable pub items_with : Reader tree.Item → Reader Items
 items_with item_reader = many_at no_items tree.item (next_until (mark CloseBrace) item_reader)
@@ -677,10 +489,7 @@ items_with item_reader = many_at no_items tree.item (next_until (mark CloseBrace
 -- items behind an opening brace, where room signs could be opened before it
 unfoldable pub items_in : ℕ → Reader Items
 items_in zero = refused
-items_in (suc room) = items_with (item_with room (items_in room))
-
-abbrev pub item_at : ℕ → Reader tree.Item
-item_at room = item_with room (items_in room)
+items_in (suc room) = items_with (item_at room)
 
 -- behind the word `thread`
 unfoldable pub thread_at : ℕ → Reader tree.Thread
@@ -698,85 +507,13 @@ lock_at ts = do
   semicolon ← sign_at Semicolon x.1
   Ok (x.0, semicolon.1)
 
--- a field, or another member
-unfoldable pub field_at : ℕ → Reader Member
-field_at room ts = do
-  t ← type_at ts
-  x ← name_at t.1
-  p ← maybe_protection room x.1
-  semicolon ← sign_at Semicolon p.1
-  Ok (field_member (record { name = x.0; value_type = t.0; protection = p.0 }), semicolon.1)
-
-unfoldable pub final_at : Reader Member
-final_at ts = do
-  start ← word_at Final ts
-  ref ← word_at Ref start.1
-  target ← name_at ref.1
-  x ← name_at target.1
-  semicolon ← sign_at Semicolon x.1
-  Ok (final_member (record { name = x.0; target = target.0 }), semicolon.1)
-
-unfoldable pub lock_member_at : Reader Member
-lock_member_at ts = do
-  start ← word_at Lock ts
-  x ← lock_at start.1
-  Ok (lock_member x.0, x.1)
-
-abbrev pub member_at : ℕ → Reader Member
-member_at room = choose (word Lock) lock_member_at (choose (word Final) final_at (field_at room))
-
-unfoldable pub members_with : Reader Member → Reader (List Member)
-members_with member_reader = many_at [] ◌∷◌ (next_until (mark CloseBrace) member_reader)
-
--- members behind an opening brace, where room signs could be opened before it
-unfoldable pub members_in : ℕ → Reader (List Member)
-members_in zero = refused
-members_in (suc room) = members_with (member_at room)
-
--- behind the word `struct`
-unfoldable pub struct_at : ℕ → Reader tree.Struct
-struct_at room ts = do
-  x ← name_at ts
-  begin ← open_at OpenBrace room x.1
-  ms ← members_in room begin.1
-  close ← sign_at CloseBrace ms.1
-  Ok (record { name = x.0; members = ms.0 }, close.1)
-
--- behind the word `pool`
-unfoldable pub pool_at : ℕ → Reader tree.Pool
-pool_at room ts = do
-  target ← name_at ts
-  x ← name_at target.1
-  n ← index_at room x.1
-  semicolon ← sign_at Semicolon n.1
-  Ok (record { name = x.0; target = target.0; length = n.0 }, semicolon.1)
-
--- behind the word `init`
-unfoldable pub init_at : ℕ → Span → Reader tree.Init
-init_at room start ts = do
-  p ← name_at ts
-  n ← index_at room p.1
-  dot ← sign_at Dot n.1
-  x ← name_at dot.1
-  equals ← sign_at Equals x.1
-  c ← const_at room equals.1
-  semicolon ← sign_at Semicolon c.1
-  Ok (record { start = start; pool = p.0; index = n.0; field = x.0; value = c.0 }, semicolon.1)
-
 abbrev pub decl_from : ℕ → Lexeme → Span → Reader Decl
 decl_from room (word Lock) at ts = do
   x ← lock_at ts
   Ok (lock x.0, x.1)
-decl_from room (word Struct) at ts = do
-  s ← struct_at room ts
-  Ok (struct s.0, s.1)
-decl_from room (word Global) at ts = global_at room ts
-decl_from room (word Pool) at ts = do
-  p ← pool_at room ts
-  Ok (pool p.0, p.1)
-decl_from room (word Init) at ts = do
-  i ← init_at room at ts
-  Ok (init i.0, i.1)
+decl_from room (word Global) at ts = do
+  v ← variable_at room ts
+  Ok (global v.0, v.1)
 decl_from room (word Atomic) at ts = do
   s ← section_at room ts
   Ok (atomic s.0, s.1)

@@ -3,4 +3,3 @@ pub mod Views
 pub mod Grammar
 pub mod Returns
 pub mod Faults
-pub mod Printing

@@ -8,6 +8,4 @@
 //! - `specs/Returns.antt`: where a `return` is misplaced or missing.
 #![tactic(auto)]
 
-mod print;
-mod print_stmt;
 pub mod tree;
