@@ -6,6 +6,9 @@
 //! 7 where a call is not settled by the given turns; `--help` exits with 0.
 #![tactic(auto)]
 
+ghost use Rattle.std.specs.Prelude.{◌≡◌, ◌≢◌, ◌⊎◌, IfOk, map, string_bytes};
+ghost use Rattle.clap.specs.Values.{kind_of};
+
 use clap::Error;
 use clap::error::ErrorKind;
 use driver::{
@@ -33,7 +36,11 @@ fn run_line<E: Write>(rt: &HostRuntime, line: Line<'_>, err: &mut Sink<E>) -> St
 }
 
 /// Prints what `clap` says of the words: help on standard output, anything else on standard error.
-fn tell_words<E: Write>(rt: &HostRuntime, error: &Error, err: &mut Sink<E>) -> Status {
+fn tell_words<E: Write>(rt: &HostRuntime, error: &Error, err: &mut Sink<E>) -> Status
+    ensures memory { kind_of error.now ≡ ErrorKind.OutOfMemory → result ≡ Status.OutOfMemory }
+    ensures help { kind_of error.now ≡ ErrorKind.DisplayHelp → (result ≡ Status.Done) ⊎ (result ≡ Status.Failed) }
+    ensures bad { kind_of error.now ≢ ErrorKind.OutOfMemory → kind_of error.now ≢ ErrorKind.DisplayHelp → result ≡ Status.BadWords }
+{
     match error.kind() {
         ErrorKind::OutOfMemory => {
             tell_no_memory(err);
@@ -63,7 +70,9 @@ fn arguments(rt: &HostRuntime) -> io::Result<Vec<String>> {
 }
 
 /// The same as slices.
-fn slices(alloc: Global, arguments: &[String]) -> Result<Vec<&str>, AllocError> {
+fn slices(alloc: Global, arguments: &[String]) -> Result<Vec<&str>, AllocError>
+    ensures { IfOk result (λ all. map (λ word. word.now) all.items ≡ map (λ word. string_bytes word) arguments.now) }
+{
     let mut all = Vec::with_capacity(alloc, arguments.len())?;
     for argument in arguments {
         all.push(argument.as_str())?;

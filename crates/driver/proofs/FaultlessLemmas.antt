@@ -19,7 +19,7 @@ tokens_end total source _ (at_end gap) none = none.0 refl
 tokens_end total source _ (token next within rest) none = tokens_end total _ _ rest none.1
 
 -- tokens with a tree have no fault but a misplaced return
-tokens_faultless : (source : List ℕ) (ts : List Tok) (tree : List Decl) (code : Code) (start : ℕ) → text.HasTokens source ts
+pub tokens_faultless : (source : List ℕ) (ts : List Tok) (tree : List Decl) (code : Code) (start : ℕ) → text.HasTokens source ts
     → grammar.HasRightTree ts tree → ((s : ℕ) → IsMisplaced ts s → ⊥) → grammar.IsFault ts code start → ⊥
 tokens_faultless source ts tree _ _ has right placed (unended none) = tokens_end (length source) source ts has none
 tokens_faultless source ts tree _ _ has right placed (unexpected u) =

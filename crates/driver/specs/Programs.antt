@@ -1,5 +1,6 @@
 -- From a text to its program, or to its fault.
 use Rattle.std.specs.Prelude.{ℕ, List}
+use Rattle.source.specs.declared.fault.Code.{Code}
 use Rattle.core_lang.specs.declared.typed.Typed.{Typed}
 use Rattle.source.specs.declared.fault.Fault as the_fault
 use Rattle.source.specs.declared.fault.Refusal.{Refusal}
@@ -9,6 +10,7 @@ use Rattle.source.specs.Texts as text
 use Rattle.syntax.specs.Trees.{Decl}
 use Rattle.syntax.specs.Faults as grammar
 use Rattle.types.specs.Faults as names
+use Rattle.types.specs.Leasts.{IsLeast}
 use Rattle.types.specs.Resolved.{Resolves}
 
 -- a fault of the text; of the tokens of a text that has some; of the tree of tokens that have one
@@ -27,7 +29,23 @@ pub record Accepts (source : List ℕ) (program : Typed) : Type 0 where
   pub resolves : Resolves tree program
   pub faultless : (fault : the_fault.Fault) → HasFault source fault → ⊥
 
--- a text was refused for a fault that it has, or for want of memory
+-- the text has no fault of its own; the tokens have none
+abbrev pub HasNoTextFault : List ℕ → Type 0
+HasNoTextFault source = (code : Code) (start : ℕ) → text.IsFault source code start → ⊥
+
+abbrev pub HasNoTokenFault : List Tok → Type 0
+HasNoTokenFault tokens = (code : Code) (start : ℕ) → grammar.IsFault tokens code start → ⊥
+
+-- the fault that is given: one of the first pass that has any. A text has one fault of its own at most; of a tree it is the least
+pub data IsFirstFault (source : List ℕ) (fault : the_fault.Fault) : Type 0 where
+  first_of_text : text.IsRefusal source (Fault fault) → IsFirstFault source fault
+  first_of_tokens : (tokens : List Tok) → HasNoTextFault source → text.HasTokens source tokens
+      → grammar.IsRefusal tokens (Fault fault) → IsFirstFault source fault
+  first_of_tree : (tokens : List Tok) (tree : List Decl) → HasNoTextFault source → text.HasTokens source tokens
+      → HasNoTokenFault tokens → grammar.HasRightTree tokens tree
+      → names.IsRefusal tree (Fault fault) → IsLeast tree (Fault fault) → IsFirstFault source fault
+
+-- a text was refused for the fault that is to be given, or for want of memory
 abbrev pub IsRefusal : List ℕ → Refusal → Type 0
 IsRefusal source NoMemory = Unit {0}
-IsRefusal source (Fault fault) = HasFault source fault
+IsRefusal source (Fault fault) = IsFirstFault source fault

@@ -84,16 +84,19 @@ pub fn serial<S: Read, O: Write, E: Write>(
         × Appends (O.contents (writer_of out.old)) (O.contents (writer_of out.new)) wrote
         × (writing_failed err.new ≡ false → Appends (E.contents (writer_of err.old)) (E.contents (writer_of err.new)) told)) }
 
+    // No word is its to judge.
+    ensures words { result ≢ Status.BadWords }
+
     // It fails where reading or writing failed, and nowhere else.
     ensures failed { (result ≡ Status.Failed) ↔ ((reading_failed source.new || writing_failed out.new) ≡ true) }
-    ensures read_out { reading_failed source.new ≡ true → Appends (O.contents (writer_of out.old)) (O.contents (writer_of out.new)) [] }
+    ensures read_out { reading_failed source.new ≡ true → out.new ≡ out.old }
     ensures read_err { reading_failed source.new ≡ true → writing_failed err.new ≡ false →
         Appends (E.contents (writer_of err.old)) (E.contents (writer_of err.new)) (cannot_read file.now) }
     ensures write_err { reading_failed source.new ≡ false → writing_failed out.new ≡ true → writing_failed err.new ≡ false →
         Appends (E.contents (writer_of err.old)) (E.contents (writer_of err.new)) cannot_write }
 
     // Where memory runs out, nothing is written.
-    ensures memory_out { result ≡ Status.OutOfMemory → Appends (O.contents (writer_of out.old)) (O.contents (writer_of out.new)) [] }
+    ensures memory_out { result ≡ Status.OutOfMemory → out.new ≡ out.old }
     ensures memory_err { result ≡ Status.OutOfMemory → writing_failed err.new ≡ false →
         Appends (E.contents (writer_of err.old)) (E.contents (writer_of err.new)) no_memory }
 {

@@ -51,8 +51,9 @@ impl<W: Write> Sink<W> {
         }
     }
 
-    /// Sends on what the writer keeps back.
+    /// Sends on what the writer keeps back; after a failure, nothing.
     pub fn flush(&mut self)
+        ensures stopped { writing_failed self.old ≡ true → writer_of self.new ≡ writer_of self.old }
         ensures keeps { writing_failed self.new ≡ false → Keeps (W.contents (writer_of self.old)) (W.contents (writer_of self.new)) }
         ensures sticky { writing_failed self.new ≡ false → writing_failed self.old ≡ false }
     {

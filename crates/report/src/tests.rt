@@ -18,104 +18,99 @@ fn cell(owner: Owner, value_type: ValueType, opening: Value) -> Cell {
     }
 }
 
+fn field(alloc: Global) -> Result<Field, AllocError> {
+    Ok(Field {
+        name: String::from_str(alloc, "x")?,
+        value_type: ValueType::Reference(0),
+        protection: Protection {
+            through: Vec::new(alloc),
+            class: 0,
+        },
+    })
+}
+
+fn structure(alloc: Global) -> Result<Struct, AllocError> {
+    Ok(Struct {
+        name: String::from_str(alloc, "S")?,
+        locks: Vec::new(alloc),
+        finals: Vec::new(alloc),
+        fields: vec![in alloc; field(alloc)?]?,
+    })
+}
+
+fn pool(alloc: Global, name: &str, first: u32, length: u32) -> Result<Pool, AllocError> {
+    Ok(Pool {
+        name: String::from_str(alloc, name)?,
+        first,
+        length,
+        structure: 0,
+    })
+}
+
+fn object(pool: usize, cells: u32) -> Object {
+    Object {
+        pool,
+        cells,
+        finals: 0,
+    }
+}
+
+fn shape(alloc: Global) -> Result<Shape, AllocError> {
+    let array = Array {
+        name: String::from_str(alloc, "a")?,
+        first: 1,
+        length: 1,
+        element: ValueType::Integer,
+        class: 0,
+    };
+    Ok(Shape {
+        arrays: vec![in alloc; array]?,
+        pools: vec![in alloc; pool(alloc, "p", 0, 1)?, pool(alloc, "q", 1, 2)?]?,
+        objects: vec![in alloc; object(0, 2), object(1, 3), object(1, 4)]?,
+        finals: Vec::new(alloc),
+    })
+}
+
+// Some of the cells.
+fn cells(alloc: Global) -> Result<Vec<Cell>, AllocError> {
+    let element = Owner::Element { array: 0, index: 0 };
+    let member = Owner::Field {
+        object: 2,
+        field: 0,
+    };
+    Ok(vec![in alloc;
+        cell(Owner::Global(0), ValueType::Integer, Value::Int(0)),
+        cell(element, ValueType::Integer, Value::Int(0)),
+        cell(member, ValueType::Reference(0), Value::Ref(None)),
+    ]?)
+}
+
+fn section(alloc: Global) -> Result<Section, AllocError> {
+    Ok(Section {
+        name: String::from_str(alloc, "f")?,
+        parameters: 0,
+        locals: Vec::new(alloc),
+        result_type: None,
+        body: Vec::new(alloc),
+        result: None,
+    })
+}
+
 /// `lock G; global int n; global int a[1]; struct S { ref S x; } pool S p[1]; pool S q[2];` with a
 /// section `f`.
 fn program(alloc: Global) -> Result<Typed, AllocError> {
+    let global = GlobalVariable {
+        name: String::from_str(alloc, "n")?,
+        cell: 0,
+        class: 0,
+    };
     Ok(Typed {
         classes: vec![in alloc; LockClass::Global(String::from_str(alloc, "G")?)]?,
-        structs: vec![in alloc;
-            Struct {
-                name: String::from_str(alloc, "S")?,
-                locks: Vec::new(alloc),
-                finals: Vec::new(alloc),
-                fields: vec![in alloc;
-                    Field {
-                        name: String::from_str(alloc, "x")?,
-                        value_type: ValueType::Reference(0),
-                        protection: Protection {
-                            through: Vec::new(alloc),
-                            class: 0,
-                        },
-                    }
-                ]?,
-            },
-        ]?,
-        globals: vec![in alloc;
-            GlobalVariable {
-                name: String::from_str(alloc, "n")?,
-                cell: 0,
-                class: 0,
-            },
-        ]?,
-        shape: Shape {
-            arrays: vec![in alloc;
-                Array {
-                    name: String::from_str(alloc, "a")?,
-                    first: 1,
-                    length: 1,
-                    element: ValueType::Integer,
-                    class: 0,
-                },
-            ]?,
-            pools: vec![in alloc;
-                Pool {
-                    name: String::from_str(alloc, "p")?,
-                    first: 0,
-                    length: 1,
-                    structure: 0,
-                },
-                Pool {
-                    name: String::from_str(alloc, "q")?,
-                    first: 1,
-                    length: 2,
-                    structure: 0,
-                },
-            ]?,
-            objects: vec![in alloc;
-                Object {
-                    pool: 0,
-                    cells: 2,
-                    finals: 0
-                },
-                Object {
-                    pool: 1,
-                    cells: 3,
-                    finals: 0
-                },
-                Object {
-                    pool: 1,
-                    cells: 4,
-                    finals: 0
-                },
-            ]?,
-            finals: Vec::new(alloc),
-        },
-        cells: vec![in alloc;
-            cell(Owner::Global(0), ValueType::Integer, Value::Int(0)),
-            cell(
-                Owner::Element { array: 0, index: 0 },
-                ValueType::Integer,
-                Value::Int(0)
-            ),
-            cell(
-                Owner::Field {
-                    object: 2,
-                    field: 0
-                },
-                ValueType::Reference(0),
-                Value::Ref(None)
-            ),
-        ]?,
-        sections: vec![in alloc;
-            Section {
-                name: String::from_str(alloc, "f")?,
-                parameters: 0,
-                locals: Vec::new(alloc),
-                result_type: None,
-                body: Vec::new(alloc),
-                result: None,
-            },
-        ]?,
+        structs: vec![in alloc; structure(alloc)?]?,
+        globals: vec![in alloc; global]?,
+        shape: shape(alloc)?,
+        cells: cells(alloc)?,
+        sections: vec![in alloc; section(alloc)?]?,
         threads: Vec::<Thread>::new(alloc),
     })
 }

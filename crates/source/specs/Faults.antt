@@ -33,6 +33,13 @@ fault_text file text fault =
     placed_text file (line_of text at) (column_of text at) (code_name fault.code) (code_text fault.code)
     ++ detail_text (string_bytes fault.detail)
 
+-- how a code shows, and how a fault does where no text is at hand
+abbrev pub shown_code : Code → List ℕ
+shown_code code = code_name code ++ codes " " ++ code_text code
+
+abbrev pub shown_fault : the_fault.Fault → List ℕ
+shown_fault fault = shown_code fault.code ++ codes " at byte " ++ decimal fault.start
+
 -- the fault of this code at this byte, with no detail
 abbrev pub IsBare : Code → ℕ → the_fault.Fault → Type 0
 IsBare code start fault = (fault.code ≡ code) × (fault.start ≡ start) × (string_bytes fault.detail ≡ [])

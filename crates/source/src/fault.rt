@@ -112,6 +112,11 @@ impl Code {
 }
 
 impl fmt::Display for Code {
+    ghost use Rattle.std.specs.Prelude.{Some};
+    ghost use Rattle.source.specs.Faults.{shown_code};
+
+    ghost output = { λ code. Some (shown_code code) };
+
     fn fmt<W: fmt::Write>(&self, f: &mut fmt::Formatter<W>) -> fmt::Result {
         write!(f, "{} {}", self.name(), self.text())
     }
@@ -144,6 +149,11 @@ impl Fault {
 }
 
 impl fmt::Display for Fault {
+    ghost use Rattle.std.specs.Prelude.{Some};
+    ghost use Rattle.source.specs.Faults.{shown_fault};
+
+    ghost output = { λ fault. Some (shown_fault fault) };
+
     fn fmt<W: fmt::Write>(&self, f: &mut fmt::Formatter<W>) -> fmt::Result {
         write!(f, "{} at byte {}", self.code, self.start)
     }

@@ -1,7 +1,11 @@
 -- What a line says of the matches.
-use Rattle.std.specs.Prelude.{◌≡◌, ℕ, ◌^◌, ◌<◌, List, [], Option, Some, None, codes, unwrap_or}
+use Rattle.std.specs.Prelude.{◌≡◌, ◌⊎◌, ℕ, ◌^◌, ◌<◌, List, [], Option, Some, None, codes, unwrap_or}
 use Rattle.std.specs.Str.Parse.{IsNumeral, digits_value, without_leading_plus}
-use Rattle.clap.specs.Words.{Row, Text, first_of, one_of}
+use Rattle.clap.specs.Words.{HasKind, Row, Text, fault_of, first_of, one_of, subcommand_of}
+use Rattle.clap.specs.Values.{kind_of}
+use Rattle.clap.specs.declared.error.Error.{Error}
+use Rattle.clap.specs.declared.error.kind.ErrorKind.TheVariants.{MissingSubcommand}
+use Rattle.words.specs.Commands.{autolock}
 use Rattle.words.specs.declared.line.Line.{Line}
 use Rattle.words.specs.declared.line.Line.TheVariants.{Serial}
 
@@ -9,11 +13,11 @@ use Rattle.words.specs.declared.line.Line.TheVariants.{Serial}
 abbrev pub name_in : Text → List Row → Text
 name_in id rows = unwrap_or (first_of id rows) []
 
--- the number that the value of `turns` writes, where a plus may stand first
-abbrev pub IsTurns : List Row → ℕ → Type 0
-IsTurns rows turns =
-    (text : Text) → one_of (codes "turns") rows ≡ Some text → IsNumeral 10 (without_leading_plus text)
-    → digits_value 10 (without_leading_plus text) < 2 ^ 64 → turns ≡ digits_value 10 (without_leading_plus text)
+-- the number that the value of `turns` writes, where a plus may stand first; without a value, 1000000
+pub record IsTurns (rows : List Row) (turns : ℕ) : Type 0 where
+  pub given : (text : Text) → one_of (codes "turns") rows ≡ Some text → IsNumeral 10 (without_leading_plus text)
+      → digits_value 10 (without_leading_plus text) < 2 ^ 64 → turns ≡ digits_value 10 (without_leading_plus text)
+  pub default : one_of (codes "turns") rows ≡ None → turns ≡ 1000000
 
 -- the line is that command, with the values of its arguments
 abbrev pub IsLine : Text → List Row → Line → Type 0
@@ -24,3 +28,13 @@ IsLine command rows (Serial file turns) =
 abbrev pub IsLineOf : Option (Text × List Row) → Line → Type 0
 IsLineOf None line = ⊥
 IsLineOf (Some (command, rows)) line = IsLine command rows line
+
+-- the subcommand that was met is one of the program's own
+abbrev pub IsOwn : Option (Text × List Row) → Type 0
+IsOwn None = ⊥
+IsOwn (Some (command, rows)) = command ≡ codes "serial"
+
+-- why words are refused: memory ran out, clap's definitions refuse them so, or they name no command of the program's own
+abbrev pub IsRefused : List Text → Error → Type 0
+IsRefused words error = HasKind (fault_of autolock words) error
+    ⊎ ((kind_of error ≡ MissingSubcommand) × (IsOwn (subcommand_of autolock words) → ⊥))

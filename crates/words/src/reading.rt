@@ -1,9 +1,9 @@
 //! From words to a line.
 
-ghost use Rattle.std.specs.Prelude.{◌≡◌, IfOk, IfSome, map};
+ghost use Rattle.std.specs.Prelude.{◌≡◌, ◌≢◌, IfOk, IfErr, IfSome, None, codes, map};
 ghost use Rattle.clap.specs.Words.{found_of, rows_of, subcommand_of};
 ghost use Rattle.words.specs.Commands.{autolock};
-ghost use Rattle.words.specs.Lines.{name_in, IsTurns, IsLine, IsLineOf};
+ghost use Rattle.words.specs.Lines.{name_in, IsTurns, IsLine, IsLineOf, IsRefused};
 
 use crate::command::command;
 use crate::line::{DEFAULT_TURNS, Line};
@@ -27,7 +27,8 @@ fn turns(matches: &ArgMatches<'_>) -> u64
 
 /// The line of a command, or `None` where there is no such command.
 fn line<'a>(command: &str, matches: &ArgMatches<'a>) -> Option<Line<'a>>
-    ensures { IfSome result (IsLine command.now (rows_of (found_of matches.now))) }
+    ensures line { IfSome result (IsLine command.now (rows_of (found_of matches.now))) }
+    ensures none { result ≡ None → command.now ≢ codes "serial" }
 {
     let file = name(matches, "FILE");
     match command {
@@ -41,7 +42,8 @@ fn line<'a>(command: &str, matches: &ArgMatches<'a>) -> Option<Line<'a>>
 /// An error is `clap`'s: its kind says whether help was asked for, memory was refused, or the words
 /// are no line; its text is what a user is to see.
 pub fn words<'a>(alloc: Global, words: &'a [&'a str]) -> Result<Line<'a>, Error>
-    ensures { IfOk result (IsLineOf (subcommand_of autolock (map (λ word. word.now) words.entry.now))) }
+    ensures line { IfOk result (IsLineOf (subcommand_of autolock (map (λ word. word.now) words.entry.now))) }
+    ensures refused { IfErr result (IsRefused (map (λ word. word.now) words.entry.now)) }
 {
     let mut command = command(alloc)?;
     let matches = command.try_get_matches_from_mut(words)?;

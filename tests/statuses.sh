@@ -1,0 +1,69 @@
+#!/bin/sh
+# Runs the program on words, files and outputs that fail, and compares the exit status and the two
+# outputs. Its argument is the program to run, by default ./autolock at the top.
+set -u
+
+top=$(cd -- "$(dirname -- "$0")/.." && pwd -P)
+program=$(realpath -- "${1:-$top/autolock}")
+"$program" --help >/dev/null 2>&1 # so that it is built before the first case
+work=$(mktemp -d)
+trap 'rm -rf "$work"' EXIT
+cd "$work" || exit 1
+failed=0
+printf 'lock G;\nglobal int n protected_by(G);\natomic f() { n = 1; }\nthread t { f(); }\n' >right.al
+printf 'lock G;\nglobal int n;\n' >wrong.al
+mkdir folder
+: >none
+echo 'wrong.al:2:12: E10 neither final nor protected' >fault
+printf 'history 1\ncall 0 0 f() ends\ncells\nn 1\nend\n' >history
+for name in missing.al folder; do echo "autolock: cannot read $name" >"no_$name"; done
+echo 'autolock: cannot write' >unwritten
+echo 'some text' >some
+
+# Whether an output is the wanted one, which `some` stands for where only some text is wanted.
+is() { if [ "$2" = some ]; then [ -s "$1" ]; else cmp -s "$1" "$2"; fi; }
+
+# A name, the status, and the files of what stands on standard output and on standard error.
+judge() {
+    name=$1 wanted=$2 status=$3
+    if [ "$status" = "$wanted" ] && is out "$4" && is err "$5"; then
+        echo "ok $name"
+    else
+        echo "FAILED $name: status $status"
+        head -n 3 out err
+        failed=1
+    fi
+}
+
+# The same, of a run with the words that follow.
+run() {
+    name=$1 wanted=$2 wrote=$3 told=$4
+    shift 4
+    "$program" "$@" >out 2>err </dev/null
+    judge "$name" "$wanted" $? "$wrote" "$told"
+}
+
+run "done" 0 history none serial right.al
+run "turns" 0 history none serial --turns 0 right.al
+run "a fault" 1 none fault serial wrong.al
+run "no words" 2 none some
+run "another command" 2 none some walk right.al
+run "no file" 2 none some serial
+run "two files" 2 none some serial right.al wrong.al
+run "too many turns" 2 none some serial --turns 1000000001 right.al
+run "turns that are no number" 2 none some serial --turns many right.al
+run "help" 0 some none --help
+run "help on a command" 0 some none serial --help
+run "a file that is not there" 3 none no_missing.al serial missing.al
+run "a folder" 3 none no_folder serial folder
+
+: >out
+"$program" serial right.al >/dev/full 2>err </dev/null
+judge "an output that is full" 3 $? none unwritten
+"$program" --help >/dev/full 2>err </dev/null
+judge "help on an output that is full" 3 $? none unwritten
+: >err
+"$program" serial wrong.al >out 2>/dev/full </dev/null
+judge "a standard error that is full" 1 $? none none
+
+exit $failed
