@@ -1,7 +1,7 @@
 //! A section under way.
 
 ghost use Rattle.std.specs.Prelude.{◌≡◌};
-ghost use Rattle.core_lang.specs.Meaning.{effect_of, sequence, stored, written, printed, truth_of, turns as turns_of};
+ghost use Rattle.core_lang.specs.Meaning.{effect_of, sequence, stored, written, printed};
 ghost use Rattle.core_lang.specs.Whole.{concluded};
 ghost use Rattle.meaning.specs.Answer.{Follows, Concludes};
 ghost use Rattle.meaning.specs.Execution.{state_of, Keeps};
@@ -10,7 +10,7 @@ use crate::access::{cell_of_element, cell_of_field, follow, non_null};
 use crate::draft::Draft;
 use crate::evaluate::{evaluate, is_true};
 use core_lang::shape::Shape;
-use core_lang::tree::{Action, Condition, Expr, Path, Section, Stmt};
+use core_lang::tree::{Action, Section, Stmt};
 use core_lang::value::{Failure, Outcome, Trap, Value};
 use std::alloc::AllocError;
 
@@ -105,49 +105,17 @@ impl Execution {
         }
     }
 
-    // An array's element: the index with its trap comes before the value.
-    #[inline(always)]
-    fn set_element(
-        &mut self,
-        array: usize,
-        index: &Expr,
-        value: &Expr,
-        shape: &Shape,
-    ) -> Result<(), Stop>
-        ensures follows { Follows result (state_of self.new) (effect_of (Action.SetElement array index.now value.now) shape.now 0 (state_of self.old)) }
-        ensures keeps { Keeps self.old self.new }
-    {
-        let index = evaluate(index, shape, &self.locals, self.draft.cells())?;
-        let cell = cell_of_element(shape, array, index)?;
-        let v = evaluate(value, shape, &self.locals, self.draft.cells())?;
-        self.write(cell, v)
-    }
-
-    // A field: the object with its trap comes before the value.
-    #[inline(always)]
-    fn set_field(
-        &mut self,
-        base: &Path,
-        field: u32,
-        value: &Expr,
-        shape: &Shape,
-    ) -> Result<(), Stop>
-        ensures follows { Follows result (state_of self.new) (effect_of (Action.SetField base.now field value.now) shape.now 0 (state_of self.old)) }
-        ensures keeps { Keeps self.old self.new }
-    {
-        let base = non_null(follow(base, shape, &self.locals, self.draft.cells())?)?;
-        let v = evaluate(value, shape, &self.locals, self.draft.cells())?;
-        let cell = cell_of_field(shape, base, field)?;
-        self.write(cell, v)
-    }
-
     #[cycle(run)]
     fn run(&mut self, action: &Action, shape: &Shape, turns: u64) -> Result<(), Stop>
         ensures follows { Follows result (state_of self.new) (effect_of action.now shape.now turns (state_of self.old)) }
         ensures keeps { Keeps self.old self.new }
     {
         match action {
-            Action::Bind { local, value } | Action::SetLocal { local, value } => {
+            Action::Bind { local, value } => {
+                let v = evaluate(value, shape, &self.locals, self.draft.cells())?;
+                self.store(*local, v)
+            }
+            Action::SetLocal { local, value } => {
                 let v = evaluate(value, shape, &self.locals, self.draft.cells())?;
                 self.store(*local, v)
             }
@@ -159,8 +127,18 @@ impl Execution {
                 array,
                 index,
                 value,
-            } => self.set_element(*array, index, value, shape),
-            Action::SetField { base, field, value } => self.set_field(base, *field, value, shape),
+            } => {
+                let index = evaluate(index, shape, &self.locals, self.draft.cells())?;
+                let cell = cell_of_element(shape, *array, index)?;
+                let v = evaluate(value, shape, &self.locals, self.draft.cells())?;
+                self.write(cell, v)
+            }
+            Action::SetField { base, field, value } => {
+                let base = non_null(follow(base, shape, &self.locals, self.draft.cells())?)?;
+                let v = evaluate(value, shape, &self.locals, self.draft.cells())?;
+                let cell = cell_of_field(shape, base, *field)?;
+                self.write(cell, v)
+            }
             Action::Print(e) => {
                 let v = evaluate(e, shape, &self.locals, self.draft.cells())?;
                 self.print(v)
@@ -183,32 +161,18 @@ impl Execution {
                     self.run_all(otherwise, shape, turns)
                 }
             }
-            Action::While { condition, body } => self.repeat(body, condition, shape, turns),
-        }
-    }
-
-    // Runs a block while a condition is true, at most so many times. The block stands first, since the recursion goes
-    // down its depth.
-    #[cycle(run)]
-    fn repeat(
-        &mut self,
-        body: &[Stmt],
-        condition: &Condition,
-        shape: &Shape,
-        turns: u64,
-    ) -> Result<(), Stop>
-        ensures follows { Follows result (state_of self.new) (turns_of turns (λ s. truth_of condition.now shape.now s.locals s.heap) (sequence body.now shape.now turns) (state_of self.old)) }
-        ensures keeps { Keeps self.old self.new }
-    {
-        let mut left = turns;
-        while is_true(condition, shape, &self.locals, self.draft.cells())? {
-            if left == 0 {
-                return Err(Stop::Beyond);
+            Action::While { condition, body } => {
+                let mut left = turns;
+                while is_true(condition, shape, &self.locals, self.draft.cells())? {
+                    if left == 0 {
+                        return Err(Stop::Beyond);
+                    }
+                    left -= 1;
+                    self.run_all(body, shape, turns)?;
+                }
+                Ok(())
             }
-            left -= 1;
-            self.run_all(body, shape, turns)?;
         }
-        Ok(())
     }
 
     #[cycle(run)]

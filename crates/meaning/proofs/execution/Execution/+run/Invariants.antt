@@ -1,17 +1,17 @@
 use Rattle.std.proofs.Common.{◌≡◌, drop}
-use Rattle.core_lang.specs.Meaning.{truth_of, turns, sequence}
+use Rattle.core_lang.specs.Meaning.{truth_of, turns, effect_of, sequence}
 use Rattle.meaning.specs.Execution.{state_of, Keeps}
 use Rattle.meaning.proofs.execution.Execution.+run.Given as goal
 
-abbrev pub invariant-repeat-loop-left : goal.invariant-repeat-loop-left
-invariant-repeat-loop-left l = record {
-  same : turns l.left (λ s. truth_of l.condition l.shape s.locals s.heap) (sequence l.body l.shape l.turns) (state_of l.self)
-      ≡ turns l.turns (λ s. truth_of l.condition l.shape s.locals s.heap) (sequence l.body l.shape l.turns) (state_of l.fn.self);
+abbrev pub invariant-run-loop-left : goal.invariant-run-loop-left
+invariant-run-loop-left l = record {
+  same : turns l.left (λ s. truth_of l.condition l.shape s.locals s.heap) (sequence l.body.items l.shape l.turns) (state_of l.self)
+      ≡ effect_of l.fn.action l.shape l.turns (state_of l.fn.self);
   keeps : Keeps l.fn.self l.self;
 }
 
-abbrev pub decreases-repeat-loop-left : goal.decreases-repeat-loop-left
-decreases-repeat-loop-left l = l.left
+abbrev pub decreases-run-loop-left : goal.decreases-run-loop-left
+decreases-run-loop-left l = l.left
 
 abbrev pub invariant-run_all-loop-s : goal.invariant-run_all-loop-s
 invariant-run_all-loop-s l = record {
