@@ -2,4 +2,12 @@
 #![tactic(auto)]
 
 #[cfg(test)]
+mod faults;
+#[cfg(test)]
+mod limits;
+#[cfg(test)]
+mod printing;
+#[cfg(test)]
+mod programs;
+#[cfg(test)]
 mod tests;
