@@ -2,12 +2,4 @@
 #![tactic(auto)]
 
 #[cfg(test)]
-mod faults;
-#[cfg(test)]
-mod limits;
-#[cfg(test)]
-mod printing;
-#[cfg(test)]
-mod programs;
-#[cfg(test)]
 mod tests;

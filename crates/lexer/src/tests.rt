@@ -21,7 +21,7 @@ fn told(alloc: Global, text: &[u8]) -> Result<String, Fail> {
     match lex(alloc, text) {
         Ok(tokens) => {
             for token in &tokens {
-                let (start, end) = (token.start, token.end);
+                let (start, end) = (token.span.start, token.span.end);
                 let kind = &token.kind;
                 told.push_str(format!(in alloc; "{kind:?} {start} {end};")?.as_str())?;
             }

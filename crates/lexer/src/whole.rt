@@ -1,31 +1,20 @@
 //! The tokens of a text.
 
-ghost use Rattle.std.specs.Prelude.{◌≡◌, ◌<◌, ◌≤◌, ◌^◌, ℕ, List, IfOk, IfErr, MatchResult, length};
+ghost use Rattle.std.specs.Prelude.{◌≡◌, ◌≤◌, ℕ, List, IfOk, IfErr, MatchResult, length};
 ghost use Rattle.source.specs.declared.fault.Code.{Code};
 ghost use Rattle.source.specs.Faults.{IsFaultAt};
-ghost use Rattle.source.specs.Tokens.{Tok, seen, seen_kind, seen_token};
+ghost use Rattle.source.specs.Tokens.{Tok, seen};
 ghost use Rattle.source.specs.Texts.{HasTokens, DoRise, AreSlices, IsFault, IsRefusal, SOURCE_LIMIT};
 
 use crate::bytes::after_gap;
 use crate::unit::unit;
 use source::fault::{Code, Fault, Refusal};
+use source::span::Span;
 use source::token::{Kind, Token};
 use std::alloc::Global;
 
 /// The largest source, in bytes.
 const MOST_BYTES: usize = 1048576;
-
-/// The token of this kind that stands there.
-fn token_at(kind: Kind, start: usize, end: usize) -> Token
-    requires { (start < 2 ^ 32) × (end < 2 ^ 32) }
-    ensures { seen_token result ≡ record { kind = seen_kind kind; span = record { start = start; end = end } } }
-{
-    Token {
-        kind,
-        start: start as u32,
-        end: end as u32,
-    }
-}
 
 /// The tokens of the text, the last one being its end; or its first fault: a bad character
 /// (`E01`), a number too large (`E02`), a name of over 64 bytes (`E15`), or, ahead of all else and
@@ -54,7 +43,11 @@ pub fn lex(alloc: Global, text: &[u8]) -> Result<Vec<Token>, Refusal>
         let here = after_gap(rest);
         let start = text.len() - here.len();
         if here.is_empty() {
-            tokens.push(token_at(Kind::End, start, start))?;
+            let end = Token {
+                kind: Kind::End,
+                span: Span { start, end: start },
+            };
+            tokens.push(end)?;
             return Ok(tokens);
         }
         let (kind, behind) = match unit(alloc, here) {
@@ -62,7 +55,10 @@ pub fn lex(alloc: Global, text: &[u8]) -> Result<Vec<Token>, Refusal>
             Err(stop) => return Err(stop.at(alloc, start)),
         };
         let end = text.len() - behind.len();
-        tokens.push(token_at(kind, start, end))?;
+        tokens.push(Token {
+            kind,
+            span: Span { start, end },
+        })?;
         rest = behind;
     }
 }

@@ -8,8 +8,7 @@ use Rattle.syntax.specs.declared.tree.Link as l
 use Rattle.syntax.specs.Trees.{Expr, chain, Links, no_links, link}
 use Rattle.syntax.specs.Views.{expr_of, links_of}
 use Rattle.parser.specs.declared.stop.Stop.{Stop}
-use Rattle.parser.specs.Reading.{◌>>=◌, Fails, Reader}
-use Rattle.parser.specs.Bodies.{op_of, before_rest, op_at, link_from, next_link, add_link, links_at, chain_at}
+use Rattle.parser.specs.Reading.{◌>>=◌, Fails, Reader, op_of, before_rest, op_at, link_from, next_link, add_link, links_at, chain_at}
 use Rattle.parser.proofs.Readers.{OnValue, on_then, fails_on, Shortens}
 use Rattle.parser.proofs.Many.{NextShortens, with_front, goes_on, ends, stops}
 

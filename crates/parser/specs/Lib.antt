@@ -1,4 +1,2 @@
 pub mod Reading
 pub mod Returning
-pub mod Bodies
-pub mod Declarations

@@ -33,7 +33,7 @@ pub fn take_sign(tokens: &[Token], sign: Sign) -> Result<(Span, &[Token]), Stop>
     if let [first, rest @ ..] = tokens {
         if let Kind::Mark(mark) = &first.kind {
             if is_same(*mark, sign) {
-                return Ok((first.span(), rest));
+                return Ok((first.span, rest));
             }
         }
     }
@@ -52,7 +52,7 @@ pub fn take_open(tokens: &[Token], sign: Sign, room: u32) -> Result<(Span, &[Tok
                 if room == 0 {
                     return Err(Stop::TooDeep(tokens.len()));
                 }
-                return Ok((first.span(), rest));
+                return Ok((first.span, rest));
             }
         }
     }
@@ -67,7 +67,7 @@ pub fn take_word(tokens: &[Token], keyword: Keyword) -> Result<(Span, &[Token]),
     if let [first, rest @ ..] = tokens {
         if let Kind::Word(here) = &first.kind {
             if is_same_word(*here, keyword) {
-                return Ok((first.span(), rest));
+                return Ok((first.span, rest));
             }
         }
     }
@@ -83,8 +83,8 @@ pub fn take_name(alloc: Global, tokens: &[Token]) -> Result<(Name, &[Token]), St
         if let Kind::Name(text) = &first.kind {
             return Ok((
                 Name {
-                    text: (**text).clone()?,
-                    span: first.span(),
+                    text: text.clone()?,
+                    span: first.span,
                 },
                 rest,
             ));
@@ -103,7 +103,7 @@ pub fn take_int(tokens: &[Token]) -> Result<(Number, &[Token]), Stop>
             return Ok((
                 Number {
                     value: *value,
-                    span: first.span(),
+                    span: first.span,
                 },
                 rest,
             ));

@@ -3,5 +3,3 @@ pub mod Views
 pub mod Grammar
 pub mod Returns
 pub mod Faults
-pub mod Printing
-pub mod Bare

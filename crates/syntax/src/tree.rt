@@ -27,8 +27,6 @@ pub struct Number {
 pub enum ValueType {
     /// `int`
     Int,
-    /// `ref S`: null, or a member of a pool of the struct.
-    Ref(Name),
 }
 
 /// A constant.
@@ -38,10 +36,6 @@ pub enum Const {
     Int(Number),
     /// `-7`: where the sign stands, and the number behind it.
     Negative(Span, Number),
-    /// `null`, and where it stands.
-    Null(Span),
-    /// `p[3]`: a member of a pool.
-    Member(Name, Number),
 }
 
 /// An operator of a chain.
@@ -57,10 +51,6 @@ pub enum Op {
     Div,
     /// `%`
     Rem,
-    /// `&&`
-    And,
-    /// `||`
-    Or,
 }
 
 /// How tightly the operators of a chain bind.
@@ -70,27 +60,6 @@ pub enum Level {
     Term,
     /// `+` and `-`
     Sum,
-    /// `&&`
-    Conjunction,
-    /// `||`
-    Disjunction,
-}
-
-/// An operator between two sums.
-#[derive(Clone, Copy, Debug, PartialEq, Eq)]
-pub enum Comparison {
-    /// `==`
-    Equal,
-    /// `!=`
-    NotEqual,
-    /// `<`
-    Less,
-    /// `<=`
-    LessOrEqual,
-    /// `>`
-    Greater,
-    /// `>=`
-    GreaterOrEqual,
 }
 
 /// An operator before its operand.
@@ -98,27 +67,13 @@ pub enum Comparison {
 pub enum Prefix {
     /// `-`
     Negate,
-    /// `!`
-    Not,
-}
-
-/// `a.b.c`: a name, and one or more fields behind dots.
-#[derive(Debug, Drop)]
-pub struct Path {
-    pub first: Name,
-    pub fields: Vec<Name>,
 }
 
 /// What a value is read from, and what an assignment writes to.
 #[derive(Debug, Drop)]
-#[cycle(expr)]
 pub enum Place {
     /// `x`
     Name(Name),
-    /// `x[e]`
-    Element(Name, Box<Expr>),
-    /// `x.a.b`
-    Path(Path),
 }
 
 /// An expression.
@@ -127,9 +82,7 @@ pub enum Place {
 pub enum Expr {
     /// `7`
     Int(Number),
-    /// `null`, and where it stands.
-    Null(Span),
-    /// `x`, `x[e]` or `x.a.b`
+    /// `x`
     Place(Place),
     /// `(e)`, and where the opening parenthesis stands.
     Paren(Span, Box<Expr>),
@@ -137,8 +90,6 @@ pub enum Expr {
     Prefix(Prefix, Span, Box<Expr>),
     /// `a + b - c`: an operand, and one or more operators of one level with an operand each.
     Chain(Level, Box<Expr>, Vec<Link>),
-    /// `a == b`
-    Compare(Box<Expr>, Comparison, Box<Expr>),
 }
 
 /// An operator of a chain, and the operand behind it.
@@ -161,7 +112,6 @@ pub struct Local {
 
 /// A statement.
 #[derive(Debug, Drop)]
-#[cycle(stmt)]
 pub enum Stmt {
     /// `let x: int = e;`
     Let(Local),
@@ -169,10 +119,6 @@ pub enum Stmt {
     Var(Local),
     /// `x = e;`
     Assign(Place, Expr),
-    /// `if (e) { .. }` or `if (e) { .. } else { .. }`, and where its first word stands.
-    If(Span, Expr, Block, Option<Block>),
-    /// `while (e) { .. }`, and where its first word stands.
-    While(Span, Expr, Block),
     /// `print e;`, and where its first word stands.
     Print(Span, Expr),
     /// `return e;`, and where its first word stands.
@@ -181,7 +127,6 @@ pub enum Stmt {
 
 /// Statements in braces, and where the closing one stands.
 #[derive(Debug, Drop)]
-#[cycle(stmt)]
 pub struct Block {
     pub stmts: Vec<Stmt>,
     pub close: Span,
@@ -202,70 +147,6 @@ pub struct Variable {
     pub protection: Option<Protection>,
     /// The opening value, where one is given.
     pub value: Option<Const>,
-}
-
-/// `global int a[4] protected_by(G);`: a global that is an array.
-#[derive(Debug, Drop)]
-pub struct Array {
-    pub name: Name,
-    /// The type of an element.
-    pub value_type: ValueType,
-    pub length: Number,
-    pub protection: Option<Protection>,
-}
-
-/// `final ref S next;`: a reference that never changes.
-#[derive(Debug, Drop)]
-pub struct Final {
-    pub name: Name,
-    /// The struct that it refers to.
-    pub target: Name,
-}
-
-/// `int x protected_by(l);`: a field that can change.
-#[derive(Debug, Drop)]
-pub struct Field {
-    pub name: Name,
-    pub value_type: ValueType,
-    pub protection: Option<Protection>,
-}
-
-/// A member of a struct.
-#[derive(Debug, Drop)]
-pub enum Member {
-    /// `lock l;`
-    Lock(Name),
-    /// `final ref S next;`
-    Final(Final),
-    /// `int x protected_by(l);`
-    Field(Field),
-}
-
-/// `struct S { .. }`
-#[derive(Debug, Drop)]
-pub struct Struct {
-    pub name: Name,
-    pub members: Vec<Member>,
-}
-
-/// `pool S p[3];`
-#[derive(Debug, Drop)]
-pub struct Pool {
-    pub name: Name,
-    /// The struct of its members.
-    pub target: Name,
-    pub length: Number,
-}
-
-/// `init p[2].x = 7;`: the opening value of a field of a member.
-#[derive(Debug, Drop)]
-pub struct Init {
-    /// Where the declaration stands, by its first word.
-    pub start: Span,
-    pub pool: Name,
-    pub index: Number,
-    pub field: Name,
-    pub value: Const,
 }
 
 /// A parameter of a section.
@@ -297,8 +178,6 @@ pub struct Call {
 pub enum Item {
     /// `f(1, -2);`
     Call(Call),
-    /// `repeat 3 { .. }`
-    Repeat(Number, Vec<Item>),
 }
 
 /// `thread t { .. }`: a thread, and what it does, in order.
@@ -313,16 +192,8 @@ pub struct Thread {
 pub enum Decl {
     /// `lock G;`
     Lock(Name),
-    /// `struct S { .. }`
-    Struct(Struct),
     /// `global int x;`
     Global(Variable),
-    /// `global int a[4];`
-    Array(Array),
-    /// `pool S p[3];`
-    Pool(Pool),
-    /// `init p[2].x = 7;`
-    Init(Init),
     /// `atomic f() { .. }`
     Atomic(Section),
     /// `thread t { .. }`

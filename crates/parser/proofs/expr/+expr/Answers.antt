@@ -4,7 +4,7 @@ use Rattle.std.proofs.lemmas.Result.{err_from_is_err_and}
 use Rattle.source.specs.Tokens.{seen}
 use Rattle.syntax.specs.Views.{expr_of}
 use Rattle.syntax.proofs.Rows.{expr_of-Chain}
-use Rattle.parser.specs.Bodies.{operand_at}
+use Rattle.parser.specs.Reading.{operand_at}
 use Rattle.parser.proofs.Chains.{links_before, link_goes_on, link_ends, link_stops, chain_done}
 use Rattle.parser.proofs.Shorter.{operand_shortens, one_turn_less}
 use Rattle.parser.proofs.expr.+expr.Goals as goal
