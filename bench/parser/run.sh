@@ -21,6 +21,12 @@ for i in range(200):
     head, piece, tail = f"atomic f{i:03}(int a): int {{ ", "print a * 2 - 1; ", "return a; }\n"
     sections.append(head + piece * ((SIZE // 200 - len(head) - len(tail)) // len(piece)) + tail)
 (top / "200_sections").write_text("".join(sections))
+fill("300000_operands", "atomic f() { print a", "&&a", "; }\n")
+(top / "10000_sections").write_text("".join(f"atomic f{i:05}(int a): int {{ print a; if (a == 1) {{ x[a] = a.b; }} var y: int = a * 2; return y; }}\n" for i in range(10000)))
+fill("one_init_a_line", "", "init p[1].x = 7;\n", "")
+deep = "while (a) { " * 62 + "} " * 62
+fill("blocks_to_the_bound", "atomic f() { ", deep, "}\n")
+fill("names_and_places", "atomic f() { ", "a[b] = c.d.e + f; ", "}\n")
 PYTHON
 for text in "$texts"/*; do
   printf '%-22s ' "$(basename "$text")"

@@ -10,7 +10,7 @@ use Rattle.syntax.specs.Trees.{Decl}
 use Rattle.syntax.specs.Grammar.{nesting, LIMIT}
 use Rattle.syntax.specs.Faults as grammar
 use Rattle.syntax.specs.Faults.{NoEnd, IsMisplaced, unended, unexpected, too_deep, misplaced}
-use Rattle.types.specs.Faults as names
+use Rattle.resolution.specs.Faults as names
 use Rattle.driver.specs.Programs.{HasFault, of_text, of_tokens, of_tree}
 
 -- the tokens of a text end with its end

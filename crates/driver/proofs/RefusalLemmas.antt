@@ -6,8 +6,8 @@ use Rattle.source.specs.Tokens.{Tok}
 use Rattle.source.specs.Texts as text
 use Rattle.syntax.specs.Trees.{Decl}
 use Rattle.syntax.specs.Faults as grammar
-use Rattle.types.specs.Faults as names
-use Rattle.types.specs.Leasts.{IsLeast}
+use Rattle.resolution.specs.Faults as names
+use Rattle.resolution.specs.Leasts.{IsLeast}
 use Rattle.driver.specs.Programs.{IsRefusal, HasNoTextFault, HasNoTokenFault, first_of_text, first_of_tokens, first_of_tree}
 
 pub text_refused : (source : List ℕ) (e : Refusal) → text.IsRefusal source e → IsRefusal source e

@@ -9,9 +9,9 @@ use Rattle.source.specs.Tokens.{Tok}
 use Rattle.source.specs.Texts as text
 use Rattle.syntax.specs.Trees.{Decl}
 use Rattle.syntax.specs.Faults as grammar
-use Rattle.types.specs.Faults as names
-use Rattle.types.specs.Leasts.{IsLeast}
-use Rattle.types.specs.Resolved.{Resolves}
+use Rattle.resolution.specs.Faults as names
+use Rattle.resolution.specs.Leasts.{IsLeast}
+use Rattle.resolution.specs.Resolved.{Resolves}
 
 -- a fault of the text; of the tokens of a text that has some; of the tree of tokens that have one
 pub data HasFault (source : List ℕ) (fault : the_fault.Fault) : Type 0 where

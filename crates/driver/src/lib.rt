@@ -13,6 +13,8 @@
 
 mod answer;
 mod engine;
+#[cfg(test)]
+mod histories;
 mod program;
 mod running;
 mod schedule;

@@ -68,7 +68,7 @@ const REFUSED: [Row; 6] = [
         text: "struct lock G;\n",
         status: 1,
         out: "",
-        err: "F:1:1: E03 unexpected token\n",
+        err: "F:1:8: E03 unexpected token\n",
     },
     Row {
         text: "global int n;\n",

@@ -1,5 +1,5 @@
 -- One token after another.
-use Rattle.std.proofs.Common.{take, drop, ◌≡◌, ℕ, ◌-◌, ◌<◌, ◌≤◌, Bool, true, false, cond, List, [], ◌∷◌, ◌++◌, length, Ok, Err, refl, sym, ap, ◌∙◌, subst, arith, append_assoc, length-append}
+use Rattle.std.proofs.Common.{take, drop, ◌≡◌, ℕ, ◌+◌, ◌-◌, ◌^◌, ◌<◌, ◌≤◌, Bool, true, false, cond, List, [], ◌∷◌, ◌++◌, length, Ok, Err, refl, sym, ap, ◌∙◌, subst, arith, append_assoc, length-append}
 use Rattle.std.specs.Prelude.{◌==◌, ◌&&◌, not, slice_range, IsTrue}
 use Rattle.std.specs.List.{list_all}
 use Rattle.std.proofs.lemmas.Bool.{eqb-true}
@@ -7,8 +7,8 @@ use Rattle.std.proofs.lemmas.List.{take_at, drop_at}
 use Rattle.source.specs.declared.fault.Code.{Code}
 use Rattle.source.specs.declared.fault.Code.TheVariants.{BadCharacter, NumberTooLarge, LimitExceeded}
 use Rattle.source.specs.Tokens.{Lexeme, name, int, word, mark, end, Tok}
-use Rattle.source.specs.Texts.{is_white, is_in_line, IsLineEnd, IsGap, no_gap, white, comment, BeginsComment, IsUnit, IsLongest, IsWithin, IsNext, place, tok_at, end_at, AreTokens, at_end, token, HasTokens, DoRise, AreSlices, Leads, here, past, IsBadCharacter, IsOver, IsFaultFrom, bad_character, too_large, too_long}
-use Rattle.lexer.specs.Reading.{after_line, is_slash, skip, unit_at}
+use Rattle.source.specs.Texts.{is_white, is_in_line, IsLineEnd, IsGap, no_gap, white, comment, BeginsComment, IsUnit, IsLongest, IsWithin, is_name, is_number, is_word, is_mark, IsNext, place, tok_at, end_at, AreTokens, at_end, token, HasTokens, DoRise, AreSlices, Leads, here, past, IsBadCharacter, IsOver, IsFaultFrom, bad_character, too_large, too_long}
+use Rattle.lexer.specs.Reading.{after_line, is_slash, skip, CanStand, unit_at}
 use Rattle.lexer.proofs.Gaps.{and_parts, skip_comment, slash_is, Stands, skip_is}
 use Rattle.lexer.proofs.Units.{unit_begins, same_kind, same_unit, Over, Reads, over_code, Stuck, no_unit, over_unit, UnitAt, unit_law}
 
@@ -282,6 +282,21 @@ fault_of total text left c l (over_unit end o e) some = absurd (o.over tt)
 
 pub skip_le : (bs : List ℕ) → length (skip bs) ≤ length bs
 skip_le bs = let s = skip_is bs in gap_le s.gap
+
+-- a token's places fit, and a name is as long as its text
+unit_long : (bytes : List ℕ) (k : Lexeme) (from to : ℕ) → IsUnit bytes k → from < 2 ^ 32 → to < 2 ^ 32 → to ≡ from + length bytes → CanStand k from to
+unit_long bytes (name x) from to (is_name h g w) s e l = (s, l)
+unit_long bytes (int x) from to (is_number h) s e l = (s, e)
+unit_long bytes (word x) from to (is_word w) s e l = (s, e)
+unit_long bytes (mark x) from to (is_mark m) s e l = (s, e)
+unit_long bytes end from to u s e l = elim u [ ]
+
+-- the token that was read can stand where it was read
+pub unit_stands : (total : ℕ) (t : List ℕ) (k : Lexeme) (rest : List ℕ) → unit_at t ≡ Ok (k, rest) → length t ≤ total → total < 2 ^ 32 → CanStand k (total - length t) (total - length rest)
+unit_stands total t k rest e short small =
+    let u : Reads t k rest = subst (UnitAt t) e (unit_law t) in
+    let len : length t ≡ length u.bytes + length rest = ap length u.parts ∙ length-append u.bytes rest in
+    unit_long u.bytes k (total - length t) (total - length rest) u.unit (omega arith) (omega arith) (omega arith)
 
 pub unit_shortens : (t : List ℕ) (k : Lexeme) (rest : List ℕ) → unit_at t ≡ Ok (k, rest) → length rest < length t
 unit_shortens t k rest e =

@@ -1,5 +1,5 @@
 -- What the functions of this crate compute.
-use Rattle.std.specs.Prelude.{◌≡◌, ℕ, ◌*◌, ◌+◌, Bool, List, [], ◌∷◌, ◌==◌, ◌&&◌, nat_le, bytes_eq, slice_index, slice_index_or, ◌%◌, length, if◌then◌else◌, true, false, Option, Some, None, Result, Ok, Err}
+use Rattle.std.specs.Prelude.{◌≡◌, ℕ, ◌*◌, ◌+◌, ◌<◌, ◌^◌, Bool, List, [], ◌∷◌, ◌==◌, ◌&&◌, nat_le, bytes_eq, slice_index, slice_index_or, ◌%◌, length, if◌then◌else◌, true, false, Option, Some, None, Result, Ok, Err}
 use Rattle.source.specs.declared.fault.Code.{Code}
 use Rattle.source.specs.declared.fault.Code.TheVariants.{BadCharacter, NumberTooLarge, LimitExceeded}
 use Rattle.source.specs.declared.fault.Refusal.{Refusal}
@@ -11,6 +11,9 @@ use Rattle.source.specs.declared.token.Sign.TheVariants.{OpenBrace, CloseBrace, 
 use Rattle.source.specs.Tokens.{Lexeme, name, int, word, mark}
 use Rattle.source.specs.Faults.{IsBare}
 use Rattle.source.specs.Texts.{is_letter, is_digit, is_name_byte, is_white, keyword_text, value_of, NUMBER_LIMIT, NAME_LIMIT}
+use Rattle.std.specs.Rc.{rc_str_bytes}
+use Rattle.lexer.specs.declared.unit.Kind.{Kind}
+use Rattle.lexer.specs.declared.unit.Kind.TheVariants as kind
 use Rattle.lexer.specs.declared.stop.Stop.{Stop}
 use Rattle.lexer.specs.declared.stop.Stop.TheVariants.{Bad, NoMemory}
 
@@ -88,6 +91,18 @@ unfoldable pub double_of : ℕ → ℕ → Option Sign
 double_of a b = if b == 61 then pick WITH_EQUALS a else if a == b then pick DOUBLED a else None
 
 -- ---- units
+
+-- what a token is, as plain data
+abbrev pub seen_kind : Kind → Lexeme
+seen_kind (kind.Name text) = name (rc_str_bytes text)
+seen_kind (kind.Int n) = int n
+seen_kind (kind.Word w) = word w
+seen_kind (kind.Mark s) = mark s
+
+-- where a token of this kind can stand: within 32 bits, and a name is as long as its text
+abbrev pub CanStand : Lexeme → ℕ → ℕ → Type 0
+CanStand (name text) start end = (start < 2 ^ 32) × (end ≡ start + length text)
+CanStand _ start end = (start < 2 ^ 32) × (end < 2 ^ 32)
 
 abbrev pub within : Bool → Lexeme → List ℕ → Code → Result (Lexeme × List ℕ) Code
 within true k rest c = Ok (k, rest)

@@ -5,6 +5,7 @@
 #![tactic(auto)]
 
 mod bytes;
+mod names;
 mod stop;
 mod unit;
 mod whole;

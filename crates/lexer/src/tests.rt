@@ -3,6 +3,7 @@
 use crate::lex;
 use source::fault::Refusal;
 use source::memory::NoMemory;
+use source::token::Token;
 use std::alloc::{AllocError, Global};
 use std::test::Fail;
 
@@ -14,6 +15,24 @@ fn many(alloc: Global, byte: u8, count: usize) -> Result<Vec<u8>, AllocError> {
     vec![in alloc; byte; count]
 }
 
+/// A token in words, and the bytes where it starts and ends.
+fn shown(alloc: Global, token: &Token) -> Result<String, AllocError> {
+    match token {
+        Token::Name(start, name) => {
+            let end = *start as usize + name.len();
+            format!(in alloc; "Name({name:?}) {start} {end};")
+        }
+        Token::Int(span, value) => format!(in alloc; "Int({value}) {} {};", span.start, span.end),
+        Token::Large(number) => {
+            let span = number.span;
+            format!(in alloc; "Int({}) {} {};", number.value, span.start, span.end)
+        }
+        Token::Word(span, word) => format!(in alloc; "Word({word:?}) {} {};", span.start, span.end),
+        Token::Mark(span, sign) => format!(in alloc; "Mark({sign:?}) {} {};", span.start, span.end),
+        Token::End(at) => format!(in alloc; "End {at} {at};"),
+    }
+}
+
 /// What the lexer answers, in words: each token with the bytes where it starts and ends, or the
 /// fault with its byte.
 fn told(alloc: Global, text: &[u8]) -> Result<String, Fail> {
@@ -21,9 +40,7 @@ fn told(alloc: Global, text: &[u8]) -> Result<String, Fail> {
     match lex(alloc, text) {
         Ok(tokens) => {
             for token in &tokens {
-                let (start, end) = (token.span.start, token.span.end);
-                let kind = &token.kind;
-                told.push_str(format!(in alloc; "{kind:?} {start} {end};")?.as_str())?;
+                told.push_str(shown(alloc, token)?.as_str())?;
             }
         }
         Err(Refusal::Fault(fault)) => told.push_str(format!(in alloc; "{fault}")?.as_str())?,

@@ -1,27 +1,63 @@
 //! The tokens of a text.
 
-ghost use Rattle.std.specs.Prelude.{◌≡◌, ◌≤◌, ℕ, List, IfOk, IfErr, MatchResult, length};
+ghost use Rattle.std.specs.Prelude.{◌≡◌, ◌<◌, ◌≤◌, ◌^◌, ℕ, List, IfOk, IfErr, MatchResult, length};
 ghost use Rattle.source.specs.declared.fault.Code.{Code};
 ghost use Rattle.source.specs.Faults.{IsFaultAt};
-ghost use Rattle.source.specs.Tokens.{Tok, seen};
+ghost use Rattle.source.specs.Tokens.{Tok, seen, seen_token};
+ghost use Rattle.lexer.specs.Reading.{seen_kind, CanStand};
 ghost use Rattle.source.specs.Texts.{HasTokens, DoRise, AreSlices, IsFault, IsRefusal, SOURCE_LIMIT};
 
 use crate::bytes::after_gap;
-use crate::unit::unit;
+use crate::names::Names;
+use crate::unit::{Kind, unit};
 use source::fault::{Code, Fault, Refusal};
 use source::span::Span;
-use source::token::{Kind, Token};
-use std::alloc::Global;
+use source::token::{Number, Token};
+use std::alloc::{AllocError, Global};
 
 /// The largest source, in bytes.
 const MOST_BYTES: usize = 1048576;
+
+/// The largest number that has its place in a token.
+const SMALL: u64 = 4294967295;
+
+fn span_at(start: usize, end: usize) -> Span
+    requires { (start < 2 ^ 32) × (end < 2 ^ 32) }
+    ensures { result ≡ record { start = start; end = end } }
+{
+    Span {
+        start: start as u32,
+        end: end as u32,
+    }
+}
+
+/// The token of this kind that stands there.
+fn token_at(alloc: Global, kind: Kind, start: usize, end: usize) -> Result<Token, AllocError>
+    requires { CanStand (seen_kind kind) start end }
+    ensures { IfOk result (λ token. seen_token token ≡ record { kind = seen_kind kind; span = record { start = start; end = end } }) }
+{
+    let value = match kind {
+        Kind::Name(text) => return Ok(Token::Name(start as u32, text)),
+        Kind::Word(word) => return Ok(Token::Word(span_at(start, end), word)),
+        Kind::Mark(sign) => return Ok(Token::Mark(span_at(start, end), sign)),
+        Kind::Int(value) => value,
+    };
+    let span = span_at(start, end);
+    if value <= SMALL {
+        return Ok(Token::Int(span, value as u32));
+    }
+    match Box::new(alloc, Number { value, span }) {
+        Ok(number) => Ok(Token::Large(number)),
+        Err(_) => Err(AllocError),
+    }
+}
 
 /// The tokens of the text, the last one being its end; or its first fault: a bad character
 /// (`E01`), a number too large (`E02`), a name of over 64 bytes (`E15`), or, ahead of all else and
 /// at its first byte, a text of over 1,048,576 bytes (`E15`). Any bytes may be given.
 ///
 /// The one other error is a refused growth.
-#[tactic(auto, using(crate::proofs::Steps::skip_le, crate::proofs::Steps::unit_shortens, crate::proofs::Steps::begun))]
+#[tactic(auto, using(crate::proofs::Steps::skip_le, crate::proofs::Steps::unit_shortens, crate::proofs::Steps::unit_stands, crate::proofs::Steps::begun))]
 pub fn lex(alloc: Global, text: &[u8]) -> Result<Vec<Token>, Refusal>
     // What is answered is the text's tokens.
     ensures found { IfOk result (λ tokens. HasTokens text.now (seen tokens.items)) }
@@ -38,27 +74,21 @@ pub fn lex(alloc: Global, text: &[u8]) -> Result<Vec<Token>, Refusal>
         return Err(Refusal::Fault(Fault::at(alloc, Code::LimitExceeded, 0)));
     }
     let mut tokens = Vec::new(alloc);
+    let mut names = Names::new(alloc);
     let mut rest = text;
     'tokens: loop {
         let here = after_gap(rest);
         let start = text.len() - here.len();
         if here.is_empty() {
-            let end = Token {
-                kind: Kind::End,
-                span: Span { start, end: start },
-            };
-            tokens.push(end)?;
+            tokens.push(Token::End(start as u32))?;
             return Ok(tokens);
         }
-        let (kind, behind) = match unit(alloc, here) {
+        let (kind, behind) = match unit(alloc, &mut names, here) {
             Ok(token) => token,
             Err(stop) => return Err(stop.at(alloc, start)),
         };
         let end = text.len() - behind.len();
-        tokens.push(Token {
-            kind,
-            span: Span { start, end },
-        })?;
+        tokens.push(token_at(alloc, kind, start, end)?)?;
         rest = behind;
     }
 }

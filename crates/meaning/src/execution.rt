@@ -9,6 +9,7 @@ ghost use Rattle.meaning.specs.Execution.{state_of, Keeps};
 use crate::access::{cell_of_element, cell_of_field, follow, non_null};
 use crate::draft::Draft;
 use crate::evaluate::{evaluate, is_true};
+use crate::short;
 use core_lang::shape::Shape;
 use core_lang::tree::{Action, Section, Stmt};
 use core_lang::value::{Failure, Outcome, Trap, Value};
@@ -181,9 +182,62 @@ impl Execution {
         ensures keeps { Keeps self.old self.new }
     {
         for s in block {
-            self.run(&s.action, shape, turns)?;
+            self.step(&s.action, shape, turns)?;
         }
         Ok(())
+    }
+
+    // An assignment to a local is made here where it has a value, since a call costs as much as the rest.
+    #[inline(always)]
+    #[cycle(run)]
+    fn step(&mut self, action: &Action, shape: &Shape, turns: u64) -> Result<(), Stop>
+        ensures follows { Follows result (state_of self.new) (effect_of action.now shape.now turns (state_of self.old)) }
+        ensures keeps { Keeps self.old self.new }
+    {
+        if let Action::SetLocal { local, value } = action {
+            if let Some(v) = short::value(value, shape, &self.locals, self.draft.cells()) {
+                return self.store(*local, v);
+            }
+        }
+        self.assign(action, shape, turns)
+    }
+
+    // A further assignment is made here where its parts have values: `run` has a large frame. The rest, with each trap,
+    // is told there.
+    #[inline(never)]
+    #[cycle(run)]
+    fn assign(&mut self, action: &Action, shape: &Shape, turns: u64) -> Result<(), Stop>
+        ensures follows { Follows result (state_of self.new) (effect_of action.now shape.now turns (state_of self.old)) }
+        ensures keeps { Keeps self.old self.new }
+    {
+        if let Action::SetElement {
+            array,
+            index,
+            value,
+        } = action
+        {
+            if let Some(cell) = short::cell(
+                *array,
+                index,
+                shape,
+                &self.locals,
+                self.draft.cells(),
+            ) {
+                if let Some(v) = short::value(value, shape, &self.locals, self.draft.cells()) {
+                    return self.write(cell, v);
+                }
+            }
+        }
+        if let Action::SetField { base, field, value } = action {
+            if let Some(base) = short::base(base, shape, &self.locals, self.draft.cells()) {
+                if let Some(v) = short::value(value, shape, &self.locals, self.draft.cells()) {
+                    if let Ok(cell) = cell_of_field(shape, base, *field) {
+                        return self.write(cell, v);
+                    }
+                }
+            }
+        }
+        self.run(action, shape, turns)
     }
 
     /// Runs a section's statements, and says how it ends.

@@ -1,16 +1,33 @@
-//! The short way to the value of an expression that is a number. It answers nothing where there is no number, or where
-//! it would cost more to say; the exact evaluation tells then.
+//! The short way to the value of an expression. It answers nothing where there is none, or where it would cost more to
+//! say; the exact evaluation tells then.
 
 ghost use Rattle.std.specs.Prelude.{◌≡◌, Ok, IfSome};
 ghost use Rattle.core_lang.specs.Arithmetic.{on_values, negated};
-ghost use Rattle.core_lang.specs.Cells.{element_cell, read, with};
+ghost use Rattle.core_lang.specs.Cells.{element_cell, not_null, read, with};
 ghost use Rattle.core_lang.specs.Meaning.{place_of, value_of};
 
-use crate::access::{cell_of_element, follow};
+use crate::access::{cell_of_element, follow, non_null};
 use crate::operators::{negate, operate};
 use core_lang::shape::Shape;
 use core_lang::tree::{Expr, Operator, Path};
 use core_lang::value::Value;
+
+/// The value that an expression gives, if it is found the short way.
+#[inline(always)]
+pub fn value(e: &Expr, shape: &Shape, locals: &[Value], heap: &[Value]) -> Option<Value>
+    ensures { IfSome result (λ v. value_of e.now shape.now locals.now heap.now ≡ Ok v) }
+{
+    if let Expr::Place(path) = e {
+        return match follow(path, shape, locals, heap) {
+            Ok(value) => Some(value),
+            Err(_) => None,
+        };
+    }
+    match number(e, shape, locals, heap) {
+        Some(n) => Some(Value::Int(n)),
+        None => None,
+    }
+}
 
 /// The number that an expression gives, if it is found the short way.
 #[inline(always)]
@@ -25,11 +42,59 @@ pub fn number(e: &Expr, shape: &Shape, locals: &[Value], heap: &[Value]) -> Opti
         if path.fields.is_empty() {
             return int_at(locals, path.local);
         }
+        return number_at_end(path, shape, locals, heap);
     }
     if let Expr::Chain { .. } = e {
+        if let Some(n) = flat(e, shape, locals, heap) {
+            return Some(n);
+        }
         return chain(e, shape, locals, heap);
     }
     other_number(e, shape, locals, heap)
+}
+
+// The number that a constant or a local alone gives.
+#[inline(always)]
+fn leaf(e: &Expr, shape: &Shape, locals: &[Value], heap: &[Value]) -> Option<i64>
+    ensures { IfSome result (λ n. value_of e.now shape.now locals.now heap.now ≡ Ok (Value.Int n)) }
+{
+    if let Expr::Number(n) = e {
+        return Some(*n);
+    }
+    if let Expr::Place(path) = e {
+        if path.fields.is_empty() {
+            return int_at(locals, path.local);
+        }
+    }
+    None
+}
+
+// The same as a value.
+#[inline(always)]
+fn known_leaf(e: &Expr, shape: &Shape, locals: &[Value], heap: &[Value]) -> Option<Value>
+    ensures { IfSome result (λ v. value_of e.now shape.now locals.now heap.now ≡ Ok v) }
+{
+    match leaf(e, shape, locals, heap) {
+        Some(n) => Some(Value::Int(n)),
+        None => None,
+    }
+}
+
+// A chain whose operands are constants and locals alone: it needs no frame of its own.
+#[inline(always)]
+#[tactic(auto, using(crate::proofs::Steps::chains))]
+fn flat(e: &Expr, shape: &Shape, locals: &[Value], heap: &[Value]) -> Option<i64>
+    ensures { IfSome result (λ n. value_of e.now shape.now locals.now heap.now ≡ Ok (Value.Int n)) }
+{
+    let Expr::Chain { first, rest } = e else {
+        return None;
+    };
+    let mut left = known_leaf(first, shape, locals, heap)?;
+    for operation in rest {
+        let right = known_leaf(&operation.operand, shape, locals, heap)?;
+        left = calculated(operation.operator, left, right)?;
+    }
+    int_in(left)
 }
 
 // The forms that `number` leaves. It only passes them on, so a leaf costs no frame.
@@ -129,6 +194,38 @@ fn number_at_end(path: &Path, shape: &Shape, locals: &[Value], heap: &[Value]) -
     match follow(path, shape, locals, heap) {
         Ok(Value::Int(n)) => Some(n),
         _ => None,
+    }
+}
+
+/// The cell of an array's element, if its index is found the short way and is one of the array's.
+#[inline(always)]
+pub fn cell(
+    array: usize,
+    index: &Expr,
+    shape: &Shape,
+    locals: &[Value],
+    heap: &[Value],
+) -> Option<usize>
+    ensures { IfSome result (λ cell. with (value_of index.now shape.now locals.now heap.now) (element_cell shape.now array) ≡ Ok cell) }
+{
+    let index = number(index, shape, locals, heap)?;
+    match cell_of_element(shape, array, Value::Int(index)) {
+        Ok(cell) => Some(cell),
+        Err(_) => None,
+    }
+}
+
+/// The reference at the end of a path, if it is one and not null.
+#[inline(always)]
+pub fn base(path: &Path, shape: &Shape, locals: &[Value], heap: &[Value]) -> Option<Value>
+    ensures { IfSome result (λ base. with (place_of path.now shape.now locals.now heap.now) not_null ≡ Ok base) }
+{
+    let Ok(value) = follow(path, shape, locals, heap) else {
+        return None;
+    };
+    match non_null(value) {
+        Ok(base) => Some(base),
+        Err(_) => None,
     }
 }
 

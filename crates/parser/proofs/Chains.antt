@@ -1,14 +1,19 @@
 -- Chains, a turn at a time.
-use Rattle.std.proofs.Common.{◌≡◌, ◌<◌, List, [], ◌∷◌, ◌++◌, length, Option, Some, None, Result, Ok, refl, ap, ◌∙◌, arith}
-use Rattle.std.specs.Prelude.{IfSome}
+use Rattle.std.proofs.Common.{◌≡◌, Vec, Global, ◌<◌, List, [], ◌∷◌, ◌++◌, length, Option, Some, None, Result, Ok, refl, ap, ◌∙◌, arith}
+use Rattle.std.specs.Prelude.{Box, IfSome}
 use Rattle.source.specs.Tokens.{Tok}
 use Rattle.syntax.specs.declared.tree.Op.{Op}
 use Rattle.syntax.specs.declared.tree.Level.{Level}
+use Rattle.syntax.specs.declared.tree.Expr as the_expr
+use Rattle.syntax.specs.declared.tree.Joined as the_joined
+use Rattle.syntax.specs.declared.tree.Joined.{Chain}
 use Rattle.syntax.specs.declared.tree.Link as l
 use Rattle.syntax.specs.Trees.{Expr, chain, Links, no_links, link}
-use Rattle.syntax.specs.Views.{expr_of, links_of}
+use Rattle.syntax.specs.Views.{expr_of, joined_of, links_of}
+use Rattle.syntax.proofs.Rows.{joined_of-Chain}
 use Rattle.parser.specs.declared.stop.Stop.{Stop}
-use Rattle.parser.specs.Reading.{◌>>=◌, Fails, Reader, op_of, before_rest, op_at, link_from, next_link, add_link, links_at, chain_at}
+use Rattle.parser.specs.Reading.{◌>>=◌, Fails, Reader}
+use Rattle.parser.specs.Bodies.{op_of, before_rest, op_at, link_from, next_link, add_link, links_at, chain_at}
 use Rattle.parser.proofs.Readers.{OnValue, on_then, fails_on, Shortens}
 use Rattle.parser.proofs.Many.{NextShortens, with_front, goes_on, ends, stops}
 
@@ -61,3 +66,7 @@ module _ (operand : Reader Expr) (shorter : Shortens operand) (k : Level) where
   pub link_stops : (e : Stop) (front : Links → Links) (ts after : List Tok) (op : Op) (total : Result (Links × List Tok) Stop) → op_at k ts ≡ Some (op, after) → Fails e (operand after) → with_front front (links_at operand k ts) ≡ total → Fails e total
   link_stops e front ts after op total found fails =
       stops no_links add_link (next_link operand k) (next_link_shortens operand shorter k) e front ts (operand after >>= λ x. Ok ((op, x.0), x.1)) total (rw found refl) (fails_on e (operand after) (λ x. Ok ((op, x.0), x.1)) fails)
+
+-- a chain in its box
+pub chain_made : (b : Box the_joined.Joined Global) (k : Level) (first : the_expr.Expr) (links : Vec l.Link Global) → b.value ≡ Chain k first links → expr_of (the_expr.Joined b) ≡ chain k (expr_of first) (links_of links.items)
+chain_made b k first links is = ap joined_of is ∙ joined_of-Chain k first links

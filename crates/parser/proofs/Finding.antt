@@ -8,7 +8,7 @@ use Rattle.source.specs.Tokens.{Lexeme, word, mark, Tok}
 use Rattle.syntax.specs.Grammar.{tok, IsName, is_name, IsOptional, left_out, given, AreMany, no_more, one_more, IsAfter, after, AreListed, none_listed, listed}
 use Rattle.parser.specs.declared.stop.Stop.{Stop}
 use Rattle.parser.specs.declared.stop.Stop.TheVariants.{TooDeep}
-use Rattle.parser.specs.Reading.{◌>>=◌, Reader, turn, many_at, refused, sign_at, opened, open_at, word_at, name_at, int_at, is_next, next_unless, next_until, skip_at, behind, next_after, after_each, listed_from, listed_at, maybe_from, maybe_at}
+use Rattle.parser.specs.Reading.{chosen, choose, ◌>>=◌, Reader, turn, many_at, refused, sign_at, opened, open_at, word_at, name_at, int_at, is_next, next_unless, next_until, skip_at, behind, next_after, after_each, listed_from, listed_at, maybe_from, maybe_at}
 use Rattle.parser.proofs.Law.{IsTok, is_tok, IsInt, is_int_tok, same_sign-refl, same_keyword-refl}
 use Rattle.parser.proofs.Many.{NextShortens, many_at-turn}
 use Rattle.parser.proofs.Joined.{Done, done, Both, both}
@@ -158,3 +158,13 @@ module _ {A L : Type 0} (nil : L) (cons : A → L → L) (k : Lexeme) (f : Reade
   pub until_found : (x : A) (l : L) (ts mid rest : List Tok) → is_next k ts ≡ false → Finds (f ts) (x, mid) → Finds (many_at nil cons (next_until k f) mid) (l, rest) → Finds (many_at nil cons (next_until k f) ts) (cons x l, rest)
   until_found x l ts mid rest e first more =
       same_finds (many_at nil cons (next_until k f) ts) (f ts >>= λ y. many_at nil cons (next_until k f) y.1 >>= λ l. Ok (cons y.0 l.0, l.1)) (cons x l, rest) (many_at-turn nil cons (next_until k f) shorter ts ∙ ap (λ b. turn nil cons (many_at nil cons (next_until k f)) (next_unless b (f ts)) ts) e) (finds_then (f ts) (λ y. many_at nil cons (next_until k f) y.1 >>= λ l. Ok (cons y.0 l.0, l.1)) (x, mid) (cons x l, rest) first (finds_then (many_at nil cons (next_until k f) mid) (λ l. Ok (cons x l.0, l.1)) (l, rest) (cons x l, rest) more (found refl)))
+
+-- ---- one part or another, by the next token
+
+pub choose_left : {A : Type 0} (k : Lexeme) (f g : Reader A) (ts : List Tok) (y : A × List Tok) → is_next k ts ≡ true → Finds (f ts) y → Finds (choose k f g ts) y
+unfolding choose
+choose_left k f g ts y e h = same_finds (choose k f g ts) (f ts) y (ap (λ (b : Bool). chosen f g b ts) e) h
+
+pub choose_right : {A : Type 0} (k : Lexeme) (f g : Reader A) (ts : List Tok) (y : A × List Tok) → is_next k ts ≡ false → Finds (g ts) y → Finds (choose k f g ts) y
+unfolding choose
+choose_right k f g ts y e h = same_finds (choose k f g ts) (g ts) y (ap (λ (b : Bool). chosen f g b ts) e) h

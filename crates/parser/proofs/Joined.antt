@@ -6,7 +6,7 @@ use Rattle.source.specs.declared.token.Sign.{Sign}
 use Rattle.source.specs.declared.token.Sign.TheVariants.{CloseParen, Comma}
 use Rattle.source.specs.Tokens.{Lexeme, name, int, word, mark, end, Tok}
 use Rattle.syntax.specs.Grammar.{tok, IsName, is_name, IsOptional, left_out, given, AreMany, no_more, one_more, IsAfter, after, AreListed, none_listed, listed, open_after, IsOpening}
-use Rattle.parser.specs.Reading.{◌>>=◌, Reader, is_sign, sign_at, open_at, word_at, name_at, int_at, skip_at, is_next, next_unless, next_until, behind, next_after, after_each, listed_from, listed_at, maybe_from, maybe_at}
+use Rattle.parser.specs.Reading.{chosen, choose, ◌>>=◌, Reader, is_sign, sign_at, open_at, word_at, name_at, int_at, skip_at, is_next, next_unless, next_until, behind, next_after, after_each, listed_from, listed_at, maybe_from, maybe_at}
 use Rattle.parser.proofs.Law.{SameNext, LawAt, Then, Says, Law, then_law, give_law, at_rest, said, implies, prefixed, same_sign-true, IsTok, is_tok, IsInt, is_int_tok, after_sign, sign_law, word_law, name_law, int_law, open_then_law}
 use Rattle.parser.proofs.Laws.{NextAt, NextLaw, SaysNext, many_law, weaken_at}
 
@@ -176,3 +176,22 @@ module _ (limit : ℕ) where
 
   pub after_each_part : {P A : Type 0} {R : A → List Tok → List Tok → Type 0} {f : Reader A} (s : Sign) (d : ℕ) → after_sign d s ≡ d → (IsOpening (mark s) → ⊥) → Part P R f 1 d d → Part P (AreMany (IsAfter s R)) (after_each s f) 0 d d
   after_each_part {R = R} {f = f} s d flat shut part = record { law = λ p. after_each_law R f d (part.law p) s flat shut; can = λ rest. ([], rest, no_more) }
+
+  -- ---- one part or another, by the next token
+
+  module _ {A : Type 0} (R : A → List Tok → List Tok → Type 0) (k : Lexeme) (f g : Reader A) (m d e : ℕ) (law_f : Law limit R f m d e) (law_g : Law limit R g m d e) where
+    by_choice : (ts : List Tok) (b : Bool) → is_next k ts ≡ b → LawAt limit R (Says (choose k f g)) m d e ts (chosen f g b ts)
+    unfolding choose
+    by_choice ts true e' = said limit R (Says f) (Says (choose k f g)) m d e ts (λ us q same s. ap (λ b. chosen f g b us) (is_next-same k ts us same ∙ e') ∙ s) (f ts) (law_f ts)
+    by_choice ts false e' = said limit R (Says g) (Says (choose k f g)) m d e ts (λ us q same s. ap (λ b. chosen f g b us) (is_next-same k ts us same ∙ e') ∙ s) (g ts) (law_g ts)
+
+    pub choose_law : Law limit R (choose k f g) m d e
+    unfolding choose
+    choose_law ts = by_choice ts (is_next k ts) refl
+
+  pub weaken_law : {A : Type 0} (R : A → List Tok → List Tok → Type 0) (f : Reader A) (d e : ℕ) → Law limit R f 1 d e → Law limit R f 0 d e
+  weaken_law R f d e law ts = weaken_at limit R (Says f) d e ts (f ts) (law ts)
+
+  -- what is behind some parts, chosen so
+  pub either : {P X B : Type 0} {R : X → B → List Tok → List Tok → Type 0} {f g : X → Reader B} {m d e : ℕ} (k : Lexeme) → Rest P R f m d e → Rest P R g m d e → Rest P R (λ x. choose k (f x) (g x)) m d e
+  either {R = R} {f = f} {g = g} {m = m} {d = d} {e = e} k a b = record { law = λ p x. choose_law (R x) k (f x) (g x) m d e (a.law p x) (b.law p x); can = b.can }

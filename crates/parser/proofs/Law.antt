@@ -9,7 +9,7 @@ use Rattle.source.specs.declared.token.Keyword.TheVariants.{Lock, Struct, Final,
 use Rattle.source.specs.declared.token.Sign.{Sign}
 use Rattle.source.specs.declared.token.Sign.TheVariants.{OpenBrace, CloseBrace, OpenParen, CloseParen, OpenBracket, CloseBracket, Semicolon, Comma, Colon, Dot, Equals, DoubleEquals, NotEquals, Less, LessEquals, Greater, GreaterEquals, Plus, Minus, Star, Slash, Percent, And, Or, Not}
 use Rattle.source.specs.Tokens.{Lexeme, name, int, word, mark, end, Tok}
-use Rattle.syntax.specs.declared.tree.Number.{Number}
+use Rattle.source.specs.declared.token.Number.{Number}
 use Rattle.syntax.specs.Grammar.{tok, int_tok, IsName, is_name, open_after, nesting, IsOpening}
 use Rattle.syntax.specs.Faults.{NoEnd}
 use Rattle.parser.specs.declared.stop.Stop.{Stop}

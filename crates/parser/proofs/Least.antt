@@ -4,10 +4,14 @@ use Rattle.std.specs.Prelude.{◌⊎◌}
 use Rattle.std.proofs.lemmas.Bool.{cases_lt}
 use Rattle.source.specs.declared.span.Span.{Span}
 use Rattle.syntax.specs.declared.tree.Stmt as the_stmt
-use Rattle.syntax.specs.Returns.{IsReturn, is_return, HasReturn, this_returns, later_returns, HasEarlyReturn, this_early, later_early, EndsInReturn, last_returns, ends_later, IsSectionFault, no_result, early, missing, IsReturnFault, this_section, later_section, ReturnsRight, IsFirstReturnFault}
-use Rattle.syntax.specs.Trees.{Ident, ValueType, Expr, Variable, Thread, Stmt, let_local, var_local, assign, print, return_value, Stmts, no_stmts, stmt, Section, Decl, lock, global, atomic, thread}
-use Rattle.syntax.specs.Views.{stmt_of, stmts_of}
-use Rattle.parser.specs.Returning.{earlier, own_return, least_return, least_early, is_return as returns, does_end, missing_at, section_fault_of, decl_fault, least_fault}
+use Rattle.syntax.specs.declared.tree.Stmt.{While, If}
+use Rattle.syntax.specs.declared.tree.Expr as the_expr
+use Rattle.syntax.specs.declared.tree.Block as the_block
+use Rattle.syntax.specs.Returns.{IsReturn, is_return, HasReturn, this_returns, returns_inside, later_returns, HasReturnInside, in_then, in_else, in_while, HasStrayReturn, this_early, stray_inside, later_stray, EndsInReturn, last_returns, ends_later, IsSectionFault, no_result, stray, missing, IsReturnFault, this_section, later_section, ReturnsRight, IsFirstReturnFault}
+use Rattle.syntax.specs.Trees.{Ident, ValueType, Expr, Variable, Array, Struct, Pool, Init, Thread, Stmt, let_local, var_local, assign, if_then, while, print, return_value, Stmts, no_stmts, stmt, Otherwise, no_else, else_do, Section, Decl, lock, struct, global, array, pool, init, atomic, thread}
+use Rattle.syntax.specs.Views.{stmt_of, stmts_of, else_of}
+use Rattle.syntax.proofs.Rows.{stmt_of_While, stmt_of_If}
+use Rattle.parser.specs.Returning.{earlier, own_return, least_return, inner_return, other_return, least_stray, is_return as returns, does_end, missing_at, section_fault_of, decl_fault, least_fault}
 
 -- ---- the lesser of places
 
@@ -23,14 +27,22 @@ earlier-assoc (Some a) (Some b) (Some c) = ap Some (omega arith)
 
 -- ---- the statements of a `Vec`
 
--- the statements but the last
-pub early_of : (xs : List the_stmt.Stmt) → least_return (stmts_of (take (length xs - 1) xs)) ≡ least_early (stmts_of xs)
-early_of [] = refl
-early_of (x ∷ []) = refl
-early_of (x ∷ y ∷ ys) =
-    let e : suc (suc (length ys)) - 1 ≡ suc (length ys) = omega arith in
-    let f : suc (length ys) - 1 ≡ length ys = omega arith in
-    ap (λ n. least_return (stmts_of (take n (x ∷ y ∷ ys)))) e ∙ ap (earlier (own_return (stmt_of x))) (ap (λ n. least_return (stmts_of (take n (y ∷ ys)))) (sym f) ∙ early_of (y ∷ ys))
+-- the statements but the last, and the blocks of the last
+pub stray_of : (xs : List the_stmt.Stmt) (x : the_stmt.Stmt) → 1 ≤ length xs → x ≡ get_or xs (length xs - 1) x → earlier (least_return (stmts_of (take (length xs - 1) xs))) (inner_return (stmt_of x)) ≡ least_stray (stmts_of xs)
+stray_of [] x some e = absurd (omega arith)
+stray_of (y ∷ []) x some e = ap (λ (z : the_stmt.Stmt). inner_return (stmt_of z)) e
+stray_of (y ∷ z ∷ zs) x some e =
+    let one : suc (suc (length zs)) - 1 ≡ suc (length zs) = omega arith in
+    let two : suc (length zs) - 1 ≡ length zs = omega arith in
+    let here = earlier (own_return (stmt_of y)) (inner_return (stmt_of y)) in
+    ap (λ n. earlier (least_return (stmts_of (take n (y ∷ z ∷ zs)))) (inner_return (stmt_of x))) one ∙ earlier-assoc here (least_return (stmts_of (take (length zs) (z ∷ zs)))) (inner_return (stmt_of x)) ∙ ap (earlier here) (ap (λ n. earlier (least_return (stmts_of (take n (z ∷ zs)))) (inner_return (stmt_of x))) (sym two) ∙ stray_of (z ∷ zs) x (omega arith) (e ∙ ap (λ n. get_or (y ∷ z ∷ zs) n x) one ∙ ap (λ n. get_or (z ∷ zs) n x) (sym two)))
+
+-- the blocks of a statement
+pub inner_while : (s : the_stmt.Stmt) (at : Span) (test : the_expr.Expr) (body : the_block.Block) → s ≡ While at test body → inner_return (stmt_of s) ≡ least_return (stmts_of body.stmts.items)
+inner_while s at test body e = ap (λ (s : the_stmt.Stmt). inner_return (stmt_of s)) e ∙ ap inner_return (stmt_of_While at test body)
+
+pub inner_if : (s : the_stmt.Stmt) (at : Span) (test : the_expr.Expr) (body : the_block.Block) (other : Option the_block.Block) → s ≡ If at test body other → inner_return (stmt_of s) ≡ earlier (least_return (stmts_of body.stmts.items)) (other_return (else_of other))
+inner_if s at test body other e = ap (λ (s : the_stmt.Stmt). inner_return (stmt_of s)) e ∙ ap inner_return (stmt_of_If at test body other)
 
 -- the last statement
 pub ends_of : (xs : List the_stmt.Stmt) (x : the_stmt.Stmt) → 1 ≤ length xs → x ≡ get_or xs (length xs - 1) x → returns (stmt_of x) ≡ does_end (stmts_of xs)
@@ -74,34 +86,87 @@ own_least : (s : Stmt) → IsLeast (IsReturn s) (own_return s)
 own_least (return_value at e) = (is_return, λ n h. same_place h)
 own_least (let_local l) = λ n h. elim h [ ]
 own_least (var_local l) = λ n h. elim h [ ]
+own_least (if_then start e body close other) = λ n h. elim h [ ]
+own_least (while start e body close) = λ n h. elim h [ ]
 own_least (assign p e) = λ n h. elim h [ ]
 own_least (print at e) = λ n h. elim h [ ]
 
-split_return : {s : Stmt} {more : Stmts} (n : ℕ) → HasReturn (stmt s more) n → IsReturn s n ⊎ HasReturn more n
-split_return n (this_returns h) = inl h
+-- a `return` that is the statement, or in a block of it
+abbrev IsHere : Stmt → ℕ → Type 0
+IsHere s n = IsReturn s n ⊎ HasReturnInside s n
+
+here_by : (s : Stmt) → IsLeast (HasReturnInside s) (inner_return s) → IsLeast (IsHere s) (earlier (own_return s) (inner_return s))
+here_by s inside = least_of_both (IsReturn s) (HasReturnInside s) (IsHere s) (λ n h. inl h) (λ n h. inr h) (λ n h. h) (own_return s) (inner_return s) (own_least s) inside
+
+split_return : {s : Stmt} {more : Stmts} (n : ℕ) → HasReturn (stmt s more) n → IsHere s n ⊎ HasReturn more n
+split_return n (this_returns h) = inl (inl h)
+split_return n (returns_inside h) = inl (inr h)
 split_return n (later_returns h) = inr h
 
-return_least : (ss : Stmts) → IsLeast (HasReturn ss) (least_return ss)
-return_least no_stmts = λ n h. elim h [ ]
-return_least (stmt s more) = least_of_both (IsReturn s) (HasReturn more) (HasReturn (stmt s more)) (λ n h. this_returns h) (λ n h. later_returns h) split_return (own_return s) (least_return more) (own_least s) (return_least more)
+here_returns : {s : Stmt} {more : Stmts} (n : ℕ) → IsHere s n → HasReturn (stmt s more) n
+here_returns n (inl h) = this_returns h
+here_returns n (inr h) = returns_inside h
 
-early_one : {s : Stmt} {n : ℕ} → HasEarlyReturn (stmt s no_stmts) n → ⊥
-early_one (later_early h) = elim h [ ]
+-- behind `else`
+data HasElse : Otherwise → ℕ → Type 0 where
+  else_returns : {ss : Stmts} {close : Span} {n : ℕ} → HasReturn ss n → HasElse (else_do ss close) n
 
-split_early : {s next : Stmt} {more : Stmts} (n : ℕ) → HasEarlyReturn (stmt s (stmt next more)) n → IsReturn s n ⊎ HasEarlyReturn (stmt next more) n
-split_early n (this_early h) = inl h
-split_early n (later_early h) = inr h
+else_back : {ss : Stmts} {close : Span} (n : ℕ) → HasElse (else_do ss close) n → HasReturn ss n
+else_back n (else_returns h) = h
 
-early_least : (ss : Stmts) → IsLeast (HasEarlyReturn ss) (least_early ss)
-early_least no_stmts = λ n h. elim h [ ]
-early_least (stmt s no_stmts) = λ n h. early_one h
-early_least (stmt s (stmt next more)) = least_of_both (IsReturn s) (HasEarlyReturn (stmt next more)) (HasEarlyReturn (stmt s (stmt next more))) (λ n h. this_early h) (λ n h. later_early h) split_early (own_return s) (least_early (stmt next more)) (own_least s) (early_least (stmt next more))
+split_if : {start close : Span} {e : Expr} {body : Stmts} {other : Otherwise} (n : ℕ) → HasReturnInside (if_then start e body close other) n → HasReturn body n ⊎ HasElse other n
+split_if n (in_then h) = inl h
+split_if n (in_else h) = inr (else_returns h)
+
+in_other : {start close : Span} {e : Expr} {body : Stmts} {other : Otherwise} (n : ℕ) → HasElse other n → HasReturnInside (if_then start e body close other) n
+in_other n (else_returns h) = in_else h
+
+while_back : {start close : Span} {e : Expr} {body : Stmts} (n : ℕ) → HasReturnInside (while start e body close) n → HasReturn body n
+while_back n (in_while h) = h
+
+mutual
+  return_least : (ss : Stmts) → IsLeast (HasReturn ss) (least_return ss)
+  return_least no_stmts = λ n h. elim h [ ]
+  return_least (stmt s more) = least_of_both (IsHere s) (HasReturn more) (HasReturn (stmt s more)) here_returns (λ n h. later_returns h) split_return (earlier (own_return s) (inner_return s)) (least_return more) (here_by s (inside_least s)) (return_least more)
+
+  inside_least : (s : Stmt) → IsLeast (HasReturnInside s) (inner_return s)
+  inside_least (let_local l) = λ n h. elim h [ ]
+  inside_least (var_local l) = λ n h. elim h [ ]
+  inside_least (assign p e) = λ n h. elim h [ ]
+  inside_least (if_then start e body close other) = least_of_both (HasReturn body) (HasElse other) (HasReturnInside (if_then start e body close other)) (λ n h. in_then h) in_other split_if (least_return body) (other_return other) (return_least body) (other_least other)
+  inside_least (while start e body close) = least_same (HasReturn body) (HasReturnInside (while start e body close)) (least_return body) (λ n h. in_while h) while_back (return_least body)
+  inside_least (print at e) = λ n h. elim h [ ]
+  inside_least (return_value at e) = λ n h. elim h [ ]
+
+  other_least : (o : Otherwise) → IsLeast (HasElse o) (other_return o)
+  other_least no_else = λ n h. elim h [ ]
+  other_least (else_do ss close) = least_same (HasReturn ss) (HasElse (else_do ss close)) (least_return ss) (λ n h. else_returns h) else_back (return_least ss)
+
+stray_one : {s : Stmt} (n : ℕ) → HasStrayReturn (stmt s no_stmts) n → HasReturnInside s n
+stray_one n (stray_inside h) = h
+stray_one n (later_stray h) = elim h [ ]
+
+split_stray : {s next : Stmt} {more : Stmts} (n : ℕ) → HasStrayReturn (stmt s (stmt next more)) n → IsHere s n ⊎ HasStrayReturn (stmt next more) n
+split_stray n (this_early h) = inl (inl h)
+split_stray n (stray_inside h) = inl (inr h)
+split_stray n (later_stray h) = inr h
+
+here_stray : {s next : Stmt} {more : Stmts} (n : ℕ) → IsHere s n → HasStrayReturn (stmt s (stmt next more)) n
+here_stray n (inl h) = this_early h
+here_stray n (inr h) = stray_inside h
+
+stray_least : (ss : Stmts) → IsLeast (HasStrayReturn ss) (least_stray ss)
+stray_least no_stmts = λ n h. elim h [ ]
+stray_least (stmt s no_stmts) = least_same (HasReturnInside s) (HasStrayReturn (stmt s no_stmts)) (inner_return s) (λ n h. stray_inside h) stray_one (inside_least s)
+stray_least (stmt s (stmt next more)) = least_of_both (IsHere s) (HasStrayReturn (stmt next more)) (HasStrayReturn (stmt s (stmt next more))) here_stray (λ n h. later_stray h) split_stray (earlier (own_return s) (inner_return s)) (least_stray (stmt next more)) (here_by s (inside_least s)) (stray_least (stmt next more))
 
 -- the last statement is a `return`, or not
 is_last : (s : Stmt) → returns s ≡ true → EndsInReturn (stmt s no_stmts)
 is_last (return_value at e) h = last_returns is_return
 is_last (let_local l) h = absurd cc
 is_last (var_local l) h = absurd cc
+is_last (if_then start e body close other) h = absurd cc
+is_last (while start e body close) h = absurd cc
 is_last (assign p e) h = absurd cc
 is_last (print at e) h = absurd cc
 
@@ -134,12 +199,12 @@ missing_least ss close false e = ((λ h. let t = true_ends h in absurd cc, refl)
 module _ (s : Section) where
   no_result_back : s.result ≡ None → (n : ℕ) → IsSectionFault s n → HasReturn s.body.stmts n
   no_result_back e n (no_result r h) = h
-  no_result_back e n (early r h) = absurd cc
+  no_result_back e n (stray r h) = absurd cc
   no_result_back e n (missing r h) = absurd cc
 
-  split_fault : {t : ValueType} → s.result ≡ Some t → (n : ℕ) → IsSectionFault s n → HasEarlyReturn s.body.stmts n ⊎ IsMissing s.body.stmts s.body.close.start n
+  split_fault : {t : ValueType} → s.result ≡ Some t → (n : ℕ) → IsSectionFault s n → HasStrayReturn s.body.stmts n ⊎ IsMissing s.body.stmts s.body.close.start n
   split_fault e n (no_result r h) = absurd cc
-  split_fault e n (early r h) = inl h
+  split_fault e n (stray r h) = inl h
   split_fault e n (missing r h) = inr (h, refl)
 
   missing_there : {t : ValueType} → s.result ≡ Some t → (n : ℕ) → IsMissing s.body.stmts s.body.close.start n → IsSectionFault s n
@@ -148,7 +213,7 @@ module _ (s : Section) where
   section_by : (r : Option ValueType) → s.result ≡ r → IsLeast (IsSectionFault s) (section_fault_of r s.body.stmts s.body.close.start)
   section_by None e = least_same (HasReturn s.body.stmts) (IsSectionFault s) (least_return s.body.stmts) (λ n h. no_result e h) (no_result_back e) (return_least s.body.stmts)
   section_by (Some t) e =
-      least_of_both (HasEarlyReturn s.body.stmts) (IsMissing s.body.stmts s.body.close.start) (IsSectionFault s) (λ n h. early e h) (missing_there e) (split_fault e) (least_early s.body.stmts) (missing_at (does_end s.body.stmts) s.body.close.start) (early_least s.body.stmts) (missing_least s.body.stmts s.body.close.start (does_end s.body.stmts) refl)
+      least_of_both (HasStrayReturn s.body.stmts) (IsMissing s.body.stmts s.body.close.start) (IsSectionFault s) (λ n h. stray e h) (missing_there e) (split_fault e) (least_stray s.body.stmts) (missing_at (does_end s.body.stmts) s.body.close.start) (stray_least s.body.stmts) (missing_least s.body.stmts s.body.close.start (does_end s.body.stmts) refl)
 
 -- ---- programs
 
@@ -159,18 +224,34 @@ split_section n (later_section h) = inr h
 lock_back : {x : Ident} {ds : List Decl} (n : ℕ) → IsReturnFault (lock x ∷ ds) n → IsReturnFault ds n
 lock_back n (later_section h) = h
 
-global_back : {v : Variable} {ds : List Decl} (n : ℕ) → IsReturnFault (global v ∷ ds) n → IsReturnFault ds n
+struct_back : {x : Struct} {ds : List Decl} (n : ℕ) → IsReturnFault (struct x ∷ ds) n → IsReturnFault ds n
+struct_back n (later_section h) = h
+
+global_back : {x : Variable} {ds : List Decl} (n : ℕ) → IsReturnFault (global x ∷ ds) n → IsReturnFault ds n
 global_back n (later_section h) = h
 
-thread_back : {t : Thread} {ds : List Decl} (n : ℕ) → IsReturnFault (thread t ∷ ds) n → IsReturnFault ds n
+array_back : {x : Array} {ds : List Decl} (n : ℕ) → IsReturnFault (array x ∷ ds) n → IsReturnFault ds n
+array_back n (later_section h) = h
+
+pool_back : {x : Pool} {ds : List Decl} (n : ℕ) → IsReturnFault (pool x ∷ ds) n → IsReturnFault ds n
+pool_back n (later_section h) = h
+
+init_back : {x : Init} {ds : List Decl} (n : ℕ) → IsReturnFault (init x ∷ ds) n → IsReturnFault ds n
+init_back n (later_section h) = h
+
+thread_back : {x : Thread} {ds : List Decl} (n : ℕ) → IsReturnFault (thread x ∷ ds) n → IsReturnFault ds n
 thread_back n (later_section h) = h
 
 pub fault_least : (ds : List Decl) → IsLeast (IsReturnFault ds) (least_fault ds)
 fault_least [] = λ n h. elim h [ ]
 fault_least (atomic s ∷ ds) = least_of_both (IsSectionFault s) (IsReturnFault ds) (IsReturnFault (atomic s ∷ ds)) (λ n h. this_section h) (λ n h. later_section h) split_section (decl_fault (atomic s)) (least_fault ds) (section_by s s.result refl) (fault_least ds)
 fault_least (lock x ∷ ds) = least_same (IsReturnFault ds) (IsReturnFault (lock x ∷ ds)) (least_fault ds) (λ n h. later_section h) lock_back (fault_least ds)
-fault_least (global v ∷ ds) = least_same (IsReturnFault ds) (IsReturnFault (global v ∷ ds)) (least_fault ds) (λ n h. later_section h) global_back (fault_least ds)
-fault_least (thread t ∷ ds) = least_same (IsReturnFault ds) (IsReturnFault (thread t ∷ ds)) (least_fault ds) (λ n h. later_section h) thread_back (fault_least ds)
+fault_least (struct x ∷ ds) = least_same (IsReturnFault ds) (IsReturnFault (struct x ∷ ds)) (least_fault ds) (λ n h. later_section h) struct_back (fault_least ds)
+fault_least (global x ∷ ds) = least_same (IsReturnFault ds) (IsReturnFault (global x ∷ ds)) (least_fault ds) (λ n h. later_section h) global_back (fault_least ds)
+fault_least (array x ∷ ds) = least_same (IsReturnFault ds) (IsReturnFault (array x ∷ ds)) (least_fault ds) (λ n h. later_section h) array_back (fault_least ds)
+fault_least (pool x ∷ ds) = least_same (IsReturnFault ds) (IsReturnFault (pool x ∷ ds)) (least_fault ds) (λ n h. later_section h) pool_back (fault_least ds)
+fault_least (init x ∷ ds) = least_same (IsReturnFault ds) (IsReturnFault (init x ∷ ds)) (least_fault ds) (λ n h. later_section h) init_back (fault_least ds)
+fault_least (thread x ∷ ds) = least_same (IsReturnFault ds) (IsReturnFault (thread x ∷ ds)) (least_fault ds) (λ n h. later_section h) thread_back (fault_least ds)
 
 -- what the pass found
 

@@ -10,9 +10,10 @@ pub mod Loops
 pub mod Chains
 pub mod Shorter
 pub mod Turns
+pub mod Behind
+pub mod Least
 pub mod Finding
 pub mod Complete
 pub mod Spelled
 pub mod Programs
-pub mod Least
 pub mod Verdicts

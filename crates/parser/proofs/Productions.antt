@@ -1,38 +1,71 @@
 -- The law of expressions.
-use Rattle.std.proofs.Common.{◌≡◌, ℕ, zero, suc, ◌+◌, ◌≤◌, Bool, true, false, cond, List, [], ◌∷◌, Option, Some, None, Ok, refl, sym, ap, ◌∙◌, subst, arith, le_trans, le_refl}
+use Rattle.std.proofs.Common.{◌≡◌, ℕ, zero, suc, ◌+◌, ◌<◌, ◌≤◌, Bool, true, false, cond, List, [], ◌∷◌, Option, Some, None, Ok, refl, sym, ap, ◌∙◌, subst, arith, le_trans, le_refl}
 use Rattle.std.specs.Prelude.{IfSome}
 use Rattle.source.specs.declared.span.Span.{Span}
 use Rattle.source.specs.declared.token.Sign.{Sign}
-use Rattle.source.specs.declared.token.Sign.TheVariants.{OpenParen, CloseParen, Semicolon, Plus, Minus, Star, Slash, Percent}
+use Rattle.source.specs.declared.token.Keyword.TheVariants as keyword
+use Rattle.source.specs.declared.token.Sign.TheVariants as sign
+use Rattle.source.specs.declared.token.Sign.TheVariants.{OpenParen, CloseParen, OpenBracket, CloseBracket, Semicolon, Dot, DoubleEquals, NotEquals, LessEquals, GreaterEquals, Plus, Minus, Star, Slash, Percent}
 use Rattle.source.specs.Tokens.{Lexeme, name, word, mark, end, Tok}
 use Rattle.source.specs.Tokens as lexeme
 use Rattle.syntax.specs.declared.tree.Op.{Op}
-use Rattle.syntax.specs.declared.tree.Op.TheVariants.{Add, Sub, Mul, Div, Rem}
+use Rattle.syntax.specs.declared.tree.Op.TheVariants.{Add, Sub, Mul, Div, Rem, And, Or}
 use Rattle.syntax.specs.declared.tree.Level.{Level}
-use Rattle.syntax.specs.declared.tree.Level.TheVariants.{Term, Sum}
+use Rattle.syntax.specs.declared.tree.Level.TheVariants.{Term, Sum, Conjunction, Disjunction}
 use Rattle.syntax.specs.declared.tree.Prefix.{Prefix}
-use Rattle.syntax.specs.declared.tree.Prefix.TheVariants.{Negate}
-use Rattle.syntax.specs.Trees.{lone, Expr, int, place, paren, prefix, Links, no_links, link}
-use Rattle.syntax.specs.Grammar.{tok, sign_of, level_of, prefix_sign, rank, below, PRIM, UNARY, ANY, is_lone, IsExpr, is_int, is_place, is_paren, is_prefix, is_chain, IsLinks, are_no_links, is_link, open_after, IsOpening}
-use Rattle.parser.specs.Reading.{◌>>=◌, Reader, same_sign, refused, too_deep, op_of, before_rest, op_at, link_from, next_link, add_link, links_at, chained, chain_at, in_parens, prim_from, prefix_of, prefix_from, prefix_at, unary_from, unary_with, expr_with, prim_at, operand_at, expr_at, ended_at}
+use Rattle.syntax.specs.declared.tree.Prefix.TheVariants.{Negate, Not}
+use Rattle.syntax.specs.declared.tree.Comparison.{Comparison}
+use Rattle.syntax.specs.declared.tree.Comparison.TheVariants.{Equal, NotEqual, Less, LessOrEqual, Greater, GreaterOrEqual}
+use Rattle.syntax.specs.Trees.{Ident, Place, lone, element, path, Expr, int, null, place, paren, prefix, compare, Links, no_links, link}
+use Rattle.syntax.specs.Grammar.{tok, name_tok, sign_of, level_of, prefix_sign, comparison_sign, rank, below, PRIM, UNARY, SUM, COMPARED, ANY, AreMany, no_more, IsAfter, IsName, is_name, IsPlace, is_lone, is_element, is_path, IsExpr, is_int, is_null, is_place, is_paren, is_prefix, is_chain, is_compare, IsLinks, are_no_links, is_link, open_after, IsOpening}
+use Rattle.parser.specs.Reading.{◌>>=◌, Reader, same_sign, refused, choose}
+use Rattle.parser.specs.Bodies.{op_of, before_rest, op_at, link_from, next_link, add_link, links_at, chained, chain_at, element_at, fields_at, path_at, alone_at, place_at, in_parens, parens_at, prim_from, prim_with, prefix_of, prefix_from, prefix_at, unary_from, unary_with, comparison_of, comparison_at, compared_from, compared_with, sum_with, operand_with, level_with, inside_at, prim_at, operand_at, expr_at, ended_at}
 use Rattle.parser.proofs.Law.{same_sign-true, LawAt, Then, Says, Law, then_law, last_law, give_law, at_rest, said, implies, Head, refuses, deepens, takes, first_law, prefixed, IsTok, is_tok}
-use Rattle.parser.proofs.Laws.{NextAt, NextLaw, SaysNext, many_law}
-use Rattle.parser.proofs.Joined.{Done, done, Both, both, nowhere, Part, ends_with, then_part, production, sign_part}
+use Rattle.parser.proofs.Laws.{NextAt, NextLaw, SaysNext, many_law, weaken_at}
+use Rattle.parser.proofs.Joined.{Done, done, Both, both, nowhere, Part, ends_with, then_part, then_open, production, sign_part, name_part, after_each_part, choose_law, weaken_law}
 
 abbrev pub zero_expr : Expr
 zero_expr = int (record { value = 0; span = nowhere })
 
+abbrev no_ident : Ident
+no_ident = record { text = []; span = nowhere }
+
+-- what the parts of places and parentheses make
+
+parens_is : {y : Expr} {at : Span} {ts rest : List Tok} → Both (IsExpr ANY) (λ e. Both (IsTok (mark CloseParen)) (λ c. Done (paren at e))) y ts rest → IsExpr PRIM y (tok (mark OpenParen) at ∷ ts) rest
+parens_is (both e (both is_tok done)) = is_paren e
+
+place_is : {x : Ident} {y : Expr} {ts rest : List Tok} → Both (at_rest IsPlace (name_tok x)) (λ p. Done (place p)) y ts rest → IsExpr PRIM y (name_tok x ∷ ts) rest
+place_is (both p done) = is_place p
+
+element_is : {x : Ident} {y : Place} {ts rest : List Tok} → Both (IsTok (mark OpenBracket)) (λ b. Both (IsExpr ANY) (λ e. Both (IsTok (mark CloseBracket)) (λ c. Done (element x e)))) y ts rest → IsPlace y (name_tok x ∷ ts) rest
+element_is (both is_tok (both e (both is_tok done))) = is_element e
+
+-- one field or more, each behind a dot
+pub data IsFields : List Ident → List Tok → List Tok → Type 0 where
+  is_fields : {first : Ident} {more : List Ident} {dot : Span} {ts rest : List Tok} → AreMany (IsAfter Dot IsName) more ts rest → IsFields (first ∷ more) (tok (mark Dot) dot ∷ name_tok first ∷ ts) rest
+
+fields_is : {y : List Ident} {ts rest : List Tok} → Both (IsTok (mark Dot)) (λ d. Both IsName (λ first. Both (AreMany (IsAfter Dot IsName)) (λ more. Done (first ∷ more)))) y ts rest → IsFields y ts rest
+fields_is (both is_tok (both is_name (both more done))) = is_fields more
+
+path_is : {x : Ident} {y : Place} {ts rest : List Tok} → Both IsFields (λ fs. Done (path x fs)) y ts rest → IsPlace y (name_tok x ∷ ts) rest
+path_is (both (is_fields more) done) = is_path more
+
 -- a chain of lower rank stands where one of higher rank may
 pub raise : {n m : ℕ} {e : Expr} {ts rest : List Tok} → n ≤ m → IsExpr n e ts rest → IsExpr m e ts rest
 raise le is_int = is_int
+raise le is_null = is_null
 raise le (is_place h) = is_place h
 raise le (is_paren h) = is_paren h
 raise le (is_prefix low h) = is_prefix (le_trans low le) h
 raise le (is_chain low first more) = is_chain (le_trans low le) first more
+raise le (is_compare low a b) = is_compare (le_trans low le) a b
 
 below_rank : (k : Level) → below k ≤ rank k
 below_rank Term = omega arith
 below_rank Sum = omega arith
+below_rank Conjunction = omega arith
+below_rank Disjunction = omega arith
 
 pub chained_is : (k : Level) (x : Expr) (l : Links) (ts mid rest : List Tok) → IsExpr (below k) x ts mid → IsLinks k l mid rest → IsExpr (rank k) (chained k x l) ts rest
 chained_is k x no_links ts mid rest first are_no_links = raise (below_rank k) first
@@ -45,6 +78,8 @@ op_meant Sum (mark Minus) = (refl, refl)
 op_meant Term (mark Star) = (refl, refl)
 op_meant Term (mark Slash) = (refl, refl)
 op_meant Term (mark Percent) = (refl, refl)
+op_meant Conjunction (mark sign.And) = (refl, refl)
+op_meant Disjunction (mark sign.Or) = (refl, refl)
 op_meant _ _ = tt
 
 op_level : (op : Op) (d : ℕ) → open_after d (mark (sign_of op)) ≡ d
@@ -53,6 +88,8 @@ op_level Sub d = refl
 op_level Mul d = refl
 op_level Div d = refl
 op_level Rem d = refl
+op_level And d = refl
+op_level Or d = refl
 
 op_no_opening : (op : Op) → IsOpening (mark (sign_of op)) → ⊥
 op_no_opening Add h = h
@@ -60,6 +97,8 @@ op_no_opening Sub h = h
 op_no_opening Mul h = h
 op_no_opening Div h = h
 op_no_opening Rem h = h
+op_no_opening And h = h
+op_no_opening Or h = h
 
 -- an operator and its operand
 pub record IsLink (k : Level) (o : Op × Expr) (ts rest : List Tok) : Type 0 where
@@ -107,13 +146,16 @@ module _ (limit : ℕ) where
 
   prefix_meant : (kind : Lexeme) → IfSome (prefix_of kind) (λ op. kind ≡ mark (prefix_sign op))
   prefix_meant (mark Minus) = refl
+  prefix_meant (mark sign.Not) = refl
   prefix_meant _ = tt
 
   prefix_level : (op : Prefix) (d : ℕ) → open_after d (mark (prefix_sign op)) ≡ d
   prefix_level Negate d = refl
+  prefix_level Not d = refl
 
   prefix_no_opening : (op : Prefix) → IsOpening (mark (prefix_sign op)) → ⊥
   prefix_no_opening Negate h = h
+  prefix_no_opening Not h = h
 
   prefix_is_no_end : (op : Prefix) → mark (prefix_sign op) ≡ end → ⊥
   prefix_is_no_end op e = cc
@@ -141,43 +183,163 @@ module _ (limit : ℕ) where
     unary_law [] = unary_nothing
     unary_law (t ∷ ts) = found_prefix t ts (prefix_of t.kind) refl (prefix_meant t.kind)
 
-  -- ---- numbers, places and parentheses
+  -- ---- comparisons
 
-  paren_head : (parens : Span → Reader Expr) (d : ℕ) → ((at : Span) → Head limit (IsExpr PRIM) d d (mark OpenParen) at (parens at)) → (m : Sign) (at : Span) (b : Bool) → same_sign m OpenParen ≡ b → Head limit (IsExpr PRIM) d d (mark m) at (λ ts. cond b (parens at ts) (refused ts))
-  paren_head parens d h m at true e = subst (λ (s : Sign). Head limit (IsExpr PRIM) d d (mark s) at (parens at)) (sym (same_sign-true m OpenParen e)) (h at)
-  paren_head parens d h m at false e = refuses (λ ts. refl)
+  comparison_meant : (kind : Lexeme) → IfSome (comparison_of kind) (λ c. kind ≡ mark (comparison_sign c))
+  comparison_meant (mark DoubleEquals) = refl
+  comparison_meant (mark NotEquals) = refl
+  comparison_meant (mark sign.Less) = refl
+  comparison_meant (mark LessEquals) = refl
+  comparison_meant (mark sign.Greater) = refl
+  comparison_meant (mark GreaterEquals) = refl
+  comparison_meant _ = tt
 
-  prim_head : (parens : Span → Reader Expr) (d : ℕ) → ((at : Span) → Head limit (IsExpr PRIM) d d (mark OpenParen) at (parens at)) → (k : Lexeme) (at : Span) → Head limit (IsExpr PRIM) d d k at (prim_from parens k at)
-  prim_head parens d h (lexeme.int n) at = takes 0 (λ e. cc) (λ o. absurd o) (give_law limit (at_rest (IsExpr PRIM) (tok (lexeme.int n) at)) (int (record { value = n; span = at })) d (λ ts. is_int))
-  prim_head parens d h (name x) at = takes 0 (λ e. cc) (λ o. absurd o) (give_law limit (at_rest (IsExpr PRIM) (tok (name x) at)) (place (lone (record { text = x; span = at }))) d (λ ts. is_place is_lone))
-  prim_head parens d h (mark m) at = paren_head parens d h m at (same_sign m OpenParen) refl
-  prim_head parens d h _ at = refuses (λ ts. refl)
+  comparison_level : (c : Comparison) (d : ℕ) → open_after d (mark (comparison_sign c)) ≡ d
+  comparison_level Equal d = refl
+  comparison_level NotEqual d = refl
+  comparison_level Less d = refl
+  comparison_level LessOrEqual d = refl
+  comparison_level Greater d = refl
+  comparison_level GreaterOrEqual d = refl
+
+  comparison_no_opening : (c : Comparison) → IsOpening (mark (comparison_sign c)) → ⊥
+  comparison_no_opening Equal h = h
+  comparison_no_opening NotEqual h = h
+  comparison_no_opening Less h = h
+  comparison_no_opening LessOrEqual h = h
+  comparison_no_opening Greater h = h
+  comparison_no_opening GreaterOrEqual h = h
+
+  comparison_is_no_end : (c : Comparison) → mark (comparison_sign c) ≡ end → ⊥
+  comparison_is_no_end c e = cc
+
+  module _ (sum : Reader Expr) (d : ℕ) (law : Law limit (IsExpr SUM) sum 1 d d) (x : Expr) where
+    abbrev IsRight : Expr → List Tok → List Tok → Type 0
+    IsRight = Then (IsExpr SUM) (IsExpr COMPARED) x
+
+    abbrev right_at : Reader Expr
+    right_at ts = compared_from sum x (comparison_at ts) ts
+
+    abbrev compared_by : Comparison → Reader Expr
+    compared_by c ts = sum ts >>= λ r. Ok (compare x c r.0, r.1)
+
+    found_comparison : (t : Tok) (ts : List Tok) (o : Option Comparison) → comparison_of t.kind ≡ o → IfSome o (λ c. t.kind ≡ mark (comparison_sign c)) → LawAt limit IsRight (Says right_at) 0 d d (t ∷ ts) (compared_from sum x (before_rest o ts) (t ∷ ts))
+    unfolding comparison_at
+    found_comparison t ts None e h = record { taken = []; parts = refl; some = omega arith; no_end = tt; level = refl; shallow = tt; is = λ other us left. raise (omega arith) left; again = λ other same. ap right_at same.1 ∙ ap (λ o. compared_from sum x (before_rest o same.0) (t ∷ same.0)) e ∙ ap (λ (us : List Tok). Ok (x, us)) (sym same.1) }
+    found_comparison t ts (Some c) e h =
+        let stays : open_after d t.kind ≡ d = ap (open_after d) h ∙ comparison_level c d in
+        let same : t ≡ tok (mark (comparison_sign c)) t.span = ap (λ (k : Lexeme). tok k t.span) h in
+        let inner : Law limit (at_rest IsRight t) (compared_by c) 1 d d =
+        last_law limit (IsExpr SUM) (at_rest IsRight t) sum (compare x c) 1 d d law (λ y rest ts1 is us left. is_compare (omega arith) (subst (λ (u : Tok). IsExpr SUM x us (u ∷ ts1)) same left) is) in
+        weaken_at limit IsRight (Says right_at) d d (t ∷ ts) (compared_by c ts) (prefixed limit IsRight (Says (compared_by c)) (Says right_at) 1 d d t (λ us q s. ap (λ o. compared_from sum x (before_rest o us) (t ∷ us)) e ∙ s) ts (λ bad. comparison_is_no_end c (sym h ∙ bad)) (λ o. absurd (comparison_no_opening c (subst IsOpening h o))) (compared_by c ts) (subst (λ n. LawAt limit (at_rest IsRight t) (Says (compared_by c)) 1 n d ts (compared_by c ts)) (sym stays) (inner ts)))
+
+    right_law : Law limit IsRight right_at 0 d d
+    unfolding comparison_at
+    right_law [] = record { taken = []; parts = refl; some = omega arith; no_end = tt; level = refl; shallow = tt; is = λ other us left. raise (omega arith) left; again = λ other same. ap right_at same ∙ ap (λ (us : List Tok). Ok (x, us)) (sym same) }
+    right_law (t ∷ ts) = found_comparison t ts (comparison_of t.kind) refl (comparison_meant t.kind)
+
+  pub compared_law : (sum : Reader Expr) (d : ℕ) → Law limit (IsExpr SUM) sum 1 d d → Law limit (IsExpr COMPARED) (compared_with sum) 1 d d
+  unfolding compared_with
+  compared_law sum d law =
+      then_law limit (IsExpr SUM) (IsExpr COMPARED) sum (λ x ts. compared_from sum x (comparison_at ts) ts) 1 0 d d d law (λ rest. (rest, λ x. (x, λ ts left. raise (omega arith) left))) (λ x. right_law sum d law x)
+
+  -- ---- places
 
   pub any_part : {P : Type 0} (f : Reader Expr) (d : ℕ) → (P → Law limit (IsExpr ANY) f 1 d d) → Part limit P (IsExpr ANY) f 1 d d
   any_part f d law = record { law = law; can = λ rest. (zero_expr, tok (lexeme.int 0) nowhere ∷ rest, is_int) }
 
-  parens_is : {y : Expr} {at : Span} {ts rest : List Tok} → Both (IsExpr ANY) (λ e. Both (IsTok (mark CloseParen)) (λ c. Done (paren at e))) y ts rest → IsExpr PRIM y (tok (mark OpenParen) at ∷ ts) rest
-  parens_is (both e (both is_tok done)) = is_paren e
+  fields_law : (d : ℕ) → Law limit IsFields fields_at 1 d d
+  unfolding fields_at
+  fields_law d =
+      production limit IsFields
+      (then_part limit (sign_part limit Dot d (λ o. o)) (then_part limit (name_part limit d) (then_part limit (after_each_part limit Dot d refl (λ o. o) (name_part limit d)) (ends_with limit (λ x. x.0.1 ∷ x.1)))))
+      (λ y ts rest r. fields_is r)
 
-  parens_law : (inner : Reader Expr) (d : ℕ) → Law limit (IsExpr ANY) inner 1 (suc d) (suc d) → (at : Span) → Law limit (at_rest (IsExpr PRIM) (tok (mark OpenParen) at)) (in_parens inner at) 1 (suc d) d
-  parens_law inner d law at =
-      production limit (at_rest (IsExpr PRIM) (tok (mark OpenParen) at))
-      (then_part limit (any_part inner (suc d) (λ p. law)) (then_part limit (sign_part limit CloseParen (suc d) (λ o. o)) (ends_with limit (λ x. paren at x.0.1))))
-      (λ y ts rest r. parens_is r)
+  fields_part : {P : Type 0} (d : ℕ) → Part limit P IsFields fields_at 1 d d
+  fields_part d = record { law = λ p. fields_law d; can = λ rest. (no_ident ∷ [], tok (mark Dot) nowhere ∷ name_tok no_ident ∷ rest, is_fields no_more) }
+
+  module _ (room d : ℕ) (sum : d + room ≡ limit) (inner : Reader Expr) (law : 0 < room → Law limit (IsExpr ANY) inner 1 (suc d) (suc d)) where
+    module _ (x : Ident) where
+      element_law : Law limit (at_rest IsPlace (name_tok x)) (element_at room inner x) 1 d d
+      unfolding element_at
+      element_law =
+          production limit (at_rest IsPlace (name_tok x))
+          (then_open limit OpenBracket room sum tt (then_part limit (any_part inner (suc d) law) (then_part limit (sign_part limit CloseBracket (suc d) (λ o. o)) (ends_with limit (λ y. element x y.0.1)))))
+          (λ y ts rest r. element_is r)
+
+      path_law : Law limit (at_rest IsPlace (name_tok x)) (path_at x) 1 d d
+      path_law = production limit (at_rest IsPlace (name_tok x)) (then_part limit (fields_part d) (ends_with limit (λ y. path x y.1))) (λ y ts rest r. path_is r)
+
+      alone_law : Law limit (at_rest IsPlace (name_tok x)) (alone_at x) 0 d d
+      alone_law = give_law limit (at_rest IsPlace (name_tok x)) (lone x) d (λ ts. is_lone)
+
+      pub place_law : Law limit (at_rest IsPlace (name_tok x)) (place_at room inner x) 0 d d
+      place_law =
+          choose_law limit (at_rest IsPlace (name_tok x)) (mark OpenBracket) (element_at room inner x) (choose (mark Dot) (path_at x) (alone_at x)) 0 d d (weaken_law limit (at_rest IsPlace (name_tok x)) (element_at room inner x) d d element_law)
+          (choose_law limit (at_rest IsPlace (name_tok x)) (mark Dot) (path_at x) (alone_at x) 0 d d (weaken_law limit (at_rest IsPlace (name_tok x)) (path_at x) d d path_law) alone_law)
+
+      pub place_part : {P : Type 0} → Part limit P (at_rest IsPlace (name_tok x)) (place_at room inner x) 0 d d
+      place_part = record { law = λ p. place_law; can = λ rest. (lone x, rest, is_lone) }
+
+    -- ---- numbers, places and parentheses
+
+    parens_law : (Law limit (IsExpr ANY) inner 1 (suc d) (suc d)) → (at : Span) → Law limit (at_rest (IsExpr PRIM) (tok (mark OpenParen) at)) (in_parens inner at) 1 (suc d) d
+    parens_law law at =
+        production limit (at_rest (IsExpr PRIM) (tok (mark OpenParen) at))
+        (then_part limit (any_part inner (suc d) (λ p. law)) (then_part limit (sign_part limit CloseParen (suc d) (λ o. o)) (ends_with limit (λ x. paren at x.0.1))))
+        (λ y ts rest r. parens_is r)
+
+  parens_head : (room d : ℕ) → d + room ≡ limit → (inner : Reader Expr) → (0 < room → Law limit (IsExpr ANY) inner 1 (suc d) (suc d)) → (at : Span) → Head limit (IsExpr PRIM) d d (mark OpenParen) at (parens_at room inner at)
+  parens_head zero d sum inner law at = deepens tt (omega arith) (λ rest. (paren at zero_expr, tok (lexeme.int 0) nowhere ∷ tok (mark CloseParen) at ∷ rest, is_paren is_int)) (λ ts. refl)
+  parens_head (suc room) d sum inner law at = takes 1 (λ e. cc) (λ o. omega arith) (parens_law (suc room) d sum inner law (law (omega arith)) at)
+
+  module _ (room d : ℕ) (sum : d + room ≡ limit) (inner : Reader Expr) (law : 0 < room → Law limit (IsExpr ANY) inner 1 (suc d) (suc d)) where
+    paren_head : (m : Sign) (at : Span) (b : Bool) → same_sign m OpenParen ≡ b → Head limit (IsExpr PRIM) d d (mark m) at (λ ts. cond b (parens_at room inner at ts) (refused ts))
+    paren_head m at true e = subst (λ (s : Sign). Head limit (IsExpr PRIM) d d (mark s) at (parens_at room inner at)) (sym (same_sign-true m OpenParen e)) (parens_head room d sum inner law at)
+    paren_head m at false e = refuses (λ ts. refl)
+
+    prim_head : (k : Lexeme) (at : Span) → Head limit (IsExpr PRIM) d d k at (prim_from room inner k at)
+    prim_head (lexeme.int n) at = takes 0 (λ e. cc) (λ o. absurd o) (give_law limit (at_rest (IsExpr PRIM) (tok (lexeme.int n) at)) (int (record { value = n; span = at })) d (λ ts. is_int))
+    prim_head (word keyword.Null) at = takes 0 (λ e. cc) (λ o. absurd o) (give_law limit (at_rest (IsExpr PRIM) (tok (word keyword.Null) at)) (null at) d (λ ts. is_null))
+    prim_head (name x) at = takes 0 (λ e. cc) (λ o. absurd o) (production limit (at_rest (IsExpr PRIM) (tok (name x) at)) (then_part limit (place_part room d sum inner law (record { text = x; span = at })) (ends_with limit (λ y. place y.1))) (λ y ts rest r. place_is r))
+    prim_head (mark m) at = paren_head m at (same_sign m OpenParen) refl
+    prim_head _ at = refuses (λ ts. refl)
+
+    pub prim_with_law : Law limit (IsExpr PRIM) (prim_with room inner) 1 d d
+    unfolding prim_with
+    prim_with_law = first_law limit (IsExpr PRIM) (prim_from room inner) d d prim_head
+
+  -- ---- by level
+
+  module _ (prim : Reader Expr) (d : ℕ) (law : Law limit (IsExpr PRIM) prim 1 d d) where
+    term_law : Law limit (IsExpr (below Sum)) (chain_at (unary_with prim) Term) 1 d d
+    term_law = chain_law (unary_with prim) Term d (unary_law prim d law)
+
+    sum_law : Law limit (IsExpr SUM) (sum_with prim) 1 d d
+    sum_law = chain_law (chain_at (unary_with prim) Term) Sum d term_law
+
+    pub operand_with_law : (k : Level) → Law limit (IsExpr (below k)) (operand_with k prim) 1 d d
+    operand_with_law Term = unary_law prim d law
+    operand_with_law Sum = term_law
+    operand_with_law Conjunction = compared_law (sum_with prim) d sum_law
+    operand_with_law Disjunction = chain_law (compared_with (sum_with prim)) Conjunction d (compared_law (sum_with prim) d sum_law)
+
+    pub level_with_law : (k : Level) → Law limit (IsExpr (rank k)) (level_with k prim) 1 d d
+    level_with_law k = chain_law (operand_with k prim) k d (operand_with_law k)
+
+  pub inside_law : (room d : ℕ) → d + room ≡ limit → 0 < room → Law limit (IsExpr ANY) (inside_at room) 1 (suc d) (suc d)
+  unfolding inside_at
+  inside_law zero d sum some = absurd (omega arith)
+  inside_law (suc room) d sum some = level_with_law (prim_with room (inside_at room)) (suc d) (prim_with_law room (suc d) (omega arith) (inside_at room) (inside_law room (suc d) (omega arith))) Disjunction
 
   pub prim_law : (room d : ℕ) → d + room ≡ limit → Law limit (IsExpr PRIM) (prim_at room) 1 d d
-  unfolding prim_at
-  prim_law zero d sum = first_law limit (IsExpr PRIM) (prim_from (λ at. too_deep)) d d (prim_head (λ at. too_deep) d (λ at. deepens tt (omega arith) (λ rest. (paren at zero_expr, tok (lexeme.int 0) nowhere ∷ tok (mark CloseParen) at ∷ rest, is_paren is_int)) (λ ts. refl)))
-  prim_law (suc room) d sum =
-      let inner = chain_law (chain_at (unary_with (prim_at room)) Term) Sum (suc d) (chain_law (unary_with (prim_at room)) Term (suc d) (unary_law (prim_at room) (suc d) (prim_law room (suc d) (omega arith)))) in
-      first_law limit (IsExpr PRIM) (prim_from (in_parens (expr_with (prim_at room)))) d d (prim_head (in_parens (expr_with (prim_at room))) d (λ at. takes 1 (λ e. cc) (λ o. omega arith) (parens_law (expr_with (prim_at room)) d inner at)))
+  prim_law room d sum = prim_with_law room d sum (inside_at room) (inside_law room d sum)
 
   pub operand_law : (k : Level) (room d : ℕ) → d + room ≡ limit → Law limit (IsExpr (below k)) (operand_at k room) 1 d d
-  operand_law Term room d sum = unary_law (prim_at room) d (prim_law room d sum)
-  operand_law Sum room d sum = chain_law (operand_at Term room) Term d (unary_law (prim_at room) d (prim_law room d sum))
+  operand_law k room d sum = operand_with_law (prim_at room) d (prim_law room d sum) k
 
   pub expr_law : (room d : ℕ) → d + room ≡ limit → Law limit (IsExpr ANY) (expr_at room) 1 d d
-  expr_law room d sum = chain_law (operand_at Sum room) Sum d (operand_law Sum room d sum)
+  expr_law room d sum = level_with_law (prim_at room) d (prim_law room d sum) Disjunction
 
 -- an expression and its semicolon
 pub data IsEnded (e : Expr) (ts rest : List Tok) : Type 0 where

@@ -10,7 +10,8 @@ use Rattle.syntax.specs.Grammar.{tok, AreMany, IsDecl, Spells, spells, open_afte
 use Rattle.syntax.specs.Faults.{IsUnexpected, IsTooDeep, NoEnd}
 use Rattle.parser.specs.declared.stop.Stop.{Stop}
 use Rattle.parser.specs.declared.stop.Stop.TheVariants.{Unexpected, TooDeep, NoMemory}
-use Rattle.parser.specs.Reading.{◌>>=◌, Reader, Next, turn, many_at, same_kind, is_next, next_unless, next_until, decl_at, decls_at, end_from, program_at, first_start}
+use Rattle.parser.specs.Reading.{◌>>=◌, Reader, Next, turn, many_at, same_kind, is_next, next_unless, next_until}
+use Rattle.parser.specs.Declarations.{decl_at, decls_at, end_from, program_at, first_start}
 use Rattle.parser.proofs.Readers.{OnValue, on_then, on_weaker}
 use Rattle.parser.proofs.Many.{NextShortens, many_at-turn}
 use Rattle.parser.proofs.Shorter.{next_decl_shortens}

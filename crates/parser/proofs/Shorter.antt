@@ -9,9 +9,11 @@ use Rattle.source.specs.Tokens.{Tok, mark, end, seen_token, seen}
 use Rattle.syntax.specs.declared.tree.Op.{Op}
 use Rattle.syntax.specs.declared.tree.Level.{Level}
 use Rattle.syntax.specs.Trees.{Expr}
-use Rattle.syntax.specs.Grammar.{below, IsAfter, IsExpr, IsName, IsConst, IsParam, IsStmt, IsItem, IsDecl}
+use Rattle.syntax.specs.Grammar.{below, IsAfter, IsExpr, IsName, IsConst, IsMember, IsParam, IsStmt, IsItem, IsDecl}
 use Rattle.parser.specs.declared.stop.Stop.{Stop}
-use Rattle.parser.specs.Reading.{Reader, next_until, next_after, skip_at, is_sign, name_at, const_at, param_at, stmt_at, item_at, decl_at, op_at, operand_at}
+use Rattle.parser.specs.Reading.{Reader, next_until, next_after, skip_at, is_sign, name_at, const_at}
+use Rattle.parser.specs.Bodies.{stmt_at, op_at, operand_at}
+use Rattle.parser.specs.Declarations.{member_at, param_at, item_at, decl_at}
 use Rattle.parser.proofs.Readers.{OnValue, Shortens}
 use Rattle.parser.proofs.Many.{NextShortens}
 use Rattle.parser.proofs.Laws.{law_shortens, next_shortens}
@@ -19,7 +21,7 @@ use Rattle.parser.proofs.Law.{name_law}
 use Rattle.parser.proofs.Joined.{until_law, after_each_next}
 use Rattle.parser.proofs.Chains.{op_shortens}
 use Rattle.parser.proofs.Productions.{operand_law}
-use Rattle.parser.proofs.Statements.{const_law, param_law, stmt_law, item_law, decl_law}
+use Rattle.parser.proofs.Statements.{const_law, member_law, param_law, stmt_law, item_law, decl_law}
 
 pub operand_shortens : (k : Level) (room : ℕ) → Shortens (operand_at k room)
 operand_shortens k room = law_shortens room (IsExpr (below k)) (operand_at k room) 0 0 (operand_law room k room 0 (omega arith))
@@ -33,8 +35,11 @@ one_turn_less k room ts after rest op x found read =
 pub name_shortens : Shortens name_at
 name_shortens = law_shortens 0 IsName name_at 0 0 (name_law 0 0)
 
-pub const_shortens : Shortens const_at
-const_shortens = law_shortens 0 IsConst const_at 0 0 (const_law 0 0)
+pub const_shortens : (room : ℕ) → Shortens (const_at room)
+const_shortens room = law_shortens room IsConst (const_at room) 0 0 (const_law room room 0 (omega arith))
+
+pub member_shortens : (room : ℕ) → Shortens (member_at room)
+member_shortens room = law_shortens room IsMember (member_at room) 0 0 (member_law room room 0 (omega arith))
 
 pub param_shortens : Shortens param_at
 param_shortens = law_shortens 0 IsParam param_at 0 0 (param_law 0 0)
@@ -53,8 +58,11 @@ decl_shortens room = law_shortens room IsDecl (decl_at room) 0 0 (decl_law room 
 pub next_name_shortens : NextShortens (next_after Dot name_at)
 next_name_shortens = next_shortens 0 (IsAfter Dot IsName) (next_after Dot name_at) 0 (after_each_next 0 IsName name_at 0 (name_law 0 0) Dot refl (λ o. o))
 
-pub next_const_shortens : NextShortens (next_after Comma const_at)
-next_const_shortens = next_shortens 0 (IsAfter Comma IsConst) (next_after Comma const_at) 0 (after_each_next 0 IsConst const_at 0 (const_law 0 0) Comma refl (λ o. o))
+pub next_const_shortens : (room : ℕ) → NextShortens (next_after Comma (const_at room))
+next_const_shortens room = next_shortens room (IsAfter Comma IsConst) (next_after Comma (const_at room)) 0 (after_each_next room IsConst (const_at room) 0 (const_law room room 0 (omega arith)) Comma refl (λ o. o))
+
+pub next_member_shortens : (room : ℕ) → NextShortens (next_until (mark CloseBrace) (member_at room))
+next_member_shortens room = next_shortens room IsMember (next_until (mark CloseBrace) (member_at room)) 0 (until_law room IsMember (mark CloseBrace) (member_at room) 0 (member_law room room 0 (omega arith)))
 
 pub next_param_shortens : NextShortens (next_after Comma param_at)
 next_param_shortens = next_shortens 0 (IsAfter Comma IsParam) (next_after Comma param_at) 0 (after_each_next 0 IsParam param_at 0 (param_law 0 0) Comma refl (λ o. o))

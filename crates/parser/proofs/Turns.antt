@@ -5,13 +5,16 @@ use Rattle.source.specs.Tokens.{mark, end, Tok}
 use Rattle.syntax.specs.declared.tree.Stmt as the_stmt
 use Rattle.syntax.specs.declared.tree.Item as the_item
 use Rattle.syntax.specs.declared.tree.Decl as the_decl
-use Rattle.syntax.specs.Trees.{Stmts, no_stmts, stmt, Items, no_items, item, Decl}
-use Rattle.syntax.specs.Views.{stmt_of, stmts_of, item_of, items_of, decl_of}
+use Rattle.syntax.specs.declared.tree.Member as the_member
+use Rattle.syntax.specs.Trees.{Stmts, no_stmts, stmt, Items, no_items, item, Decl, Member}
+use Rattle.syntax.specs.Views.{stmt_of, stmts_of, item_of, items_of, decl_of, member_of}
 use Rattle.parser.specs.declared.stop.Stop.{Stop}
-use Rattle.parser.specs.Reading.{Fails, is_next, stmt_at, stmts_with, item_at, items_with, decl_at, decls_at}
+use Rattle.parser.specs.Reading.{Fails, is_next}
+use Rattle.parser.specs.Bodies.{stmt_at, stmts_with}
+use Rattle.parser.specs.Declarations.{item_at, items_with, decl_at, decls_at, member_at, members_with}
 use Rattle.parser.proofs.Many.{with_front}
 use Rattle.parser.proofs.Loops.{before, before-map, until_goes_on, until_ends, until_stops, before-stmts, before-items}
-use Rattle.parser.proofs.Shorter.{next_stmt_shortens, next_item_shortens, next_decl_shortens}
+use Rattle.parser.proofs.Shorter.{next_stmt_shortens, next_item_shortens, next_decl_shortens, next_member_shortens}
 
 module _ (room : ℕ) (xs : List the_stmt.Stmt) (ts : List Tok) (total : Result (Stmts × List Tok) Stop) where
   pub stmts_go_on : (x : the_stmt.Stmt) (rest : List Tok) → is_next (mark CloseBrace) ts ≡ false → stmt_at room ts ≡ Ok (stmt_of x, rest) → with_front (before stmt stmt_of xs) (stmts_with (stmt_at room) ts) ≡ total → with_front (before stmt stmt_of (xs ++ x ∷ [])) (stmts_with (stmt_at room) rest) ≡ total
@@ -51,3 +54,16 @@ module _ (room : ℕ) (xs : List the_decl.Decl) (ts : List Tok) (total : Result 
   pub decls_stop : (e : Stop) → is_next end ts ≡ false → Fails e (decl_at room ts) → with_front (before ◌∷◌ decl_of xs) (decls_at room ts) ≡ total → Fails e total
   unfolding decls_at
   decls_stop e more fails so_far = until_stops [] ◌∷◌ decl_of end (decl_at room) (next_decl_shortens room) xs ts total e more fails so_far
+
+module _ (room : ℕ) (xs : List the_member.Member) (ts : List Tok) (total : Result (List Member × List Tok) Stop) where
+  pub members_go_on : (x : the_member.Member) (rest : List Tok) → is_next (mark CloseBrace) ts ≡ false → member_at room ts ≡ Ok (member_of x, rest) → with_front (before ◌∷◌ member_of xs) (members_with (member_at room) ts) ≡ total → with_front (before ◌∷◌ member_of (xs ++ x ∷ [])) (members_with (member_at room) rest) ≡ total
+  unfolding members_with
+  members_go_on x rest more read so_far = until_goes_on [] ◌∷◌ member_of (mark CloseBrace) (member_at room) (next_member_shortens room) xs ts total x rest more read so_far
+
+  pub members_end : is_next (mark CloseBrace) ts ≡ true → with_front (before ◌∷◌ member_of xs) (members_with (member_at room) ts) ≡ total → total ≡ Ok (map member_of xs, ts)
+  unfolding members_with
+  members_end over so_far = until_ends [] ◌∷◌ member_of (mark CloseBrace) (member_at room) (next_member_shortens room) xs ts total over so_far ∙ ap (λ (l : List Member). Ok (l, ts)) (before-map member_of xs)
+
+  pub members_stop : (e : Stop) → is_next (mark CloseBrace) ts ≡ false → Fails e (member_at room ts) → with_front (before ◌∷◌ member_of xs) (members_with (member_at room) ts) ≡ total → Fails e total
+  unfolding members_with
+  members_stop e more fails so_far = until_stops [] ◌∷◌ member_of (mark CloseBrace) (member_at room) (next_member_shortens room) xs ts total e more fails so_far

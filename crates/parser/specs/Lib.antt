@@ -1,2 +1,4 @@
 pub mod Reading
 pub mod Returning
+pub mod Bodies
+pub mod Declarations

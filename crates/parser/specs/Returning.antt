@@ -1,6 +1,6 @@
 -- The first misplaced or missing `return`: what the functions of this crate compute.
 use Rattle.std.specs.Prelude.{ℕ, Bool, true, false, List, [], ◌∷◌, Option, Some, None, min}
-use Rattle.syntax.specs.Trees.{ValueType, Stmt, return_value, Stmts, no_stmts, stmt, Decl, atomic}
+use Rattle.syntax.specs.Trees.{ValueType, Stmt, if_then, while, return_value, Stmts, no_stmts, stmt, Otherwise, no_else, else_do, Decl, atomic}
 
 -- the lesser place of two, where there is one
 abbrev pub earlier : Option ℕ → Option ℕ → Option ℕ
@@ -13,14 +13,26 @@ abbrev pub own_return : Stmt → Option ℕ
 own_return (return_value at e) = Some at.start
 own_return _ = None
 
-abbrev pub least_return : Stmts → Option ℕ
-least_return no_stmts = None
-least_return (stmt s more) = earlier (own_return s) (least_return more)
+abbrev mutual
+  -- among the statements and in their blocks
+  pub least_return : Stmts → Option ℕ
+  least_return no_stmts = None
+  least_return (stmt s more) = earlier (earlier (own_return s) (inner_return s)) (least_return more)
 
-abbrev pub least_early : Stmts → Option ℕ
-least_early no_stmts = None
-least_early (stmt s no_stmts) = None
-least_early (stmt s (stmt next more)) = earlier (own_return s) (least_early (stmt next more))
+  -- in the blocks of a statement
+  pub inner_return : Stmt → Option ℕ
+  inner_return (if_then start e body close other) = earlier (least_return body) (other_return other)
+  inner_return (while start e body close) = least_return body
+  inner_return _ = None
+
+  pub other_return : Otherwise → Option ℕ
+  other_return no_else = None
+  other_return (else_do body close) = least_return body
+
+abbrev pub least_stray : Stmts → Option ℕ
+least_stray no_stmts = None
+least_stray (stmt s no_stmts) = inner_return s
+least_stray (stmt s (stmt next more)) = earlier (earlier (own_return s) (inner_return s)) (least_stray (stmt next more))
 
 abbrev pub is_return : Stmt → Bool
 is_return (return_value at e) = true
@@ -37,7 +49,7 @@ missing_at false close = Some close
 
 abbrev pub section_fault_of : Option ValueType → Stmts → ℕ → Option ℕ
 section_fault_of None ss close = least_return ss
-section_fault_of (Some t) ss close = earlier (least_early ss) (missing_at (does_end ss) close)
+section_fault_of (Some t) ss close = earlier (least_stray ss) (missing_at (does_end ss) close)
 
 abbrev pub decl_fault : Decl → Option ℕ
 decl_fault (atomic s) = section_fault_of s.result s.body.stmts s.body.close.start

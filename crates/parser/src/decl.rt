@@ -2,42 +2,118 @@
 
 ghost use Rattle.std.specs.Prelude.{◌≡◌, map};
 ghost use Rattle.source.specs.Tokens.{seen};
-ghost use Rattle.syntax.specs.Views.{ident, variable_of, section_of, call_of, item_of, items_of, thread_of, decl_of, tree_of};
-ghost use Rattle.parser.specs.Reading.{Gives, lock_at, variable_at, section_at, call_at, item_at, items_with, thread_at, decl_at, decls_at, program_at};
+ghost use Rattle.syntax.specs.Views.{ident, type_of, pool_of, init_of, section_of, decl_of, tree_of};
+ghost use Rattle.parser.specs.Reading.{Gives};
+ghost use Rattle.parser.specs.Declarations.{array_at, variable_at, global_at, pool_at, init_at, section_at, decl_at, decls_at, program_at};
 
-use crate::parts::{constants, opening_value, params, protection, result_type, value_type};
+use crate::growth::push;
+use crate::member::{lock, structure};
+use crate::parts::{constant, index, opening_value, params, protection, result_type, value_type};
 use crate::stmt::block;
 use crate::stop::Stop;
-use crate::take::{is_end_next, is_sign_next, take_name, take_open, take_sign};
-use source::token::{Keyword, Kind, Sign, Token};
+use crate::take::{is_end_next, is_sign_next, take_name, take_sign};
+use crate::thread::thread;
+use source::span::Span;
+use source::token::{Keyword, Sign, Token};
 use std::alloc::Global;
-use syntax::tree::{Call, Decl, Item, Name, Section, Thread, Tree, Variable};
+use syntax::tree::{Array, Decl, Init, Name, Pool, Section, Tree, ValueType, Variable};
 
-/// A lock, behind its first word.
-#[tactic(auto, unfolding(crate::specs::Reading::lock_at))]
-fn lock(alloc: Global, tokens: &[Token]) -> Result<(Name, &[Token]), Stop>
-    ensures { Gives (λ x. (ident x.0, seen x.1.now)) result (lock_at (seen tokens.now)) }
+/// A global that is an array, behind its type and name.
+#[tactic(auto, unfolding(crate::specs::Declarations::array_at))]
+fn array(
+    alloc: Global,
+    value_type: ValueType,
+    name: Name,
+    tokens: &[Token],
+    room: u32,
+) -> Result<(Decl, &[Token]), Stop>
+    ensures { Gives (λ x. (decl_of x.0, seen x.1.now)) result (array_at room (type_of value_type) (ident name) (seen tokens.now)) }
 {
-    let (name, rest) = take_name(alloc, tokens)?;
+    let (length, rest) = index(tokens, room)?;
+    let (protection, rest) = protection(alloc, rest, room)?;
     let (_, rest) = take_sign(rest, Sign::Semicolon)?;
-    Ok((name, rest))
+    let array = Array {
+        name,
+        value_type,
+        length,
+        protection,
+    };
+    Ok((Decl::Array(array), rest))
+}
+
+/// A global that is no array, behind its type and name.
+#[tactic(auto, unfolding(crate::specs::Declarations::variable_at))]
+fn variable(
+    alloc: Global,
+    value_type: ValueType,
+    name: Name,
+    tokens: &[Token],
+    room: u32,
+) -> Result<(Decl, &[Token]), Stop>
+    ensures { Gives (λ x. (decl_of x.0, seen x.1.now)) result (variable_at room (type_of value_type) (ident name) (seen tokens.now)) }
+{
+    let (protection, rest) = protection(alloc, tokens, room)?;
+    let (value, rest) = opening_value(alloc, rest, room)?;
+    let (_, rest) = take_sign(rest, Sign::Semicolon)?;
+    let variable = Variable {
+        name,
+        value_type,
+        protection,
+        value,
+    };
+    Ok((Decl::Global(variable), rest))
 }
 
 /// A global, behind its first word.
-#[tactic(auto, unfolding(crate::specs::Reading::variable_at))]
-fn variable(alloc: Global, tokens: &[Token], room: u32) -> Result<(Variable, &[Token]), Stop>
-    ensures { Gives (λ x. (variable_of x.0, seen x.1.now)) result (variable_at room (seen tokens.now)) }
+#[tactic(auto, unfolding(crate::specs::Declarations::global_at, crate::specs::Reading::choose))]
+fn global(alloc: Global, tokens: &[Token], room: u32) -> Result<(Decl, &[Token]), Stop>
+    ensures { Gives (λ x. (decl_of x.0, seen x.1.now)) result (global_at room (seen tokens.now)) }
 {
     let (value_type, rest) = value_type(tokens)?;
-    let (name, rest) = take_name(alloc, rest)?;
-    let (protection, rest) = protection(alloc, rest, room)?;
-    let (value, rest) = opening_value(rest)?;
+    let (name, rest) = take_name(rest)?;
+    if is_sign_next(rest, Sign::OpenBracket) {
+        return array(alloc, value_type, name, rest, room);
+    }
+    variable(alloc, value_type, name, rest, room)
+}
+
+/// A pool, behind its first word.
+#[tactic(auto, unfolding(crate::specs::Declarations::pool_at))]
+fn pool(alloc: Global, tokens: &[Token], room: u32) -> Result<(Pool, &[Token]), Stop>
+    ensures { Gives (λ x. (pool_of x.0, seen x.1.now)) result (pool_at room (seen tokens.now)) }
+{
+    let (target, rest) = take_name(tokens)?;
+    let (name, rest) = take_name(rest)?;
+    let (length, rest) = index(rest, room)?;
     let (_, rest) = take_sign(rest, Sign::Semicolon)?;
     Ok((
-        Variable {
+        Pool {
             name,
-            value_type,
-            protection,
+            target,
+            length,
+        },
+        rest,
+    ))
+}
+
+/// An opening value of a member's field, behind the word `init`, which stands at `start`.
+#[tactic(auto, unfolding(crate::specs::Declarations::init_at))]
+fn init(alloc: Global, start: Span, tokens: &[Token], room: u32) -> Result<(Init, &[Token]), Stop>
+    ensures { Gives (λ x. (init_of x.0, seen x.1.now)) result (init_at room start (seen tokens.now)) }
+{
+    let (pool, rest) = take_name(tokens)?;
+    let (index, rest) = index(rest, room)?;
+    let (_, rest) = take_sign(rest, Sign::Dot)?;
+    let (field, rest) = take_name(rest)?;
+    let (_, rest) = take_sign(rest, Sign::Equals)?;
+    let (value, rest) = constant(alloc, rest, room)?;
+    let (_, rest) = take_sign(rest, Sign::Semicolon)?;
+    Ok((
+        Init {
+            start,
+            pool,
+            index,
+            field,
             value,
         },
         rest,
@@ -45,11 +121,11 @@ fn variable(alloc: Global, tokens: &[Token], room: u32) -> Result<(Variable, &[T
 }
 
 /// A section, behind its first word.
-#[tactic(auto, unfolding(crate::specs::Reading::section_at))]
+#[tactic(auto, unfolding(crate::specs::Declarations::section_at))]
 fn section(alloc: Global, tokens: &[Token], room: u32) -> Result<(Section, &[Token]), Stop>
     ensures { Gives (λ x. (section_of x.0, seen x.1.now)) result (section_at room (seen tokens.now)) }
 {
-    let (name, rest) = take_name(alloc, tokens)?;
+    let (name, rest) = take_name(tokens)?;
     let (params, rest) = params(alloc, rest, room)?;
     let (result, rest) = result_type(rest)?;
     let (body, rest) = block(alloc, rest, room)?;
@@ -64,74 +140,36 @@ fn section(alloc: Global, tokens: &[Token], room: u32) -> Result<(Section, &[Tok
     ))
 }
 
-/// A call.
-#[tactic(auto, unfolding(crate::specs::Reading::call_at))]
-fn call(alloc: Global, tokens: &[Token], room: u32) -> Result<(Call, &[Token]), Stop>
-    ensures { Gives (λ x. (call_of x.0, seen x.1.now)) result (call_at room (seen tokens.now)) }
-{
-    let (section, rest) = take_name(alloc, tokens)?;
-    let (_, rest) = take_open(rest, Sign::OpenParen, room)?;
-    let (arguments, rest) = constants(alloc, rest)?;
-    let (_, rest) = take_sign(rest, Sign::CloseParen)?;
-    let (_, rest) = take_sign(rest, Sign::Semicolon)?;
-    Ok((Call { section, arguments }, rest))
-}
-
-/// What a thread does.
-#[tactic(auto, unfolding(crate::specs::Reading::item_at))]
-fn item(alloc: Global, tokens: &[Token], room: u32) -> Result<(Item, &[Token]), Stop>
-    ensures { Gives (λ x. (item_of x.0, seen x.1.now)) result (item_at room (seen tokens.now)) }
-{
-    let (call, rest) = call(alloc, tokens, room)?;
-    Ok((Item::Call(call), rest))
-}
-
-fn items(alloc: Global, tokens: &[Token], room: u32) -> Result<(Vec<Item>, &[Token]), Stop>
-    ensures { Gives (λ x. (items_of x.0.items, seen x.1.now)) result (items_with (item_at room) (seen tokens.now)) }
-{
-    let mut items = Vec::new(alloc);
-    let mut rest = tokens;
-    'items: while !is_sign_next(rest, Sign::CloseBrace) {
-        let (next, after) = item(alloc, rest, room)?;
-        items.push(next)?;
-        rest = after;
-    }
-    Ok((items, rest))
-}
-
-/// A thread, behind its first word.
-#[tactic(auto, using(crate::proofs::Rooms::items_in_some), unfolding(crate::specs::Reading::thread_at))]
-fn thread(alloc: Global, tokens: &[Token], room: u32) -> Result<(Thread, &[Token]), Stop>
-    ensures { Gives (λ x. (thread_of x.0, seen x.1.now)) result (thread_at room (seen tokens.now)) }
-{
-    let (name, rest) = take_name(alloc, tokens)?;
-    let (_, rest) = take_open(rest, Sign::OpenBrace, room)?;
-    let (items, rest) = items(alloc, rest, room - 1)?;
-    let (_, rest) = take_sign(rest, Sign::CloseBrace)?;
-    Ok((Thread { name, items }, rest))
-}
-
-#[tactic(auto, unfolding(crate::specs::Reading::decl_at))]
+#[tactic(auto, unfolding(crate::specs::Declarations::decl_at))]
 fn decl(alloc: Global, tokens: &[Token], room: u32) -> Result<(Decl, &[Token]), Stop>
     ensures { Gives (λ x. (decl_of x.0, seen x.1.now)) result (decl_at room (seen tokens.now)) }
 {
     let [first, rest @ ..] = tokens else {
         return Err(Stop::Unexpected(0));
     };
-    match &first.kind {
-        Kind::Word(Keyword::Lock) => {
-            let (name, rest) = lock(alloc, rest)?;
+    match first {
+        Token::Word(_, Keyword::Lock) => {
+            let (name, rest) = lock(rest)?;
             Ok((Decl::Lock(name), rest))
         }
-        Kind::Word(Keyword::Global) => {
-            let (variable, rest) = variable(alloc, rest, room)?;
-            Ok((Decl::Global(variable), rest))
+        Token::Word(_, Keyword::Struct) => {
+            let (structure, rest) = structure(alloc, rest, room)?;
+            Ok((Decl::Struct(structure), rest))
         }
-        Kind::Word(Keyword::Atomic) => {
+        Token::Word(_, Keyword::Global) => global(alloc, rest, room),
+        Token::Word(_, Keyword::Pool) => {
+            let (pool, rest) = pool(alloc, rest, room)?;
+            Ok((Decl::Pool(pool), rest))
+        }
+        Token::Word(span, Keyword::Init) => {
+            let (init, rest) = init(alloc, *span, rest, room)?;
+            Ok((Decl::Init(init), rest))
+        }
+        Token::Word(_, Keyword::Atomic) => {
             let (section, rest) = section(alloc, rest, room)?;
             Ok((Decl::Atomic(section), rest))
         }
-        Kind::Word(Keyword::Thread) => {
+        Token::Word(_, Keyword::Thread) => {
             let (thread, rest) = thread(alloc, rest, room)?;
             Ok((Decl::Thread(thread), rest))
         }
@@ -146,14 +184,14 @@ fn decls(alloc: Global, tokens: &[Token], room: u32) -> Result<(Vec<Decl>, &[Tok
     let mut rest = tokens;
     'items: while !is_end_next(rest) {
         let (next, after) = decl(alloc, rest, room)?;
-        decls.push(next)?;
+        push(&mut decls, next)?;
         rest = after;
     }
     Ok((decls, rest))
 }
 
 /// A program, with at most `room` signs open at a time.
-#[tactic(auto, unfolding(crate::specs::Reading::program_at))]
+#[tactic(auto, unfolding(crate::specs::Declarations::program_at))]
 pub fn program(alloc: Global, tokens: &[Token], room: u32) -> Result<Tree, Stop>
     ensures { Gives tree_of result (program_at room (seen tokens.now)) }
 {

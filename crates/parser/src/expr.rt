@@ -1,30 +1,37 @@
-//! Expressions.
+//! Expressions and places.
 
-ghost use Rattle.std.specs.Prelude.{◌≡◌, option_map};
+ghost use Rattle.std.specs.Prelude.{◌≡◌, map, option_map};
 ghost use Rattle.source.specs.Tokens.{seen};
-ghost use Rattle.syntax.specs.Views.{expr_of, links_of};
-ghost use Rattle.parser.specs.Reading.{Gives, prim_at, unary_with, prefix_at, operand_at, level_at, expr_at, ended_at, links_at, op_at};
+ghost use Rattle.syntax.specs.Views.{ident, expr_of, place_of, links_of};
+ghost use Rattle.syntax.specs.Trees as trees;
+ghost use Rattle.parser.specs.Reading.{Gives};
+ghost use Rattle.parser.specs.Bodies.{prim_at, unary_with, sum_with, compared_with, prefix_at, comparison_at, place_at, fields_at, element_at, parens_at, inside_at, operand_at, level_at, expr_at, ended_at, condition_at, links_at, op_at};
 
+use crate::growth::push;
 use crate::stop::Stop;
-use crate::take::{is_same, take_sign};
+use crate::take::{
+    after_sign, is_same, is_sign_next, named, small, take_name, take_open, take_sign,
+};
 use source::span::Span;
-use source::token::{Kind, Sign, Token};
+use source::token::{Keyword, Sign, Token};
 use std::alloc::Global;
-use syntax::tree::{Expr, Level, Link, Name, Number, Op, Place, Prefix};
+use syntax::tree::{Comparison, Element, Expr, Joined, Level, Link, Name, Op, Path, Place, Prefix};
 
 /// An operator of the level, if one comes next.
-#[tactic(auto, unfolding(crate::specs::Reading::op_at))]
+#[tactic(auto, unfolding(crate::specs::Bodies::op_at))]
 fn operator(level: Level, tokens: &[Token]) -> Option<(Op, &[Token])>
     ensures { option_map (λ x. (x.0, seen x.1.now)) result ≡ op_at level (seen tokens.now) }
 {
     if let [first, rest @ ..] = tokens {
-        if let Kind::Mark(mark) = &first.kind {
+        if let Token::Mark(_, mark) = first {
             return match (level, *mark) {
                 (Level::Sum, Sign::Plus) => Some((Op::Add, rest)),
                 (Level::Sum, Sign::Minus) => Some((Op::Sub, rest)),
                 (Level::Term, Sign::Star) => Some((Op::Mul, rest)),
                 (Level::Term, Sign::Slash) => Some((Op::Div, rest)),
                 (Level::Term, Sign::Percent) => Some((Op::Rem, rest)),
+                (Level::Conjunction, Sign::And) => Some((Op::And, rest)),
+                (Level::Disjunction, Sign::Or) => Some((Op::Or, rest)),
                 _ => None,
             };
         }
@@ -33,14 +40,15 @@ fn operator(level: Level, tokens: &[Token]) -> Option<(Op, &[Token])>
 }
 
 /// An operator before an operand, if one comes next, and where it stands.
-#[tactic(auto, unfolding(crate::specs::Reading::prefix_at))]
+#[tactic(auto, unfolding(crate::specs::Bodies::prefix_at))]
 fn prefix(tokens: &[Token]) -> Option<((Prefix, Span), &[Token])>
     ensures { option_map (λ x. (x.0, seen x.1.now)) result ≡ prefix_at (seen tokens.now) }
 {
     if let [first, rest @ ..] = tokens {
-        if let Kind::Mark(mark) = &first.kind {
+        if let Token::Mark(span, mark) = first {
             return match *mark {
-                Sign::Minus => Some(((Prefix::Negate, first.span), rest)),
+                Sign::Minus => Some(((Prefix::Negate, *span), rest)),
+                Sign::Not => Some(((Prefix::Not, *span), rest)),
                 _ => None,
             };
         }
@@ -48,48 +56,141 @@ fn prefix(tokens: &[Token]) -> Option<((Prefix, Span), &[Token])>
     None
 }
 
-/// A number, a name, or an expression in parentheses, of which `room` may still be opened.
+/// A comparison, if one comes next.
+#[tactic(auto, unfolding(crate::specs::Bodies::comparison_at))]
+fn comparison(tokens: &[Token]) -> Option<(Comparison, &[Token])>
+    ensures { option_map (λ x. (x.0, seen x.1.now)) result ≡ comparison_at (seen tokens.now) }
+{
+    if let [first, rest @ ..] = tokens {
+        if let Token::Mark(_, mark) = first {
+            return match *mark {
+                Sign::DoubleEquals => Some((Comparison::Equal, rest)),
+                Sign::NotEquals => Some((Comparison::NotEqual, rest)),
+                Sign::Less => Some((Comparison::Less, rest)),
+                Sign::LessEquals => Some((Comparison::LessOrEqual, rest)),
+                Sign::Greater => Some((Comparison::Greater, rest)),
+                Sign::GreaterEquals => Some((Comparison::GreaterOrEqual, rest)),
+                _ => None,
+            };
+        }
+    }
+    None
+}
+
+/// One field or more, each behind a dot.
+fn fields(alloc: Global, tokens: &[Token]) -> Result<(Vec<Name>, &[Token]), Stop>
+    ensures { Gives (λ x. (map ident x.0.items, seen x.1.now)) result (fields_at (seen tokens.now)) }
+{
+    let mut fields = Vec::new(alloc);
+    let (_, after) = take_sign(tokens, Sign::Dot)?;
+    let (first, mut rest) = take_name(after)?;
+    push(&mut fields, first)?;
+    while let Some(after) = after_sign(rest, Sign::Dot) {
+        let (next, after) = take_name(after)?;
+        push(&mut fields, next)?;
+        rest = after;
+    }
+    Ok((fields, rest))
+}
+
+/// A place, behind its first name.
 #[cycle(expr)]
-#[tactic(auto, unfolding(crate::specs::Reading::prim_at))]
+#[tactic(auto, unfolding(crate::specs::Reading::choose))]
+pub fn place(
+    alloc: Global,
+    name: Name,
+    tokens: &[Token],
+    room: u32,
+) -> Result<(Place, &[Token]), Stop>
+    ensures { Gives (λ x. (place_of x.0, seen x.1.now)) result (place_at room (inside_at room) (ident name) (seen tokens.now)) }
+{
+    if is_sign_next(tokens, Sign::OpenBracket) {
+        return element(alloc, name, tokens, room);
+    }
+    if is_sign_next(tokens, Sign::Dot) {
+        let (fields, rest) = fields(alloc, tokens)?;
+        let path = Path {
+            first: name,
+            fields,
+        };
+        return Ok((Place::Path(Box::new(alloc, path)?), rest));
+    }
+    Ok((Place::Name(name), tokens))
+}
+
+/// An element, behind the name of what it is an element of.
+#[cycle(expr)]
+#[tactic(auto, using(crate::proofs::Rooms::inside_at_some), unfolding(crate::specs::Bodies::element_at))]
+fn element(
+    alloc: Global,
+    name: Name,
+    tokens: &[Token],
+    room: u32,
+) -> Result<(Place, &[Token]), Stop>
+    ensures { Gives (λ x. (place_of x.0, seen x.1.now)) result (element_at room (inside_at room) (ident name) (seen tokens.now)) }
+{
+    let (_, rest) = take_open(tokens, Sign::OpenBracket, room)?;
+    let (index, rest) = chain(alloc, Level::Disjunction, rest, room - 1)?;
+    let (_, rest) = take_sign(rest, Sign::CloseBracket)?;
+    let element = Element { name, index };
+    Ok((Place::Element(Box::new(alloc, element)?), rest))
+}
+
+/// A place as a value.
+fn value_of(place: Place) -> Expr
+    ensures { expr_of result ≡ trees.place (place_of place) }
+{
+    match place {
+        Place::Name(name) => Expr::Name(name),
+        Place::Element(element) => Expr::Element(element),
+        Place::Path(path) => Expr::Path(path),
+    }
+}
+
+/// A number, `null`, a place, or an expression in parentheses, in which `room` signs may be opened.
+#[cycle(expr)]
+#[tactic(auto, unfolding(crate::specs::Bodies::prim_with))]
 fn prim(alloc: Global, tokens: &[Token], room: u32) -> Result<(Expr, &[Token]), Stop>
     ensures { Gives (λ x. (expr_of x.0, seen x.1.now)) result (prim_at room (seen tokens.now)) }
 {
     let [first, rest @ ..] = tokens else {
         return Err(Stop::Unexpected(0));
     };
-    match &first.kind {
-        Kind::Int(value) => Ok((
-            Expr::Int(Number {
-                value: *value,
-                span: first.span,
-            }),
-            rest,
-        )),
-        Kind::Name(text) => Ok((
-            Expr::Place(Place::Name(Name {
-                text: text.clone()?,
-                span: first.span,
-            })),
-            rest,
-        )),
-        Kind::Mark(mark) => {
+    match first {
+        Token::Int(span, value) => Ok((Expr::Int(small(*span, *value)), rest)),
+        Token::Large(number) => Ok((Expr::Int(**number), rest)),
+        Token::Word(span, Keyword::Null) => Ok((Expr::Null(*span), rest)),
+        Token::Name(start, text) => {
+            let (place, rest) = place(alloc, named(*start, text)?, rest, room)?;
+            Ok((value_of(place), rest))
+        }
+        Token::Mark(span, mark) => {
             if !is_same(*mark, Sign::OpenParen) {
                 return Err(Stop::Unexpected(tokens.len()));
             }
-            if room == 0 {
-                return Err(Stop::TooDeep(tokens.len()));
-            }
-            let (inner, rest) = chain(alloc, Level::Sum, rest, room - 1)?;
-            let (_, rest) = take_sign(rest, Sign::CloseParen)?;
-            Ok((Expr::Paren(first.span, Box::new(alloc, inner)?), rest))
+            parens(alloc, *span, rest, room)
         }
         _ => Err(Stop::Unexpected(tokens.len())),
     }
 }
 
+/// An expression in parentheses, behind the opening one, which stands at `at`.
+#[cycle(expr)]
+#[tactic(auto, using(crate::proofs::Rooms::inside_at_some, crate::proofs::Rooms::parens_at_some))]
+fn parens(alloc: Global, at: Span, tokens: &[Token], room: u32) -> Result<(Expr, &[Token]), Stop>
+    ensures { Gives (λ x. (expr_of x.0, seen x.1.now)) result (parens_at room (inside_at room) at (seen tokens.now)) }
+{
+    if room == 0 {
+        return Err(Stop::TooDeep(tokens.len() + 1));
+    }
+    let (inner, rest) = chain(alloc, Level::Disjunction, tokens, room - 1)?;
+    let (_, rest) = take_sign(rest, Sign::CloseParen)?;
+    Ok((Expr::Paren(at, Box::new(alloc, inner)?), rest))
+}
+
 /// An operand, with an operator before it or none.
 #[cycle(expr)]
-#[tactic(auto, unfolding(crate::specs::Reading::unary_with))]
+#[tactic(auto, unfolding(crate::specs::Bodies::unary_with))]
 fn unary(alloc: Global, tokens: &[Token], room: u32) -> Result<(Expr, &[Token]), Stop>
     ensures { Gives (λ x. (expr_of x.0, seen x.1.now)) result (unary_with (prim_at room) (seen tokens.now)) }
 {
@@ -114,6 +215,25 @@ fn operand(
     match level {
         Level::Term => unary(alloc, tokens, room),
         Level::Sum => chain(alloc, Level::Term, tokens, room),
+        Level::Conjunction => compared(alloc, tokens, room),
+        Level::Disjunction => chain(alloc, Level::Conjunction, tokens, room),
+    }
+}
+
+/// A sum, or two with a comparison between them.
+#[cycle(expr)]
+#[tactic(auto, unfolding(crate::specs::Bodies::compared_with))]
+fn compared(alloc: Global, tokens: &[Token], room: u32) -> Result<(Expr, &[Token]), Stop>
+    ensures { Gives (λ x. (expr_of x.0, seen x.1.now)) result (compared_with (sum_with (prim_at room)) (seen tokens.now)) }
+{
+    let (left, rest) = chain(alloc, Level::Sum, tokens, room)?;
+    match comparison(rest) {
+        None => Ok((left, rest)),
+        Some((comparison, after)) => {
+            let (right, rest) = chain(alloc, Level::Sum, after, room)?;
+            let compared = Joined::Compare(comparison, left, right);
+            Ok((Expr::Joined(Box::new(alloc, compared)?), rest))
+        }
     }
 }
 
@@ -130,7 +250,7 @@ fn links(
     let mut rest = tokens;
     while let Some((op, after)) = operator(level, rest) {
         let (right, after) = operand(alloc, level, after, room)?;
-        links.push(Link { op, operand: right })?;
+        push(&mut links, Link { op, operand: right })?;
         rest = after;
     }
     Ok((links, rest))
@@ -138,7 +258,7 @@ fn links(
 
 /// A chain of the level's operators, or one operand.
 #[cycle(expr)]
-#[tactic(auto, unfolding(crate::specs::Reading::chain_at))]
+#[tactic(auto, unfolding(crate::specs::Bodies::chain_at))]
 fn chain(alloc: Global, level: Level, tokens: &[Token], room: u32) -> Result<(Expr, &[Token]), Stop>
     ensures { Gives (λ x. (expr_of x.0, seen x.1.now)) result (level_at level room (seen tokens.now)) }
 {
@@ -147,15 +267,27 @@ fn chain(alloc: Global, level: Level, tokens: &[Token], room: u32) -> Result<(Ex
     if links.is_empty() {
         return Ok((first, rest));
     }
-    Ok((Expr::Chain(level, Box::new(alloc, first)?, links), rest))
+    let chain = Joined::Chain(level, first, links);
+    Ok((Expr::Joined(Box::new(alloc, chain)?), rest))
 }
 
 /// An expression, in which `room` signs may still be opened, and the semicolon behind it.
-#[tactic(auto, unfolding(crate::specs::Reading::ended_at))]
+#[tactic(auto, unfolding(crate::specs::Bodies::ended_at))]
 pub fn ended(alloc: Global, tokens: &[Token], room: u32) -> Result<(Expr, &[Token]), Stop>
     ensures { Gives (λ x. (expr_of x.0, seen x.1.now)) result (ended_at room (seen tokens.now)) }
 {
-    let (value, rest) = chain(alloc, Level::Sum, tokens, room)?;
+    let (value, rest) = chain(alloc, Level::Disjunction, tokens, room)?;
     let (_, rest) = take_sign(rest, Sign::Semicolon)?;
     Ok((value, rest))
+}
+
+/// An expression in parentheses, which are no part of it.
+#[tactic(auto, using(crate::proofs::Rooms::inside_at_some), unfolding(crate::specs::Bodies::condition_at))]
+pub fn condition(alloc: Global, tokens: &[Token], room: u32) -> Result<(Expr, &[Token]), Stop>
+    ensures { Gives (λ x. (expr_of x.0, seen x.1.now)) result (condition_at room (seen tokens.now)) }
+{
+    let (_, rest) = take_open(tokens, Sign::OpenParen, room)?;
+    let (condition, rest) = chain(alloc, Level::Disjunction, rest, room - 1)?;
+    let (_, rest) = take_sign(rest, Sign::CloseParen)?;
+    Ok((condition, rest))
 }

@@ -9,11 +9,14 @@
 
 mod decl;
 mod expr;
+mod growth;
+mod member;
 mod parts;
 mod returns;
 mod stmt;
 mod stop;
 mod take;
+mod thread;
 mod whole;
 
 pub use whole::{one_tree, parse};

@@ -6,16 +6,18 @@ ghost use Rattle.source.specs.declared.token.Sign.TheVariants.{Colon, Dot, Equal
 ghost use Rattle.source.specs.Tokens.{word, mark};
 ghost use Rattle.source.specs.declared.token.Keyword.TheVariants.{ProtectedBy};
 ghost use Rattle.syntax.specs.Views.{ident, type_of, const_of, param_of, protection_of, option_of};
-ghost use Rattle.parser.specs.Reading.{Gives, type_at, const_at, name_at, param_at, params_at, listed_at, after_at, after_each, maybe_at, protection_at};
+ghost use Rattle.parser.specs.Reading.{Gives, type_at, index_at, const_at, name_at, listed_at, after_at, after_each, maybe_at};
+ghost use Rattle.parser.specs.Declarations.{param_at, params_at, protection_at};
 
+use crate::growth::push;
 use crate::stop::Stop;
 use crate::take::{
-    after_sign, is_same, is_sign_next, is_word_next, take_int, take_name, take_open, take_sign,
-    take_word,
+    after_sign, is_same, is_sign_next, is_word_next, named, small, take_int, take_name, take_open,
+    take_sign, take_word,
 };
-use source::token::{Keyword, Kind, Sign, Token};
+use source::token::{Keyword, Number, Sign, Token};
 use std::alloc::Global;
-use syntax::tree::{Const, Name, Number, Param, Protection, ValueType};
+use syntax::tree::{Const, Name, Param, Protection, ValueType};
 
 /// A type.
 #[tactic(auto, unfolding(crate::specs::Reading::type_at))]
@@ -25,46 +27,62 @@ pub fn value_type(tokens: &[Token]) -> Result<(ValueType, &[Token]), Stop>
     let [first, rest @ ..] = tokens else {
         return Err(Stop::Unexpected(0));
     };
-    match &first.kind {
-        Kind::Word(Keyword::Int) => Ok((ValueType::Int, rest)),
+    match first {
+        Token::Word(_, Keyword::Int) => Ok((ValueType::Int, rest)),
+        Token::Word(_, Keyword::Ref) => {
+            let (target, rest) = take_name(rest)?;
+            Ok((ValueType::Ref(target), rest))
+        }
         _ => Err(Stop::Unexpected(tokens.len())),
     }
 }
 
-/// A constant.
+/// A number in brackets.
+#[tactic(auto, unfolding(crate::specs::Reading::index_at))]
+pub fn index(tokens: &[Token], room: u32) -> Result<(Number, &[Token]), Stop>
+    ensures { Gives (λ x. (x.0, seen x.1.now)) result (index_at room (seen tokens.now)) }
+{
+    let (_, rest) = take_open(tokens, Sign::OpenBracket, room)?;
+    let (number, rest) = take_int(rest)?;
+    let (_, rest) = take_sign(rest, Sign::CloseBracket)?;
+    Ok((number, rest))
+}
+
+/// A constant, in which `room` signs may be opened.
 #[tactic(auto, unfolding(crate::specs::Reading::const_at))]
-pub fn constant(tokens: &[Token]) -> Result<(Const, &[Token]), Stop>
-    ensures { Gives (λ x. (const_of x.0, seen x.1.now)) result (const_at (seen tokens.now)) }
+pub fn constant(alloc: Global, tokens: &[Token], room: u32) -> Result<(Const, &[Token]), Stop>
+    ensures { Gives (λ x. (const_of x.0, seen x.1.now)) result (const_at room (seen tokens.now)) }
 {
     let [first, rest @ ..] = tokens else {
         return Err(Stop::Unexpected(0));
     };
-    match &first.kind {
-        Kind::Int(value) => Ok((
-            Const::Int(Number {
-                value: *value,
-                span: first.span,
-            }),
-            rest,
-        )),
-        Kind::Mark(mark) => {
+    match first {
+        Token::Int(span, value) => Ok((Const::Int(small(*span, *value)), rest)),
+        Token::Large(number) => Ok((Const::Int(**number), rest)),
+        Token::Name(start, text) => {
+            let pool = named(*start, text)?;
+            let (index, rest) = index(rest, room)?;
+            Ok((Const::Member(pool, index), rest))
+        }
+        Token::Word(span, Keyword::Null) => Ok((Const::Null(*span), rest)),
+        Token::Mark(span, mark) => {
             if !is_same(*mark, Sign::Minus) {
                 return Err(Stop::Unexpected(tokens.len()));
             }
             let (number, rest) = take_int(rest)?;
-            Ok((Const::Negative(first.span, number), rest))
+            Ok((Const::Negative(*span, number), rest))
         }
         _ => Err(Stop::Unexpected(tokens.len())),
     }
 }
 
 /// A parameter.
-#[tactic(auto, unfolding(crate::specs::Reading::param_at))]
-fn param(alloc: Global, tokens: &[Token]) -> Result<(Param, &[Token]), Stop>
+#[tactic(auto, unfolding(crate::specs::Declarations::param_at))]
+fn param(tokens: &[Token]) -> Result<(Param, &[Token]), Stop>
     ensures { Gives (λ x. (param_of x.0, seen x.1.now)) result (param_at (seen tokens.now)) }
 {
     let (value_type, rest) = value_type(tokens)?;
-    let (name, rest) = take_name(alloc, rest)?;
+    let (name, rest) = take_name(rest)?;
     Ok((Param { name, value_type }, rest))
 }
 
@@ -76,18 +94,18 @@ fn param_list(alloc: Global, tokens: &[Token]) -> Result<(Vec<Param>, &[Token]),
     if is_sign_next(tokens, Sign::CloseParen) {
         return Ok((params, tokens));
     }
-    let (first, mut rest) = param(alloc, tokens)?;
-    params.push(first)?;
+    let (first, mut rest) = param(tokens)?;
+    push(&mut params, first)?;
     while let Some(after) = after_sign(rest, Sign::Comma) {
-        let (next, after) = param(alloc, after)?;
-        params.push(next)?;
+        let (next, after) = param(after)?;
+        push(&mut params, next)?;
         rest = after;
     }
     Ok((params, rest))
 }
 
 /// Parameters in parentheses.
-#[tactic(auto, unfolding(crate::specs::Reading::params_at))]
+#[tactic(auto, unfolding(crate::specs::Declarations::params_at))]
 pub fn params(alloc: Global, tokens: &[Token], room: u32) -> Result<(Vec<Param>, &[Token]), Stop>
     ensures { Gives (λ x. (map param_of x.0.items, seen x.1.now)) result (params_at room (seen tokens.now)) }
 {
@@ -98,18 +116,18 @@ pub fn params(alloc: Global, tokens: &[Token], room: u32) -> Result<(Vec<Param>,
 }
 
 /// Constants with commas between them, up to a closing parenthesis.
-pub fn constants(alloc: Global, tokens: &[Token]) -> Result<(Vec<Const>, &[Token]), Stop>
-    ensures { Gives (λ x. (map const_of x.0.items, seen x.1.now)) result (listed_at const_at (seen tokens.now)) }
+pub fn constants(alloc: Global, tokens: &[Token], room: u32) -> Result<(Vec<Const>, &[Token]), Stop>
+    ensures { Gives (λ x. (map const_of x.0.items, seen x.1.now)) result (listed_at (const_at room) (seen tokens.now)) }
 {
     let mut constants = Vec::new(alloc);
     if is_sign_next(tokens, Sign::CloseParen) {
         return Ok((constants, tokens));
     }
-    let (first, mut rest) = constant(tokens)?;
-    constants.push(first)?;
+    let (first, mut rest) = constant(alloc, tokens, room)?;
+    push(&mut constants, first)?;
     while let Some(after) = after_sign(rest, Sign::Comma) {
-        let (next, after) = constant(after)?;
-        constants.push(next)?;
+        let (next, after) = constant(alloc, after, room)?;
+        push(&mut constants, next)?;
         rest = after;
     }
     Ok((constants, rest))
@@ -122,15 +140,15 @@ fn names_after_dots(alloc: Global, tokens: &[Token]) -> Result<(Vec<Name>, &[Tok
     let mut names = Vec::new(alloc);
     let mut rest = tokens;
     while let Some(after) = after_sign(rest, Sign::Dot) {
-        let (next, after) = take_name(alloc, after)?;
-        names.push(next)?;
+        let (next, after) = take_name(after)?;
+        push(&mut names, next)?;
         rest = after;
     }
     Ok((names, rest))
 }
 
 /// An annotation.
-#[tactic(auto, unfolding(crate::specs::Reading::protection_at))]
+#[tactic(auto, unfolding(crate::specs::Declarations::protection_at))]
 fn some_protection(
     alloc: Global,
     tokens: &[Token],
@@ -140,7 +158,7 @@ fn some_protection(
 {
     let (_, after) = take_word(tokens, Keyword::ProtectedBy)?;
     let (_, after) = take_open(after, Sign::OpenParen, room)?;
-    let (first, after) = take_name(alloc, after)?;
+    let (first, after) = take_name(after)?;
     let (rest, after) = names_after_dots(alloc, after)?;
     let (_, after) = take_sign(after, Sign::CloseParen)?;
     Ok((Protection { first, rest }, after))
@@ -164,14 +182,18 @@ pub fn protection(
 
 /// A constant behind `=`, or nothing.
 #[tactic(auto, unfolding(crate::specs::Reading::maybe_at, crate::specs::Reading::after_at))]
-pub fn opening_value(tokens: &[Token]) -> Result<(Option<Const>, &[Token]), Stop>
-    ensures { Gives (λ x. (option_of const_of x.0, seen x.1.now)) result (maybe_at (mark Equals) (after_at Equals const_at) (seen tokens.now)) }
+pub fn opening_value(
+    alloc: Global,
+    tokens: &[Token],
+    room: u32,
+) -> Result<(Option<Const>, &[Token]), Stop>
+    ensures { Gives (λ x. (option_of const_of x.0, seen x.1.now)) result (maybe_at (mark Equals) (after_at Equals (const_at room)) (seen tokens.now)) }
 {
     if !is_sign_next(tokens, Sign::Equals) {
         return Ok((None, tokens));
     }
     let (_, rest) = take_sign(tokens, Sign::Equals)?;
-    let (value, rest) = constant(rest)?;
+    let (value, rest) = constant(alloc, rest, room)?;
     Ok((Some(value), rest))
 }
 

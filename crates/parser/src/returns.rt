@@ -1,11 +1,11 @@
 //! Where a `return` is misplaced or missing.
 
 ghost use Rattle.std.specs.Prelude.{◌≡◌, map};
-ghost use Rattle.syntax.specs.Views.{stmt_of, stmts_of, section_of, decl_of};
+ghost use Rattle.syntax.specs.Views.{stmt_of, stmts_of, else_of, section_of, decl_of};
 ghost use Rattle.syntax.specs.Trees.{atomic};
 ghost use Rattle.parser.specs.Returning as returning;
 
-use syntax::tree::{Decl, Section, Stmt};
+use syntax::tree::{Block, Decl, Section, Stmt};
 
 /// The lesser place of two, where there is one.
 fn earlier(a: Option<usize>, b: Option<usize>) -> Option<usize>
@@ -23,29 +23,52 @@ fn own_return(stmt: &Stmt) -> Option<usize>
     ensures { result ≡ returning.own_return (stmt_of stmt.now) }
 {
     match stmt {
-        Stmt::Return(at, _) => Some(at.start),
+        Stmt::Return(at, _) => Some(at.start as usize),
         _ => None,
     }
 }
 
-/// The least place of a `return` among the statements.
+/// The least place of a `return` among the statements and in their blocks.
+#[cycle(returns)]
 fn least_return(stmts: &[Stmt]) -> Option<usize>
     ensures { result ≡ returning.least_return (stmts_of stmts.now) }
 {
     let mut least = None;
     for stmt in stmts {
-        least = earlier(least, own_return(stmt));
+        least = earlier(least, earlier(own_return(stmt), inner_return(stmt)));
     }
     least
 }
 
-/// The least place of a `return` with a statement behind it.
-#[tactic(auto, using(crate::proofs::Least::early_of))]
-fn least_early(stmts: &[Stmt]) -> Option<usize>
-    ensures { result ≡ returning.least_early (stmts_of stmts.now) }
+/// The least place of a `return` in the statement's blocks.
+#[cycle(returns)]
+fn inner_return(stmt: &Stmt) -> Option<usize>
+    ensures { result ≡ returning.inner_return (stmt_of stmt.now) }
+{
+    match stmt {
+        Stmt::If(_, _, body, other) => earlier(least_return(&body.stmts), else_return(other)),
+        Stmt::While(_, _, body) => least_return(&body.stmts),
+        _ => None,
+    }
+}
+
+/// The least place of a `return` behind `else`.
+#[cycle(returns)]
+fn else_return(other: &Option<Block>) -> Option<usize>
+    ensures { result ≡ returning.other_return (else_of other.now) }
+{
+    match other {
+        None => None,
+        Some(block) => least_return(&block.stmts),
+    }
+}
+
+/// The least place of a `return` that is not the last statement.
+fn least_stray(stmts: &[Stmt]) -> Option<usize>
+    ensures { result ≡ returning.least_stray (stmts_of stmts.now) }
 {
     match stmts {
-        [before @ .., _] => least_return(before),
+        [before @ .., last] => earlier(least_return(before), inner_return(last)),
         [] => None,
     }
 }
@@ -57,7 +80,6 @@ fn is_return(stmt: &Stmt) -> bool
 }
 
 /// Whether the last statement is a `return`.
-
 fn ends_in_return(stmts: &[Stmt]) -> bool
     ensures { result ≡ returning.does_end (stmts_of stmts.now) }
 {
@@ -78,9 +100,9 @@ fn section_fault(section: &Section) -> Option<usize>
     let missing = if ends_in_return(stmts) {
         None
     } else {
-        Some(section.body.close.start)
+        Some(section.body.close.start as usize)
     };
-    earlier(least_early(stmts), missing)
+    earlier(least_stray(stmts), missing)
 }
 
 /// The first place of a misplaced or missing `return`.

@@ -2,24 +2,26 @@
 
 ghost use Rattle.std.specs.Prelude.{◌≡◌};
 ghost use Rattle.source.specs.Tokens.{seen};
-ghost use Rattle.syntax.specs.Views.{ident, local_of, stmt_of, stmts_of, block_of};
-ghost use Rattle.parser.specs.Reading.{Gives, local_at, assign_at, stmt_at, block_at, stmts_with};
+ghost use Rattle.syntax.specs.Views.{ident, local_of, stmt_of, stmts_of, else_of};
+ghost use Rattle.parser.specs.Reading.{Gives};
+ghost use Rattle.parser.specs.Bodies.{local_at, assign_at, stmt_at, braced_at, else_with, if_with, while_with, stmts_in, stmts_with};
 
-use crate::expr::ended;
+use crate::expr::{condition, ended, place};
+use crate::growth::push;
 use crate::parts::value_type;
 use crate::stop::Stop;
-use crate::take::{is_sign_next, take_name, take_open, take_sign};
+use crate::take::{is_sign_next, is_word_next, named, take_name, take_open, take_sign, take_word};
 use source::span::Span;
-use source::token::{Keyword, Kind, Sign, Token};
+use source::token::{Keyword, Sign, Token};
 use std::alloc::Global;
-use syntax::tree::{Block, Local, Name, Place, Stmt};
+use syntax::tree::{Block, Local, Name, Stmt};
 
 /// What stands behind `let` or `var`, a word that stands at `start`.
-#[tactic(auto, unfolding(crate::specs::Reading::local_at))]
+#[tactic(auto, unfolding(crate::specs::Bodies::local_at))]
 fn local(alloc: Global, start: Span, tokens: &[Token], room: u32) -> Result<(Local, &[Token]), Stop>
     ensures { Gives (λ x. (local_of x.0, seen x.1.now)) result (local_at room start (seen tokens.now)) }
 {
-    let (name, rest) = take_name(alloc, tokens)?;
+    let (name, rest) = take_name(tokens)?;
     let (_, rest) = take_sign(rest, Sign::Colon)?;
     let (value_type, rest) = value_type(rest)?;
     let (_, rest) = take_sign(rest, Sign::Equals)?;
@@ -35,8 +37,8 @@ fn local(alloc: Global, start: Span, tokens: &[Token], room: u32) -> Result<(Loc
     ))
 }
 
-/// An assignment, behind its name.
-#[tactic(auto, unfolding(crate::specs::Reading::assign_at))]
+/// An assignment, behind its first name.
+#[tactic(auto, unfolding(crate::specs::Bodies::assign_at))]
 fn assignment(
     alloc: Global,
     name: Name,
@@ -45,47 +47,46 @@ fn assignment(
 ) -> Result<(Stmt, &[Token]), Stop>
     ensures { Gives (λ x. (stmt_of x.0, seen x.1.now)) result (assign_at room (ident name) (seen tokens.now)) }
 {
-    let (_, rest) = take_sign(tokens, Sign::Equals)?;
+    let (place, rest) = place(alloc, name, tokens, room)?;
+    let (_, rest) = take_sign(rest, Sign::Equals)?;
     let (value, rest) = ended(alloc, rest, room)?;
-    Ok((Stmt::Assign(Place::Name(name), value), rest))
+    Ok((Stmt::Assign(place, value), rest))
 }
 
 /// A statement, in which `room` signs may be opened.
-#[tactic(auto, unfolding(crate::specs::Reading::stmt_at))]
+#[cycle(stmt)]
+#[tactic(auto, unfolding(crate::specs::Bodies::stmt_with))]
 fn stmt(alloc: Global, tokens: &[Token], room: u32) -> Result<(Stmt, &[Token]), Stop>
     ensures { Gives (λ x. (stmt_of x.0, seen x.1.now)) result (stmt_at room (seen tokens.now)) }
 {
     let [first, rest @ ..] = tokens else {
         return Err(Stop::Unexpected(0));
     };
-    match &first.kind {
-        Kind::Name(text) => {
-            let name = Name {
-                text: text.clone()?,
-                span: first.span,
-            };
-            assignment(alloc, name, rest, room)
-        }
-        Kind::Word(Keyword::Let) => {
-            let (local, rest) = local(alloc, first.span, rest, room)?;
+    match first {
+        Token::Name(start, text) => assignment(alloc, named(*start, text)?, rest, room),
+        Token::Word(span, Keyword::Let) => {
+            let (local, rest) = local(alloc, *span, rest, room)?;
             Ok((Stmt::Let(local), rest))
         }
-        Kind::Word(Keyword::Var) => {
-            let (local, rest) = local(alloc, first.span, rest, room)?;
+        Token::Word(span, Keyword::Var) => {
+            let (local, rest) = local(alloc, *span, rest, room)?;
             Ok((Stmt::Var(local), rest))
         }
-        Kind::Word(Keyword::Print) => {
+        Token::Word(span, Keyword::If) => if_rest(alloc, *span, rest, room),
+        Token::Word(span, Keyword::While) => while_rest(alloc, *span, rest, room),
+        Token::Word(span, Keyword::Print) => {
             let (value, rest) = ended(alloc, rest, room)?;
-            Ok((Stmt::Print(first.span, value), rest))
+            Ok((Stmt::Print(*span, value), rest))
         }
-        Kind::Word(Keyword::Return) => {
+        Token::Word(span, Keyword::Return) => {
             let (value, rest) = ended(alloc, rest, room)?;
-            Ok((Stmt::Return(first.span, value), rest))
+            Ok((Stmt::Return(*span, value), rest))
         }
         _ => Err(Stop::Unexpected(tokens.len())),
     }
 }
 
+#[cycle(stmt)]
 fn stmts(alloc: Global, tokens: &[Token], room: u32) -> Result<(Vec<Stmt>, &[Token]), Stop>
     ensures { Gives (λ x. (stmts_of x.0.items, seen x.1.now)) result (stmts_with (stmt_at room) (seen tokens.now)) }
 {
@@ -93,19 +94,67 @@ fn stmts(alloc: Global, tokens: &[Token], room: u32) -> Result<(Vec<Stmt>, &[Tok
     let mut rest = tokens;
     'items: while !is_sign_next(rest, Sign::CloseBrace) {
         let (next, after) = stmt(alloc, rest, room)?;
-        stmts.push(next)?;
+        push(&mut stmts, next)?;
         rest = after;
     }
     Ok((stmts, rest))
 }
 
 /// Statements in braces, in which `room` signs may be opened, the first brace among them.
-#[tactic(auto, using(crate::proofs::Rooms::stmts_in_some), unfolding(crate::specs::Reading::block_at))]
+#[cycle(stmt)]
+#[tactic(auto, using(crate::proofs::Rooms::stmts_in_some), unfolding(crate::specs::Bodies::braced_with))]
 pub fn block(alloc: Global, tokens: &[Token], room: u32) -> Result<(Block, &[Token]), Stop>
-    ensures { Gives (λ x. (block_of x.0, seen x.1.now)) result (block_at room (seen tokens.now)) }
+    ensures { Gives (λ x. ((stmts_of x.0.stmts.items, x.0.close), seen x.1.now)) result (braced_at room (seen tokens.now)) }
 {
     let (_, rest) = take_open(tokens, Sign::OpenBrace, room)?;
     let (stmts, rest) = stmts(alloc, rest, room - 1)?;
     let (close, rest) = take_sign(rest, Sign::CloseBrace)?;
     Ok((Block { stmts, close }, rest))
+}
+
+/// A branch, behind its first word, which stands at `start`.
+#[cycle(stmt)]
+#[tactic(auto, unfolding(crate::specs::Bodies::if_with))]
+fn if_rest(
+    alloc: Global,
+    start: Span,
+    tokens: &[Token],
+    room: u32,
+) -> Result<(Stmt, &[Token]), Stop>
+    ensures { Gives (λ x. (stmt_of x.0, seen x.1.now)) result (if_with room (stmts_in room) start (seen tokens.now)) }
+{
+    let (condition, rest) = condition(alloc, tokens, room)?;
+    let (body, rest) = block(alloc, rest, room)?;
+    let (other, rest) = otherwise(alloc, rest, room)?;
+    Ok((Stmt::If(start, condition, body, other), rest))
+}
+
+/// The block behind `else`, or nothing.
+#[cycle(stmt)]
+#[tactic(auto, unfolding(crate::specs::Reading::choose))]
+fn otherwise(alloc: Global, tokens: &[Token], room: u32) -> Result<(Option<Block>, &[Token]), Stop>
+    ensures { Gives (λ x. (else_of x.0, seen x.1.now)) result (else_with room (stmts_in room) (seen tokens.now)) }
+{
+    if !is_word_next(tokens, Keyword::Else) {
+        return Ok((None, tokens));
+    }
+    let (_, rest) = take_word(tokens, Keyword::Else)?;
+    let (body, rest) = block(alloc, rest, room)?;
+    Ok((Some(body), rest))
+}
+
+/// A loop, behind its first word, which stands at `start`.
+#[cycle(stmt)]
+#[tactic(auto, unfolding(crate::specs::Bodies::while_with))]
+fn while_rest(
+    alloc: Global,
+    start: Span,
+    tokens: &[Token],
+    room: u32,
+) -> Result<(Stmt, &[Token]), Stop>
+    ensures { Gives (λ x. (stmt_of x.0, seen x.1.now)) result (while_with room (stmts_in room) start (seen tokens.now)) }
+{
+    let (condition, rest) = condition(alloc, tokens, room)?;
+    let (body, rest) = block(alloc, rest, room)?;
+    Ok((Stmt::While(start, condition, body), rest))
 }

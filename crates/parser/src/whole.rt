@@ -9,7 +9,7 @@ ghost use Rattle.syntax.specs.Trees.{Decl};
 ghost use Rattle.syntax.specs.Views.{tree_of};
 ghost use Rattle.syntax.specs.Grammar.{HasTree};
 ghost use Rattle.syntax.specs.Faults.{HasRightTree, IsMisplaced, IsRefusal};
-ghost use Rattle.parser.specs.Reading.{first_start};
+ghost use Rattle.parser.specs.Declarations.{first_start};
 
 use crate::decl::program;
 use crate::returns::return_fault;
@@ -27,7 +27,7 @@ fn start_of(tokens: &[Token], left: usize) -> usize
     ensures { result ≡ first_start (seen (drop (length tokens.now - left) tokens.now)) }
 {
     match &tokens[tokens.len().saturating_sub(left)..] {
-        [first, ..] => first.span.start,
+        [first, ..] => first.start() as usize,
         [] => 0,
     }
 }

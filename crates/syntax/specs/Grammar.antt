@@ -4,17 +4,20 @@ use Rattle.std.specs.Prelude.{◌≡◌, ℕ, zero, suc, ◌<◌, ◌≤◌, Lis
 use Rattle.source.specs.declared.span.Span.{Span}
 use Rattle.source.specs.declared.token.Keyword.TheVariants as keyword
 use Rattle.source.specs.declared.token.Sign.{Sign}
-use Rattle.source.specs.declared.token.Sign.TheVariants.{OpenBrace, CloseBrace, OpenParen, CloseParen, OpenBracket, CloseBracket, Semicolon, Comma, Colon, Dot, Equals, Plus, Minus, Star, Slash, Percent}
+use Rattle.source.specs.declared.token.Sign.TheVariants as sign
+use Rattle.source.specs.declared.token.Sign.TheVariants.{OpenBrace, CloseBrace, OpenParen, CloseParen, OpenBracket, CloseBracket, Semicolon, Comma, Colon, Dot, Equals, DoubleEquals, NotEquals, LessEquals, GreaterEquals, Plus, Minus, Star, Slash, Percent}
 use Rattle.source.specs.Tokens.{Lexeme, name, word, mark, end, Tok}
 use Rattle.source.specs.Tokens as lexeme
 use Rattle.syntax.specs.declared.tree.Op.{Op}
-use Rattle.syntax.specs.declared.tree.Op.TheVariants.{Add, Sub, Mul, Div, Rem}
+use Rattle.syntax.specs.declared.tree.Op.TheVariants.{Add, Sub, Mul, Div, Rem, And, Or}
 use Rattle.syntax.specs.declared.tree.Level.{Level}
-use Rattle.syntax.specs.declared.tree.Level.TheVariants.{Term, Sum}
+use Rattle.syntax.specs.declared.tree.Level.TheVariants.{Term, Sum, Conjunction, Disjunction}
 use Rattle.syntax.specs.declared.tree.Prefix.{Prefix}
-use Rattle.syntax.specs.declared.tree.Prefix.TheVariants.{Negate}
-use Rattle.syntax.specs.declared.tree.Number.{Number}
-use Rattle.syntax.specs.Trees.{Ident, ValueType, int_type, Const, int_const, negative, Place, lone, Expr, int, place, paren, prefix, chain, Links, no_links, link, Local, Stmt, let_local, var_local, assign, print, return_value, Stmts, no_stmts, stmt, Block, Protection, Variable, Param, Section, Call, Item, call, Items, no_items, item, Thread, Decl, lock, global, atomic, thread}
+use Rattle.syntax.specs.declared.tree.Prefix.TheVariants.{Negate, Not}
+use Rattle.syntax.specs.declared.tree.Comparison.{Comparison}
+use Rattle.syntax.specs.declared.tree.Comparison.TheVariants.{Equal, NotEqual, Less, LessOrEqual, Greater, GreaterOrEqual}
+use Rattle.source.specs.declared.token.Number.{Number}
+use Rattle.syntax.specs.Trees.{Ident, ValueType, int_type, ref_type, Const, int_const, negative, null_const, member_const, Place, lone, element, path, Expr, int, null, place, paren, prefix, chain, compare, Links, no_links, link, Local, Stmt, let_local, var_local, assign, if_then, while, print, return_value, Stmts, no_stmts, stmt, Otherwise, no_else, else_do, Block, Protection, Variable, Array, Final, Field, Member, lock_member, final_member, field_member, Struct, Pool, Init, Param, Section, Call, Item, call, repeat, Items, no_items, item, Thread, Decl, lock, struct, global, array, pool, init, atomic, thread}
 
 abbrev pub tok : Lexeme → Span → Tok
 tok k at = record { kind = k; span = at }
@@ -54,10 +57,14 @@ pub data IsName : Ident → List Tok → List Tok → Type 0 where
 
 pub data IsType : ValueType → List Tok → List Tok → Type 0 where
   is_int_type : {at : Span} {ts : List Tok} → IsType int_type (tok (word keyword.Int) at ∷ ts) ts
+  is_ref_type : {target : Ident} {at : Span} {ts : List Tok} → IsType (ref_type target) (tok (word keyword.Ref) at ∷ name_tok target ∷ ts) ts
 
 pub data IsConst : Const → List Tok → List Tok → Type 0 where
   is_int_const : {n : Number} {ts : List Tok} → IsConst (int_const n) (int_tok n ∷ ts) ts
   is_negative : {n : Number} {sign : Span} {ts : List Tok} → IsConst (negative sign n) (tok (mark Minus) sign ∷ int_tok n ∷ ts) ts
+  is_null_const : {at : Span} {ts : List Tok} → IsConst (null_const at) (tok (word keyword.Null) at ∷ ts) ts
+  is_member_const : {x : Ident} {n : Number} {begin close : Span} {ts : List Tok}
+      → IsConst (member_const x n) (name_tok x ∷ tok (mark OpenBracket) begin ∷ int_tok n ∷ tok (mark CloseBracket) close ∷ ts) ts
 
 -- ---- expressions
 
@@ -67,6 +74,8 @@ sign_of Sub = Minus
 sign_of Mul = Star
 sign_of Div = Slash
 sign_of Rem = Percent
+sign_of And = sign.And
+sign_of Or = sign.Or
 
 abbrev pub level_of : Op → Level
 level_of Add = Sum
@@ -74,9 +83,20 @@ level_of Sub = Sum
 level_of Mul = Term
 level_of Div = Term
 level_of Rem = Term
+level_of And = Conjunction
+level_of Or = Disjunction
 
 abbrev pub prefix_sign : Prefix → Sign
 prefix_sign Negate = Minus
+prefix_sign Not = sign.Not
+
+abbrev pub comparison_sign : Comparison → Sign
+comparison_sign Equal = DoubleEquals
+comparison_sign NotEqual = NotEquals
+comparison_sign Less = sign.Less
+comparison_sign LessOrEqual = LessEquals
+comparison_sign Greater = sign.Greater
+comparison_sign GreaterOrEqual = GreaterEquals
 
 -- how loosely an expression binds, from a lone one up to any
 abbrev pub PRIM : ℕ
@@ -89,22 +109,31 @@ UNARY = 1
 abbrev pub rank : Level → ℕ
 rank Term = 2
 rank Sum = 3
+rank Conjunction = 5
+rank Disjunction = 6
 
 abbrev pub below : Level → ℕ
 below Term = 1
 below Sum = 2
+below Conjunction = 4
+below Disjunction = 5
+
+-- two sums with a comparison between them
+abbrev pub COMPARED : ℕ
+COMPARED = 4
+
+abbrev pub SUM : ℕ
+SUM = 3
 
 -- any expression
 abbrev pub ANY : ℕ
-ANY = 3
-
-pub data IsPlace : Place → List Tok → List Tok → Type 0 where
-  is_lone : {x : Ident} {ts : List Tok} → IsPlace (lone x) (name_tok x ∷ ts) ts
+ANY = 6
 
 mutual
   -- an expression that binds so loosely at most
   pub data IsExpr : ℕ → Expr → List Tok → List Tok → Type 0 where
     is_int : {n : ℕ} {v : Number} {ts : List Tok} → IsExpr n (int v) (int_tok v ∷ ts) ts
+    is_null : {n : ℕ} {at : Span} {ts : List Tok} → IsExpr n (null at) (tok (word keyword.Null) at ∷ ts) ts
     is_place : {n : ℕ} {p : Place} {ts rest : List Tok} → IsPlace p ts rest → IsExpr n (place p) ts rest
     is_paren : {n : ℕ} {e : Expr} {at close : Span} {ts rest : List Tok}
         → IsExpr ANY e ts (tok (mark CloseParen) close ∷ rest)
@@ -115,6 +144,19 @@ mutual
     is_chain : {n : ℕ} {k : Level} {first x : Expr} {op : Op} {more : Links} {ts mid rest : List Tok}
         → rank k ≤ n → IsExpr (below k) first ts mid → IsLinks k (link op x more) mid rest
         → IsExpr n (chain k first (link op x more)) ts rest
+    is_compare : {n : ℕ} {c : Comparison} {left right : Expr} {at : Span} {ts mid rest : List Tok}
+        → COMPARED ≤ n → IsExpr SUM left ts (tok (mark (comparison_sign c)) at ∷ mid) → IsExpr SUM right mid rest
+        → IsExpr n (compare left c right) ts rest
+
+  -- a lone name, an element, or a path
+  pub data IsPlace : Place → List Tok → List Tok → Type 0 where
+    is_lone : {x : Ident} {ts : List Tok} → IsPlace (lone x) (name_tok x ∷ ts) ts
+    is_element : {x : Ident} {e : Expr} {begin close : Span} {ts rest : List Tok}
+        → IsExpr ANY e ts (tok (mark CloseBracket) close ∷ rest)
+        → IsPlace (element x e) (name_tok x ∷ tok (mark OpenBracket) begin ∷ ts) rest
+    is_path : {x first : Ident} {fields : List Ident} {dot : Span} {ts rest : List Tok}
+        → AreMany (IsAfter Dot IsName) fields ts rest
+        → IsPlace (path x (first ∷ fields)) (name_tok x ∷ tok (mark Dot) dot ∷ name_tok first ∷ ts) rest
 
   -- operators of a level, each with its operand
   pub data IsLinks : Level → Links → List Tok → List Tok → Type 0 where
@@ -132,31 +174,57 @@ pub data IsLocal : Local → List Tok → List Tok → Type 0 where
       → IsExpr ANY l.value mid (tok (mark Semicolon) semicolon ∷ rest)
       → IsLocal l (name_tok l.name ∷ tok (mark Colon) colon ∷ ts) rest
 
-pub data IsStmt : Stmt → List Tok → List Tok → Type 0 where
-  is_let : {l : Local} {ts rest : List Tok} → IsLocal l ts rest → IsStmt (let_local l) (tok (word keyword.Let) l.start ∷ ts) rest
-  is_var : {l : Local} {ts rest : List Tok} → IsLocal l ts rest → IsStmt (var_local l) (tok (word keyword.Var) l.start ∷ ts) rest
-  is_assign : {p : Place} {e : Expr} {equals semicolon : Span} {ts mid rest : List Tok}
-      → IsPlace p ts (tok (mark Equals) equals ∷ mid)
-      → IsExpr ANY e mid (tok (mark Semicolon) semicolon ∷ rest)
-      → IsStmt (assign p e) ts rest
-  is_print : {e : Expr} {start semicolon : Span} {ts rest : List Tok}
-      → IsExpr ANY e ts (tok (mark Semicolon) semicolon ∷ rest)
-      → IsStmt (print start e) (tok (word keyword.Print) start ∷ ts) rest
-  is_return : {e : Expr} {start semicolon : Span} {ts rest : List Tok}
-      → IsExpr ANY e ts (tok (mark Semicolon) semicolon ∷ rest)
-      → IsStmt (return_value start e) (tok (word keyword.Return) start ∷ ts) rest
+mutual
+  pub data IsStmt : Stmt → List Tok → List Tok → Type 0 where
+    is_let : {l : Local} {ts rest : List Tok} → IsLocal l ts rest → IsStmt (let_local l) (tok (word keyword.Let) l.start ∷ ts) rest
+    is_var : {l : Local} {ts rest : List Tok} → IsLocal l ts rest → IsStmt (var_local l) (tok (word keyword.Var) l.start ∷ ts) rest
+    is_assign : {p : Place} {e : Expr} {equals semicolon : Span} {ts mid rest : List Tok}
+        → IsPlace p ts (tok (mark Equals) equals ∷ mid)
+        → IsExpr ANY e mid (tok (mark Semicolon) semicolon ∷ rest)
+        → IsStmt (assign p e) ts rest
+    is_if : {e : Expr} {body : Stmts} {other : Otherwise} {start before after close : Span} {ts mid next rest : List Tok}
+        → IsExpr ANY e ts (tok (mark CloseParen) after ∷ mid)
+        → IsBraced body close mid next
+        → IsElse other next rest
+        → IsStmt (if_then start e body close other) (tok (word keyword.If) start ∷ tok (mark OpenParen) before ∷ ts) rest
+    is_while : {e : Expr} {body : Stmts} {start before after close : Span} {ts mid rest : List Tok}
+        → IsExpr ANY e ts (tok (mark CloseParen) after ∷ mid)
+        → IsBraced body close mid rest
+        → IsStmt (while start e body close) (tok (word keyword.While) start ∷ tok (mark OpenParen) before ∷ ts) rest
+    is_print : {e : Expr} {start semicolon : Span} {ts rest : List Tok}
+        → IsExpr ANY e ts (tok (mark Semicolon) semicolon ∷ rest)
+        → IsStmt (print start e) (tok (word keyword.Print) start ∷ ts) rest
+    is_return : {e : Expr} {start semicolon : Span} {ts rest : List Tok}
+        → IsExpr ANY e ts (tok (mark Semicolon) semicolon ∷ rest)
+        → IsStmt (return_value start e) (tok (word keyword.Return) start ∷ ts) rest
 
-pub data IsStmts : Stmts → List Tok → List Tok → Type 0 where
-  are_no_stmts : {ts : List Tok} → IsStmts no_stmts ts ts
-  are_stmts : {s : Stmt} {more : Stmts} {ts mid rest : List Tok}
-      → IsStmt s ts mid → IsStmts more mid rest → IsStmts (stmt s more) ts rest
+  pub data IsStmts : Stmts → List Tok → List Tok → Type 0 where
+    are_no_stmts : {ts : List Tok} → IsStmts no_stmts ts ts
+    are_stmts : {s : Stmt} {more : Stmts} {ts mid rest : List Tok}
+        → IsStmt s ts mid → IsStmts more mid rest → IsStmts (stmt s more) ts rest
 
+  -- statements in braces, of which the closing one stands there
+  pub data IsBraced : Stmts → Span → List Tok → List Tok → Type 0 where
+    is_braced : {ss : Stmts} {begin close : Span} {ts rest : List Tok}
+        → IsStmts ss ts (tok (mark CloseBrace) close ∷ rest)
+        → IsBraced ss close (tok (mark OpenBrace) begin ∷ ts) rest
+
+  pub data IsElse : Otherwise → List Tok → List Tok → Type 0 where
+    is_no_else : {ts : List Tok} → IsElse no_else ts ts
+    is_else : {ss : Stmts} {at close : Span} {ts rest : List Tok}
+        → IsBraced ss close ts rest
+        → IsElse (else_do ss close) (tok (word keyword.Else) at ∷ ts) rest
+
+-- a section's body
 pub data IsBlock : Block → List Tok → List Tok → Type 0 where
-  is_block : {b : Block} {begin : Span} {ts rest : List Tok}
-      → IsStmts b.stmts ts (tok (mark CloseBrace) b.close ∷ rest)
-      → IsBlock b (tok (mark OpenBrace) begin ∷ ts) rest
+  is_block : {b : Block} {ts rest : List Tok} → IsBraced b.stmts b.close ts rest → IsBlock b ts rest
 
 -- ---- declarations
+
+-- the length of an array or a pool, and the index of a member
+pub data IsIndex : Number → List Tok → List Tok → Type 0 where
+  is_index : {n : Number} {begin close : Span} {ts : List Tok}
+      → IsIndex n (tok (mark OpenBracket) begin ∷ int_tok n ∷ tok (mark CloseBracket) close ∷ ts) ts
 
 pub data IsProtection : Protection → List Tok → List Tok → Type 0 where
   is_protection : {p : Protection} {start begin close : Span} {ts rest : List Tok}
@@ -169,6 +237,46 @@ pub data IsVariable : Variable → List Tok → List Tok → Type 0 where
       → IsOptional IsProtection v.protection ts2 ts3
       → IsOptional (IsAfter Equals IsConst) v.value ts3 (tok (mark Semicolon) semicolon ∷ rest)
       → IsVariable v ts1 rest
+
+pub data IsArray : Array → List Tok → List Tok → Type 0 where
+  is_array : {a : Array} {semicolon : Span} {ts1 ts2 ts3 rest : List Tok}
+      → IsType a.value_type ts1 (name_tok a.name ∷ ts2)
+      → IsIndex a.length ts2 ts3
+      → IsOptional IsProtection a.protection ts3 (tok (mark Semicolon) semicolon ∷ rest)
+      → IsArray a ts1 rest
+
+pub data IsFinal : Final → List Tok → List Tok → Type 0 where
+  is_final : {f : Final} {ref semicolon : Span} {rest : List Tok}
+      → IsFinal f (tok (word keyword.Ref) ref ∷ name_tok f.target ∷ name_tok f.name ∷ tok (mark Semicolon) semicolon ∷ rest) rest
+
+pub data IsField : Field → List Tok → List Tok → Type 0 where
+  is_field : {f : Field} {semicolon : Span} {ts1 ts2 rest : List Tok}
+      → IsType f.value_type ts1 (name_tok f.name ∷ ts2)
+      → IsOptional IsProtection f.protection ts2 (tok (mark Semicolon) semicolon ∷ rest)
+      → IsField f ts1 rest
+
+pub data IsMember : Member → List Tok → List Tok → Type 0 where
+  is_lock_member : {x : Ident} {start semicolon : Span} {rest : List Tok}
+      → IsMember (lock_member x) (tok (word keyword.Lock) start ∷ name_tok x ∷ tok (mark Semicolon) semicolon ∷ rest) rest
+  is_final_member : {f : Final} {start : Span} {ts rest : List Tok} → IsFinal f ts rest → IsMember (final_member f) (tok (word keyword.Final) start ∷ ts) rest
+  is_field_member : {f : Field} {ts rest : List Tok} → IsField f ts rest → IsMember (field_member f) ts rest
+
+pub data IsStruct : Struct → List Tok → List Tok → Type 0 where
+  is_struct : {s : Struct} {begin close : Span} {ts rest : List Tok}
+      → AreMany IsMember s.members ts (tok (mark CloseBrace) close ∷ rest)
+      → IsStruct s (name_tok s.name ∷ tok (mark OpenBrace) begin ∷ ts) rest
+
+pub data IsPool : Pool → List Tok → List Tok → Type 0 where
+  is_pool : {p : Pool} {semicolon : Span} {ts rest : List Tok}
+      → IsIndex p.length ts (tok (mark Semicolon) semicolon ∷ rest)
+      → IsPool p (name_tok p.target ∷ name_tok p.name ∷ ts) rest
+
+-- behind the word `init`
+pub data IsInit : Init → List Tok → List Tok → Type 0 where
+  is_init : {i : Init} {dot equals semicolon : Span} {ts1 ts2 rest : List Tok}
+      → IsIndex i.index ts1 (tok (mark Dot) dot ∷ name_tok i.field ∷ tok (mark Equals) equals ∷ ts2)
+      → IsConst i.value ts2 (tok (mark Semicolon) semicolon ∷ rest)
+      → IsInit i (name_tok i.pool ∷ ts1) rest
 
 pub data IsParam : Param → List Tok → List Tok → Type 0 where
   is_param : {p : Param} {ts rest : List Tok} → IsType p.value_type ts (name_tok p.name ∷ rest) → IsParam p ts rest
@@ -185,13 +293,17 @@ pub data IsCall : Call → List Tok → List Tok → Type 0 where
       → AreListed IsConst c.arguments ts (tok (mark CloseParen) after ∷ tok (mark Semicolon) semicolon ∷ rest)
       → IsCall c (name_tok c.section ∷ tok (mark OpenParen) before ∷ ts) rest
 
-pub data IsItem : Item → List Tok → List Tok → Type 0 where
-  is_call_item : {c : Call} {ts rest : List Tok} → IsCall c ts rest → IsItem (call c) ts rest
+mutual
+  pub data IsItem : Item → List Tok → List Tok → Type 0 where
+    is_call_item : {c : Call} {ts rest : List Tok} → IsCall c ts rest → IsItem (call c) ts rest
+    is_repeat : {n : Number} {is : Items} {start begin close : Span} {ts rest : List Tok}
+        → IsItems is ts (tok (mark CloseBrace) close ∷ rest)
+        → IsItem (repeat n is) (tok (word keyword.Repeat) start ∷ int_tok n ∷ tok (mark OpenBrace) begin ∷ ts) rest
 
-pub data IsItems : Items → List Tok → List Tok → Type 0 where
-  are_no_items : {ts : List Tok} → IsItems no_items ts ts
-  are_items : {i : Item} {more : Items} {ts mid rest : List Tok}
-      → IsItem i ts mid → IsItems more mid rest → IsItems (item i more) ts rest
+  pub data IsItems : Items → List Tok → List Tok → Type 0 where
+    are_no_items : {ts : List Tok} → IsItems no_items ts ts
+    are_items : {i : Item} {more : Items} {ts mid rest : List Tok}
+        → IsItem i ts mid → IsItems more mid rest → IsItems (item i more) ts rest
 
 pub data IsThread : Thread → List Tok → List Tok → Type 0 where
   is_thread : {t : Thread} {begin close : Span} {ts rest : List Tok}
@@ -201,7 +313,11 @@ pub data IsThread : Thread → List Tok → List Tok → Type 0 where
 pub data IsDecl : Decl → List Tok → List Tok → Type 0 where
   is_lock : {x : Ident} {start semicolon : Span} {rest : List Tok}
       → IsDecl (lock x) (tok (word keyword.Lock) start ∷ name_tok x ∷ tok (mark Semicolon) semicolon ∷ rest) rest
+  is_struct_decl : {s : Struct} {start : Span} {ts rest : List Tok} → IsStruct s ts rest → IsDecl (struct s) (tok (word keyword.Struct) start ∷ ts) rest
   is_global : {v : Variable} {start : Span} {ts rest : List Tok} → IsVariable v ts rest → IsDecl (global v) (tok (word keyword.Global) start ∷ ts) rest
+  is_array_decl : {a : Array} {start : Span} {ts rest : List Tok} → IsArray a ts rest → IsDecl (array a) (tok (word keyword.Global) start ∷ ts) rest
+  is_pool_decl : {p : Pool} {start : Span} {ts rest : List Tok} → IsPool p ts rest → IsDecl (pool p) (tok (word keyword.Pool) start ∷ ts) rest
+  is_init_decl : {i : Init} {ts rest : List Tok} → IsInit i ts rest → IsDecl (init i) (tok (word keyword.Init) i.start ∷ ts) rest
   is_atomic : {s : Section} {start : Span} {ts rest : List Tok} → IsSection s ts rest → IsDecl (atomic s) (tok (word keyword.Atomic) start ∷ ts) rest
   is_thread_decl : {t : Thread} {start : Span} {ts rest : List Tok} → IsThread t ts rest → IsDecl (thread t) (tok (word keyword.Thread) start ∷ ts) rest
 

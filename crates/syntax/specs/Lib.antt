@@ -3,3 +3,5 @@ pub mod Views
 pub mod Grammar
 pub mod Returns
 pub mod Faults
+pub mod Printing
+pub mod Bare

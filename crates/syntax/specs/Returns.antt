@@ -2,21 +2,30 @@
 -- has a result, and stands nowhere else.
 use Rattle.std.specs.Prelude.{◌≡◌, ℕ, ◌≤◌, List, ◌∷◌, Some, None}
 use Rattle.source.specs.declared.span.Span.{Span}
-use Rattle.syntax.specs.Trees.{ValueType, Expr, Stmt, return_value, Stmts, no_stmts, stmt, Section, Decl, atomic}
+use Rattle.syntax.specs.Trees.{ValueType, Expr, Stmt, if_then, while, return_value, Stmts, no_stmts, stmt, Otherwise, else_do, Section, Decl, atomic}
 
 -- a `return` at this byte is this statement
 pub data IsReturn : Stmt → ℕ → Type 0 where
   is_return : {at : Span} {e : Expr} → IsReturn (return_value at e) at.start
 
--- a `return` stands among the statements
-pub data HasReturn : Stmts → ℕ → Type 0 where
-  this_returns : {s : Stmt} {more : Stmts} {at : ℕ} → IsReturn s at → HasReturn (stmt s more) at
-  later_returns : {s : Stmt} {more : Stmts} {at : ℕ} → HasReturn more at → HasReturn (stmt s more) at
+mutual
+  -- a `return` stands among the statements, or in a block of one of them
+  pub data HasReturn : Stmts → ℕ → Type 0 where
+    this_returns : {s : Stmt} {more : Stmts} {at : ℕ} → IsReturn s at → HasReturn (stmt s more) at
+    returns_inside : {s : Stmt} {more : Stmts} {at : ℕ} → HasReturnInside s at → HasReturn (stmt s more) at
+    later_returns : {s : Stmt} {more : Stmts} {at : ℕ} → HasReturn more at → HasReturn (stmt s more) at
 
--- a `return` stands there with a statement behind it
-pub data HasEarlyReturn : Stmts → ℕ → Type 0 where
-  this_early : {s next : Stmt} {more : Stmts} {at : ℕ} → IsReturn s at → HasEarlyReturn (stmt s (stmt next more)) at
-  later_early : {s : Stmt} {more : Stmts} {at : ℕ} → HasEarlyReturn more at → HasEarlyReturn (stmt s more) at
+  -- one stands in a block of the statement
+  pub data HasReturnInside : Stmt → ℕ → Type 0 where
+    in_then : {start close : Span} {e : Expr} {body : Stmts} {other : Otherwise} {at : ℕ} → HasReturn body at → HasReturnInside (if_then start e body close other) at
+    in_else : {start close end : Span} {e : Expr} {body other : Stmts} {at : ℕ} → HasReturn other at → HasReturnInside (if_then start e body close (else_do other end)) at
+    in_while : {start close : Span} {e : Expr} {body : Stmts} {at : ℕ} → HasReturn body at → HasReturnInside (while start e body close) at
+
+-- a `return` stands there with a statement behind it, or in a block of a statement
+pub data HasStrayReturn : Stmts → ℕ → Type 0 where
+  this_early : {s next : Stmt} {more : Stmts} {at : ℕ} → IsReturn s at → HasStrayReturn (stmt s (stmt next more)) at
+  stray_inside : {s : Stmt} {more : Stmts} {at : ℕ} → HasReturnInside s at → HasStrayReturn (stmt s more) at
+  later_stray : {s : Stmt} {more : Stmts} {at : ℕ} → HasStrayReturn more at → HasStrayReturn (stmt s more) at
 
 -- the last statement is a `return`
 pub data EndsInReturn : Stmts → Type 0 where
@@ -26,7 +35,7 @@ pub data EndsInReturn : Stmts → Type 0 where
 -- a section's fault, at this byte
 pub data IsSectionFault : Section → ℕ → Type 0 where
   no_result : {s : Section} {at : ℕ} → s.result ≡ None → HasReturn s.body.stmts at → IsSectionFault s at
-  early : {s : Section} {t : ValueType} {at : ℕ} → s.result ≡ Some t → HasEarlyReturn s.body.stmts at → IsSectionFault s at
+  stray : {s : Section} {t : ValueType} {at : ℕ} → s.result ≡ Some t → HasStrayReturn s.body.stmts at → IsSectionFault s at
   missing : {s : Section} {t : ValueType} → s.result ≡ Some t → (EndsInReturn s.body.stmts → ⊥) → IsSectionFault s s.body.close.start
 
 -- a program's

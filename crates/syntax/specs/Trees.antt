@@ -4,7 +4,8 @@ use Rattle.source.specs.declared.span.Span.{Span}
 use Rattle.syntax.specs.declared.tree.Op.{Op}
 use Rattle.syntax.specs.declared.tree.Level.{Level}
 use Rattle.syntax.specs.declared.tree.Prefix.{Prefix}
-use Rattle.syntax.specs.declared.tree.Number.{Number}
+use Rattle.syntax.specs.declared.tree.Comparison.{Comparison}
+use Rattle.source.specs.declared.token.Number.{Number}
 
 -- a name, and where it stands
 pub record Ident : Type 0 where
@@ -13,23 +14,29 @@ pub record Ident : Type 0 where
 
 pub data ValueType : Type 0 where
   int_type : ValueType
+  ref_type : (target : Ident) → ValueType
 
 pub data Const : Type 0 where
   int_const : Number → Const
   negative : (sign : Span) → Number → Const
+  null_const : (at : Span) → Const
+  member_const : (pool : Ident) → (index : Number) → Const
 
--- what a value is read from, and what an assignment writes to
-pub data Place : Type 0 where
-  lone : Ident → Place
-
--- an expression, and the rest of a chain
+-- an expression, what a value is read from and an assignment writes to, and the rest of a chain
 mutual
   pub data Expr : Type 0 where
     int : Number → Expr
+    null : (at : Span) → Expr
     place : Place → Expr
     paren : (at : Span) → Expr → Expr
     prefix : Prefix → (at : Span) → Expr → Expr
     chain : Level → Expr → Links → Expr
+    compare : Expr → Comparison → Expr → Expr
+
+  pub data Place : Type 0 where
+    lone : Ident → Place
+    element : Ident → Expr → Place
+    path : Ident → (fields : List Ident) → Place
 
   pub data Links : Type 0 where
     no_links : Links
@@ -42,16 +49,24 @@ pub record Local : Type 0 where
   pub value_type : ValueType
   pub value : Expr
 
-pub data Stmt : Type 0 where
-  let_local : Local → Stmt
-  var_local : Local → Stmt
-  assign : Place → Expr → Stmt
-  print : (start : Span) → Expr → Stmt
-  return_value : (start : Span) → Expr → Stmt
+-- a statement, those of a block with where its closing brace stands, and what stands behind `else`
+mutual
+  pub data Stmt : Type 0 where
+    let_local : Local → Stmt
+    var_local : Local → Stmt
+    assign : Place → Expr → Stmt
+    if_then : (start : Span) → Expr → Stmts → (close : Span) → Otherwise → Stmt
+    while : (start : Span) → Expr → Stmts → (close : Span) → Stmt
+    print : (start : Span) → Expr → Stmt
+    return_value : (start : Span) → Expr → Stmt
 
-pub data Stmts : Type 0 where
-  no_stmts : Stmts
-  stmt : Stmt → Stmts → Stmts
+  pub data Stmts : Type 0 where
+    no_stmts : Stmts
+    stmt : Stmt → Stmts → Stmts
+
+  pub data Otherwise : Type 0 where
+    no_else : Otherwise
+    else_do : Stmts → (close : Span) → Otherwise
 
 -- statements in braces, and where the closing one stands
 pub record Block : Type 0 where
@@ -70,6 +85,44 @@ pub record Variable : Type 0 where
   pub protection : Option Protection
   pub value : Option Const
 
+-- a global that is an array
+pub record Array : Type 0 where
+  pub name : Ident
+  pub value_type : ValueType
+  pub length : Number
+  pub protection : Option Protection
+
+-- a reference that never changes, and a field that can
+pub record Final : Type 0 where
+  pub name : Ident
+  pub target : Ident
+
+pub record Field : Type 0 where
+  pub name : Ident
+  pub value_type : ValueType
+  pub protection : Option Protection
+
+pub data Member : Type 0 where
+  lock_member : Ident → Member
+  final_member : Final → Member
+  field_member : Field → Member
+
+pub record Struct : Type 0 where
+  pub name : Ident
+  pub members : List Member
+
+pub record Pool : Type 0 where
+  pub name : Ident
+  pub target : Ident
+  pub length : Number
+
+pub record Init : Type 0 where
+  pub start : Span
+  pub pool : Ident
+  pub index : Number
+  pub field : Ident
+  pub value : Const
+
 pub record Param : Type 0 where
   pub name : Ident
   pub value_type : ValueType
@@ -84,12 +137,15 @@ pub record Call : Type 0 where
   pub section : Ident
   pub arguments : List Const
 
-pub data Item : Type 0 where
-  call : Call → Item
+-- what a thread does
+mutual
+  pub data Item : Type 0 where
+    call : Call → Item
+    repeat : Number → Items → Item
 
-pub data Items : Type 0 where
-  no_items : Items
-  item : Item → Items → Items
+  pub data Items : Type 0 where
+    no_items : Items
+    item : Item → Items → Items
 
 pub record Thread : Type 0 where
   pub name : Ident
@@ -97,6 +153,10 @@ pub record Thread : Type 0 where
 
 pub data Decl : Type 0 where
   lock : Ident → Decl
+  struct : Struct → Decl
   global : Variable → Decl
+  array : Array → Decl
+  pool : Pool → Decl
+  init : Init → Decl
   atomic : Section → Decl
   thread : Thread → Decl

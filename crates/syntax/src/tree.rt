@@ -1,6 +1,8 @@
 //! The trees of programs.
 
 use source::span::Span;
+use source::token::Number;
+use std::rc::RcStr;
 
 /// A program: its declarations, as they stand in the text.
 #[derive(Debug, Drop)]
@@ -8,18 +10,12 @@ pub struct Tree {
     pub decls: Vec<Decl>,
 }
 
-/// A name, and where it stands.
+/// A name, and its first byte. It stands up to where its text ends. The names of one program that
+/// are the same share their bytes.
 #[derive(Debug, Drop)]
 pub struct Name {
-    pub text: String,
-    pub span: Span,
-}
-
-/// A number as the text has it, at most 9223372036854775807, and where it stands.
-#[derive(Clone, Copy, Debug, PartialEq, Eq)]
-pub struct Number {
-    pub value: u64,
-    pub span: Span,
+    pub text: RcStr,
+    pub start: u32,
 }
 
 /// The type of a global, a parameter, a local or a result.
@@ -27,6 +23,8 @@ pub struct Number {
 pub enum ValueType {
     /// `int`
     Int,
+    /// `ref S`: null, or a member of a pool of the struct.
+    Ref(Name),
 }
 
 /// A constant.
@@ -36,6 +34,10 @@ pub enum Const {
     Int(Number),
     /// `-7`: where the sign stands, and the number behind it.
     Negative(Span, Number),
+    /// `null`, and where it stands.
+    Null(Span),
+    /// `p[3]`: a member of a pool.
+    Member(Name, Number),
 }
 
 /// An operator of a chain.
@@ -51,6 +53,10 @@ pub enum Op {
     Div,
     /// `%`
     Rem,
+    /// `&&`
+    And,
+    /// `||`
+    Or,
 }
 
 /// How tightly the operators of a chain bind.
@@ -60,6 +66,27 @@ pub enum Level {
     Term,
     /// `+` and `-`
     Sum,
+    /// `&&`
+    Conjunction,
+    /// `||`
+    Disjunction,
+}
+
+/// An operator between two sums.
+#[derive(Clone, Copy, Debug, PartialEq, Eq)]
+pub enum Comparison {
+    /// `==`
+    Equal,
+    /// `!=`
+    NotEqual,
+    /// `<`
+    Less,
+    /// `<=`
+    LessOrEqual,
+    /// `>`
+    Greater,
+    /// `>=`
+    GreaterOrEqual,
 }
 
 /// An operator before its operand.
@@ -67,29 +94,69 @@ pub enum Level {
 pub enum Prefix {
     /// `-`
     Negate,
+    /// `!`
+    Not,
 }
 
-/// What a value is read from, and what an assignment writes to.
+/// `a.b.c`: a name, and one or more fields behind dots.
+#[derive(Debug, Drop)]
+pub struct Path {
+    pub first: Name,
+    pub fields: Vec<Name>,
+}
+
+/// What an assignment writes to.
 #[derive(Debug, Drop)]
 pub enum Place {
     /// `x`
     Name(Name),
+    /// `x[e]`
+    Element(Box<Element>),
+    /// `x.a.b`
+    Path(Box<Path>),
 }
 
 /// An expression.
+///
+/// A program may have one for every other byte, so an expression takes 24 bytes: what is larger
+/// stands apart, and what is small comes first.
 #[derive(Debug, Drop)]
 #[cycle(expr)]
 pub enum Expr {
     /// `7`
     Int(Number),
+    /// `null`, and where it stands.
+    Null(Span),
     /// `x`
-    Place(Place),
+    Name(Name),
+    /// `x[e]`
+    Element(Box<Element>),
+    /// `x.a.b`
+    Path(Box<Path>),
     /// `(e)`, and where the opening parenthesis stands.
     Paren(Span, Box<Expr>),
     /// `-e`, and where the operator stands.
     Prefix(Prefix, Span, Box<Expr>),
+    /// `a + b - c` or `a == b`
+    Joined(Box<Joined>),
+}
+
+/// `x[e]`: an element of an array.
+#[derive(Debug, Drop)]
+#[cycle(expr)]
+pub struct Element {
+    pub name: Name,
+    pub index: Expr,
+}
+
+/// Operands, with operators between them.
+#[derive(Debug, Drop)]
+#[cycle(expr)]
+pub enum Joined {
     /// `a + b - c`: an operand, and one or more operators of one level with an operand each.
-    Chain(Level, Box<Expr>, Vec<Link>),
+    Chain(Level, Expr, Vec<Link>),
+    /// `a == b`
+    Compare(Comparison, Expr, Expr),
 }
 
 /// An operator of a chain, and the operand behind it.
@@ -112,6 +179,7 @@ pub struct Local {
 
 /// A statement.
 #[derive(Debug, Drop)]
+#[cycle(stmt)]
 pub enum Stmt {
     /// `let x: int = e;`
     Let(Local),
@@ -119,6 +187,10 @@ pub enum Stmt {
     Var(Local),
     /// `x = e;`
     Assign(Place, Expr),
+    /// `if (e) { .. }` or `if (e) { .. } else { .. }`, and where its first word stands.
+    If(Span, Expr, Block, Option<Block>),
+    /// `while (e) { .. }`, and where its first word stands.
+    While(Span, Expr, Block),
     /// `print e;`, and where its first word stands.
     Print(Span, Expr),
     /// `return e;`, and where its first word stands.
@@ -127,6 +199,7 @@ pub enum Stmt {
 
 /// Statements in braces, and where the closing one stands.
 #[derive(Debug, Drop)]
+#[cycle(stmt)]
 pub struct Block {
     pub stmts: Vec<Stmt>,
     pub close: Span,
@@ -147,6 +220,70 @@ pub struct Variable {
     pub protection: Option<Protection>,
     /// The opening value, where one is given.
     pub value: Option<Const>,
+}
+
+/// `global int a[4] protected_by(G);`: a global that is an array.
+#[derive(Debug, Drop)]
+pub struct Array {
+    pub name: Name,
+    /// The type of an element.
+    pub value_type: ValueType,
+    pub length: Number,
+    pub protection: Option<Protection>,
+}
+
+/// `final ref S next;`: a reference that never changes.
+#[derive(Debug, Drop)]
+pub struct Final {
+    pub name: Name,
+    /// The struct that it refers to.
+    pub target: Name,
+}
+
+/// `int x protected_by(l);`: a field that can change.
+#[derive(Debug, Drop)]
+pub struct Field {
+    pub name: Name,
+    pub value_type: ValueType,
+    pub protection: Option<Protection>,
+}
+
+/// A member of a struct.
+#[derive(Debug, Drop)]
+pub enum Member {
+    /// `lock l;`
+    Lock(Name),
+    /// `final ref S next;`
+    Final(Final),
+    /// `int x protected_by(l);`
+    Field(Field),
+}
+
+/// `struct S { .. }`
+#[derive(Debug, Drop)]
+pub struct Struct {
+    pub name: Name,
+    pub members: Vec<Member>,
+}
+
+/// `pool S p[3];`
+#[derive(Debug, Drop)]
+pub struct Pool {
+    pub name: Name,
+    /// The struct of its members.
+    pub target: Name,
+    pub length: Number,
+}
+
+/// `init p[2].x = 7;`: the opening value of a field of a member.
+#[derive(Debug, Drop)]
+pub struct Init {
+    /// Where the declaration stands, by its first word.
+    pub start: Span,
+    pub pool: Name,
+    pub index: Number,
+    pub field: Name,
+    pub value: Const,
 }
 
 /// A parameter of a section.
@@ -178,6 +315,8 @@ pub struct Call {
 pub enum Item {
     /// `f(1, -2);`
     Call(Call),
+    /// `repeat 3 { .. }`
+    Repeat(Number, Vec<Item>),
 }
 
 /// `thread t { .. }`: a thread, and what it does, in order.
@@ -192,8 +331,16 @@ pub struct Thread {
 pub enum Decl {
     /// `lock G;`
     Lock(Name),
+    /// `struct S { .. }`
+    Struct(Struct),
     /// `global int x;`
     Global(Variable),
+    /// `global int a[4];`
+    Array(Array),
+    /// `pool S p[3];`
+    Pool(Pool),
+    /// `init p[2].x = 7;`
+    Init(Init),
     /// `atomic f() { .. }`
     Atomic(Section),
     /// `thread t { .. }`

@@ -5,8 +5,13 @@ use mathlib.Core.Former.{Count}
 use Rattle.core_lang.specs.declared.tree.Expr as e
 use Rattle.core_lang.specs.declared.tree.Expr.{Chain, Chain', Row_of-Operation, end_of-Operation, more_of-Operation, items-the_row-Operation, items_hidden-the_row-Operation-0}
 use Rattle.core_lang.specs.declared.tree.Operation as o
-use Rattle.types.specs.Core.{chain, operation}
-use Rattle.types.specs.CoreViews.{core_expr, core_operations_row, core_operations}
+use Rattle.core_lang.specs.declared.tree.Condition as c
+use Rattle.core_lang.specs.declared.tree.Condition.{And, And', Or, Or', Row_of-Condition, end_of-Condition, more_of-Condition, items-the_row-Condition, items_hidden-the_row-Condition-0}
+use Rattle.core_lang.specs.declared.tree.Stmt as s
+use Rattle.core_lang.specs.declared.tree.Action as a
+use Rattle.core_lang.specs.declared.tree.Action.{If, If', IfElse, IfElse', While, While', Row_of-Stmt, end_of-Stmt, more_of-Stmt, items-the_row-Stmt, items_hidden-the_row-Stmt-0}
+use Rattle.resolution.specs.Core.{chain, operation, condition, all_of, any_of, stmt, if_true, if_else, while_true}
+use Rattle.resolution.specs.CoreViews.{core_expr, core_operations_row, core_operations, core_condition, core_conditions_row, core_conditions, core_action, core_stmts_row, core_stmts}
 
 core_operations_row-items : (n : _) (row : Row_of-Operation n) → core_operations_row row ≡ core_operations (items-the_row-Operation n row)
 core_operations_row-items n end_of-Operation = refl
@@ -20,3 +25,57 @@ pub core_chain_view : (first : Box e.Expr Global) (rest : Vec o.Operation Global
 core_chain_view first rest =
     let row = row_of (Chain first rest) in
     ap (chain (core_expr first.value)) (core_operations_row-items row.0 row.1 ∙ ap core_operations (items_hidden-the_row-Operation-0 rest))
+
+-- ---- conditions
+
+core_conditions_row-items : (n : _) (row : Row_of-Condition n) → core_conditions_row row ≡ core_conditions (items-the_row-Condition n row)
+core_conditions_row-items n end_of-Condition = refl
+core_conditions_row-items n (more_of-Condition x rest) = ap (condition (core_condition x)) (core_conditions_row-items _ rest)
+
+abbrev condition_row : c.Condition → (n : Count) × Row_of-Condition n
+condition_row (And' _ row _ _) = (_, row)
+condition_row (Or' _ row _ _) = (_, row)
+condition_row _ = (_, end_of-Condition)
+
+pub core_and_view : (before : Vec c.Condition Global) (last : Box c.Condition Global) → core_condition (And before last) ≡ all_of (core_conditions before.items) (core_condition last.value)
+core_and_view before last =
+    let row = condition_row (And before last) in
+    ap (λ cs. all_of cs (core_condition last.value)) (core_conditions_row-items row.0 row.1 ∙ ap core_conditions (items_hidden-the_row-Condition-0 before))
+
+pub core_or_view : (before : Vec c.Condition Global) (last : Box c.Condition Global) → core_condition (Or before last) ≡ any_of (core_conditions before.items) (core_condition last.value)
+core_or_view before last =
+    let row = condition_row (Or before last) in
+    ap (λ cs. any_of cs (core_condition last.value)) (core_conditions_row-items row.0 row.1 ∙ ap core_conditions (items_hidden-the_row-Condition-0 before))
+
+-- ---- statements
+
+core_stmts_row-items : (n : _) (row : Row_of-Stmt n) → core_stmts_row row ≡ core_stmts (items-the_row-Stmt n row)
+core_stmts_row-items n end_of-Stmt = refl
+core_stmts_row-items n (more_of-Stmt start x rest) = ap (stmt start (core_action x)) (core_stmts_row-items _ rest)
+
+abbrev block_row : a.Action → (n : Count) × Row_of-Stmt n
+block_row (If' _ _ row) = (_, row)
+block_row (IfElse' _ _ row _ _) = (_, row)
+block_row (While' _ _ row) = (_, row)
+block_row _ = (_, end_of-Stmt)
+
+abbrev other_row : a.Action → (n : Count) × Row_of-Stmt n
+other_row (IfElse' _ _ _ _ row) = (_, row)
+other_row _ = (_, end_of-Stmt)
+
+pub core_if_view : (test : c.Condition) (block : Vec s.Stmt Global) → core_action (If test block) ≡ if_true (core_condition test) (core_stmts block.items)
+core_if_view test block =
+    let row = block_row (If test block) in
+    ap (if_true (core_condition test)) (core_stmts_row-items row.0 row.1 ∙ ap core_stmts (items_hidden-the_row-Stmt-0 block))
+
+pub core_while_view : (test : c.Condition) (block : Vec s.Stmt Global) → core_action (While test block) ≡ while_true (core_condition test) (core_stmts block.items)
+core_while_view test block =
+    let row = block_row (While test block) in
+    ap (while_true (core_condition test)) (core_stmts_row-items row.0 row.1 ∙ ap core_stmts (items_hidden-the_row-Stmt-0 block))
+
+pub core_if_else_view : (test : c.Condition) (block other : Vec s.Stmt Global) → core_action (IfElse test block other) ≡ if_else (core_condition test) (core_stmts block.items) (core_stmts other.items)
+core_if_else_view test block other =
+    let row = block_row (IfElse test block other) in
+    let more = other_row (IfElse test block other) in
+    ap (λ b. if_else (core_condition test) b (core_stmts_row more.1)) (core_stmts_row-items row.0 row.1 ∙ ap core_stmts (items_hidden-the_row-Stmt-0 block))
+    ∙ ap (if_else (core_condition test) (core_stmts block.items)) (core_stmts_row-items more.0 more.1 ∙ ap core_stmts (items_hidden-the_row-Stmt-0 other))

@@ -5,7 +5,7 @@ use Rattle.std.specs.Str.{bytes_eq}
 use Rattle.std.specs.Map.{update}
 use Rattle.std.proofs.lemmas.Slice.Eq.{bytes_eq-Decides}
 use Rattle.std.proofs.lemmas.Grind.{common_steps}
-use Rattle.types.specs.Scopes.{place_from}
+use Rattle.resolution.specs.Scopes.{place_from}
 use Rattle.types.specs.Found.{found, IsTableOf}
 use Rattle.types.specs.declared.names.Names.{Names}
 
@@ -22,5 +22,5 @@ place-more p [] x n m e = let h : n ≡ m = omega (arith, e) in ap (λ (k : ℕ)
 place-more p (y ∷ xs) x n m e = or_if (p y) (p x) m (place_from p (suc n) (xs ++ x ∷ [])) (place_from p (suc n) xs) (place-more p xs x (suc n) m (omega (arith, e))) n
 
 -- the table with one more name
-pub table-more : {A : Type 0} (name : A → List ℕ) (xs : List A) (x : A) (old new : Names) → IsTableOf name xs old → ((q : List ℕ) → found new q ≡ option_or (found old q) (if bytes_eq q (name x) then Some (length xs) else None)) → IsTableOf name (xs ++ x ∷ []) new
-table-more name xs x old new h adds = λ q. adds q ∙ ap (λ (o : Option ℕ). option_or o (if bytes_eq q (name x) then Some (length xs) else None)) (h q) ∙ sym (place-more (λ y. bytes_eq q (name y)) xs x 0 (length xs) (omega arith))
+pub table-more : {A : Type 0} (bears : A → List ℕ → Bool) (xs : List A) (x : A) (old new : Names) → IsTableOf bears xs old → ((q : List ℕ) → found new q ≡ option_or (found old q) (if bears x q then Some (length xs) else None)) → IsTableOf bears (xs ++ x ∷ []) new
+table-more bears xs x old new h adds = λ q. adds q ∙ ap (λ (o : Option ℕ). option_or o (if bears x q then Some (length xs) else None)) (h q) ∙ sym (place-more (λ y. bears y q) xs x 0 (length xs) (omega arith))

@@ -1,49 +1,63 @@
 -- What the checker's values stand for.
-use Rattle.std.specs.Prelude.{List, map, option_map}
+use Rattle.std.specs.Prelude.{◌≡◌, ℕ, List, [], map, Option, Some, None, option_map, slice_get}
+use Rattle.std.specs.Borrow.{Bor}
 use Rattle.syntax.specs.declared.tree.Decl as the_decl
-use Rattle.syntax.specs.Trees.{Decl}
-use Rattle.syntax.specs.Views.{decl_of}
-use Rattle.types.specs.Core as core
-use Rattle.types.specs.CoreViews.{core_local, core_locals, core_stmt, core_return}
-use Rattle.types.specs.Scopes.{Scope, Meaning, a_local, a_decl, nothing, name_of, local_name}
-use Rattle.types.specs.Resolution.{Part, does, gives, Body}
-use Rattle.types.specs.Found.{IsTableOf, AreNumbers}
-use Rattle.types.specs.declared.scope.Program.{Program}
-use Rattle.types.specs.declared.scope.Locals.{Locals}
-use Rattle.types.specs.declared.scope.Meaning as m
-use Rattle.types.specs.declared.scope.Meaning.TheVariants as v
-use Rattle.types.specs.declared.stmt.Part as the_part
-use Rattle.types.specs.declared.stmt.Part.TheVariants as part
-use Rattle.types.specs.declared.stmt.Body as the_body
+use Rattle.syntax.specs.declared.tree.Name as the_name
+use Rattle.syntax.specs.Trees.{Ident, Decl, lock, struct, global, array, pool, init, atomic, thread, Member, Struct}
+use Rattle.syntax.specs.Views.{ident, decl_of, struct_of}
+use Rattle.resolution.specs.Scopes.{bears, member_bears, structs_in}
+use Rattle.resolution.specs.Numbers.{fields_from}
+use Rattle.types.specs.Found.{IsTableOf, AreAhead}
+use Rattle.types.specs.Counted.{counts_from, no_counts, member_counts_from, no_members}
+use Rattle.types.specs.declared.declarations.Declarations.{Declarations}
+use Rattle.types.specs.declared.members.Structure.{Structure}
 
 abbrev pub decls_of : List the_decl.Decl → List Decl
 decls_of ds = map decl_of ds
 
-abbrev pub program_of : Program → List Decl
-program_of p = decls_of p.decls.now
+-- a name behind a reference
+abbrev pub name_seen : Option (Bor the_name.Name) → Option Ident
+name_seen x = option_map (λ n. ident n.now) x
 
-abbrev pub locals_of : Locals → List core.Local
-locals_of ls = core_locals ls.items.items
+-- ---- structs
 
-abbrev pub scope_of : Program → Locals → Scope
-scope_of p ls = record { decls = program_of p; locals = locals_of ls }
+abbrev pub structure_of : Structure → Struct
+structure_of s = struct_of s.item.now
+
+abbrev pub members_seen : Structure → List Member
+members_seen s = (structure_of s).members
+
+-- the tables are those of the members
+abbrev pub IsStructure : Structure → Type 0
+IsStructure s =
+    IsTableOf member_bears (members_seen s) s.names
+    × AreAhead (member_counts_from no_members) (members_seen s) s.ahead.items s.all
+    × (s.width ≡ fields_from [] (members_seen s))
+
+-- these are the structs among declarations
+abbrev pub AreStructures : List Decl → List Structure → Type 0
+AreStructures decls ss = (map structure_of ss ≡ structs_in decls) × ((i : ℕ) (s : Structure) → slice_get ss i ≡ Some s → IsStructure s)
+
+-- ---- declarations
+
+abbrev pub declared_by : Declarations → List Decl
+declared_by d = decls_of d.items.now
 
 -- the tables are those of the declarations
-abbrev pub IsProgram : Program → Type 0
-IsProgram p = IsTableOf name_of (program_of p) p.names × AreNumbers (program_of p) p.numbers.items
+abbrev pub AreDeclarations : Declarations → Type 0
+AreDeclarations d =
+    IsTableOf bears (declared_by d) d.names
+    × AreAhead (counts_from no_counts) (declared_by d) d.ahead.items d.all
+    × AreStructures (declared_by d) d.structs.items
 
--- the table is that of the locals
-abbrev pub AreLocals : Locals → Type 0
-AreLocals ls = IsTableOf local_name (locals_of ls) ls.names
-
-abbrev pub meaning_of : m.Meaning → Meaning
-meaning_of (v.Local i x) = a_local i (core_local x.now)
-meaning_of (v.Decl i d) = a_decl i (decl_of d.now)
-meaning_of v.Nothing = nothing
-
-abbrev pub part_of : the_part.Part → Part
-part_of (part.Does x) = does (core_stmt x)
-part_of (part.Gives r) = gives (core_return r)
-
-abbrev pub body_of : the_body.Body → Body
-body_of b = record { stmts = map core_stmt b.stmts.items; result = option_map core_return b.result }
+-- the struct that is found
+abbrev pub struct_in : Option (ℕ × Decl) → Option (ℕ × Struct)
+struct_in (Some (i, struct s)) = Some (i, s)
+struct_in (Some (i, lock x)) = None
+struct_in (Some (i, global v)) = None
+struct_in (Some (i, array a)) = None
+struct_in (Some (i, pool p)) = None
+struct_in (Some (i, init j)) = None
+struct_in (Some (i, atomic s)) = None
+struct_in (Some (i, thread t)) = None
+struct_in None = None

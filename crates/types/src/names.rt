@@ -1,12 +1,14 @@
 //! Names and their places.
 
-ghost use Rattle.std.specs.Prelude.{◌≡◌, ℕ, List, IfOk, OnOk, Some, None, is_some, if◌then◌else◌, string_bytes};
+ghost use Rattle.std.specs.Prelude.{◌≡◌, ℕ, List, IfOk, OnOk, Some, None, is_some, if◌then◌else◌};
+ghost use Rattle.std.specs.Rc.{rc_str_bytes};
 ghost use Rattle.std.specs.Str.{bytes_eq};
 ghost use Rattle.std.specs.Option.{option_or};
 ghost use Rattle.types.specs.Found.{found};
 
 use indexmap::IndexMap;
 use std::alloc::{AllocError, Global};
+use std::rc::RcStr;
 
 /// The places of names, in order of declaration.
 #[derive(Drop)]
@@ -34,11 +36,12 @@ impl Names {
     }
 
     /// Adds a name with its place, if it isn't there yet.
-    pub fn add(&mut self, alloc: Global, name: &String, place: usize) -> Result<(), AllocError>
-        ensures { OnOk result ((q : List ℕ) → found self.new q ≡ option_or (found self.old q) (if bytes_eq q (string_bytes name.now) then Some place else None)) }
+    pub fn add(&mut self, alloc: Global, name: &RcStr, place: usize) -> Result<(), AllocError>
+        ensures { OnOk result ((q : List ℕ) → found self.new q ≡ option_or (found self.old q) (if bytes_eq q (rc_str_bytes name.now) then Some place else None)) }
     {
         if self.places.get(name.as_str()).is_none() {
-            self.places.insert(name.clone()?, place)?;
+            self.places
+                .insert(String::from_str(alloc, name.as_str())?, place)?;
         }
         Ok(())
     }

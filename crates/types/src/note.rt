@@ -1,17 +1,11 @@
 //! The least fault so far.
 
 ghost use Rattle.std.specs.Prelude.{◌≡◌};
-ghost use Rattle.types.specs.Order.{code_number, goes_before};
-ghost use Rattle.types.specs.FaultLists.{least_of, one, one_if};
+ghost use Rattle.resolution.specs.Order.{code_number, goes_before};
+ghost use Rattle.resolution.specs.FaultLists.{least_of, one, one_if};
 
+use resolution::mistake::Mistake;
 use source::fault::Code;
-
-/// A fault: what is wrong, and the byte where it stands.
-#[derive(Clone, Copy, Debug, PartialEq, Eq)]
-pub struct Mistake {
-    pub code: Code,
-    pub start: usize,
-}
 
 /// The number in a code's name.
 fn number(code: Code) -> u8

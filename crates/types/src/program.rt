@@ -1,162 +1,121 @@
 //! Programs.
 
-ghost use Rattle.std.specs.Prelude.{◌≡◌, ◌++◌, OnOk, IfOk, IfErr, option_map, Some};
-ghost use Rattle.syntax.specs.Views.{ident, const_of, protection_of, variable_of, decl_of, tree_of, option_of};
+ghost use Rattle.std.specs.Prelude.{◌≡◌, OnOk, IfOk, IfErr, option_map, slice_get, Some};
+ghost use Rattle.syntax.specs.Views.{decl_of, tree_of};
 ghost use Rattle.syntax.specs.Returns.{ReturnsRight};
-ghost use Rattle.types.specs.CoreViews.{core_of};
-ghost use Rattle.syntax.specs.Trees.{global};
-ghost use Rattle.types.specs.Resolution.{class_of, opening_value, global_with, extended_if, resolved_from, nothing_yet};
-ghost use Rattle.types.specs.Resolved.{Resolves};
 ghost use Rattle.core_lang.specs.WellFormed.{IsWellFormed};
-ghost use Rattle.types.specs.Faults.{IsRefusal, HasNoFault};
-ghost use Rattle.types.specs.FaultLists.{least_of, protection_faults, opening_faults, decl_faults, each_faults};
-ghost use Rattle.types.specs.Leasts.{IsLeast};
-ghost use Rattle.types.specs.Views.{decls_of, program_of, IsProgram};
+ghost use Rattle.resolution.specs.CoreViews.{core_of};
+ghost use Rattle.resolution.specs.Resolution.{resolved_from, nothing_yet};
+ghost use Rattle.resolution.specs.Resolved.{Resolves};
+ghost use Rattle.resolution.specs.Faults.{IsRefusal, HasNoFault};
+ghost use Rattle.resolution.specs.FaultLists.{least_of, decl_faults, each_faults};
+ghost use Rattle.resolution.specs.Leasts.{IsLeast};
+ghost use Rattle.types.specs.Programs.{program_of, IsProgram};
+ghost use Rattle.types.specs.Whole.{unless, extended_if};
 
-use crate::expr::{cell, constant};
-use crate::note::{Mistake, note};
-use crate::scope::Program;
+use crate::annotation::note_lock;
+use crate::constant::{note_opening, want};
+use crate::grown::{with_array, with_global, with_lock, with_section, with_struct, with_thread};
+use crate::initial::note_init;
+use crate::pool::{note_missing, with_pool};
+use crate::scope::{note_target, note_type, type_outside};
 use crate::section::judge_section;
-use crate::table::judge_names;
-use crate::thread::judge_items;
+use crate::shaping::note_members;
+use crate::table::Program;
+use crate::thread::{note_items, typed_calls};
 use core_lang::shape::Shape;
-use core_lang::typed::{Cell, GlobalVariable, LockClass, Owner, Thread, Typed};
-use core_lang::value::{Value, ValueType};
-use source::fault::{Code, Fault, Refusal};
+use core_lang::typed::Typed;
+use core_lang::{shape, typed};
+use resolution::laws;
+use resolution::mistake::Mistake;
+use source::fault::{Fault, Refusal};
 use std::alloc::{AllocError, Global};
-use syntax::tree::{Const, Decl, Name, Protection, Tree, Variable};
+use syntax::tree::{Decl, Tree};
 
-/// The class of the global lock that an annotation names.
-fn judge_protection(
-    program: &Program,
-    name: &Name,
-    protection: &Option<Protection>,
-    least: &mut Option<Mistake>,
-) -> Option<usize>
-    requires { IsProgram program.now }
-    ensures class { result ≡ class_of (program_of program.now) (option_of protection_of protection.now) }
-    ensures faults { least.new ≡ least_of least.old (protection_faults (program_of program.now) (ident name.now).span.start (option_of protection_of protection.now)) }
-{
-    let Some(protection) = protection else {
-        note(least, Code::NeitherFinalNorProtected, name.span.start);
-        return None;
-    };
-    let start = protection.first.span.start;
-    match program.find(protection.first.text.as_str()) {
-        Some((number, Decl::Lock(_))) => {
-            if protection.rest.is_empty() {
-                return Some(number);
-            }
-            note(least, Code::ProtectedByNoLock, start);
-            None
-        }
-        Some((_, Decl::Global(_))) | Some((_, Decl::Atomic(_))) | Some((_, Decl::Thread(_))) => {
-            note(least, Code::ProtectedByNoLock, start);
-            None
-        }
-        None => {
-            note(least, Code::UnknownName, start);
-            None
-        }
-    }
-}
-
-/// The value that a global opens with.
-fn judge_opening(value: &Option<Const>, least: &mut Option<Mistake>) -> Option<Value>
-    ensures value { result ≡ opening_value (option_of const_of value.now) }
-    ensures faults { least.new ≡ least_of least.old (opening_faults (option_of const_of value.now)) }
-{
-    match value {
-        Some(c) => constant(c, least),
-        None => Some(Value::Int(0)),
-    }
-}
-
-/// The program and a global, if nothing is missing.
-fn with_global(
-    mut typed: Typed,
-    name: &Name,
-    class: Option<usize>,
-    value: Option<Value>,
-) -> Result<Option<Typed>, AllocError>
-    ensures { IfOk result (λ r. option_map core_of r ≡ global_with (core_of typed) (ident name.now).text class value) }
-{
-    let (Some(class), Some(value)) = (class, value) else {
-        return Ok(None);
-    };
-    let Some(cell) = cell(typed.cells.len()) else {
-        return Ok(None);
-    };
-    typed.cells.push(Cell {
-        owner: Owner::Global(typed.globals.len()),
-        value_type: ValueType::Integer,
-        opening: value,
-    })?;
-    typed.globals.push(GlobalVariable {
-        name: name.text.clone()?,
-        cell,
-        class,
-    })?;
-    Ok(Some(typed))
-}
-
-/// A global.
+/// The program with one more declaration, which has this place, if everything in it is right.
 #[tactic(auto, using(crate::proofs::Least::least_append))]
-fn judge_global(
-    program: &Program,
-    typed: Option<Typed>,
-    v: &Variable,
-    least: &mut Option<Mistake>,
-) -> Result<Option<Typed>, AllocError>
-    requires { IsProgram program.now }
-    ensures value { IfOk result (λ r. option_map core_of r ≡ extended_if (program_of program.now) (option_map core_of typed) (global (variable_of v.now))) }
-    ensures faults { OnOk result (least.new ≡ least_of least.old (protection_faults (program_of program.now) (variable_of v.now).name.span.start (variable_of v.now).protection ++ opening_faults (variable_of v.now).value)) }
-{
-    let class = judge_protection(program, &v.name, &v.protection, least);
-    let value = judge_opening(&v.value, least);
-    match typed {
-        Some(typed) => with_global(typed, &v.name, class, value),
-        None => Ok(None),
-    }
-}
-
-/// The program with one more declaration, if all in it is right.
 fn judge_decl(
     alloc: Global,
     program: &Program,
+    place: usize,
     typed: Option<Typed>,
     d: &Decl,
     least: &mut Option<Mistake>,
 ) -> Result<Option<Typed>, AllocError>
-    requires { IsProgram program.now }
-    ensures value { IfOk result (λ r. option_map core_of r ≡ extended_if (program_of program.now) (option_map core_of typed) (decl_of d.now)) }
-    ensures faults { OnOk result (least.new ≡ least_of least.old (decl_faults (program_of program.now) (decl_of d.now))) }
+    requires program { IsProgram program.now }
+    requires place { slice_get (program_of program.now) place ≡ Some (decl_of d.now) }
+    ensures value { IfOk result (λ r. option_map core_of r ≡ extended_if (program_of program.now) place (option_map core_of typed) (decl_of d.now)) }
+    ensures faults { OnOk result (least.new ≡ least_of least.old (decl_faults (program_of program.now) place (decl_of d.now))) }
 {
+    let decls = &program.decls;
     match d {
-        Decl::Lock(name) => {
-            let Some(mut typed) = typed else {
-                return Ok(None);
+        Decl::Lock(name) => match typed {
+            Some(typed) => Ok(Some(with_lock(alloc, typed, name)?)),
+            None => Ok(None),
+        },
+        Decl::Struct(_) => {
+            let Some(structure) = decls.structure(decls.number(place, d)) else {
+                unreachable!()
             };
-            typed.classes.push(LockClass::Global(name.text.clone()?))?;
-            Ok(Some(typed))
+            note_members(
+                alloc,
+                decls,
+                place,
+                structure,
+                &structure.item.members,
+                least,
+            )?;
+            match typed {
+                Some(typed) => with_struct(alloc, program, place, typed, structure),
+                None => Ok(None),
+            }
         }
-        Decl::Global(v) => judge_global(program, typed, v, least),
+        Decl::Global(v) => {
+            note_type(decls, &v.value_type, least);
+            note_lock(decls, &v.name, &v.protection, least);
+            let wanted = want(type_outside(decls, &v.value_type));
+            note_opening(decls, wanted, &v.value, least);
+            match typed {
+                Some(typed) => with_global(alloc, program, typed, v),
+                None => Ok(None),
+            }
+        }
+        Decl::Array(a) => {
+            note_type(decls, &a.value_type, least);
+            note_lock(decls, &a.name, &a.protection, least);
+            match typed {
+                Some(typed) => with_array(alloc, program, typed, a),
+                None => Ok(None),
+            }
+        }
+        Decl::Pool(p) => {
+            note_target(decls, &p.target, least);
+            note_missing(program, place, p, least);
+            match typed {
+                Some(typed) => with_pool(alloc, program, place, typed, p),
+                None => Ok(None),
+            }
+        }
+        Decl::Init(i) => {
+            note_init(decls, i, least);
+            Ok(typed)
+        }
         Decl::Atomic(s) => {
             let section = judge_section(alloc, program, s, least)?;
-            let (Some(mut typed), Some(section)) = (typed, section) else {
-                return Ok(None);
-            };
-            typed.sections.push(section)?;
-            Ok(Some(typed))
+            match typed {
+                Some(typed) => with_section(typed, section),
+                None => Ok(None),
+            }
         }
         Decl::Thread(t) => {
-            let calls = judge_items(alloc, program, &t.items, least)?;
-            let (Some(mut typed), Some(calls)) = (typed, calls) else {
-                return Ok(None);
-            };
-            let name = t.name.text.clone()?;
-            typed.threads.push(Thread { name, calls })?;
-            Ok(Some(typed))
+            note_items(decls, &t.items, least);
+            match typed {
+                Some(typed) => {
+                    let calls = typed_calls(alloc, program, &t.items)?;
+                    with_thread(alloc, typed, &t.name, calls)
+                }
+                None => Ok(None),
+            }
         }
     }
 }
@@ -181,28 +140,38 @@ fn nothing(alloc: Global) -> Typed
     }
 }
 
-/// The declarations, one after another.
+/// A program in which nothing is declared, unless there is a fault already: then nothing is built.
+fn unless(alloc: Global, least: &Option<Mistake>) -> Option<Typed>
+    ensures { option_map core_of result ≡ unless least.now }
+{
+    match least {
+        Some(_) => None,
+        None => Some(nothing(alloc)),
+    }
+}
+
+/// The program with its declarations, one after another.
 #[tactic(auto, using(crate::proofs::Least::least_append))]
 fn judge_decls(
     alloc: Global,
     program: &Program,
-    decls: &[Decl],
+    typed: Option<Typed>,
     least: &mut Option<Mistake>,
 ) -> Result<Option<Typed>, AllocError>
     requires { IsProgram program.now }
-    ensures value { IfOk result (λ r. option_map core_of r ≡ resolved_from (program_of program.now) (Some nothing_yet) (decls_of decls.now)) }
-    ensures faults { OnOk result (least.new ≡ least_of least.old (each_faults (program_of program.now) (decls_of decls.now))) }
+    ensures value { IfOk result (λ r. option_map core_of r ≡ resolved_from (program_of program.now) 0 (option_map core_of typed) (program_of program.now)) }
+    ensures faults { OnOk result (least.new ≡ least_of least.old (each_faults (program_of program.now) 0 (program_of program.now))) }
 {
-    let mut typed = Some(nothing(alloc));
-    for d in decls {
-        typed = judge_decl(alloc, program, typed, d, least)?;
+    let mut typed = typed;
+    for (place, d) in program.decls.items.iter().enumerate() {
+        typed = judge_decl(alloc, program, place, typed, d, least)?;
     }
     Ok(typed)
 }
 
 /// The program that a tree stands for: each name replaced by the number of what it means, every expression typed. Or
-/// the tree's first fault of names and types (`E05` to `E11`, `E15`, `E19`): the one that stands first, and at one
-/// place the one with the lowest code. A tree whose numbers no token can have is refused for those (`E02`).
+/// the tree's first fault of names and types (`E05` to `E12`, `E15` to `E17`, `E19`): the one that stands first, and
+/// at one place the one with the lowest code. A tree whose numbers no token can have is refused for those (`E02`).
 ///
 /// The tree has its `return`s in their places, as the parser answers it. The one other error is a refused growth.
 pub fn check(alloc: Global, tree: &Tree) -> Result<Typed, Refusal>
@@ -218,14 +187,13 @@ pub fn check(alloc: Global, tree: &Tree) -> Result<Typed, Refusal>
     // No fault of the tree goes before it.
     ensures least { IfErr result (IsLeast (tree_of tree.now)) }
 {
+    laws::least_fault();
+    laws::faultless_are_resolved();
+    laws::resolved_are_well_formed();
     let mut least = None;
-    let (names, numbers) = judge_names(alloc, &tree.decls, &mut least)?;
-    let program = Program {
-        names,
-        numbers,
-        decls: &tree.decls,
-    };
-    let typed = judge_decls(alloc, &program, &tree.decls, &mut least)?;
+    let program = Program::new(alloc, &tree.decls, &mut least)?;
+    let start = unless(alloc, &least);
+    let typed = judge_decls(alloc, &program, start, &mut least)?;
     if let Some(fault) = least {
         return Err(Refusal::Fault(Fault::at(alloc, fault.code, fault.start)));
     }

@@ -1,28 +1,37 @@
 //! Sections.
 
 ghost use Rattle.std.specs.Prelude.{◌≡◌, OnOk, IfOk, option_map, map};
-ghost use Rattle.syntax.specs.Views.{param_of, section_of as section_view};
-ghost use Rattle.types.specs.CoreViews.{core_section, core_locals};
-ghost use Rattle.types.specs.Scopes.{entered};
-ghost use Rattle.types.specs.Resolution.{section_of, typed_section};
-ghost use Rattle.types.specs.FaultLists.{least_of, param_faults, decl_faults};
-ghost use Rattle.syntax.specs.Trees.{atomic};
-ghost use Rattle.types.specs.Views.{program_of, scope_of, IsProgram, AreLocals, body_of};
+ghost use Rattle.syntax.specs.Views.{param_of, option_of, type_of as type_seen, section_of as section_view};
+ghost use Rattle.resolution.specs.CoreViews as core;
+ghost use Rattle.resolution.specs.CoreViews.{core_section};
+ghost use Rattle.resolution.specs.Scopes.{entered};
+ghost use Rattle.resolution.specs.Resolution.{core_locals, core_local, result_of, section_with, section_of, typed_section};
+ghost use Rattle.resolution.specs.FaultLists.{least_of, param_faults, result_faults};
+ghost use Rattle.types.specs.Parts.{pushed};
+ghost use Rattle.types.specs.Views.{declared_by, AreDeclarations};
+ghost use Rattle.types.specs.Programs.{program_of, IsProgram};
+ghost use Rattle.types.specs.Scoped.{scope_of, local_seen, AreLocals};
+ghost use Rattle.types.specs.Targets.{body_of, section_faults};
 
-use crate::note::{Mistake, note_if};
-use crate::scope::{Locals, Program};
-use crate::stmt::{Body, judge_body, judge_name};
-use core_lang::tree::{Local, LocalKind, Section};
+use crate::declarations::Declarations;
+use crate::note::note_if;
+use crate::scope::{Local, Locals, note_type, type_outside};
+use crate::stmt::{Body, judge_body, note_name};
+use crate::table::Program;
+use core_lang::tree;
+use core_lang::tree::{LocalKind, Return, Section, Stmt};
 use core_lang::value::ValueType;
+use resolution::mistake::Mistake;
 use source::fault::Code;
 use std::alloc::{AllocError, Global};
-use syntax::tree;
+use syntax::tree as written;
 use syntax::tree::Param;
 
 /// How many parameters a section may have.
 const PARAMETER_LIMIT: usize = 8;
 
-/// Declares a section's parameters, and notes what is wrong with their names.
+/// Declares a section's parameters, and notes what is wrong with them.
+#[tactic(auto, using(crate::proofs::Least::least_append))]
 fn judge_params(
     alloc: Global,
     program: &Program,
@@ -32,63 +41,159 @@ fn judge_params(
 ) -> Result<(), AllocError>
     requires program { IsProgram program.now }
     requires locals { AreLocals locals.old }
-    ensures faults { OnOk result (least.new ≡ least_of least.old (param_faults (scope_of program.now locals.old) 0 (map param_of params.now))) }
-    ensures scope { OnOk result (scope_of program.now locals.new ≡ entered (scope_of program.now locals.old) (map param_of params.now)) }
+    ensures faults { OnOk result (least.new ≡ least_of least.old (param_faults (scope_of (program_of program.now) locals.old) 0 (map param_of params.now))) }
+    ensures scope { OnOk result (scope_of (program_of program.now) locals.new ≡ entered (scope_of (program_of program.now) locals.old) (map param_of params.now)) }
     ensures locals { OnOk result (AreLocals locals.new) }
 {
     for (place, param) in params.iter().enumerate() {
-        judge_name(program, locals, &param.name, least);
+        note_name(program, locals, &param.name, least);
         note_if(
             PARAMETER_LIMIT <= place,
             Code::LimitExceeded,
-            param.name.span.start,
+            param.name.start as usize,
             least,
         );
-        locals.bind(alloc, &param.name, LocalKind::Parameter)?;
+        note_type(&program.decls, &param.value_type, least);
+        let t = type_outside(&program.decls, &param.value_type);
+        locals.bind(alloc, &param.name, LocalKind::Parameter, t)?;
     }
     Ok(())
 }
 
+/// A local, if its type has no fault.
+fn core_local(l: &Local) -> Result<Option<tree::Local>, AllocError>
+    ensures { IfOk result (λ r. option_map core.core_local r ≡ core_local (local_seen l.now)) }
+{
+    match l.value_type {
+        Some(value_type) => Ok(Some(tree::Local {
+            name: l.name.clone()?,
+            kind: l.kind,
+            value_type,
+        })),
+        None => Ok(None),
+    }
+}
+
+/// The locals and one more, if none is missing.
+fn with_local(
+    locals: Option<Vec<tree::Local>>,
+    local: Option<tree::Local>,
+) -> Result<Option<Vec<tree::Local>>, AllocError>
+    ensures { IfOk result (λ r. option_map (λ ls. core.core_locals ls.items) r ≡ pushed (option_map (λ ls. core.core_locals ls.items) locals) (option_map core.core_local local)) }
+{
+    match (locals, local) {
+        (Some(mut locals), Some(local)) => {
+            locals.push(local)?;
+            Ok(Some(locals))
+        }
+        _ => Ok(None),
+    }
+}
+
+/// The locals, if the types of all have no fault.
+fn core_locals(alloc: Global, locals: &[Local]) -> Result<Option<Vec<tree::Local>>, AllocError>
+    ensures { IfOk result (λ r. option_map (λ ls. core.core_locals ls.items) r ≡ core_locals (map local_seen locals.now)) }
+{
+    let mut made = Some(Vec::new(alloc));
+    for local in locals {
+        let next = core_local(local)?;
+        made = with_local(made, next)?;
+    }
+    Ok(made)
+}
+
 /// A section's parts put together, where its result and its `return` agree.
 fn section_with(
-    s: &tree::Section,
-    locals: Vec<Local>,
-    body: Option<Body>,
+    alloc: Global,
+    decls: &Declarations,
+    s: &written::Section,
+    locals: Vec<tree::Local>,
+    body: Vec<Stmt>,
+    given: Option<Return>,
 ) -> Result<Option<Section>, AllocError>
-    ensures { IfOk result (λ r. option_map core_section r ≡ section_of (section_view s.now) (core_locals locals.items) (option_map body_of body)) }
+    requires { AreDeclarations decls.now }
+    ensures { IfOk result (λ r. option_map core_section r ≡ section_with (declared_by decls.now) (section_view s.now) (core.core_locals locals.items) (core.core_stmts body.items) (section_view s.now).result (option_map core.core_return given)) }
 {
-    let Some(body) = body else {
-        return Ok(None);
-    };
-    let result_type = match (&s.result, &body.result) {
+    let result_type = match (&s.result, &given) {
         (None, None) => None,
-        (Some(tree::ValueType::Int), Some(_)) => Some(ValueType::Integer),
+        (Some(t), Some(_)) => match type_outside(decls, t) {
+            Some(t) => Some(t),
+            None => return Ok(None),
+        },
         _ => return Ok(None),
     };
     Ok(Some(Section {
-        name: s.name.text.clone()?,
+        name: String::from_str(alloc, s.name.text.as_str())?,
         parameters: s.params.len(),
         locals,
         result_type,
-        body: body.stmts,
-        result: body.result,
+        body,
+        result: given,
     }))
 }
 
-/// A section, resolved, if all in it has a type.
+/// A section's parts put together, if none is missing.
+fn section_of(
+    alloc: Global,
+    decls: &Declarations,
+    s: &written::Section,
+    locals: Option<Vec<tree::Local>>,
+    body: Option<Body>,
+) -> Result<Option<Section>, AllocError>
+    requires { AreDeclarations decls.now }
+    ensures { IfOk result (λ r. option_map core_section r ≡ section_of (declared_by decls.now) (section_view s.now) (option_map (λ ls. core.core_locals ls.items) locals) (option_map body_of body)) }
+{
+    match (locals, body) {
+        (Some(locals), Some(body)) => section_with(
+            alloc,
+            decls,
+            s,
+            locals,
+            body.stmts,
+            body.result,
+        ),
+        _ => Ok(None),
+    }
+}
+
+/// The type of a section's result, if it has one without a fault.
+fn result_of(decls: &Declarations, s: &written::Section) -> Option<ValueType>
+    requires { AreDeclarations decls.now }
+    ensures { result ≡ result_of (declared_by decls.now) (section_view s.now) }
+{
+    match &s.result {
+        Some(t) => type_outside(decls, t),
+        None => None,
+    }
+}
+
+/// Notes what is wrong with the type of a section's result.
+fn note_result(decls: &Declarations, t: &Option<written::ValueType>, least: &mut Option<Mistake>)
+    requires { AreDeclarations decls.now }
+    ensures { least.new ≡ least_of least.old (result_faults (declared_by decls.now) (option_of type_seen t.now)) }
+{
+    if let Some(t) = t {
+        note_type(decls, t, least);
+    }
+}
+
+/// A section, resolved, if everything in it has a type.
 #[tactic(auto, using(crate::proofs::Least::least_append))]
 pub fn judge_section(
     alloc: Global,
     program: &Program,
-    s: &tree::Section,
+    s: &written::Section,
     least: &mut Option<Mistake>,
 ) -> Result<Option<Section>, AllocError>
     requires { IsProgram program.now }
     ensures value { IfOk result (λ r. option_map core_section r ≡ typed_section (program_of program.now) (section_view s.now)) }
-    ensures faults { OnOk result (least.new ≡ least_of least.old (decl_faults (program_of program.now) (atomic (section_view s.now)))) }
+    ensures faults { OnOk result (least.new ≡ least_of least.old (section_faults (program_of program.now) (section_view s.now))) }
 {
-    let mut locals = Locals::new(alloc);
+    let decls = &program.decls;
+    note_result(decls, &s.result, least);
+    let mut locals = Locals::new(alloc, result_of(decls, s));
     judge_params(alloc, program, &mut locals, &s.params, least)?;
     let body = judge_body(alloc, program, &mut locals, &s.body.stmts, least)?;
-    section_with(s, locals.items, body)
+    let made = core_locals(alloc, &locals.items)?;
+    section_of(alloc, decls, s, made, body)
 }

@@ -1,140 +1,267 @@
 //! Threads and their calls.
 
-ghost use Rattle.std.specs.Prelude.{◌≡◌, OnOk, IfOk, option_map, map};
-ghost use Rattle.syntax.specs.Views.{const_of, call_of as call_view, item_of, items_of};
+ghost use Rattle.std.specs.Prelude.{◌≡◌, ◌++◌, OnOk, IfOk, option_map, map, is_some};
+ghost use Rattle.syntax.specs.Views.{const_of, call_of as call_view, item_of, items_of, ident};
 ghost use Rattle.syntax.specs.Trees.{call};
-ghost use Rattle.types.specs.CoreViews.{core_call};
-ghost use Rattle.types.specs.Resolution.{const_values, typed_item, typed_items};
-ghost use Rattle.types.specs.FaultLists.{least_of, consts_faults, item_faults, items_faults};
-ghost use Rattle.types.specs.Parts.{pushed};
-ghost use Rattle.types.specs.Views.{program_of, IsProgram};
+ghost use Rattle.resolution.specs.CoreViews.{core_call};
+ghost use Rattle.resolution.specs.Scopes.{the_decl};
+ghost use Rattle.resolution.specs.Resolution.{call_of, one_call, copies, typed_item, typed_items, typed_calls};
+ghost use Rattle.resolution.specs.FaultLists.{least_of, item_faults, items_faults};
+ghost use Rattle.types.specs.Parts.{joined, repeated_calls};
+ghost use Rattle.types.specs.Views.{declared_by, AreDeclarations};
+ghost use Rattle.types.specs.Programs.{program_of, IsProgram};
 
-use crate::expr::constant;
-use crate::note::{Mistake, note};
-use crate::scope::Program;
+use crate::constant::{are_typed, note_arguments, typed_arguments};
+use crate::declarations::Declarations;
+use crate::note::note;
+use crate::table::Program;
 use core_lang::typed::Call;
-use core_lang::value::Value;
+use resolution::mistake::Mistake;
 use source::fault::Code;
 use std::alloc::{AllocError, Global};
 use syntax::tree;
-use syntax::tree::{Const, Decl, Item};
+use syntax::tree::{Decl, Item};
 
-/// The values and one more, if none is missing.
-fn with_value(
-    values: Option<Vec<Value>>,
-    value: Option<Value>,
-) -> Result<Option<Vec<Value>>, AllocError>
-    ensures { IfOk result (λ r. option_map (λ vs. vs.items) r ≡ pushed (option_map (λ vs. vs.items) values) value) }
+/// Notes what is wrong with a call.
+fn note_call(decls: &Declarations, c: &tree::Call, least: &mut Option<Mistake>)
+    requires { AreDeclarations decls.now }
+    ensures { least.new ≡ least_of least.old (item_faults (declared_by decls.now) (call (call_view c.now))) }
 {
-    match (values, value) {
-        (Some(mut values), Some(value)) => {
-            values.push(value)?;
-            Ok(Some(values))
+    let start = c.section.start as usize;
+    match decls.find(c.section.text.as_str()) {
+        Some((_, Decl::Atomic(section))) => {
+            if c.arguments.len() == section.params.len() {
+                note_arguments(decls, &section.params, &c.arguments, least);
+            } else {
+                note(least, Code::WrongArgumentCount, start);
+            }
         }
+        Some((_, Decl::Lock(_)))
+        | Some((_, Decl::Struct(_)))
+        | Some((_, Decl::Global(_)))
+        | Some((_, Decl::Array(_)))
+        | Some((_, Decl::Pool(_)))
+        | Some((_, Decl::Init(_)))
+        | Some((_, Decl::Thread(_))) => note(least, Code::WrongType, start),
+        None => note(least, Code::UnknownName, start),
+    }
+}
+
+/// Notes what is wrong with a thing that a thread does.
+#[cycle(faults)]
+fn note_item(decls: &Declarations, item: &Item, least: &mut Option<Mistake>)
+    requires { AreDeclarations decls.now }
+    ensures { least.new ≡ least_of least.old (item_faults (declared_by decls.now) (item_of item.now)) }
+{
+    match item {
+        Item::Call(c) => note_call(decls, c, least),
+        Item::Repeat(_, items) => note_items(decls, items, least),
+    }
+}
+
+/// Notes what is wrong with what a thread does.
+#[cycle(faults)]
+#[tactic(auto, using(crate::proofs::Least::least_append))]
+pub fn note_items(decls: &Declarations, items: &[Item], least: &mut Option<Mistake>)
+    requires { AreDeclarations decls.now }
+    ensures { least.new ≡ least_of least.old (items_faults (declared_by decls.now) (items_of items.now)) }
+{
+    for item in items {
+        note_item(decls, item, least);
+    }
+}
+
+/// Whether a call is right.
+fn is_typed_call(program: &Program, c: &tree::Call) -> bool
+    requires { IsProgram program.now }
+    ensures { result ≡ is_some (typed_item (program_of program.now) (call (call_view c.now))) }
+{
+    match program.decls.find(c.section.text.as_str()) {
+        Some((_, Decl::Atomic(section))) => are_typed(program, &section.params, &c.arguments),
+        _ => false,
+    }
+}
+
+/// Whether a thing that a thread does is right.
+#[cycle(are)]
+fn is_typed(program: &Program, item: &Item) -> bool
+    requires { IsProgram program.now }
+    ensures { result ≡ is_some (typed_item (program_of program.now) (item_of item.now)) }
+{
+    match item {
+        Item::Call(c) => is_typed_call(program, c),
+        Item::Repeat(_, items) => all_typed(program, items),
+    }
+}
+
+/// Whether what a thread does is right.
+#[cycle(are)]
+fn all_typed(program: &Program, items: &[Item]) -> bool
+    requires { IsProgram program.now }
+    ensures { result ≡ is_some (typed_items (program_of program.now) (items_of items.now)) }
+{
+    for item in items {
+        if !is_typed(program, item) {
+            return false;
+        }
+    }
+    true
+}
+
+/// A call, resolved, if it is right.
+fn typed_call(alloc: Global, program: &Program, c: &tree::Call) -> Result<Option<Call>, AllocError>
+    requires { IsProgram program.now }
+    ensures { IfOk result (λ r. option_map core_call r ≡ call_of (program_of program.now) (the_decl (program_of program.now) (ident c.now.section).text) (map const_of c.now.arguments.items)) }
+{
+    let Some((place, d)) = program.decls.find(c.section.text.as_str()) else {
+        return Ok(None);
+    };
+    let section = program.decls.number(place, d);
+    match d {
+        Decl::Atomic(s) => match typed_arguments(alloc, program, &s.params, &c.arguments)? {
+            Some(arguments) => Ok(Some(Call { section, arguments })),
+            None => Ok(None),
+        },
         _ => Ok(None),
     }
 }
 
-/// The values of constants.
-#[tactic(auto, using(crate::proofs::Least::least_append))]
-fn judge_constants(
-    alloc: Global,
-    constants: &[Const],
-    least: &mut Option<Mistake>,
-) -> Result<Option<Vec<Value>>, AllocError>
-    ensures value { IfOk result (λ r. option_map (λ vs. vs.items) r ≡ const_values (map const_of constants.now)) }
-    ensures faults { OnOk result (least.new ≡ least_of least.old (consts_faults (map const_of constants.now))) }
+/// A single call, if it is right.
+fn one_call(alloc: Global, c: Option<Call>) -> Result<Option<Vec<Call>>, AllocError>
+    ensures { IfOk result (λ r. option_map (λ cs. map core_call cs.items) r ≡ one_call (option_map core_call c)) }
 {
-    let mut values = Some(Vec::new(alloc));
-    for c in constants {
-        let value = constant(c, least);
-        values = with_value(values, value)?;
-    }
-    Ok(values)
-}
-
-/// A call, resolved, if it is right.
-fn judge_call(
-    alloc: Global,
-    program: &Program,
-    c: &tree::Call,
-    least: &mut Option<Mistake>,
-) -> Result<Option<Call>, AllocError>
-    requires { IsProgram program.now }
-    ensures value { IfOk result (λ r. option_map core_call r ≡ typed_item (program_of program.now) (call (call_view c.now))) }
-    ensures faults { OnOk result (least.new ≡ least_of least.old (item_faults (program_of program.now) (call (call_view c.now)))) }
-{
-    let start = c.section.span.start;
-    match program.find(c.section.text.as_str()) {
-        Some((number, Decl::Atomic(section))) => {
-            if c.arguments.len() != section.params.len() {
-                note(least, Code::WrongArgumentCount, start);
-                return Ok(None);
-            }
-            match judge_constants(alloc, &c.arguments, least)? {
-                Some(arguments) => Ok(Some(Call {
-                    section: number,
-                    arguments,
-                })),
-                None => Ok(None),
-            }
+    match c {
+        Some(c) => {
+            let mut calls = Vec::new(alloc);
+            calls.push(c)?;
+            Ok(Some(calls))
         }
-        Some((_, Decl::Lock(_))) | Some((_, Decl::Global(_))) | Some((_, Decl::Thread(_))) => {
-            note(least, Code::WrongType, start);
-            Ok(None)
-        }
-        None => {
-            note(least, Code::UnknownName, start);
-            Ok(None)
-        }
+        None => Ok(None),
     }
 }
 
-/// What a thread does, one thing of it.
-fn judge_item(
-    alloc: Global,
-    program: &Program,
-    item: &Item,
-    least: &mut Option<Mistake>,
-) -> Result<Option<Call>, AllocError>
-    requires { IsProgram program.now }
-    ensures value { IfOk result (λ r. option_map core_call r ≡ typed_item (program_of program.now) (item_of item.now)) }
-    ensures faults { OnOk result (least.new ≡ least_of least.old (item_faults (program_of program.now) (item_of item.now))) }
+/// A call once more.
+fn copy(c: &Call) -> Result<Call, AllocError>
+    ensures { IfOk result (λ r. core_call r ≡ core_call c.now) }
 {
-    match item {
-        Item::Call(c) => judge_call(alloc, program, c, least),
+    Ok(Call {
+        section: c.section,
+        arguments: c.arguments.clone()?,
+    })
+}
+
+/// Adds calls once more.
+fn append(calls: &mut Vec<Call>, more: &[Call]) -> Result<(), AllocError>
+    ensures { OnOk result (map core_call calls.new.items ≡ map core_call calls.old.items ++ map core_call more.now) }
+{
+    for c in more {
+        calls.push(copy(c)?)?;
+    }
+    Ok(())
+}
+
+/// Calls so many times over.
+fn copies(alloc: Global, n: u64, calls: &[Call]) -> Result<Vec<Call>, AllocError>
+    ensures { IfOk result (λ r. map core_call r.items ≡ copies n (map core_call calls.now)) }
+{
+    let mut made = Vec::new(alloc);
+    if calls.is_empty() {
+        return Ok(made);
+    }
+    for turn in 0..n {
+        append(&mut made, calls)?;
+    }
+    Ok(made)
+}
+
+/// Calls so many times over, if there are any.
+fn repeated(
+    alloc: Global,
+    n: u64,
+    calls: Option<Vec<Call>>,
+) -> Result<Option<Vec<Call>>, AllocError>
+    ensures { IfOk result (λ r. option_map (λ cs. map core_call cs.items) r ≡ repeated_calls n (option_map (λ cs. map core_call cs.items) calls)) }
+{
+    match calls {
+        Some(calls) => Ok(Some(copies(alloc, n, &calls)?)),
+        None => Ok(None),
     }
 }
 
-/// The calls and one more, if none is missing.
-fn with_call(calls: Option<Vec<Call>>, next: Option<Call>) -> Result<Option<Vec<Call>>, AllocError>
-    ensures { IfOk result (λ r. option_map (λ cs. map core_call cs.items) r ≡ pushed (option_map (λ cs. map core_call cs.items) calls) (option_map core_call next)) }
+/// The calls and further ones, if none is missing.
+fn with_calls(
+    calls: Option<Vec<Call>>,
+    more: Option<Vec<Call>>,
+) -> Result<Option<Vec<Call>>, AllocError>
+    ensures { IfOk result (λ r. option_map (λ cs. map core_call cs.items) r ≡ joined (option_map (λ cs. map core_call cs.items) calls) (option_map (λ cs. map core_call cs.items) more)) }
 {
-    match (calls, next) {
-        (Some(mut calls), Some(next)) => {
-            calls.push(next)?;
+    match (calls, more) {
+        (Some(mut calls), Some(more)) => {
+            append(&mut calls, &more)?;
             Ok(Some(calls))
         }
         _ => Ok(None),
     }
 }
 
-/// What a thread does, resolved, if it is right.
-#[tactic(auto, using(crate::proofs::Least::least_append))]
-pub fn judge_items(
+/// The calls of a thing that a thread does. Where it is repeated no times, nothing of it is built.
+#[cycle(typed)]
+fn typed_item(
+    alloc: Global,
+    program: &Program,
+    item: &Item,
+) -> Result<Option<Vec<Call>>, AllocError>
+    requires { IsProgram program.now }
+    ensures { IfOk result (λ r. option_map (λ cs. map core_call cs.items) r ≡ typed_item (program_of program.now) (item_of item.now)) }
+{
+    match item {
+        Item::Call(c) => {
+            let call = typed_call(alloc, program, c)?;
+            one_call(alloc, call)
+        }
+        Item::Repeat(n, items) => {
+            if n.value == 0 {
+                if all_typed(program, items) {
+                    return Ok(Some(Vec::new(alloc)));
+                }
+                return Ok(None);
+            }
+            let calls = typed_items(alloc, program, items)?;
+            repeated(alloc, n.value, calls)
+        }
+    }
+}
+
+/// The calls of what a thread does.
+#[cycle(typed)]
+fn typed_items(
     alloc: Global,
     program: &Program,
     items: &[Item],
-    least: &mut Option<Mistake>,
 ) -> Result<Option<Vec<Call>>, AllocError>
     requires { IsProgram program.now }
-    ensures value { IfOk result (λ r. option_map (λ cs. map core_call cs.items) r ≡ typed_items (program_of program.now) (items_of items.now)) }
-    ensures faults { OnOk result (least.new ≡ least_of least.old (items_faults (program_of program.now) (items_of items.now))) }
+    ensures { IfOk result (λ r. option_map (λ cs. map core_call cs.items) r ≡ typed_items (program_of program.now) (items_of items.now)) }
 {
     let mut calls = Some(Vec::new(alloc));
     for item in items {
-        let next = judge_item(alloc, program, item, least)?;
-        calls = with_call(calls, next)?;
+        let more = typed_item(alloc, program, item)?;
+        calls = with_calls(calls, more)?;
     }
     Ok(calls)
+}
+
+/// A thread's calls, if there are not too many in all threads.
+pub fn typed_calls(
+    alloc: Global,
+    program: &Program,
+    items: &[Item],
+) -> Result<Option<Vec<Call>>, AllocError>
+    requires { IsProgram program.now }
+    ensures { IfOk result (λ r. option_map (λ cs. map core_call cs.items) r ≡ typed_calls (program_of program.now) (items_of items.now)) }
+{
+    if program.has_few_calls() {
+        typed_items(alloc, program, items)
+    } else {
+        Ok(None)
+    }
 }

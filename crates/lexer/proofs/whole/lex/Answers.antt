@@ -1,5 +1,6 @@
 use Rattle.std.proofs.Common.{ℕ, List, ◌-◌, length, sym, ap, ◌∙◌, arith}
-use Rattle.source.specs.Tokens.{seen_kind}
+use Rattle.source.specs.declared.token.Token.TheVariants.{End}
+use Rattle.lexer.specs.Reading.{seen_kind}
 use Rattle.source.specs.Texts.{too_big}
 use Rattle.lexer.proofs.Steps.{begun, skip_le, unit_shortens}
 use Rattle.lexer.proofs.Ends.{tok_of, none_left, some_left, end_seen, went_on, all_found, all_rise, all_sliced, all_only, none_refused, stop_fault, stop_only, stop_refused}
@@ -14,22 +15,22 @@ tokens-init c = rw c.new-tokens.ensures.items (record { state = begun (length c.
 pub returns-then-is_empty-clause-found : goal.returns-then-is_empty-clause-found
 returns-then-is_empty-clause-found c =
     let done = none_left c.after_gap-here.result.now c.is_empty.result c.is_empty.ensures c.if-is_empty.true in
-    rw c.in_ok-push.ensures.items (all_found c.args.text.now c.tokens.rest.now c.tokens.tokens.items c.tokens.invariant.state _ (end_seen c.args.text.now c.after_gap-here.result.now done) (sym c.after_gap-here.ensures ∙ done))
+    rw c.in_ok-push.ensures.items (all_found c.args.text.now c.tokens.rest.now c.tokens.tokens.items c.tokens.invariant.state (End (length c.args.text.now - length c.after_gap-here.result.now)) (end_seen c.args.text.now c.after_gap-here.result.now done) (sym c.after_gap-here.ensures ∙ done))
 
 pub returns-then-is_empty-clause-rise : goal.returns-then-is_empty-clause-rise
 returns-then-is_empty-clause-rise c =
     let done = none_left c.after_gap-here.result.now c.is_empty.result c.is_empty.ensures c.if-is_empty.true in
-    rw c.in_ok-push.ensures.items (all_rise c.args.text.now c.tokens.rest.now c.tokens.tokens.items c.tokens.invariant.state _ (end_seen c.args.text.now c.after_gap-here.result.now done) (sym c.after_gap-here.ensures ∙ done))
+    rw c.in_ok-push.ensures.items (all_rise c.args.text.now c.tokens.rest.now c.tokens.tokens.items c.tokens.invariant.state (End (length c.args.text.now - length c.after_gap-here.result.now)) (end_seen c.args.text.now c.after_gap-here.result.now done) (sym c.after_gap-here.ensures ∙ done))
 
 pub returns-then-is_empty-clause-slices : goal.returns-then-is_empty-clause-slices
 returns-then-is_empty-clause-slices c =
     let done = none_left c.after_gap-here.result.now c.is_empty.result c.is_empty.ensures c.if-is_empty.true in
-    rw c.in_ok-push.ensures.items (all_sliced c.args.text.now c.tokens.rest.now c.tokens.tokens.items c.tokens.invariant.state _ (end_seen c.args.text.now c.after_gap-here.result.now done) (sym c.after_gap-here.ensures ∙ done))
+    rw c.in_ok-push.ensures.items (all_sliced c.args.text.now c.tokens.rest.now c.tokens.tokens.items c.tokens.invariant.state (End (length c.args.text.now - length c.after_gap-here.result.now)) (end_seen c.args.text.now c.after_gap-here.result.now done) (sym c.after_gap-here.ensures ∙ done))
 
 pub returns-then-is_empty-clause-only : goal.returns-then-is_empty-clause-only
 returns-then-is_empty-clause-only c = λ ts l h.
     let done = none_left c.after_gap-here.result.now c.is_empty.result c.is_empty.ensures c.if-is_empty.true in
-    rw c.in_ok-push.ensures.items (all_only c.args.text.now c.tokens.rest.now c.tokens.tokens.items c.tokens.invariant.state _ (end_seen c.args.text.now c.after_gap-here.result.now done) (sym c.after_gap-here.ensures ∙ done) ts h)
+    rw c.in_ok-push.ensures.items (all_only c.args.text.now c.tokens.rest.now c.tokens.tokens.items c.tokens.invariant.state (End (length c.args.text.now - length c.after_gap-here.result.now)) (end_seen c.args.text.now c.after_gap-here.result.now done) (sym c.after_gap-here.ensures ∙ done) ts h)
 
 pub returns-then-is_empty-clause-refused : goal.returns-then-is_empty-clause-refused
 returns-then-is_empty-clause-refused c =
@@ -53,6 +54,6 @@ returns-in-Err-clause-refused c = λ code start h.
 
 pub tokens-preserved : goal.tokens-preserved
 tokens-preserved c = record {
-  state = rw c.in_ok-push-2.ensures.items (went_on c.args.text.now c.tokens.rest.now c.tokens.tokens.items c.tokens.invariant.state _ c.in-Ok.token.1.now _ (rw c.after_gap-here.ensures at c.in-Ok.ensures) (ap (λ (at : List ℕ). tok_of (seen_kind c.in-Ok.token.0) (length c.args.text.now - length at) (length c.args.text.now - length c.in-Ok.token.1.now)) c.after_gap-here.ensures));
+  state = rw c.in_ok-push-2.ensures.items (went_on c.args.text.now c.tokens.rest.now c.tokens.tokens.items c.tokens.invariant.state _ c.in-Ok.token.1.now c.in_ok-token_at.field-0 (rw c.after_gap-here.ensures at c.in-Ok.ensures) (c.in_ok-token_at.ensures ∙ ap (λ (at : List ℕ). tok_of (seen_kind c.in-Ok.token.0) (length c.args.text.now - length at) (length c.args.text.now - length c.in-Ok.token.1.now)) c.after_gap-here.ensures));
   short = omega (arith, unit_shortens c.after_gap-here.result.now _ c.in-Ok.token.1.now c.in-Ok.ensures, skip_le c.tokens.rest.now, ap length c.after_gap-here.ensures);
 }

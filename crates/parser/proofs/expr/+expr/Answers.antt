@@ -3,15 +3,14 @@ use Rattle.std.proofs.lemmas.Bool.Decides.{nat_tests}
 use Rattle.std.proofs.lemmas.Result.{err_from_is_err_and}
 use Rattle.source.specs.Tokens.{seen}
 use Rattle.syntax.specs.Views.{expr_of}
-use Rattle.syntax.proofs.Rows.{expr_of-Chain}
-use Rattle.parser.specs.Reading.{operand_at}
-use Rattle.parser.proofs.Chains.{links_before, link_goes_on, link_ends, link_stops, chain_done}
+use Rattle.parser.specs.Bodies.{operand_at}
+use Rattle.parser.proofs.Chains.{links_before, link_goes_on, link_ends, link_stops, chain_made, chain_done}
 use Rattle.parser.proofs.Shorter.{operand_shortens, one_turn_less}
 use Rattle.parser.proofs.expr.+expr.Goals as goal
 
 pub chain-returns : goal.chain-returns
 chain-returns t c =
-    rw (expr_of-Chain c.args.level c.in_ok-new.field-0 c.in_ok-links.links, c.in_ok-new.ensures.ok) (chain_done (operand_at c.args.level c.args.room) c.args.level (seen c.args.tokens.now) (seen c.in_ok-first.rest.now) (seen c.in_ok-links.rest.now) (expr_of c.in_ok-first.first) c.in_ok-links.links.items (λ none. grind (arith, nat_tests, none, c.in_ok-links.links.ok.0, c.if-is_empty.false, c.is_empty.ensures)) c.in_ok-first.ensures c.in_ok-links.ensures)
+    rw (chain_made c.in_ok-new.field-0 c.args.level c.in_ok-first.first c.in_ok-links.links c.in_ok-new.ensures.ok) (chain_done (operand_at c.args.level c.args.room) c.args.level (seen c.args.tokens.now) (seen c.in_ok-first.rest.now) (seen c.in_ok-links.rest.now) (expr_of c.in_ok-first.first) c.in_ok-links.links.items (λ none. grind (arith, nat_tests, none, c.in_ok-links.links.ok.0, c.if-is_empty.false, c.is_empty.ensures)) c.in_ok-first.ensures c.in_ok-links.ensures)
 
 pub links-returns-in_err-right : goal.links-returns-in_err-right
 links-returns-in_err-right t c =

@@ -1,25 +1,37 @@
-use Rattle.std.proofs.Common.{◌≡◌, ◌+◌, ◌-◌, ◌*◌, length}
+use Rattle.std.proofs.Common.{◌≡◌, ◌+◌, ◌*◌, length}
 use Rattle.source.specs.Tokens.{seen}
 use Rattle.syntax.specs.Grammar.{rank}
-use Rattle.parser.specs.Reading.{operand_at, links_at}
+use Rattle.parser.specs.Bodies.{operand_at, links_at}
 use Rattle.parser.proofs.Many.{with_front}
 use Rattle.parser.proofs.Chains.{links_before}
 use Rattle.parser.proofs.expr.+expr.Given as goal
 
 abbrev pub decreases-chain : goal.decreases-chain
-decreases-chain l = 20 * l.room + 3 * rank l.level
+decreases-chain l = 40 * l.room + 4 * rank l.level + 4
 
 abbrev pub decreases-links : goal.decreases-links
-decreases-links l = 20 * l.room + 3 * rank l.level - 1
+decreases-links l = 40 * l.room + 4 * rank l.level + 3
 
 abbrev pub decreases-operand : goal.decreases-operand
-decreases-operand l = 20 * l.room + 3 * rank l.level - 2
+decreases-operand l = 40 * l.room + 4 * rank l.level + 2
+
+abbrev pub decreases-compared : goal.decreases-compared
+decreases-compared l = 40 * l.room + 17
 
 abbrev pub decreases-unary : goal.decreases-unary
-decreases-unary l = 20 * l.room + 1
+decreases-unary l = 40 * l.room + 5
 
 abbrev pub decreases-prim : goal.decreases-prim
-decreases-prim l = 20 * l.room
+decreases-prim l = 40 * l.room + 4
+
+abbrev pub decreases-place : goal.decreases-place
+decreases-place l = 40 * l.room + 2
+
+abbrev pub decreases-element : goal.decreases-element
+decreases-element l = 40 * l.room + 1
+
+abbrev pub decreases-parens : goal.decreases-parens
+decreases-parens l = 40 * l.room + 1
 
 abbrev pub invariant-links-loop-op : goal.invariant-links-loop-op
 invariant-links-loop-op l = with_front (links_before l.links.items) (links_at (operand_at l.level l.room) l.level (seen l.rest)) ≡ links_at (operand_at l.level l.room) l.level (seen l.tokens)

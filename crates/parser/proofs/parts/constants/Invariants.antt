@@ -8,7 +8,7 @@ use Rattle.parser.proofs.Loops.{before}
 use Rattle.parser.proofs.parts.constants.Given as goal
 
 abbrev pub invariant-loop-after : goal.invariant-loop-after
-invariant-loop-after l = with_front (before ◌∷◌ const_of l.constants.items) (after_each Comma const_at (seen l.rest)) ≡ listed_at const_at (seen l.tokens)
+invariant-loop-after l = with_front (before ◌∷◌ const_of l.constants.items) (after_each Comma (const_at l.room) (seen l.rest)) ≡ listed_at (const_at l.room) (seen l.tokens)
 
 abbrev pub decreases-loop-after : goal.decreases-loop-after
 decreases-loop-after l = length l.rest

@@ -2,7 +2,8 @@ use Rattle.std.proofs.Common.{◌≡◌, ◌∷◌, length}
 use Rattle.source.specs.declared.token.Sign.TheVariants.{Comma}
 use Rattle.source.specs.Tokens.{seen}
 use Rattle.syntax.specs.Views.{param_of}
-use Rattle.parser.specs.Reading.{param_at, listed_at, after_each}
+use Rattle.parser.specs.Reading.{listed_at, after_each}
+use Rattle.parser.specs.Declarations.{param_at}
 use Rattle.parser.proofs.Many.{with_front}
 use Rattle.parser.proofs.Loops.{before}
 use Rattle.parser.proofs.parts.param_list.Given as goal

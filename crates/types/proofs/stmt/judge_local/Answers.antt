@@ -1,8 +1,11 @@
-use Rattle.types.specs.Views.{program_of}
+use Rattle.std.proofs.Common.{ap, ◌∙◌}
+use Rattle.syntax.specs.Views.{ident}
+use Rattle.resolution.specs.Scopes.{bound}
+use Rattle.types.specs.Programs.{program_of}
+use Rattle.types.specs.Scoped.{scope_of}
 use Rattle.types.proofs.stmt.judge_local.Goals as goal
 
-pub returns-in-Some-clause-scope : goal.returns-in-Some-clause-scope
-returns-in-Some-clause-scope c = c.in_ok-bind.ensures.bound (program_of c.args.program.now)
-
-pub returns-in-None-clause-scope : goal.returns-in-None-clause-scope
-returns-in-None-clause-scope c = c.in_ok-bind.ensures.bound (program_of c.args.program.now)
+pub returns-clause-scope : goal.returns-clause-scope
+returns-clause-scope c =
+    let ds = program_of c.args.program.now in
+    c.in_ok-bind.ensures.bound ds ∙ ap (bound (scope_of ds c.args.locals.now) c.args.kind (ident c.args.local.now.name)) c.type_at-t.ensures

@@ -1,0 +1,24 @@
+-- Names are ASCII.
+use Rattle.std.proofs.Common.{◌≡◌, ℕ, ◌<◌, true, List, [], ◌∷◌, sym, arith}
+use Rattle.std.specs.Prelude.{IsUtf8, IsAscii, bytes_eq}
+use Rattle.std.specs.List.{list_all}
+use Rattle.std.proofs.lemmas.Bool.Decides.{nat_tests}
+use Rattle.std.proofs.lemmas.Slice.Eq.{bytes_eq-Decides}
+use Rattle.std.proofs.lemmas.Str.{IsUtf8-from_ascii}
+use Rattle.std.proofs.lemmas.Str.Ascii.{IsAscii-nil, IsAscii-cons}
+use Rattle.source.specs.Texts.{is_name_byte}
+use Rattle.lexer.proofs.Gaps.{and_parts}
+
+name_byte_low : (b : ℕ) → is_name_byte b ≡ true → b < 128
+name_byte_low b h = grind (arith, nat_tests)
+
+name_ascii : (bs : List ℕ) → list_all is_name_byte bs ≡ true → IsAscii bs
+name_ascii [] h = IsAscii-nil
+name_ascii (b ∷ bs) h = let p = and_parts (is_name_byte b) (list_all is_name_byte bs) h in IsAscii-cons b bs (name_byte_low b p.0) (name_ascii bs p.1)
+
+pub name_utf8 : (bs : List ℕ) → list_all is_name_byte bs ≡ true → IsUtf8 bs
+name_utf8 bs h = IsUtf8-from_ascii bs (name_ascii bs h)
+
+-- a name that is found is the one that was looked for
+pub same_bytes : (a b : List ℕ) → bytes_eq a b ≡ true → b ≡ a
+same_bytes a b h = sym ((bytes_eq-Decides a b).0 h)

@@ -1,0 +1,42 @@
+//! The names of a text.
+
+ghost use Rattle.std.specs.Prelude.{◌≡◌, IsTrue, IfOk};
+ghost use Rattle.std.specs.List.{list_all};
+ghost use Rattle.std.specs.Rc.{rc_str_bytes};
+ghost use Rattle.source.specs.Texts.{is_name_byte};
+
+use std::alloc::{AllocError, Global};
+use std::collections::HashSet;
+use std::rc::RcStr;
+use std::str::from_utf8_unchecked;
+
+/// The names so far, each once, so that names that are the same share their bytes.
+#[derive(Drop)]
+pub struct Names {
+    texts: HashSet<RcStr>,
+}
+
+impl Names {
+    /// No names.
+    pub fn new(alloc: Global) -> Names {
+        Names {
+            texts: HashSet::new(alloc),
+        }
+    }
+
+    /// The name of these bytes, shared with those before it that are the same.
+    #[tactic(auto, using(crate::proofs::NameBytes::name_utf8, crate::proofs::NameBytes::same_bytes))]
+    pub fn share(&mut self, alloc: Global, name: &[u8]) -> Result<RcStr, AllocError>
+        requires { IsTrue (list_all is_name_byte name.now) }
+        ensures { IfOk result (λ text. rc_str_bytes text ≡ name.now) }
+    {
+        // SAFETY: letters, digits and `_` are ASCII.
+        let name = unsafe { from_utf8_unchecked(name) };
+        if let Some(text) = self.texts.get(name) {
+            return text.clone();
+        }
+        let text = RcStr::from_str(alloc, name)?;
+        self.texts.insert(text.clone()?)?;
+        Ok(text)
+    }
+}

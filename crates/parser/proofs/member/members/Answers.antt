@@ -1,0 +1,24 @@
+use Rattle.std.proofs.Common.{sym, ◌∙◌}
+use Rattle.std.proofs.lemmas.Result.{err_from_is_err_and}
+use Rattle.source.specs.Tokens.{seen}
+use Rattle.syntax.specs.Views.{member_of}
+use Rattle.parser.specs.Declarations.{member_at}
+use Rattle.parser.proofs.Loops.{fewer}
+use Rattle.parser.proofs.Shorter.{member_shortens}
+use Rattle.parser.proofs.Turns.{members_go_on, members_end, members_stop}
+use Rattle.parser.proofs.member.members.Goals as goal
+
+pub returns-in_err-next : goal.returns-in_err-next
+returns-in_err-next c =
+    let p = err_from_is_err_and c.from_residual.result c.from_residual.ensures.1 in
+    rw (p.1, p.2) (members_stop c.args.room c.items.members.items (seen c.items.rest.now) _ c.in_err-next.field-0.0 (sym c.is_sign_next.ensures ∙ c.items-test.true) c.in_err-next.ensures c.items.invariant)
+
+pub items-smaller : goal.items-smaller
+items-smaller c = fewer (member_at c.args.room) (member_shortens c.args.room) c.items.rest.now c.in_ok-next.after.now (member_of c.in_ok-next.next) c.in_ok-next.ensures
+
+pub items-preserved : goal.items-preserved
+items-preserved c =
+    rw c.in_ok-push.ensures.items (members_go_on c.args.room c.items.members.items (seen c.items.rest.now) _ c.in_ok-next.next (seen c.in_ok-next.after.now) (sym c.is_sign_next.ensures ∙ c.items-test.true) c.in_ok-next.ensures c.items.invariant)
+
+pub returns : goal.returns
+returns c = members_end c.args.room c.items.members.items (seen c.items.rest.now) _ (sym c.is_sign_next.ensures ∙ c.items-test.false) c.items.invariant

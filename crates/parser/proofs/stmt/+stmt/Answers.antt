@@ -1,0 +1,32 @@
+use Rattle.std.proofs.Common.{sym, ◌∙◌}
+use Rattle.parser.proofs.Behind.{while_done, if_done}
+use Rattle.syntax.proofs.Rows.{stmt_of_While, stmt_of_If}
+use Rattle.std.proofs.lemmas.Result.{err_from_is_err_and}
+use Rattle.source.specs.Tokens.{seen}
+use Rattle.syntax.specs.Views.{stmt_of}
+use Rattle.parser.specs.Bodies.{stmt_at}
+use Rattle.parser.proofs.Loops.{fewer}
+use Rattle.parser.proofs.Shorter.{stmt_shortens}
+use Rattle.parser.proofs.Turns.{stmts_go_on, stmts_end, stmts_stop}
+use Rattle.parser.proofs.stmt.+stmt.Goals as goal
+
+pub stmts-returns-in_err-next : goal.stmts-returns-in_err-next
+stmts-returns-in_err-next t c =
+    let p = err_from_is_err_and c.from_residual.result c.from_residual.ensures.1 in
+    rw (p.1, p.2) (stmts_stop c.args.room c.items.stmts.items (seen c.items.rest.now) _ c.in_err-next.field-0.0 (sym c.is_sign_next.ensures ∙ c.items-test.true) c.in_err-next.ensures c.items.invariant)
+
+pub stmts-items-smaller : goal.stmts-items-smaller
+stmts-items-smaller t c = fewer (stmt_at c.args.room) (stmt_shortens c.args.room) c.items.rest.now c.in_ok-next.after.now (stmt_of c.in_ok-next.next) c.in_ok-next.ensures
+
+pub stmts-items-preserved : goal.stmts-items-preserved
+stmts-items-preserved t c =
+    rw c.in_ok-push.ensures.items (stmts_go_on c.args.room c.items.stmts.items (seen c.items.rest.now) _ c.in_ok-next.next (seen c.in_ok-next.after.now) (sym c.is_sign_next.ensures ∙ c.items-test.true) c.in_ok-next.ensures c.items.invariant)
+
+pub stmts-returns : goal.stmts-returns
+stmts-returns t c = stmts_end c.args.room c.items.stmts.items (seen c.items.rest.now) _ (sym c.is_sign_next.ensures ∙ c.items-test.false) c.items.invariant
+
+pub while_rest-returns : goal.while_rest-returns
+while_rest-returns t c = rw (stmt_of_While c.args.start c.in_ok-condition.condition c.in_ok-body.body) (while_done c.args.room c.args.start (seen c.args.tokens.now) _ _ _ _ c.in_ok-condition.ensures c.in_ok-body.ensures)
+
+pub if_rest-returns : goal.if_rest-returns
+if_rest-returns t c = rw (stmt_of_If c.args.start c.in_ok-condition.condition c.in_ok-body.body c.in_ok-other.other) (if_done c.args.room c.args.start (seen c.args.tokens.now) _ _ _ _ _ _ c.in_ok-condition.ensures c.in_ok-body.ensures c.in_ok-other.ensures)

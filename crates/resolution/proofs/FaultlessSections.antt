@@ -1,0 +1,145 @@
+-- Sections and threads for which no fault is listed are resolved.
+use Rattle.std.proofs.Common.{◌≡◌, ℕ, zero, suc, ◌+◌, ◌≤◌, List, [], ◌∷◌, ◌++◌, length, Option, Some, None, Bool, true, false, ◌⊎◌, inl, inr, refl, sym, ap, ◌∙◌, subst, if◌then◌else◌, arith}
+use Rattle.std.specs.Prelude.{nat_le, ◌==◌, slice_get}
+use Rattle.std.proofs.lemmas.Bool.{eqb-true}
+use Rattle.source.specs.declared.fault.Code.TheVariants.{UnknownName, WrongType, WrongArgumentCount, LimitExceeded}
+use Rattle.syntax.specs.Returns.{ReturnsRight, HasReturn, this_returns, returns_inside, later_returns, HasStrayReturn, this_early, stray_inside, later_stray, EndsInReturn, IsSectionFault, no_result, stray, missing, IsReturnFault, this_section, later_section}
+use Rattle.syntax.specs.Trees.{ValueType, Const, Param, Section, Call, Item, call, repeat, Items, no_items, item, Stmts, stmt, Decl, lock, struct, global, array, pool, init, atomic, thread}
+use Rattle.core_lang.specs.declared.value.ValueType as core_type
+use Rattle.core_lang.specs.declared.tree.LocalKind.TheVariants as kind
+use Rattle.resolution.specs.Core as core
+use Rattle.resolution.specs.Limits.{PARAMETER_LIMIT}
+use Rattle.resolution.specs.Scopes as scope
+use Rattle.resolution.specs.Scopes.{◌>>=◌, Scope, outside, number_at, the_decl, type_of, bound, entered}
+use Rattle.resolution.specs.Constants.{added, typed_arguments}
+use Rattle.resolution.specs.Resolution.{result_of, ahead_of, entry, core_local, core_locals, section_with, section_of, typed_section, call_of, copies, joined, one_call, typed_item, typed_items}
+use Rattle.resolution.specs.Statements.{typed_body, Body, after_all}
+use Rattle.resolution.specs.Where.{Has, first, further}
+use Rattle.resolution.specs.FaultLists.{one, one_if, type_faults, argument_faults, local_faults, stmts_faults, param_faults, result_faults, call_faults, item_faults, items_faults}
+use Rattle.resolution.proofs.TrueStatements.{entered_same}
+use Rattle.resolution.proofs.FaultlessExpressions.{NoneIn, none_left, none_right, not_one, Clean, Typing, type_is, AllTyped, Context}
+use Rattle.resolution.proofs.FaultlessStatements.{HasResult, typed_push, all_same, all_context, Bodied, body_is}
+use Rattle.resolution.proofs.FaultlessConstants.{arguments_are}
+
+-- ---- scopes
+
+pub entered_context : (sc : Scope) → Context sc → (n : ℕ) (ps : List Param) → NoneIn (param_faults sc n ps) → Context (entered sc ps)
+entered_context sc c n [] none = c
+entered_context sc c n (p ∷ ps) none =
+    let a = local_faults sc p.name ++ one_if (nat_le PARAMETER_LIMIT n) LimitExceeded p.name.span.start in
+    let b = type_faults (outside sc.decls) p.value_type in
+    let t = type_of (outside sc.decls) p.value_type in
+    let rest = param_faults (bound sc kind.Parameter p.name t) (n + 1) ps in
+    entered_context (bound sc kind.Parameter p.name t)
+    (record { clean = c.clean; locals = typed_push sc.decls sc.locals (record { name = p.name.text; kind = kind.Parameter; value_type = t; is_visible = true }) c.locals (type_is (outside sc.decls) p.value_type (none_right a b (none_left (a ++ b) rest none))) })
+    (n + 1) ps (none_right (a ++ b) rest none)
+
+pub entered_result : (sc : Scope) (ps : List Param) → (entered sc ps).result ≡ sc.result
+entered_result sc [] = refl
+entered_result sc (p ∷ ps) = entered_result (bound sc kind.Parameter p.name (type_of (outside sc.decls) p.value_type)) ps
+
+pub entry_context : (decls : List Decl) → Clean decls → (s : Section) → NoneIn (param_faults (ahead_of decls s) 0 s.params) → Context (entry decls s)
+entry_context decls clean s none = entered_context (ahead_of decls s) (record { clean = clean; locals = λ n l e. cc }) 0 s.params none
+
+locals_are : (decls : List Decl) (ls : List scope.Local) → AllTyped decls ls → (xs : List core.Local) × (core_locals ls ≡ Some xs)
+locals_are decls [] all = ([], refl)
+locals_are decls (l ∷ ls) all =
+    let t = all 0 l refl in
+    let r = locals_are decls ls (λ n x e. all (suc n) x e) in
+    let x : core.Local = record { name = l.name; kind = l.kind; value_type = t.value_type } in
+    (x ∷ r.0, ap (λ (o : Option core_type.ValueType). added (o >>= λ v. Some (record { name = l.name; kind = l.kind; value_type = v })) (core_locals ls)) t.is ∙ ap (added (Some x)) r.1)
+
+-- ---- returns
+
+stray_returns : (ss : Stmts) (at : ℕ) → HasStrayReturn ss at → HasReturn ss at
+stray_returns ss at (this_early h) = this_returns h
+stray_returns ss at (stray_inside h) = returns_inside h
+stray_returns (stmt s more) at (later_stray h) = later_returns (stray_returns more at h)
+
+section_right : (decls : List Decl) (s : Section) → Has decls (atomic s) → (at : ℕ) → IsSectionFault s at → IsReturnFault decls at
+section_right [] s h at f = elim h [ ]
+section_right (d ∷ ds) s first at f = this_section f
+section_right (d ∷ ds) s (further h) at f = later_section (section_right ds s h at f)
+
+-- ---- sections
+
+result_typed : (decls : List Decl) (s : Section) (t : ValueType) → s.result ≡ Some t → NoneIn (result_faults decls s.result) → Typing decls (result_of decls s)
+result_typed decls s t is none =
+    subst (λ (o : Option ValueType). Typing decls (o >>= λ v. type_of (outside decls) v)) (sym is) (type_is (outside decls) t (subst (λ (o : Option ValueType). NoneIn (result_faults decls o)) is none))
+
+no_end : (ss : Stmts) (b : Body) → b.result ≡ None → (EndsInReturn ss → (r : core.Return) × (b.result ≡ Some r)) → EndsInReturn ss → ⊥
+no_end ss b none some h = let r = some h in let e : None ≡ Some r.0 = sym none ∙ r.1 in cc
+
+section_put : (decls : List Decl) (s : Section) (ls : List core.Local) (b : Body) → ReturnsRight decls → Has decls (atomic s) → NoneIn (result_faults decls s.result) →
+    (((at : ℕ) → HasReturn s.body.stmts at → ⊥) → b.result ≡ None) → (EndsInReturn s.body.stmts → (r : core.Return) × (b.result ≡ Some r)) →
+    (o : Option ValueType) → s.result ≡ o → (q : Option core.Return) → b.result ≡ q → (x : core.Section) × (section_with decls s ls b.stmts o q ≡ Some x)
+section_put decls s ls b right h none never some None is None given = (_, refl)
+section_put decls s ls b right h none never some None is (Some r) given =
+    let e : Some r ≡ None = sym given ∙ never (λ at i. right at (section_right decls s h at (no_result is i))) in cc
+section_put decls s ls b right h none never some (Some t) is None given =
+    absurd (right s.body.close.start (section_right decls s h s.body.close.start (missing is (no_end s.body.stmts b given some))))
+section_put decls s ls b right h none never some (Some t) is (Some r) given =
+    let v = type_is (outside decls) t (subst (λ (o : Option ValueType). NoneIn (result_faults decls o)) is none) in (
+      record { name = s.name.text; parameters = length s.params; locals = ls; result_type = Some v.value_type; body = b.stmts; result = Some r },
+      ap (λ (o : Option core_type.ValueType). o >>= λ w. Some (record { name = s.name.text; parameters = length s.params; locals = ls; result_type = Some w; body = b.stmts; result = Some r })) v.is,
+    )
+
+-- a section has no `return`, or it has a result
+returns_or : (decls : List Decl) (s : Section) → ReturnsRight decls → Has decls (atomic s) → NoneIn (result_faults decls s.result) → (o : Option ValueType) → s.result ≡ o → ((at : ℕ) → HasReturn s.body.stmts at → ⊥) ⊎ HasResult (entry decls s)
+returns_or decls s right h none None is = inl (λ at i. right at (section_right decls s h at (no_result is i)))
+returns_or decls s right h none (Some t) is =
+    inr (subst (λ (ds : List Decl). Typing ds (entry decls s).result) (sym (entered_same (ahead_of decls s) s.params)) (subst (λ (o : Option core_type.ValueType). Typing decls o) (sym (entered_result (ahead_of decls s) s.params)) (result_typed decls s t is none)))
+
+stray_right : (decls : List Decl) (s : Section) → ReturnsRight decls → Has decls (atomic s) → (o : Option ValueType) → s.result ≡ o → (at : ℕ) → HasStrayReturn s.body.stmts at → ⊥
+stray_right decls s right h None is at i = right at (section_right decls s h at (no_result is (stray_returns s.body.stmts at i)))
+stray_right decls s right h (Some t) is at i = right at (section_right decls s h at (stray is i))
+
+pub section_is : (decls : List Decl) → Clean decls → ReturnsRight decls → (s : Section) → Has decls (atomic s) → NoneIn (result_faults decls s.result ++ param_faults (ahead_of decls s) 0 s.params ++ stmts_faults (entry decls s) s.body.stmts) →
+    (x : core.Section) × (typed_section decls s ≡ Some x)
+section_is decls clean right s h none =
+    let a = result_faults decls s.result in
+    let b = param_faults (ahead_of decls s) 0 s.params in
+    let c = stmts_faults (entry decls s) s.body.stmts in
+    let n2 = none_left (a ++ b) c none in
+    let sc = entry_context decls clean s (none_right a b n2) in
+    let end = all_context (entry decls s) sc s.body.stmts (none_right (a ++ b) c none) in
+    let ls = locals_are (after_all (entry decls s) s.body.stmts).decls (after_all (entry decls s) s.body.stmts).locals end.locals in
+    let body = body_is (entry decls s) sc s.body.stmts (none_right (a ++ b) c none) (stray_right decls s right h s.result refl) (returns_or decls s right h (none_left a b n2) s.result refl) in
+    let x = section_put decls s ls.0 body.body right h (none_left a b n2) body.none body.some s.result refl body.body.result refl in
+    (x.0, ap (λ (o : Option (List core.Local)). section_of decls s o (typed_body (entry decls s) s.body.stmts)) ls.1 ∙ ap (section_of decls s (Some ls.0)) body.is ∙ x.1)
+
+-- ---- threads
+
+argument_if : (decls : List Decl) → Clean decls → (p : ℕ) (s : Section) (number : ℕ) (cs : List Const) (b : Bool) → (length cs == length s.params) ≡ b → NoneIn (if b then argument_faults decls s.params cs else one WrongArgumentCount p) →
+    (x : core.Call) × ((typed_arguments decls s.params cs >>= λ vs. Some (record { section = number; arguments = vs })) ≡ Some x)
+argument_if decls clean p s number cs true e none =
+    let vs = arguments_are decls clean s.params cs (eqb-true (length cs) (length s.params) e) none in
+    (record { section = number; arguments = vs.0 }, ap (λ (o : Option (List _)). o >>= λ ws. Some (record { section = number; arguments = ws })) vs.1)
+argument_if decls clean p s number cs false e none = absurd (not_one WrongArgumentCount p none)
+
+call_is : (decls : List Decl) → Clean decls → (p : ℕ) (o : Option (ℕ × Decl)) (cs : List Const) → NoneIn (call_faults decls p o cs) → (x : core.Call) × (call_of decls o cs ≡ Some x)
+call_is decls clean p None cs none = absurd (not_one UnknownName p none)
+call_is decls clean p (Some (n, atomic s)) cs none = argument_if decls clean p s (number_at decls n (atomic s)) cs (length cs == length s.params) refl none
+call_is decls clean p (Some (n, lock x)) cs none = absurd (not_one WrongType p none)
+call_is decls clean p (Some (n, struct x)) cs none = absurd (not_one WrongType p none)
+call_is decls clean p (Some (n, global x)) cs none = absurd (not_one WrongType p none)
+call_is decls clean p (Some (n, array x)) cs none = absurd (not_one WrongType p none)
+call_is decls clean p (Some (n, pool x)) cs none = absurd (not_one WrongType p none)
+call_is decls clean p (Some (n, init x)) cs none = absurd (not_one WrongType p none)
+call_is decls clean p (Some (n, thread x)) cs none = absurd (not_one WrongType p none)
+
+abbrev Calls : Option (List core.Call) → Type 0
+Calls o = (xs : List core.Call) × (o ≡ Some xs)
+
+joined_is : (o r : Option (List core.Call)) → Calls o → Calls r → Calls (joined o r)
+joined_is o r a b = (a.0 ++ b.0, ap (λ (x : Option (List core.Call)). joined x r) a.1 ∙ ap (joined (Some a.0)) b.1)
+
+mutual
+  pub item_is : (decls : List Decl) → Clean decls → (i : Item) → NoneIn (item_faults decls i) → Calls (typed_item decls i)
+  item_is decls clean (call c) none = let x = call_is decls clean c.section.span.start (the_decl decls c.section.text) c.arguments none in (x.0 ∷ [], ap one_call x.1)
+  item_is decls clean (repeat n is) none = let r = items_are decls clean is none in (copies n.value r.0, ap (λ (o : Option (List core.Call)). o >>= λ xs. Some (copies n.value xs)) r.1)
+
+  pub items_are : (decls : List Decl) → Clean decls → (is : Items) → NoneIn (items_faults decls is) → Calls (typed_items decls is)
+  items_are decls clean no_items none = ([], refl)
+  items_are decls clean (item i is) none =
+      joined_is (typed_item decls i) (typed_items decls is) (item_is decls clean i (none_left (item_faults decls i) (items_faults decls is) none)) (items_are decls clean is (none_right (item_faults decls i) (items_faults decls is) none))

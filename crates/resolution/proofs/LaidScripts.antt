@@ -1,0 +1,203 @@
+-- What the threads of a resolved program call.
+use Rattle.std.proofs.Common.{◌≡◌, ℕ, zero, suc, ◌+◌, List, [], ◌∷◌, ◌++◌, length, Option, Some, None, true, refl, sym, ap, ◌∙◌, subst, arith}
+use Rattle.std.specs.Prelude.{slice_get}
+use Rattle.syntax.specs.Trees.{ValueType, Const, Param, Section, Call, Item, call, repeat, Items, no_items, item, Decl, lock, struct, global, array, pool, init, atomic, thread}
+use Rattle.core_lang.specs.declared.value.Value.{Value}
+use Rattle.core_lang.specs.declared.value.ValueType as core_type
+use Rattle.core_lang.specs.declared.tree.LocalKind.TheVariants as kind
+use Rattle.resolution.specs.Core as core
+use Rattle.resolution.specs.Scopes as scope
+use Rattle.resolution.specs.Scopes.{Scope, outside, bears, the_decl, type_of, number_at, bound, entered}
+use Rattle.resolution.specs.Expressions.{want}
+use Rattle.resolution.specs.Statements.{Body, typed_body, after_all}
+use Rattle.resolution.specs.Constants.{typed_const, added, want_of, typed_arguments}
+use Rattle.resolution.specs.Resolution.{ahead_of, entry, core_locals, section_with, section_of, typed_section, call_of, copies, joined, one_call, typed_item, typed_items, nothing_yet, resolved}
+use Rattle.resolution.proofs.Named.{named_is}
+use Rattle.resolution.proofs.TrueStatements.{length_push}
+use Rattle.resolution.proofs.FaultlessExpressions.{Clean}
+use Rattle.resolution.proofs.TypedStatements.{all_front, locals_got, last_local, slice_front}
+use Rattle.resolution.proofs.LaidLists.{Rows, get_last, get_pushed, bind_got}
+use Rattle.resolution.proofs.LaidWalk.{Step, lands, walked_whole}
+use Rattle.resolution.proofs.LaidFacts.{number_landed, keeps_threads}
+use Rattle.resolution.proofs.LaidObjects.{Holds, const_holds}
+
+-- ---- arguments
+
+-- a constant that a parameter is given
+abbrev pub Argument : List Decl → ℕ → Param → Value → Type 0
+Argument decls n p v = (c : Const) × (typed_const decls (want_of decls p) c ≡ Some v)
+
+added_got : {A : Type 0} (o : Option A) (r : Option (List A)) (ys : List A) → added o r ≡ Some ys → (x : A) × (xs : List A) × (o ≡ Some x) × (r ≡ Some xs) × (x ∷ xs ≡ ys)
+added_got (Some x) (Some xs) ys e = (x, xs, refl, refl, cc)
+added_got (Some x) None ys e = cc
+added_got None r ys e = cc
+
+arguments_got : (decls : List Decl) (n : ℕ) (ps : List Param) (cs : List Const) (vs : List Value) → typed_arguments decls ps cs ≡ Some vs → Rows (Argument decls) n ps vs
+arguments_got decls n [] [] vs e = let s : [] ≡ vs = cc in subst (Rows (Argument decls) n []) s tt
+arguments_got decls n [] (c ∷ cs) vs e = cc
+arguments_got decls n (p ∷ ps) [] vs e = cc
+arguments_got decls n (p ∷ ps) (c ∷ cs) vs e =
+    let r = added_got (typed_const decls (want_of decls p) c) (typed_arguments decls ps cs) vs e in
+    subst (Rows (Argument decls) n (p ∷ ps)) r.4 ((c, r.2), arguments_got decls (suc n) ps cs r.1 r.3)
+
+-- ---- calls
+
+-- what a call calls, by its declaration
+pub record CallFact (decls : List Decl) (c : core.Call) : Type 0 where
+  pub place : ℕ
+  pub section : Section
+  pub at : slice_get decls place ≡ Some (atomic section)
+  pub number : number_at decls place (atomic section) ≡ c.section
+  pub fit : Rows (Argument decls) 0 section.params c.arguments
+
+abbrev AllCalls : List Decl → List core.Call → Type 0
+AllCalls decls cs = (n : ℕ) (c : core.Call) → slice_get cs n ≡ Some c → CallFact decls c
+
+both_calls : (decls : List Decl) (xs ys : List core.Call) → AllCalls decls xs → AllCalls decls ys → AllCalls decls (xs ++ ys)
+both_calls decls [] ys h g n c e = g n c e
+both_calls decls (x ∷ xs) ys h g zero c e = h 0 c e
+both_calls decls (x ∷ xs) ys h g (suc n) c e = both_calls decls xs ys (λ k. h (suc k)) g n c e
+
+no_calls : (decls : List Decl) → AllCalls decls []
+no_calls decls n c e = cc
+
+copied_calls : (decls : List Decl) (k : ℕ) (xs : List core.Call) → AllCalls decls xs → AllCalls decls (copies k xs)
+copied_calls decls zero xs h = no_calls decls
+copied_calls decls (suc k) xs h = both_calls decls xs (copies k xs) h (copied_calls decls k xs h)
+
+call_got : (decls : List Decl) (q : List ℕ) (o : Option (ℕ × Decl)) (cs : List Const) (c : core.Call) → the_decl decls q ≡ o → call_of decls o cs ≡ Some c → CallFact decls c
+call_got decls q (Some (i, atomic s)) cs c at e =
+    let b = bind_got (typed_arguments decls s.params cs) (λ vs. Some (record { section = number_at decls i (atomic s); arguments = vs })) c e in
+    let same : record { section = number_at decls i (atomic s); arguments = b.0 } ≡ c = (let u = b.2 in cc) in
+    subst (CallFact decls) same (record { place = i; section = s; at = (named_is bears decls q i (atomic s) at).here; number = refl; fit = arguments_got decls 0 s.params cs b.0 b.1 })
+call_got decls q (Some (i, lock x)) cs c at e = cc
+call_got decls q (Some (i, struct x)) cs c at e = cc
+call_got decls q (Some (i, global x)) cs c at e = cc
+call_got decls q (Some (i, array x)) cs c at e = cc
+call_got decls q (Some (i, pool x)) cs c at e = cc
+call_got decls q (Some (i, init x)) cs c at e = cc
+call_got decls q (Some (i, thread x)) cs c at e = cc
+call_got decls q None cs c at e = cc
+
+one_got : (o : Option core.Call) (cs : List core.Call) → one_call o ≡ Some cs → (c : core.Call) × (o ≡ Some c) × (c ∷ [] ≡ cs)
+one_got (Some c) cs e = (c, refl, cc)
+one_got None cs e = cc
+
+joined_got : (o r : Option (List core.Call)) (cs : List core.Call) → joined o r ≡ Some cs → (xs : List core.Call) × (ys : List core.Call) × (o ≡ Some xs) × (r ≡ Some ys) × (xs ++ ys ≡ cs)
+joined_got (Some xs) (Some ys) cs e = (xs, ys, refl, refl, cc)
+joined_got (Some xs) None cs e = cc
+joined_got None r cs e = cc
+
+one_fact : (decls : List Decl) (c : core.Call) → CallFact decls c → AllCalls decls (c ∷ [])
+one_fact decls c h zero x e = let s : c ≡ x = cc in subst (CallFact decls) s h
+one_fact decls c h (suc n) x e = cc
+
+mutual
+  item_calls : (decls : List Decl) (i : Item) (cs : List core.Call) → typed_item decls i ≡ Some cs → AllCalls decls cs
+  item_calls decls (call c) cs e =
+      let r = one_got (call_of decls (the_decl decls c.section.text) c.arguments) cs e in
+      subst (AllCalls decls) r.2 (one_fact decls r.0 (call_got decls c.section.text (the_decl decls c.section.text) c.arguments r.0 refl r.1))
+  item_calls decls (repeat k is) cs e =
+      let b = bind_got (typed_items decls is) (λ xs. Some (copies k.value xs)) cs e in
+      let same : copies k.value b.0 ≡ cs = (let u = b.2 in cc) in
+      subst (AllCalls decls) same (copied_calls decls k.value b.0 (items_calls decls is b.0 b.1))
+
+  items_calls : (decls : List Decl) (is : Items) (cs : List core.Call) → typed_items decls is ≡ Some cs → AllCalls decls cs
+  items_calls decls no_items cs e = let s : [] ≡ cs = cc in subst (AllCalls decls) s (no_calls decls)
+  items_calls decls (item i is) cs e =
+      let r = joined_got (typed_item decls i) (typed_items decls is) cs e in
+      subst (AllCalls decls) r.4 (both_calls decls r.0 r.1 (item_calls decls i r.0 r.2) (items_calls decls is r.1 r.3))
+
+-- ---- threads
+
+abbrev AllThreads : List Decl → core.Program → Type 0
+AllThreads decls p = (n : ℕ) (t : core.Thread) → slice_get p.threads n ≡ Some t → AllCalls decls t.calls
+
+threads_next : (decls : List Decl) (whole : core.Program) (before : List Decl) (d : Decl) (p q : core.Program) → Step decls whole before d p q → AllThreads decls p → AllThreads decls q
+threads_next decls whole before (lock y) p q st h n x e = h n x (ap (λ (zs : List core.Thread). slice_get zs n) (sym (keeps_threads decls (length before) p (lock y) q st.adds)) ∙ e)
+threads_next decls whole before (struct y) p q st h n x e = h n x (ap (λ (zs : List core.Thread). slice_get zs n) (sym (keeps_threads decls (length before) p (struct y) q st.adds)) ∙ e)
+threads_next decls whole before (global y) p q st h n x e = h n x (ap (λ (zs : List core.Thread). slice_get zs n) (sym (keeps_threads decls (length before) p (global y) q st.adds)) ∙ e)
+threads_next decls whole before (array y) p q st h n x e = h n x (ap (λ (zs : List core.Thread). slice_get zs n) (sym (keeps_threads decls (length before) p (array y) q st.adds)) ∙ e)
+threads_next decls whole before (pool y) p q st h n x e = h n x (ap (λ (zs : List core.Thread). slice_get zs n) (sym (keeps_threads decls (length before) p (pool y) q st.adds)) ∙ e)
+threads_next decls whole before (init y) p q st h n x e = h n x (ap (λ (zs : List core.Thread). slice_get zs n) (sym (keeps_threads decls (length before) p (init y) q st.adds)) ∙ e)
+threads_next decls whole before (atomic y) p q st h n x e = h n x (ap (λ (zs : List core.Thread). slice_get zs n) (sym (keeps_threads decls (length before) p (atomic y) q st.adds)) ∙ e)
+threads_next decls whole before (thread x) p q st h n t e =
+    let a = st.adds in
+    let z : core.Thread = record { name = x.name.text; calls = a.0 } in
+    get_pushed p.threads z n t (AllCalls decls t.calls) (ap (λ (w : core.Program). slice_get w.threads n) a.2 ∙ e) (h n t)
+    (λ i same. subst (λ (y : core.Thread). AllCalls decls y.calls) same (items_calls decls x.items a.0 a.1))
+
+no_threads : (decls : List Decl) → AllThreads decls nothing_yet
+no_threads decls k x e = cc
+
+pub threads_of : (decls : List Decl) → Clean decls → (whole : core.Program) → resolved decls ≡ Some whole → (n : ℕ) (t : core.Thread) → slice_get whole.threads n ≡ Some t → (k : ℕ) (c : core.Call) → slice_get t.calls k ≡ Some c → CallFact decls c
+threads_of decls clean whole is = walked_whole decls clean whole is (λ b p. AllThreads decls p) (no_threads decls) (threads_next decls whole)
+
+-- ---- the parameters of a section
+
+-- what a scope has, it has behind parameters
+entered_front : (sc : Scope) (ps : List Param) (n : ℕ) (l : scope.Local) → slice_get sc.locals n ≡ Some l → slice_get (entered sc ps).locals n ≡ Some l
+entered_front sc [] n l e = e
+entered_front sc (p ∷ ps) n l e =
+    let x : scope.Local = record { name = p.name.text; kind = kind.Parameter; value_type = type_of (outside sc.decls) p.value_type; is_visible = true } in
+    entered_front (bound sc kind.Parameter p.name (type_of (outside sc.decls) p.value_type)) ps n l (slice_front sc.locals (x ∷ []) n l e)
+
+-- a parameter is a local of its type
+entered_local : (sc : Scope) (ps : List Param) (n : ℕ) (p : Param) → slice_get ps n ≡ Some p → (l : scope.Local) × (slice_get (entered sc ps).locals (length sc.locals + n) ≡ Some l) × (l.value_type ≡ type_of (outside sc.decls) p.value_type)
+entered_local sc [] n p e = cc
+entered_local sc (q ∷ ps) zero p e =
+    let same : q ≡ p = cc in
+    let x : scope.Local = record { name = q.name.text; kind = kind.Parameter; value_type = type_of (outside sc.decls) q.value_type; is_visible = true } in
+    let at = entered_front (bound sc kind.Parameter q.name (type_of (outside sc.decls) q.value_type)) ps (length sc.locals) x (last_local sc.locals x) in
+    (x, subst (λ (k : ℕ). slice_get (entered sc (q ∷ ps)).locals k ≡ Some x) (let z : length sc.locals ≡ length sc.locals + 0 = omega arith in z) at, ap (λ (r : Param). type_of (outside sc.decls) r.value_type) same)
+entered_local sc (q ∷ ps) (suc n) p e =
+    let x : scope.Local = record { name = q.name.text; kind = kind.Parameter; value_type = type_of (outside sc.decls) q.value_type; is_visible = true } in
+    let r = entered_local (bound sc kind.Parameter q.name (type_of (outside sc.decls) q.value_type)) ps n p e in
+    (r.0, subst (λ (k : ℕ). slice_get (entered sc (q ∷ ps)).locals k ≡ Some r.0) (let l = length_push sc.locals x in let z : length (sc.locals ++ x ∷ []) + n ≡ length sc.locals + suc n = omega (arith, l) in z) r.1, r.2)
+
+pub record Sectioned (decls : List Decl) (s : Section) (x : core.Section) : Type 0 where
+  pub locals : core_locals (after_all (entry decls s) s.body.stmts).locals ≡ Some x.locals
+  pub parameters : x.parameters ≡ length s.params
+
+put_got : (decls : List Decl) (s : Section) (locals : List core.Local) (body : core.Stmts) (t : Option ValueType) (r : Option core.Return) (x : core.Section) → section_with decls s locals body t r ≡ Some x → (x.locals ≡ locals) × (x.parameters ≡ length s.params)
+put_got decls s locals body None None x e =
+    let same : record { name = s.name.text; parameters = length s.params; locals = locals; result_type = None; body = body; result = None } ≡ x = cc in
+    (sym (ap (λ (y : core.Section). y.locals) same), sym (ap (λ (y : core.Section). y.parameters) same))
+put_got decls s locals body (Some t) (Some r) x e =
+    let b = bind_got (type_of (outside decls) t) (λ v. Some (record { name = s.name.text; parameters = length s.params; locals = locals; result_type = Some v; body = body; result = Some r })) x e in
+    let same : record { name = s.name.text; parameters = length s.params; locals = locals; result_type = Some b.0; body = body; result = Some r } ≡ x = (let u = b.2 in cc) in
+    (sym (ap (λ (y : core.Section). y.locals) same), sym (ap (λ (y : core.Section). y.parameters) same))
+put_got decls s locals body None (Some r) x e = cc
+put_got decls s locals body (Some t) None x e = cc
+
+section_by : (decls : List Decl) (s : Section) (x : core.Section) (o : Option (List core.Local)) (b : Option Body) → core_locals (after_all (entry decls s) s.body.stmts).locals ≡ o → section_of decls s o b ≡ Some x → Sectioned decls s x
+section_by decls s x (Some locals) (Some b) is e = let r = put_got decls s locals b.stmts s.result b.result x e in record { locals = is ∙ ap Some (sym r.0); parameters = r.1 }
+section_by decls s x (Some locals) None is e = cc
+section_by decls s x None b is e = cc
+
+pub sectioned : (decls : List Decl) (s : Section) (x : core.Section) → typed_section decls s ≡ Some x → Sectioned decls s x
+sectioned decls s x e = section_by decls s x (core_locals (after_all (entry decls s) s.body.stmts).locals) (typed_body (entry decls s) s.body.stmts) refl e
+
+-- a parameter's local
+pub parameter_local : (decls : List Decl) (s : Section) (x : core.Section) → typed_section decls s ≡ Some x → (n : ℕ) (p : Param) → slice_get s.params n ≡ Some p → (y : core.Local) × (slice_get x.locals n ≡ Some y) × (type_of (outside decls) p.value_type ≡ Some y.value_type)
+parameter_local decls s x e n p at =
+    let r = sectioned decls s x e in
+    let l = entered_local (ahead_of decls s) s.params n p at in
+    let here : slice_get (entry decls s).locals n ≡ Some l.0 = subst (λ (k : ℕ). slice_get (entry decls s).locals k ≡ Some l.0) (let z : 0 + n ≡ n = omega arith in z) l.1 in
+    let end = all_front (entry decls s) s.body.stmts n l.0 here in
+    let g = locals_got (after_all (entry decls s) s.body.stmts).locals x.locals r.locals n l.0 end in
+    (g.0, g.1, sym l.2 ∙ g.3)
+
+-- ---- a section, by its declaration
+
+pub section_at : (decls : List Decl) → Clean decls → (whole : core.Program) → resolved decls ≡ Some whole → (i : ℕ) (s : Section) → slice_get decls i ≡ Some (atomic s) → (x : core.Section) × (slice_get whole.sections (number_at decls i (atomic s)) ≡ Some x) × (typed_section decls s ≡ Some x)
+section_at decls clean whole is i s at =
+    let l = lands decls clean whole is i (atomic s) at in
+    let a = l.step.adds in
+    let here : slice_get whole.sections (length l.was.sections) ≡ Some a.0 = l.step.ends.sections (length l.was.sections) a.0 (subst (λ (w : core.Program). slice_get w.sections (length l.was.sections) ≡ Some a.0) a.2 (get_last l.was.sections a.0 [])) in
+    let number : length l.was.sections ≡ number_at decls i (atomic s) = l.step.counts.sections s ∙ sym (number_landed decls whole i (atomic s) l) in
+    (a.0, subst (λ (k : ℕ). slice_get whole.sections k ≡ Some a.0) number here, a.1)
+
+-- an argument is of its parameter's type
+pub argument_holds : (decls : List Decl) → Clean decls → (whole : core.Program) → resolved decls ≡ Some whole → (n : ℕ) (p : Param) (v : Value) (t : core_type.ValueType) → Argument decls n p v → type_of (outside decls) p.value_type ≡ Some t → Holds whole t v
+argument_holds decls clean whole is n p v t a e = const_holds decls clean whole is t a.0 v (ap (λ (o : Option core_type.ValueType). typed_const decls (want o) a.0) (sym e) ∙ a.1)

@@ -1,0 +1,59 @@
+-- The first of a name.
+use Rattle.std.proofs.Common.{◌≡◌, ℕ, zero, suc, ◌+◌, List, [], ◌∷◌, Option, Some, None, Bool, true, false, if◌then◌else◌, refl, sym, ap, ◌∙◌, subst, arith}
+use Rattle.std.specs.Prelude.{slice_get}
+use Rattle.std.specs.Str.{bytes_eq}
+use Rattle.std.proofs.lemmas.Slice.Eq.{bytes_eq-Decides}
+use Rattle.syntax.specs.Trees.{Member}
+use Rattle.resolution.specs.Scopes.{place_from, place_of, named, member_name, member_bears, the_member}
+
+-- one that passes, so many places on
+pub record Passing {A : Type 0} (p : A → Bool) (xs : List A) (n i : ℕ) : Type 0 where
+  pub by : ℕ
+  pub place : i ≡ n + by
+  pub item : A
+  pub here : slice_get xs by ≡ Some item
+  pub passed : p item ≡ true
+
+passing_if : {A : Type 0} (p : A → Bool) (x : A) (xs : List A) (n i : ℕ) (b : Bool) → p x ≡ b → (if b then Some n else place_from p (suc n) xs) ≡ Some i → (place_from p (suc n) xs ≡ Some i → Passing p xs (suc n) i) → Passing p (x ∷ xs) n i
+passing_if p x xs n i true is e rest = record { by = 0; place = (let s : n ≡ i = cc in omega (arith, s)); item = x; here = refl; passed = is }
+passing_if p x xs n i false is e rest = let r = rest e in record { by = suc r.by; place = (let s : i ≡ suc n + r.by = r.place in omega (arith, s)); item = r.item; here = r.here; passed = r.passed }
+
+pub passing : {A : Type 0} (p : A → Bool) (xs : List A) (n i : ℕ) → place_from p n xs ≡ Some i → Passing p xs n i
+passing p [] n i e = cc
+passing p (x ∷ xs) n i e = passing_if p x xs n i (p x) refl e (passing p xs (suc n) i)
+
+-- what a name is found to be
+pub record IsFound {A Q : Type 0} (bears : A → Q → Bool) (xs : List A) (q : Q) (i : ℕ) (x : A) : Type 0 where
+  pub place : place_of bears xs q ≡ Some i
+  pub here : slice_get xs i ≡ Some x
+  pub bearing : bears x q ≡ true
+
+found_at : {A Q : Type 0} (bears : A → Q → Bool) (xs : List A) (q : Q) (k i : ℕ) (x y : A) → place_of bears xs q ≡ Some k → slice_get xs k ≡ Some y → ◌≡◌ {A = Option (ℕ × A)} (Some (k, y)) (Some (i, x)) → bears y q ≡ true → IsFound bears xs q i x
+found_at {A = A} bears xs q k i x y p h e b =
+    let pair : ◌≡◌ {A = ℕ × A} (k, y) (i, x) = cc in
+    let a : k ≡ i = ap (λ (z : ℕ × A). z.0) pair in
+    let c : y ≡ x = ap (λ (z : ℕ × A). z.1) pair in
+    record {
+      place = p ∙ ap Some a;
+      here = subst (λ (j : ℕ). slice_get xs j ≡ Some x) a (h ∙ ap Some c);
+      bearing = subst (λ z. bears z q ≡ true) c b;
+    }
+
+pub named_is : {A Q : Type 0} (bears : A → Q → Bool) (xs : List A) (q : Q) (i : ℕ) (x : A) → named bears xs q ≡ Some (i, x) → IsFound bears xs q i x
+named_is bears xs q i x e = by_place (place_of bears xs q) refl
+  where
+    by_place : (o : Option ℕ) → place_of bears xs q ≡ o → IsFound bears xs q i x
+    by_place None p = let none : named bears xs q ≡ None = rw p refl in absurd cc
+    by_place (Some k) p =
+        let r = passing (λ y. bears y q) xs 0 k p in
+        let s : k ≡ r.by = (let z : k ≡ 0 + r.by = r.place in omega (arith, z)) in
+        let h : slice_get xs k ≡ Some r.item = subst (λ (j : ℕ). slice_get xs j ≡ Some r.item) (sym s) r.here in
+        let some : named bears xs q ≡ Some (k, r.item) = rw (p, h) refl in
+        found_at bears xs q k i x r.item p h (sym some ∙ e) r.passed
+
+-- a member that is found by a name stands there, and is the first of its own name
+pub member_is : (ms : List Member) (q : List ℕ) (n : ℕ) (x : Member) → the_member ms q ≡ Some (n, x) → (slice_get ms n ≡ Some x) × (place_of member_bears ms (member_name x).text ≡ Some n)
+member_is ms q n x e =
+    let f = named_is member_bears ms q n x e in
+    let same : q ≡ (member_name x).text = (bytes_eq-Decides q (member_name x).text).0 f.bearing in
+    (f.here, subst (λ (r : List ℕ). place_of member_bears ms r ≡ Some n) same f.place)

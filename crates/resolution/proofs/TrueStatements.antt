@@ -1,0 +1,210 @@
+-- Each fault that is listed for a statement or a section is a true one.
+use Rattle.std.proofs.Common.{◌≡◌, ℕ, suc, ◌+◌, ◌<◌, ◌≤◌, List, [], ◌∷◌, ◌++◌, length, Option, Some, None, Bool, true, false, refl, sym, ap, ◌∙◌, subst, if◌then◌else◌, append_assoc, arith}
+use Rattle.std.specs.Prelude.{nat_le, not, is_some}
+use Rattle.source.specs.declared.span.Span.{Span}
+use Rattle.source.specs.declared.fault.Code.{Code}
+use Rattle.source.specs.declared.fault.Code.TheVariants.{DeclaredTwice, UnknownName, NotAssignable, LimitExceeded, LockAsValue}
+use Rattle.syntax.specs.Trees.{Ident, ValueType, Place, lone, element, path, Expr, Stmt, let_local, var_local, assign, if_then, while, print, return_value, Stmts, no_stmts, stmt, Otherwise, no_else, else_do, Param, Section, Decl, lock, struct, global, array, pool, init, atomic, thread}
+use Rattle.core_lang.specs.declared.value.ValueType as core_type
+use Rattle.core_lang.specs.declared.value.ValueType.TheVariants.{Integer}
+use Rattle.core_lang.specs.declared.tree.LocalKind.TheVariants as kind
+use Rattle.core_lang.specs.declared.tree.FieldStep.{FieldStep}
+use Rattle.resolution.specs.declared.mistake.Mistake.{Mistake}
+use Rattle.resolution.specs.declared.wanted.Want.{Want}
+use Rattle.resolution.specs.declared.wanted.Want.TheVariants.{Condition, Value}
+use Rattle.resolution.specs.Limits.{PARAMETER_LIMIT, LOCAL_LIMIT}
+use Rattle.resolution.specs.Scopes.{Scope, Local, outside, Meaning, a_local, a_decl, nothing, meaning, the_decl, the_local, has_type, type_of, bound, entered, left}
+use Rattle.resolution.specs.Expressions.{want, Walk, reached, at_lock, lost, walk_from}
+use Rattle.resolution.specs.Statements.{is_var, last_field, target_of, wanted_by, after, after_else, after_all}
+use Rattle.resolution.specs.Resolution.{ahead_of, entry}
+use Rattle.resolution.specs.Where as site
+use Rattle.resolution.specs.Where.{Has, first, further, Among, here, later, in_then, in_else, in_while, Asks, of_let, of_var, of_assign, of_index, of_while, of_print, of_return, HasStmt, in_section, HasExpr, in_stmt, HasPlace, is_written, Binds, parameter, a_let, a_var, HasType, of_parameter, of_result, of_a_let, of_a_var}
+use Rattle.resolution.specs.Faults as fault
+use Rattle.resolution.specs.Faults.{IsNoValue, declared_twice, unknown, not_assignable, over_limit, lock_as_value}
+use Rattle.resolution.specs.FaultLists.{one, one_if, unfit, no_elements, path_faults, wanted_faults, type_faults, taken, local_faults, no_target, no_array, final_faults, target_faults, stmt_faults, else_faults, stmts_faults, param_faults, result_faults}
+use Rattle.resolution.proofs.Members.{In, IsTrue_of, both, of_one, of_if}
+use Rattle.resolution.proofs.TrueExpressions.{le_of, true_type, true_elements, true_path, true_wanted, none_is}
+
+-- ---- locals
+
+true_taken : (decls : List Decl) (sc : Scope) (x : Ident) → Binds decls sc x → (l : Option (ℕ × Local)) (d : Option (ℕ × Decl)) → the_local sc.locals x.text ≡ l → the_decl decls x.text ≡ d → (f : Mistake) → In f (taken x.span.start l d) → IsTrue_of decls f
+true_taken decls sc x h None None p q f i = absurd i
+true_taken decls sc x h None (Some d) p q f i = of_one decls DeclaredTwice x.span.start f (declared_twice (fault.top_level h q)) i
+true_taken decls sc x h (Some l) d p q f i = of_one decls DeclaredTwice x.span.start f (declared_twice (fault.two_locals h p)) i
+
+true_local : (sc : Scope) (x : Ident) → Binds sc.decls sc x → (f : Mistake) → In f (local_faults sc x) → IsTrue_of sc.decls f
+true_local sc x h f i =
+    both f (taken x.span.start (the_local sc.locals x.text) (the_decl sc.decls x.text)) (one_if (nat_le LOCAL_LIMIT (length sc.locals)) LimitExceeded x.span.start)
+    (true_taken sc.decls sc x h (the_local sc.locals x.text) (the_decl sc.decls x.text) refl refl f)
+    (of_if sc.decls (nat_le LOCAL_LIMIT (length sc.locals)) LimitExceeded x.span.start f (λ e. over_limit (fault.too_many_locals h (le_of LOCAL_LIMIT (length sc.locals) e)))) i
+
+-- ---- left sides
+
+true_asked : (sc : Scope) (s : Stmt) (w : Want) (e : Expr) → HasStmt sc.decls sc s → Asks sc s w e → (f : Mistake) → In f (wanted_faults sc w e) → IsTrue_of sc.decls f
+true_asked sc s w e h asks f i = true_wanted sc w e (λ v x within. in_stmt h asks within) f i
+
+fixed_if : (sc : Scope) (x : Ident) (e : Expr) (n : ℕ) (l : Local) → HasStmt sc.decls sc (assign (lone x) e) → meaning sc x.text ≡ a_local n l → (b : Bool) → is_var l.kind ≡ b → (f : Mistake) → In f (if b then [] else one NotAssignable x.span.start) → IsTrue_of sc.decls f
+fixed_if sc x e n l h is true v f i = absurd i
+fixed_if sc x e n l h is false v f i = of_one sc.decls NotAssignable x.span.start f (not_assignable (fault.to_fixed h is v)) i
+
+true_no_target : (sc : Scope) (x : Ident) (e : Expr) (k : ℕ) (d : Decl) → HasStmt sc.decls sc (assign (lone x) e) → meaning sc x.text ≡ a_decl k d → IsNoValue d → (f : Mistake) → In f (unfit sc.decls NotAssignable x.span.start (a_decl k d)) → IsTrue_of sc.decls f
+true_no_target sc x e k d h is not_so f i = of_if sc.decls (has_type sc.decls (a_decl k d)) NotAssignable x.span.start f (λ t. not_assignable (fault.to_decl h is not_so t)) i
+
+true_target_name : (sc : Scope) (x : Ident) (e : Expr) → HasStmt sc.decls sc (assign (lone x) e) → (m : Meaning) → meaning sc x.text ≡ m → (f : Mistake) → In f (no_target sc.decls x.span.start m) → IsTrue_of sc.decls f
+true_target_name sc x e h (a_local n l) is f i = fixed_if sc x e n l h is (is_var l.kind) refl f i
+true_target_name sc x e h (a_decl n (global v)) is f i = absurd i
+true_target_name sc x e h (a_decl n (lock y)) is f i = of_one sc.decls LockAsValue x.span.start f (lock_as_value (fault.global_lock (is_written h) is)) i
+true_target_name sc x e h (a_decl n (struct s)) is f i = true_no_target sc x e n (struct s) h is tt f i
+true_target_name sc x e h (a_decl n (array a)) is f i = true_no_target sc x e n (array a) h is tt f i
+true_target_name sc x e h (a_decl n (pool p)) is f i = true_no_target sc x e n (pool p) h is tt f i
+true_target_name sc x e h (a_decl n (init j)) is f i = true_no_target sc x e n (init j) h is tt f i
+true_target_name sc x e h (a_decl n (atomic s)) is f i = true_no_target sc x e n (atomic s) h is tt f i
+true_target_name sc x e h (a_decl n (thread t)) is f i = true_no_target sc x e n (thread t) h is tt f i
+true_target_name sc x e h nothing is f i = of_one sc.decls UnknownName x.span.start f (unknown (fault.in_place (is_written h) is)) i
+
+true_array : (sc : Scope) (x : Ident) (j e : Expr) → HasStmt sc.decls sc (assign (element x j) e) → (m : Meaning) → meaning sc x.text ≡ m → (f : Mistake) → In f (no_array sc.decls x.span.start m) → IsTrue_of sc.decls f
+true_array sc x j e h (a_decl n (pool p)) is f i = of_if sc.decls (has_type sc.decls (a_decl n (pool p))) NotAssignable x.span.start f (λ t. not_assignable (fault.to_member h is t)) i
+true_array sc x j e h (a_decl n (lock y)) is f i = absurd i
+true_array sc x j e h (a_decl n (struct s)) is f i = absurd i
+true_array sc x j e h (a_decl n (global v)) is f i = absurd i
+true_array sc x j e h (a_decl n (array a)) is f i = absurd i
+true_array sc x j e h (a_decl n (init k)) is f i = absurd i
+true_array sc x j e h (a_decl n (atomic s)) is f i = absurd i
+true_array sc x j e h (a_decl n (thread t)) is f i = absurd i
+true_array sc x j e h (a_local n l) is f i = absurd i
+true_array sc x j e h nothing is f i = absurd i
+
+true_final : (sc : Scope) (x : Ident) (fs : List Ident) (e : Expr) → HasStmt sc.decls sc (assign (path x fs) e) → (w : Walk) → walk_from sc.decls (meaning sc x.text) fs ≡ w → (f : Mistake) → In f (final_faults x.span.start w) → IsTrue_of sc.decls f
+true_final sc x fs e h (reached steps t) is f i = of_if sc.decls (not (is_some (last_field steps))) NotAssignable x.span.start f (λ b. not_assignable (fault.to_final steps t h is (none_is (last_field steps) b))) i
+true_final sc x fs e h at_lock is f i = absurd i
+true_final sc x fs e h lost is f i = absurd i
+
+true_target : (sc : Scope) (p : Place) (e : Expr) → HasStmt sc.decls sc (assign p e) → (f : Mistake) → In f (target_faults sc p) → IsTrue_of sc.decls f
+true_target sc (lone x) e h f i = true_target_name sc x e h (meaning sc x.text) refl f i
+true_target sc (element x j) e h f i =
+    both f (no_elements sc.decls x.span.start (meaning sc x.text) ++ no_array sc.decls x.span.start (meaning sc x.text)) (wanted_faults sc (Value Integer) j)
+    (both f (no_elements sc.decls x.span.start (meaning sc x.text)) (no_array sc.decls x.span.start (meaning sc x.text))
+    (true_elements sc x j (is_written h) (meaning sc x.text) refl f)
+    (true_array sc x j e h (meaning sc x.text) refl f))
+    (true_asked sc (assign (element x j) e) (Value Integer) j h of_index f) i
+true_target sc (path x fs) e h f i =
+    both f (path_faults sc.decls x.span.start (meaning sc x.text) fs) (final_faults x.span.start (walk_from sc.decls (meaning sc x.text) fs))
+    (true_path sc x fs (is_written h) (meaning sc x.text) refl f)
+    (true_final sc x fs e h (walk_from sc.decls (meaning sc x.text) fs) refl f) i
+
+-- ---- statements
+
+pub else_same : (sc : Scope) (o : Otherwise) → (after_else sc o).decls ≡ sc.decls
+else_same sc no_else = refl
+else_same sc (else_do body close) = refl
+
+pub after_same : (sc : Scope) (s : Stmt) → (after sc s).decls ≡ sc.decls
+after_same sc (let_local l) = refl
+after_same sc (var_local l) = refl
+after_same sc (assign p e) = refl
+after_same sc (if_then start e body close other) = else_same (left sc (after_all sc body)) other
+after_same sc (while start e body close) = refl
+after_same sc (print at e) = refl
+after_same sc (return_value at e) = refl
+
+-- what holds of a scope over the program's declarations holds of one over equal ones
+pub moved : (decls : List Decl) (sc : Scope) (f : Mistake) → sc.decls ≡ decls → IsTrue_of sc.decls f → IsTrue_of decls f
+moved decls sc f e h = subst (λ (ds : List Decl). IsTrue_of ds f) e h
+
+has_moved : (decls : List Decl) (sc : Scope) (s : Stmt) → sc.decls ≡ decls → HasStmt decls sc s → HasStmt sc.decls sc s
+has_moved decls sc s e h = subst (λ (ds : List Decl). HasStmt ds sc s) (sym e) h
+
+true_typed_local : (sc : Scope) (s : Stmt) (x : Ident) (t : ValueType) (e : Expr) → HasStmt sc.decls sc s → Binds sc.decls sc x → HasType sc.decls sc t → Asks sc s (want (type_of sc t)) e →
+    (f : Mistake) → In f (local_faults sc x ++ type_faults sc t ++ wanted_faults sc (want (type_of sc t)) e) → IsTrue_of sc.decls f
+true_typed_local sc s x t e h binds has asks f i =
+    both f (local_faults sc x ++ type_faults sc t) (wanted_faults sc (want (type_of sc t)) e)
+    (both f (local_faults sc x) (type_faults sc t) (true_local sc x binds f) (true_type sc.decls sc t has f))
+    (true_asked sc s (want (type_of sc t)) e h asks f) i
+
+-- what stands in the first of statements stands in them
+widened : {sc sc' : Scope} {s r : Stmt} {rest : Stmts} → Among sc (stmt s no_stmts) sc' r → Among sc (stmt s rest) sc' r
+widened here = here
+widened (later a) = elim a [ ]
+widened (in_then a) = in_then a
+widened (in_else a) = in_else a
+widened (in_while a) = in_while a
+
+mutual
+  true_stmt : (decls : List Decl) (sc : Scope) (s : Stmt) → HasStmt decls sc s → sc.decls ≡ decls → ((sc' : Scope) (r : Stmt) → Among sc (stmt s no_stmts) sc' r → HasStmt decls sc' r) → (f : Mistake) → In f (stmt_faults sc s) → IsTrue_of decls f
+  true_stmt decls sc (let_local l) h same up f i =
+      let g = has_moved decls sc (let_local l) same h in
+      moved decls sc f same (true_typed_local sc (let_local l) l.name l.value_type l.value g (a_let g) (of_a_let g) of_let f i)
+  true_stmt decls sc (var_local l) h same up f i =
+      let g = has_moved decls sc (var_local l) same h in
+      moved decls sc f same (true_typed_local sc (var_local l) l.name l.value_type l.value g (a_var g) (of_a_var g) of_var f i)
+  true_stmt decls sc (assign p e) h same up f i =
+      let g = has_moved decls sc (assign p e) same h in
+      moved decls sc f same (both f (target_faults sc p) (wanted_faults sc (wanted_by (target_of sc p)) e) (true_target sc p e g f) (true_asked sc (assign p e) (wanted_by (target_of sc p)) e g of_assign f) i)
+  true_stmt decls sc (if_then start e body close other) h same up f i =
+      both f (wanted_faults sc Condition e ++ stmts_faults sc body) (else_faults (left sc (after_all sc body)) other)
+      (both f (wanted_faults sc Condition e) (stmts_faults sc body)
+      (λ j. moved decls sc f same (true_asked sc (if_then start e body close other) Condition e (has_moved decls sc (if_then start e body close other) same h) site.of_if f j))
+      (true_stmts decls sc body (λ sc' r a. up sc' r (in_then a)) same f))
+      (true_else decls sc start e body close other same up f) i
+  true_stmt decls sc (while start e body close) h same up f i =
+      both f (wanted_faults sc Condition e) (stmts_faults sc body)
+      (λ j. moved decls sc f same (true_asked sc (while start e body close) Condition e (has_moved decls sc (while start e body close) same h) of_while f j))
+      (true_stmts decls sc body (λ sc' r a. up sc' r (in_while a)) same f) i
+  true_stmt decls sc (print start e) h same up f i = moved decls sc f same (true_asked sc (print start e) (Value Integer) e (has_moved decls sc (print start e) same h) of_print f i)
+  true_stmt decls sc (return_value start e) h same up f i = moved decls sc f same (true_asked sc (return_value start e) (want sc.result) e (has_moved decls sc (return_value start e) same h) of_return f i)
+
+  true_else : (decls : List Decl) (sc : Scope) (start : Span) (e : Expr) (body : Stmts) (close : Span) (other : Otherwise) → sc.decls ≡ decls →
+      ((sc' : Scope) (r : Stmt) → Among sc (stmt (if_then start e body close other) no_stmts) sc' r → HasStmt decls sc' r) → (f : Mistake) → In f (else_faults (left sc (after_all sc body)) other) → IsTrue_of decls f
+  true_else decls sc start e body close no_else same up f i = absurd i
+  true_else decls sc start e body close (else_do block end) same up f i = true_stmts decls (left sc (after_all sc body)) block (λ sc' r a. up sc' r (in_else a)) same f i
+
+  true_stmts : (decls : List Decl) (sc : Scope) (ss : Stmts) → ((sc' : Scope) (s : Stmt) → Among sc ss sc' s → HasStmt decls sc' s) → sc.decls ≡ decls → (f : Mistake) → In f (stmts_faults sc ss) → IsTrue_of decls f
+  true_stmts decls sc no_stmts up same f i = absurd i
+  true_stmts decls sc (stmt s rest) up same f i =
+      both f (stmt_faults sc s) (stmts_faults (after sc s) rest)
+      (true_stmt decls sc s (up sc s here) same (λ sc' r a. up sc' r (widened a)) f)
+      (true_stmts decls (after sc s) rest (λ sc' r a. up sc' r (later a)) (after_same sc s ∙ same) f) i
+
+-- ---- sections
+
+pub entered_same : (sc : Scope) (ps : List Param) → (entered sc ps).decls ≡ sc.decls
+entered_same sc [] = refl
+entered_same sc (p ∷ ps) = entered_same (bound sc kind.Parameter p.name (type_of (outside sc.decls) p.value_type)) ps
+
+pub entered_push : (sc : Scope) (before : List Param) (p : Param) → entered sc (before ++ p ∷ []) ≡ bound (entered sc before) kind.Parameter p.name (type_of (outside (entered sc before).decls) p.value_type)
+entered_push sc [] p = refl
+entered_push sc (b ∷ before) p = entered_push (bound sc kind.Parameter b.name (type_of (outside sc.decls) b.value_type)) before p
+
+pub length_push : {A : Type 0} (xs : List A) (x : A) → length (xs ++ x ∷ []) ≡ length xs + 1
+length_push [] x = refl
+length_push (y ∷ xs) x = omega (arith, length_push xs x)
+
+true_params : (decls : List Decl) (s : Section) → Has decls (atomic s) → (before ps : List Param) (n : ℕ) → n ≡ length before → s.params ≡ before ++ ps → ((p : Param) → Has ps p → Has s.params p) →
+    (f : Mistake) → In f (param_faults (entered (ahead_of decls s) before) n ps) → IsTrue_of decls f
+true_params decls s h before [] n len parts up f i = absurd i
+true_params decls s h before (p ∷ ps) n len parts up f i =
+    let sc : Scope = entered (ahead_of decls s) before in
+    let same : sc.decls ≡ decls = entered_same (ahead_of decls s) before in
+    let a = local_faults sc p.name in
+    let b = one_if (nat_le PARAMETER_LIMIT n) LimitExceeded p.name.span.start in
+    let c = type_faults (outside sc.decls) p.value_type in
+    both f (a ++ b ++ c) (param_faults (bound sc kind.Parameter p.name (type_of (outside sc.decls) p.value_type)) (n + 1) ps)
+    (both f (a ++ b) c
+    (both f a b
+    (λ j. moved decls sc f same (true_local sc p.name (subst (λ (ds : List Decl). Binds ds sc p.name) (sym same) (parameter p before ps h parts)) f j))
+    (of_if decls (nat_le PARAMETER_LIMIT n) LimitExceeded p.name.span.start f (λ e. over_limit (fault.too_many_parameters p before ps h parts (let le = le_of PARAMETER_LIMIT n e in omega (arith, le, len))))))
+    (λ j. true_type decls (outside decls) p.value_type (of_parameter h (up p first)) f (subst (λ (ds : List Decl). In f (type_faults (outside ds) p.value_type)) same j)))
+    (λ j. true_params decls s h (before ++ p ∷ []) ps (n + 1) (sym (length_push before p ∙ ap (λ (k : ℕ). k + 1) (sym len))) (parts ∙ sym (append_assoc before (p ∷ []) ps)) (λ q x. up q (further x)) f
+    (subst (λ (to : Scope). In f (param_faults to (n + 1) ps)) (sym (entered_push (ahead_of decls s) before p)) j)) i
+
+true_result : (decls : List Decl) (s : Section) → Has decls (atomic s) → (o : Option ValueType) → s.result ≡ o → (f : Mistake) → In f (result_faults decls o) → IsTrue_of decls f
+true_result decls s h None e f i = absurd i
+true_result decls s h (Some t) e f i = true_type decls (outside decls) t (of_result h e) f i
+
+pub true_section : (decls : List Decl) (s : Section) → Has decls (atomic s) → (f : Mistake) → In f (result_faults decls s.result ++ param_faults (ahead_of decls s) 0 s.params ++ stmts_faults (entry decls s) s.body.stmts) → IsTrue_of decls f
+true_section decls s h f i =
+    both f (result_faults decls s.result ++ param_faults (ahead_of decls s) 0 s.params) (stmts_faults (entry decls s) s.body.stmts)
+    (both f (result_faults decls s.result) (param_faults (ahead_of decls s) 0 s.params)
+    (true_result decls s h s.result refl f)
+    (true_params decls s h [] s.params 0 refl refl (λ p x. x) f))
+    (true_stmts decls (entry decls s) s.body.stmts (λ sc x a. in_section h a) (entered_same (ahead_of decls s) s.params) f) i

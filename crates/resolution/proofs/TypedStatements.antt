@@ -1,0 +1,433 @@
+-- Resolved statements and sections are well typed.
+use Rattle.std.proofs.Common.{◌≡◌, ℕ, zero, suc, ◌+◌, ◌<◌, ◌≤◌, List, [], ◌∷◌, ◌++◌, length, Option, Some, None, Bool, true, false, if◌then◌else◌, refl, sym, ap, ◌∙◌, subst, arith}
+use Rattle.std.specs.Prelude.{slice_get, map, ⊤}
+use Rattle.syntax.specs.Trees.{Ident, ValueType, Place, lone, element, path, Expr, Local, Stmt, let_local, var_local, assign, if_then, while, print, return_value, Stmts, no_stmts, stmt, Otherwise, no_else, else_do, Param, Section, Decl, lock, struct, global, array, pool, init, atomic, thread}
+use Rattle.core_lang.specs.declared.value.ValueType as core_type
+use Rattle.core_lang.specs.declared.value.ValueType.TheVariants.{Integer, Reference}
+use Rattle.core_lang.specs.declared.tree.LocalKind.{LocalKind}
+use Rattle.core_lang.specs.declared.tree.LocalKind.TheVariants as kind
+use Rattle.core_lang.specs.declared.tree.FieldStep.{FieldStep}
+use Rattle.core_lang.specs.declared.tree.FieldStep.TheVariants as step
+use Rattle.resolution.specs.declared.wanted.Want.TheVariants.{Value}
+use Rattle.resolution.specs.Core as core
+use Rattle.resolution.specs.Scopes as scope
+use Rattle.resolution.specs.Scopes.{◌>>=◌, Scope, outside, Meaning, a_local, a_decl, nothing, meaning, number_at, type_of, bound, hidden, hidden_from, left, entered}
+use Rattle.resolution.specs.Expressions.{want, fitting, as_value, number_in_sense, test_in_sense, typed, Walk, reached, at_lock, lost, walked, at_local, walk_from, local_path, cell_of}
+use Rattle.resolution.specs.Statements.{Target, to_local, to_global, to_element, to_field, Aim, aim, is_var, aimed_at, aimed_at_element, Split, behind, last_field, field_target, aimed_along, target_of, wanted_by, first_name, Part, does, gives, binds, set_to, assigns, prints, returns, repeats, chooses, chooses_between, Body, given_back, preceded, block_without, block_of, after, after_else, after_all, typed_stmt, typed_if, typed_body}
+use Rattle.resolution.specs.Constants.{added}
+use Rattle.resolution.specs.Resolution.{result_of, ahead_of, entry, core_local, core_locals, section_with, section_of, typed_section}
+use Rattle.resolution.proofs.TrueStatements.{else_same, after_same, entered_same}
+use Rattle.resolution.proofs.FaultlessExpressions.{IsMeant, meant}
+use Rattle.resolution.proofs.FaultlessStatements.{all_same}
+use Rattle.resolution.proofs.FaultlessSections.{entered_result}
+use Rattle.resolution.proofs.Typed as well
+use Rattle.resolution.proofs.Typed.{types_in, array_in, pool_in, final_in, field_in, Leads, IsPath, Is, Gives, Acts, AllAct, Returns, get_map}
+use Rattle.resolution.proofs.TypedSenses.{Sound, Have, IsLocal, meant_local, GoodValue, GoodTest, GoodPath, local_walk, value_good_of, test_good_of}
+
+-- ---- locals stay
+
+-- each local of the first list is one of the second, seen or not
+abbrev pub Kept : List scope.Local → List scope.Local → Type 0
+Kept a b = (n : ℕ) (l : scope.Local) → slice_get a n ≡ Some l → (k : scope.Local) × (slice_get b n ≡ Some k) × (k.value_type ≡ l.value_type) × (k.kind ≡ l.kind)
+
+pub kept_self : (a : List scope.Local) → Kept a a
+kept_self a n l e = (l, e, refl, refl)
+
+pub kept_trans : (a b c : List scope.Local) → Kept a b → Kept b c → Kept a c
+kept_trans a b c h g n l e = let x = h n l e in let y = g n x.0 x.1 in (y.0, y.1, y.2 ∙ x.2, y.3 ∙ x.3)
+
+pub slice_front : {A : Type 0} (xs ys : List A) (n : ℕ) (x : A) → slice_get xs n ≡ Some x → slice_get (xs ++ ys) n ≡ Some x
+slice_front [] ys n x e = cc
+slice_front (y ∷ xs) ys zero x e = e
+slice_front (y ∷ xs) ys (suc n) x e = slice_front xs ys n x e
+
+pub kept_push : (a : List scope.Local) (x : scope.Local) → Kept a (a ++ x ∷ [])
+kept_push a x n l e = (l, slice_front a (x ∷ []) n l e, refl, refl)
+
+pub kept_hidden : (k : ℕ) (a : List scope.Local) → Kept a (hidden_from k a)
+kept_hidden k [] n l e = cc
+kept_hidden zero (x ∷ xs) zero l e = let s : x ≡ l = cc in (hidden x, refl, ap (λ (y : scope.Local). y.value_type) s, ap (λ (y : scope.Local). y.kind) s)
+kept_hidden zero (x ∷ xs) (suc n) l e = kept_hidden zero xs n l e
+kept_hidden (suc k) (x ∷ xs) zero l e = (l, e, refl, refl)
+kept_hidden (suc k) (x ∷ xs) (suc n) l e = kept_hidden k xs n l e
+
+-- what a list starts with stays as it is
+abbrev pub Front : List scope.Local → List scope.Local → Type 0
+Front a b = (n : ℕ) (l : scope.Local) → slice_get a n ≡ Some l → slice_get b n ≡ Some l
+
+pub front_left : (a b : List scope.Local) → Front a b → Front a (hidden_from (length a) b)
+front_left [] b f n l e = cc
+front_left (x ∷ a) [] f n l e = let h : slice_get [] n ≡ Some l = f n l e in cc
+front_left (x ∷ a) (y ∷ b) f zero l e = f 0 l e
+front_left (x ∷ a) (y ∷ b) f (suc n) l e = front_left a b (λ j k h. f (suc j) k h) n l e
+
+mutual
+  pub after_front : (sc : Scope) (s : Stmt) → Front sc.locals (after sc s).locals
+  after_front sc (let_local l) n k e = slice_front sc.locals (record { name = l.name.text; kind = kind.Let; value_type = type_of sc l.value_type; is_visible = true } ∷ []) n k e
+  after_front sc (var_local l) n k e = slice_front sc.locals (record { name = l.name.text; kind = kind.Var; value_type = type_of sc l.value_type; is_visible = true } ∷ []) n k e
+  after_front sc (assign p x) n k e = e
+  after_front sc (if_then start x body close other) n k e = else_front (left sc (after_all sc body)) other n k (front_left sc.locals (after_all sc body).locals (all_front sc body) n k e)
+  after_front sc (while start x body close) n k e = front_left sc.locals (after_all sc body).locals (all_front sc body) n k e
+  after_front sc (print start x) n k e = e
+  after_front sc (return_value start x) n k e = e
+
+  pub else_front : (sc : Scope) (o : Otherwise) → Front sc.locals (after_else sc o).locals
+  else_front sc no_else n k e = e
+  else_front sc (else_do body close) n k e = front_left sc.locals (after_all sc body).locals (all_front sc body) n k e
+
+  pub all_front : (sc : Scope) (ss : Stmts) → Front sc.locals (after_all sc ss).locals
+  all_front sc no_stmts n k e = e
+  all_front sc (stmt s rest) n k e = all_front (after sc s) rest n k (after_front sc s n k e)
+
+front_kept : (a b : List scope.Local) → Front a b → Kept a b
+front_kept a b f n l e = (l, f n l e, refl, refl)
+
+-- what has types has them before
+pub have_before : (a b : List scope.Local) (types : List core_type.ValueType) → Kept a b → Have b types → Have a types
+have_before a b types k h n l t e is = let x = k n l e in h n x.0 t x.1 (x.2 ∙ is)
+
+pub have_front : (a b : List scope.Local) (types : List core_type.ValueType) → Front a b → Have b types → Have a types
+have_front a b types f h = have_before a b types (front_kept a b f) h
+
+-- a local's type, where it has just been bound
+pub last_local : (a : List scope.Local) (x : scope.Local) → slice_get (a ++ x ∷ []) (length a) ≡ Some x
+last_local [] x = refl
+last_local (y ∷ a) x = last_local a x
+
+-- ---- statements
+
+module _ (decls : List Decl) (p : core.Program) (types : List core_type.ValueType) (sound : Sound decls p) where
+  sound_at : (sc : Scope) → sc.decls ≡ decls → Sound sc.decls p
+  sound_at sc same = subst (λ (ds : List Decl). Sound ds p) (sym same) sound
+
+  -- what can be assigned to has its type
+  abbrev AimsAt : Target → core_type.ValueType → Type 0
+  AimsAt (to_local n) t = slice_get types n ≡ Some t
+  AimsAt (to_global cell) t = slice_get (types_in p) cell ≡ Some t
+  AimsAt (to_element n index) t = (array_in p n ≡ Some t) × Is p types index Integer
+  AimsAt (to_field base f) t = (s : ℕ) × IsPath p types base (Reference s) × (field_in p s f ≡ Some t)
+
+  abbrev GoodAim : Option Aim → Type 0
+  GoodAim None = ⊤
+  GoodAim (Some a) = AimsAt a.target a.value_type
+
+  aim_good : (g : Target) (o : Option core_type.ValueType) → ((t : core_type.ValueType) → o ≡ Some t → AimsAt g t) → GoodAim (aim (Some g) o)
+  aim_good g None h = tt
+  aim_good g (Some t) h = h t refl
+
+  var_good : (n : ℕ) (l : scope.Local) (b : Bool) → ((t : core_type.ValueType) → l.value_type ≡ Some t → slice_get types n ≡ Some t) → GoodAim (if b then aim (Some (to_local n)) l.value_type else None)
+  var_good n l true h = aim_good (to_local n) l.value_type h
+  var_good n l false h = tt
+
+  name_aim : (sc : Scope) → Sound sc.decls p → Have sc.locals types → (m : Meaning) → IsMeant sc.decls m → IsLocal sc.locals m → GoodAim (aimed_at sc.decls m)
+  name_aim sc so have (a_local n l) at loc = var_good n l (is_var l.kind) (λ t e. have n l t loc.0 e)
+  name_aim sc so have (a_decl n (global v)) at loc = aim_good (to_global (cell_of sc.decls n)) (type_of (outside sc.decls) v.value_type) (λ t e. so.cell n v t at e)
+  name_aim sc so have (a_decl n (lock x)) at loc = tt
+  name_aim sc so have (a_decl n (struct x)) at loc = tt
+  name_aim sc so have (a_decl n (array x)) at loc = tt
+  name_aim sc so have (a_decl n (pool x)) at loc = tt
+  name_aim sc so have (a_decl n (init x)) at loc = tt
+  name_aim sc so have (a_decl n (atomic x)) at loc = tt
+  name_aim sc so have (a_decl n (thread x)) at loc = tt
+  name_aim sc so have nothing at loc = tt
+
+  element_aim : (sc : Scope) → Sound sc.decls p → (m : Meaning) (o : Option core.Expr) → IsMeant sc.decls m → ((x : core.Expr) → o ≡ Some x → Is p types x Integer) → GoodAim (aimed_at_element sc.decls m o)
+  element_aim sc so m None at i = tt
+  element_aim sc so (a_decl n (array a)) (Some index) at i = aim_good (to_element (number_at sc.decls n (array a)) index) (type_of (outside sc.decls) a.value_type) (λ t e. (so.array n a t at e, i index refl))
+  element_aim sc so (a_decl n (lock x)) (Some index) at i = tt
+  element_aim sc so (a_decl n (struct x)) (Some index) at i = tt
+  element_aim sc so (a_decl n (global x)) (Some index) at i = tt
+  element_aim sc so (a_decl n (pool x)) (Some index) at i = tt
+  element_aim sc so (a_decl n (init x)) (Some index) at i = tt
+  element_aim sc so (a_decl n (atomic x)) (Some index) at i = tt
+  element_aim sc so (a_decl n (thread x)) (Some index) at i = tt
+  element_aim sc so (a_local n l) (Some index) at i = tt
+  element_aim sc so nothing (Some index) at i = tt
+
+  -- the last step goes over a field of where those ahead of it lead
+  splits : (from : core_type.ValueType) (steps : List FieldStep) (t : core_type.ValueType) (q : Split) → Leads p types from steps t → last_field steps ≡ Some q → (s : ℕ) × Leads p types from q.base (Reference s) × (field_in p s q.field ≡ Some t)
+  splits from [] t q h e = cc
+  splits Integer (r ∷ rs) t q h e = absurd h
+  splits (Reference s) (step.Field n ∷ []) t q h e =
+      let same : record { base = []; field = n } ≡ q = cc in
+      let f : field_in p s n ≡ Some t = h.1 ∙ ap Some h.2 in
+      (s, subst (λ (x : Split). Leads p types (Reference s) x.base (Reference s)) same refl, subst (λ (x : Split). field_in p s x.field ≡ Some t) same f)
+  splits (Reference s) (step.Final n ∷ []) t q h e = cc
+  splits (Reference s) (step.Field n ∷ r ∷ rs) t q h e = split_field s n r rs t q h (last_field (r ∷ rs)) refl e (λ w x. splits h.0 (r ∷ rs) t w h.2 x)
+    where
+      split_field : (s n : ℕ) (r : FieldStep) (rs : List FieldStep) (t : core_type.ValueType) (q : Split) (h : Leads p types (Reference s) (step.Field n ∷ r ∷ rs) t) (o : Option Split) → last_field (r ∷ rs) ≡ o → (o >>= λ w. Some (behind (step.Field n) w)) ≡ Some q →
+          ((w : Split) → last_field (r ∷ rs) ≡ Some w → (k : ℕ) × Leads p types h.0 w.base (Reference k) × (field_in p k w.field ≡ Some t)) → (k : ℕ) × Leads p types (Reference s) q.base (Reference k) × (field_in p k q.field ≡ Some t)
+      split_field s n r rs t q h None is e rec = cc
+      split_field s n r rs t q h (Some w) is e rec =
+          let same : behind (step.Field n) w ≡ q = cc in
+          let x = rec w is in
+          (x.0, subst (λ (z : Split). Leads p types (Reference s) z.base (Reference x.0)) same (h.0, h.1, x.1), subst (λ (z : Split). field_in p x.0 z.field ≡ Some t) same x.2)
+  splits (Reference s) (step.Final n ∷ r ∷ rs) t q h e = split_final s n r rs t q h (last_field (r ∷ rs)) refl e (λ w x. splits (Reference h.0) (r ∷ rs) t w h.2 x)
+    where
+      split_final : (s n : ℕ) (r : FieldStep) (rs : List FieldStep) (t : core_type.ValueType) (q : Split) (h : Leads p types (Reference s) (step.Final n ∷ r ∷ rs) t) (o : Option Split) → last_field (r ∷ rs) ≡ o → (o >>= λ w. Some (behind (step.Final n) w)) ≡ Some q →
+          ((w : Split) → last_field (r ∷ rs) ≡ Some w → (k : ℕ) × Leads p types (Reference h.0) w.base (Reference k) × (field_in p k w.field ≡ Some t)) → (k : ℕ) × Leads p types (Reference s) q.base (Reference k) × (field_in p k q.field ≡ Some t)
+      split_final s n r rs t q h None is e rec = cc
+      split_final s n r rs t q h (Some w) is e rec =
+          let same : behind (step.Final n) w ≡ q = cc in
+          let x = rec w is in
+          (x.0, subst (λ (z : Split). Leads p types (Reference s) z.base (Reference x.0)) same (h.0, h.1, x.1), subst (λ (z : Split). field_in p x.0 z.field ≡ Some t) same x.2)
+
+  field_aim : (start n : ℕ) (steps : List FieldStep) (t : core_type.ValueType) → (from : core_type.ValueType) → slice_get types n ≡ Some from → Leads p types from steps t → (o : Option Split) → last_field steps ≡ o → GoodAim (aim (field_target start n o) (Some t))
+  field_aim start n steps t from at h None e = tt
+  field_aim start n steps t from at h (Some q) e = let x = splits from steps t q h e in (x.0, (from, at, x.1), x.2)
+
+  along_aim : (sc : Scope) (so : Sound sc.decls p) (have : Have sc.locals types) (start n : ℕ) (l : scope.Local) (w : Walk) → GoodPath sc p types so have n w → GoodAim (aimed_along start (a_local n l) w)
+  along_aim sc so have start n l (reached steps t) h = field_aim start n steps t h.0 h.1 h.2 (last_field steps) refl
+  along_aim sc so have start n l at_lock h = tt
+  along_aim sc so have start n l lost h = tt
+
+  path_aim : (sc : Scope) → Sound sc.decls p → Have sc.locals types → (start : ℕ) (m : Meaning) (fs : List Ident) → IsLocal sc.locals m → GoodAim (aimed_along start m (walk_from sc.decls m fs))
+  path_aim sc so have start (a_local n l) fs loc = along_aim sc so have start n l (walked sc.decls (at_local l.value_type) fs) (local_walk sc p types so have n l fs loc.0 l.value_type refl)
+  path_aim sc so have start (a_decl n d) fs loc = tt
+  path_aim sc so have start nothing fs loc = tt
+
+  -- a number, where there is one
+  index_good : (sc : Scope) (so : Sound sc.decls p) (have : Have sc.locals types) (e : Expr) (o : Option core.Expr) → number_in_sense (typed sc e) ≡ o → GoodValue sc p types so have Integer o → (x : core.Expr) → o ≡ Some x → Is p types x Integer
+  index_good sc so have e None is h x eq = cc
+  index_good sc so have e (Some y) is h x eq = let same : y ≡ x = cc in subst (λ (z : core.Expr). Is p types z Integer) same h
+
+  target_good : (sc : Scope) → Sound sc.decls p → Have sc.locals types → (q : Place) → GoodAim (target_of sc q)
+  target_good sc so have (lone x) = name_aim sc so have (meaning sc x.text) (meant sc x.text) (meant_local sc x.text)
+  target_good sc so have (element x e) = element_aim sc so (meaning sc x.text) (number_in_sense (typed sc e)) (meant sc x.text) (index_good sc so have e (number_in_sense (typed sc e)) refl (value_good_of sc p types so have Integer e))
+  target_good sc so have (path x fs) = path_aim sc so have x.span.start (meaning sc x.text) fs (meant_local sc x.text)
+
+  -- ---- parts
+
+  -- what a section with this result may give back
+  abbrev GoodReturn : Option core_type.ValueType → core.Return → Type 0
+  GoodReturn result r = (t : core_type.ValueType) → result ≡ Some t → Is p types r.value t
+
+  abbrev GoodPart : Option core_type.ValueType → Option Part → Type 0
+  GoodPart result None = ⊤
+  GoodPart result (Some (does x)) = Acts p types x.action
+  GoodPart result (Some (gives r)) = GoodReturn result r
+
+  abbrev pub IfReturn : Option core_type.ValueType → Option core.Return → Type 0
+  IfReturn result None = ⊤
+  IfReturn result (Some r) = GoodReturn result r
+
+  abbrev pub GoodBody : Option core_type.ValueType → Option Body → Type 0
+  GoodBody result None = ⊤
+  GoodBody result (Some b) = AllAct p types b.stmts × IfReturn result b.result
+
+  abbrev GoodBlock : Option core.Stmts → Type 0
+  GoodBlock None = ⊤
+  GoodBlock (Some x) = AllAct p types x
+
+  abbrev IfTest : Option core.Condition → Type 0
+  IfTest None = ⊤
+  IfTest (Some t) = well.Tests p types t
+
+  abbrev IfValue : core_type.ValueType → Option core.Expr → Type 0
+  IfValue t None = ⊤
+  IfValue t (Some x) = Is p types x t
+
+  if_value : (sc : Scope) (so : Sound sc.decls p) (have : Have sc.locals types) (t : core_type.ValueType) (o : Option core.Expr) → GoodValue sc p types so have t o → IfValue t o
+  if_value sc so have t None h = tt
+  if_value sc so have t (Some x) h = h
+
+  if_test : (sc : Scope) (so : Sound sc.decls p) (have : Have sc.locals types) (o : Option core.Condition) → GoodTest sc p types so have o → IfTest o
+  if_test sc so have None h = tt
+  if_test sc so have (Some x) h = h
+
+  block_part : (x : core.Stmts) (r : Option core.Return) → AllAct p types x → GoodBlock (block_without x r)
+  block_part x None h = h
+  block_part x (Some r) h = tt
+
+  block_good : (result : Option core_type.ValueType) (o : Option Body) → GoodBody result o → GoodBlock (block_of o)
+  block_good result None h = tt
+  block_good result (Some b) h = block_part b.stmts b.result h.0
+
+  back_good : (result : Option core_type.ValueType) (r : core.Return) (x : core.Stmts) (q : Option core.Return) → GoodReturn result r → GoodBody result (given_back r x q)
+  back_good result r core.no_stmts None h = (tt, h)
+  back_good result r core.no_stmts (Some q) h = tt
+  back_good result r (core.stmt start action rest) q h = tt
+
+  preceded_good : (result : Option core_type.ValueType) (o : Option Part) (r : Option Body) → GoodPart result o → GoodBody result r → GoodBody result (preceded o r)
+  preceded_good result None r h g = tt
+  preceded_good result (Some (does x)) None h g = tt
+  preceded_good result (Some (gives x)) None h g = tt
+  preceded_good result (Some (does x)) (Some b) h g = ((h, g.0), g.1)
+  preceded_good result (Some (gives x)) (Some b) h g = back_good result x b.stmts b.result h
+
+  bind_good : (result : Option core_type.ValueType) (start n : ℕ) (o : Option core_type.ValueType) (v : Option core.Expr) → ((t : core_type.ValueType) → o ≡ Some t → slice_get types n ≡ Some t × IfValue t v) → GoodPart result (binds start n o v)
+  bind_good result start n None v h = tt
+  bind_good result start n (Some t) None h = tt
+  bind_good result start n (Some t) (Some x) h = let r = h t refl in (t, r.0, r.1)
+
+  set_good : (g : Target) (t : core_type.ValueType) (x : core.Expr) → AimsAt g t → Is p types x t → Acts p types (set_to g x)
+  set_good (to_local n) t x h i = (t, h, i)
+  set_good (to_global cell) t x h i = (t, h, i)
+  set_good (to_element n index) t x h i = (t, h.0, h.1, i)
+  set_good (to_field base f) t x h i = (h.0, h.1, (t, h.2, i))
+
+  assign_good : (result : Option core_type.ValueType) (start : ℕ) (o : Option Aim) (v : Option core.Expr) → GoodAim o → ((a : Aim) → o ≡ Some a → IfValue a.value_type v) → GoodPart result (assigns start o v)
+  assign_good result start None v h g = tt
+  assign_good result start (Some a) None h g = tt
+  assign_good result start (Some a) (Some x) h g = set_good a.target a.value_type x h (g a refl)
+
+  print_good : (result : Option core_type.ValueType) (start : ℕ) (v : Option core.Expr) → IfValue Integer v → GoodPart result (prints start v)
+  print_good result start None h = tt
+  print_good result start (Some x) h = h
+
+  return_good : (result : Option core_type.ValueType) (start : ℕ) (v : Option core.Expr) → ((t : core_type.ValueType) → result ≡ Some t → IfValue t v) → GoodPart result (returns start v)
+  return_good result start None h = tt
+  return_good result start (Some x) h = λ t e. h t e
+
+  while_good : (result : Option core_type.ValueType) (start : ℕ) (t : Option core.Condition) (b : Option core.Stmts) → IfTest t → GoodBlock b → GoodPart result (repeats start t b)
+  while_good result start None b h g = tt
+  while_good result start (Some t) None h g = tt
+  while_good result start (Some t) (Some b) h g = (h, g)
+
+  choose_good : (result : Option core_type.ValueType) (start : ℕ) (t : Option core.Condition) (b : Option core.Stmts) → IfTest t → GoodBlock b → GoodPart result (chooses start t b)
+  choose_good result start None b h g = tt
+  choose_good result start (Some t) None h g = tt
+  choose_good result start (Some t) (Some b) h g = (h, g)
+
+  between_good : (result : Option core_type.ValueType) (start : ℕ) (t : Option core.Condition) (b c : Option core.Stmts) → IfTest t → GoodBlock b → GoodBlock c → GoodPart result (chooses_between start t b c)
+  between_good result start None b c h g f = tt
+  between_good result start (Some t) None c h g f = tt
+  between_good result start (Some t) (Some b) None h g f = tt
+  between_good result start (Some t) (Some b) (Some c) h g f = (h, g, f)
+
+  -- what is wanted of a known type
+  wanted_good : (sc : Scope) (so : Sound sc.decls p) (have : Have sc.locals types) (o : Option core_type.ValueType) (e : Expr) (t : core_type.ValueType) → o ≡ Some t → IfValue t (as_value (fitting (want o) (typed sc e)))
+  wanted_good sc so have o e t is = subst (λ (x : Option core_type.ValueType). IfValue t (as_value (fitting (want x) (typed sc e)))) (sym is) (if_value sc so have t (as_value (fitting (Value t) (typed sc e))) (value_good_of sc p types so have t e))
+
+  local_good : (sc : Scope) (so : Sound sc.decls p) (k : LocalKind) (l : Local) → Have (bound sc k l.name (type_of sc l.value_type)).locals types → GoodPart sc.result (binds l.start.start (length sc.locals) (type_of sc l.value_type) (as_value (fitting (want (type_of sc l.value_type)) (typed sc l.value))))
+  local_good sc so k l have =
+      let x : scope.Local = record { name = l.name.text; kind = k; value_type = type_of sc l.value_type; is_visible = true } in
+      let before = have_before sc.locals (sc.locals ++ x ∷ []) types (kept_push sc.locals x) have in
+      bind_good sc.result l.start.start (length sc.locals) (type_of sc l.value_type) (as_value (fitting (want (type_of sc l.value_type)) (typed sc l.value)))
+      (λ t e. (have (length sc.locals) x t (last_local sc.locals x) e, wanted_good sc so before (type_of sc l.value_type) l.value t e))
+
+  assigned_good : (sc : Scope) (so : Sound sc.decls p) (have : Have sc.locals types) (q : Place) (e : Expr) (a : Aim) → target_of sc q ≡ Some a → IfValue a.value_type (as_value (fitting (wanted_by (target_of sc q)) (typed sc e)))
+  assigned_good sc so have q e a is = subst (λ (o : Option Aim). IfValue a.value_type (as_value (fitting (wanted_by o) (typed sc e)))) (sym is) (if_value sc so have a.value_type (as_value (fitting (Value a.value_type) (typed sc e))) (value_good_of sc p types so have a.value_type e))
+
+  after_result : (sc : Scope) (s : Stmt) → (after sc s).result ≡ sc.result
+  after_result sc (let_local l) = refl
+  after_result sc (var_local l) = refl
+  after_result sc (assign q e) = refl
+  after_result sc (if_then start e body close no_else) = refl
+  after_result sc (if_then start e body close (else_do other end)) = refl
+  after_result sc (while start e body close) = refl
+  after_result sc (print start e) = refl
+  after_result sc (return_value start e) = refl
+
+  left_before : (a b : List scope.Local) (n : ℕ) → Have (hidden_from n b) types → Have b types
+  left_before a b n h = have_before b (hidden_from n b) types (kept_hidden n b) h
+
+  mutual
+    pub stmt_good : (sc : Scope) → sc.decls ≡ decls → (s : Stmt) → Have (after sc s).locals types → GoodPart sc.result (typed_stmt sc s)
+    stmt_good sc same (let_local l) have = local_good sc (sound_at sc same) kind.Let l have
+    stmt_good sc same (var_local l) have = local_good sc (sound_at sc same) kind.Var l have
+    stmt_good sc same (assign q e) have =
+        assign_good sc.result (first_name q).span.start (target_of sc q) (as_value (fitting (wanted_by (target_of sc q)) (typed sc e))) (target_good sc (sound_at sc same) have q) (λ a is. assigned_good sc (sound_at sc same) have q e a is)
+    stmt_good sc same (if_then start e body close other) have =
+        let inner = have_front (left sc (after_all sc body)).locals (after_else (left sc (after_all sc body)) other).locals types (else_front (left sc (after_all sc body)) other) have in
+        let end = left_before sc.locals (after_all sc body).locals (length sc.locals) inner in
+        let before = have_front sc.locals (after_all sc body).locals types (all_front sc body) end in
+        if_good (left sc (after_all sc body)) same start.start (test_in_sense (typed sc e)) (block_of (typed_body sc body)) other
+        (if_test sc (sound_at sc same) before (test_in_sense (typed sc e)) (test_good_of sc p types (sound_at sc same) before e))
+        (block_good sc.result (typed_body sc body) (body_good sc same body end)) have
+    stmt_good sc same (while start e body close) have =
+        let end = left_before sc.locals (after_all sc body).locals (length sc.locals) have in
+        let before = have_front sc.locals (after_all sc body).locals types (all_front sc body) end in
+        while_good sc.result start.start (test_in_sense (typed sc e)) (block_of (typed_body sc body))
+        (if_test sc (sound_at sc same) before (test_in_sense (typed sc e)) (test_good_of sc p types (sound_at sc same) before e))
+        (block_good sc.result (typed_body sc body) (body_good sc same body end))
+    stmt_good sc same (print start e) have = print_good sc.result start.start (number_in_sense (typed sc e)) (if_value sc (sound_at sc same) have Integer (number_in_sense (typed sc e)) (value_good_of sc p types (sound_at sc same) have Integer e))
+    stmt_good sc same (return_value start e) have = return_good sc.result start.start (as_value (fitting (want sc.result) (typed sc e))) (λ t is. wanted_good sc (sound_at sc same) have sc.result e t is)
+
+    if_good : (sc : Scope) → sc.decls ≡ decls → (start : ℕ) (t : Option core.Condition) (b : Option core.Stmts) (o : Otherwise) → IfTest t → GoodBlock b → Have (after_else sc o).locals types → GoodPart sc.result (typed_if sc start t b o)
+    if_good sc same start t b no_else h g have = choose_good sc.result start t b h g
+    if_good sc same start t b (else_do body close) h g have =
+        between_good sc.result start t b (block_of (typed_body sc body)) h g (block_good sc.result (typed_body sc body) (body_good sc same body (left_before sc.locals (after_all sc body).locals (length sc.locals) have)))
+
+    pub body_good : (sc : Scope) → sc.decls ≡ decls → (ss : Stmts) → Have (after_all sc ss).locals types → GoodBody sc.result (typed_body sc ss)
+    body_good sc same no_stmts have = (tt, tt)
+    body_good sc same (stmt s rest) have =
+        preceded_good sc.result (typed_stmt sc s) (typed_body (after sc s) rest)
+        (stmt_good sc same s (have_front (after sc s).locals (after_all (after sc s) rest).locals types (all_front (after sc s) rest) have))
+        (subst (λ (r : Option core_type.ValueType). GoodBody r (typed_body (after sc s) rest)) (after_result sc s) (body_good (after sc s) (after_same sc s ∙ same) rest have))
+
+-- ---- sections
+
+-- the types of locals
+abbrev pub types_of : List core.Local → List core_type.ValueType
+types_of ls = map (λ (l : core.Local). l.value_type) ls
+
+core_local_is : (l : scope.Local) (x : core.Local) → core_local l ≡ Some x → (x.name ≡ l.name) × (x.kind ≡ l.kind) × (l.value_type ≡ Some x.value_type)
+core_local_is l x e = by_type l.value_type refl e
+  where
+    by_type : (o : Option core_type.ValueType) → l.value_type ≡ o → (o >>= λ t. Some (record { name = l.name; kind = l.kind; value_type = t })) ≡ Some x → (x.name ≡ l.name) × (x.kind ≡ l.kind) × (l.value_type ≡ Some x.value_type)
+    by_type None is h = cc
+    by_type (Some t) is h =
+        let same : record { name = l.name; kind = l.kind; value_type = t } ≡ x = cc in
+        (sym (ap (λ (y : core.Local). y.name) same), sym (ap (λ (y : core.Local). y.kind) same), is ∙ ap (λ (y : core.Local). Some y.value_type) same)
+
+-- a local resolved at its place
+abbrev pub Resolved_at : List core.Local → ℕ → scope.Local → Type 0
+Resolved_at xs n l = (x : core.Local) × (slice_get xs n ≡ Some x) × (x.kind ≡ l.kind) × (l.value_type ≡ Some x.value_type)
+
+first_at : (y l : scope.Local) (x : core.Local) (zs : List core.Local) → core_local y ≡ Some x → y ≡ l → Resolved_at (x ∷ zs) 0 l
+first_at y l x zs a s = let r = core_local_is y x a in (x, refl, r.1 ∙ ap (λ (q : scope.Local). q.kind) s, sym (ap (λ (q : scope.Local). q.value_type) s) ∙ r.2)
+
+local_at : (y : scope.Local) (ls : List scope.Local) (xs : List core.Local) (n : ℕ) (l : scope.Local) → slice_get (y ∷ ls) n ≡ Some l → (o : Option core.Local) (r : Option (List core.Local)) → core_local y ≡ o → core_locals ls ≡ r → added o r ≡ Some xs →
+    ((zs : List core.Local) → core_locals ls ≡ Some zs → (k : ℕ) → slice_get ls k ≡ Some l → Resolved_at zs k l) → Resolved_at xs n l
+local_at y ls xs n l at None r a b h rec = cc
+local_at y ls xs n l at (Some x) None a b h rec = cc
+local_at y ls xs zero l at (Some x) (Some zs) a b h rec = let same : x ∷ zs ≡ xs = cc in subst (λ (q : List core.Local). Resolved_at q 0 l) same (first_at y l x zs a (let s : y ≡ l = cc in s))
+local_at y ls xs (suc k) l at (Some x) (Some zs) a b h rec = let same : x ∷ zs ≡ xs = cc in subst (λ (q : List core.Local). Resolved_at q (suc k) l) same (rec zs b k at)
+
+-- each of a list of locals resolved
+pub locals_got : (ls : List scope.Local) (xs : List core.Local) → core_locals ls ≡ Some xs → (n : ℕ) (l : scope.Local) → slice_get ls n ≡ Some l → Resolved_at xs n l
+locals_got [] xs e n l at = cc
+locals_got (y ∷ ls) xs e n l at = local_at y ls xs n l at (core_local y) (core_locals ls) refl refl e (λ zs b k g. locals_got ls zs b k l g)
+
+pub locals_have : (ls : List scope.Local) (xs : List core.Local) → core_locals ls ≡ Some xs → Have ls (types_of xs)
+locals_have ls xs e n l t at is =
+    let r = locals_got ls xs e n l at in
+    let same : Some r.0.value_type ≡ Some t = sym r.3 ∙ is in
+    get_map (λ (x : core.Local). x.value_type) xs n r.0 r.1 ∙ same
+
+-- a section whose statements and result are well typed
+pub record SectionOk (p : core.Program) (x : core.Section) : Type 0 where
+  pub body : AllAct p (types_of x.locals) x.body
+  pub result : Returns p (types_of x.locals) x.result_type x.result
+
+abbrev IfSection : core.Program → Option core.Section → Type 0
+IfSection p None = ⊤
+IfSection p (Some x) = SectionOk p x
+
+module _ (decls : List Decl) (p : core.Program) (sound : Sound decls p) (s : Section) where
+  put_some : (xs : List core.Local) (body : core.Stmts) (r : core.Return) (o : Option core_type.ValueType) → AllAct p (types_of xs) body → ((t : core_type.ValueType) → o ≡ Some t → Is p (types_of xs) r.value t) →
+      IfSection p (o >>= λ v. Some (record { name = s.name.text; parameters = length s.params; locals = xs; result_type = Some v; body = body; result = Some r }))
+  put_some xs body r None h g = tt
+  put_some xs body r (Some t) h g = record { body = h; result = g t refl }
+
+  put_good : (xs : List core.Local) (body : core.Stmts) (r : Option core.Return) (o : Option ValueType) → s.result ≡ o → AllAct p (types_of xs) body → IfReturn decls p (types_of xs) sound (result_of decls s) r → IfSection p (section_with decls s xs body o r)
+  put_good xs body None None is h g = record { body = h; result = tt }
+  put_good xs body (Some r) None is h g = tt
+  put_good xs body None (Some t) is h g = tt
+  put_good xs body (Some r) (Some t) is h g =
+      put_some xs body r (type_of (outside decls) t) h (λ v e. g v (ap (λ (o : Option ValueType). o >>= λ w. type_of (outside decls) w) is ∙ e))
+
+  section_good : (o : Option (List core.Local)) → core_locals (after_all (entry decls s) s.body.stmts).locals ≡ o → IfSection p (section_of decls s o (typed_body (entry decls s) s.body.stmts))
+  section_good None is = tt
+  section_good (Some xs) is =
+      by_body (typed_body (entry decls s) s.body.stmts)
+      (subst (λ (r : Option core_type.ValueType). GoodBody decls p (types_of xs) sound r (typed_body (entry decls s) s.body.stmts)) (entered_result (ahead_of decls s) s.params)
+      (body_good decls p (types_of xs) sound (entry decls s) (entered_same (ahead_of decls s) s.params) s.body.stmts (locals_have (after_all (entry decls s) s.body.stmts).locals xs is)))
+    where
+      by_body : (o : Option Body) → GoodBody decls p (types_of xs) sound (result_of decls s) o → IfSection p (section_of decls s (Some xs) o)
+      by_body None h = tt
+      by_body (Some b) h = put_good xs b.stmts b.result s.result refl h.0 h.1
+
+  pub section_typed : (x : core.Section) → typed_section decls s ≡ Some x → SectionOk p x
+  section_typed x e = subst (IfSection p) e (section_good (core_locals (after_all (entry decls s) s.body.stmts).locals) refl)

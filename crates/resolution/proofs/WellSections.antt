@@ -1,0 +1,249 @@
+-- Resolved sections are well typed and well scoped.
+use Rattle.std.proofs.Common.{◌≡◌, ◌≢◌, ℕ, zero, suc, ◌+◌, ◌<◌, ◌≤◌, List, [], ◌∷◌, ◌++◌, length, Option, Some, None, true, ◌⊎◌, inl, inr, refl, sym, ap, ◌∙◌, subst, arith}
+use Rattle.std.specs.Prelude.{slice_get, map, option_map, ⊤}
+use Rattle.std.specs.List.{Contains}
+use Rattle.syntax.specs.Trees.{ValueType, Stmt, let_local, var_local, assign, if_then, while, print, return_value, Stmts, no_stmts, stmt, Otherwise, no_else, else_do, Param, Section, Decl}
+use Rattle.core_lang.specs.declared.value.ValueType as core_type
+use Rattle.core_lang.specs.declared.tree.LocalKind.{LocalKind}
+use Rattle.core_lang.specs.declared.tree.LocalKind.TheVariants as kind
+use Rattle.core_lang.specs.declared.tree.Local as the_local
+use Rattle.core_lang.specs.declared.tree.Return as the_return
+use Rattle.core_lang.specs.declared.tree.Section as the_section
+use Rattle.core_lang.specs.declared.typed.Typed.{Typed}
+use Rattle.core_lang.specs.Typing.{local_types, AllWellTyped, IsResult, IsWellTypedSection}
+use Rattle.core_lang.specs.Scopes.{numbers_from, bound_in_all, assigned_in_all, scope_after_all, ResultNamesOnly, IsWellScoped}
+use Rattle.resolution.specs.Core as core
+use Rattle.resolution.specs.CoreViews.{core_expr, core_stmts, core_return, core_local, core_locals as locals_view, core_section, core_of}
+use Rattle.resolution.specs.Scopes as scopes
+use Rattle.resolution.specs.Scopes.{◌>>=◌, Scope, outside, type_of, bound, hidden, hidden_from, left, entered}
+use Rattle.resolution.specs.Statements.{Body, typed_body, after, after_else, after_all}
+use Rattle.resolution.specs.Constants.{added}
+use Rattle.resolution.specs.Resolution.{result_of, ahead_of, entry, core_local as local_of, core_locals, section_with, section_of, typed_section}
+use Rattle.resolution.proofs.Typed.{AllAct, Returns, get_map, map_got, body_typed, result_typed}
+use Rattle.resolution.proofs.TypedSenses.{Sound}
+use Rattle.resolution.proofs.TypedStatements.{Front, all_front, types_of, Resolved_at, locals_got, SectionOk, section_typed}
+use Rattle.resolution.proofs.Scoped.{Names, StmtsName, behind_all, all_binding, all_assigning, body_scoped, body_behind, body_binding, body_assigning, result_scoped}
+use Rattle.resolution.proofs.ScopedStatements.{Covers, IsVarAt, Become, Done, BodyDone, ReturnDone, numbers_cover, body_done}
+
+-- ---- well typed
+
+types_same : (ls : List the_local.Local) → types_of (locals_view ls) ≡ local_types ls
+types_same [] = refl
+types_same (l ∷ ls) = ap (λ (ts : List core_type.ValueType). l.value_type ∷ ts) (types_same ls)
+
+pub section_well_typed : (decls : List Decl) (program : Typed) → Sound decls (core_of program) → (s : Section) (x : the_section.Section) → typed_section decls s ≡ Some (core_section x) → IsWellTypedSection program x
+section_well_typed decls program sound s x e =
+    let ok = section_typed decls (core_of program) sound s (core_section x) e in
+    let same = types_same x.locals.items in
+    record {
+      body = body_typed program (local_types x.locals.items) x.body.items (subst (λ (ts : List core_type.ValueType). AllAct (core_of program) ts (core_stmts x.body.items)) same ok.body);
+      result = result_typed program (local_types x.locals.items) x.result_type x.result (subst (λ (ts : List core_type.ValueType). Returns (core_of program) ts x.result_type (option_map core_return x.result)) same ok.result);
+    }
+
+-- ---- the kinds of locals
+
+-- from a place on there are no parameters
+abbrev NoneFrom : ℕ → List scopes.Local → Type 0
+NoneFrom n ls = (k : ℕ) (l : scopes.Local) → slice_get ls k ≡ Some l → n ≤ k → l.kind ≢ kind.Parameter
+
+none_push : (n : ℕ) (ls : List scopes.Local) (x : scopes.Local) → x.kind ≢ kind.Parameter → NoneFrom n ls → NoneFrom n (ls ++ x ∷ [])
+none_push n [] x o h zero l e le = let s : x ≡ l = cc in λ p. o (ap (λ (y : scopes.Local). y.kind) s ∙ p)
+none_push n [] x o h (suc k) l e le = cc
+none_push n (y ∷ ls) x o h zero l e le = h 0 l e le
+none_push zero (y ∷ ls) x o h (suc k) l e le = none_push zero ls x o (λ j m g i. h (suc j) m g (omega arith)) k l e (omega arith)
+none_push (suc n) (y ∷ ls) x o h (suc k) l e le = none_push n ls x o (λ j m g i. h (suc j) m g (omega (arith, i))) k l e (omega (arith, le))
+
+none_hidden : (n j : ℕ) (ls : List scopes.Local) → NoneFrom n ls → NoneFrom n (hidden_from j ls)
+none_hidden n j [] h k l e le = cc
+none_hidden n zero (x ∷ ls) h zero l e le = let s : hidden x ≡ l = cc in λ p. h 0 x refl le (ap (λ (y : scopes.Local). y.kind) s ∙ p)
+none_hidden zero zero (x ∷ ls) h (suc k) l e le = none_hidden zero zero ls (λ j m g i. h (suc j) m g (omega arith)) k l e (omega arith)
+none_hidden (suc n) zero (x ∷ ls) h (suc k) l e le = none_hidden n zero ls (λ j m g i. h (suc j) m g (omega (arith, i))) k l e (omega (arith, le))
+none_hidden n (suc j) (x ∷ ls) h zero l e le = h 0 l e le
+none_hidden zero (suc j) (x ∷ ls) h (suc k) l e le = none_hidden zero j ls (λ i m g q. h (suc i) m g (omega arith)) k l e (omega arith)
+none_hidden (suc n) (suc j) (x ∷ ls) h (suc k) l e le = none_hidden n j ls (λ i m g q. h (suc i) m g (omega (arith, q))) k l e (omega (arith, le))
+
+let_is : kind.Let ≢ kind.Parameter
+let_is e = cc
+
+var_is : kind.Var ≢ kind.Parameter
+var_is e = cc
+
+mutual
+  none_after : (n : ℕ) (sc : Scope) (s : Stmt) → NoneFrom n sc.locals → NoneFrom n (after sc s).locals
+  none_after n sc (let_local l) h = none_push n sc.locals (record { name = l.name.text; kind = kind.Let; value_type = type_of sc l.value_type; is_visible = true }) let_is h
+  none_after n sc (var_local l) h = none_push n sc.locals (record { name = l.name.text; kind = kind.Var; value_type = type_of sc l.value_type; is_visible = true }) var_is h
+  none_after n sc (assign q e) h = h
+  none_after n sc (if_then start e body close other) h = none_else n (left sc (after_all sc body)) other (none_hidden n (length sc.locals) (after_all sc body).locals (none_all n sc body h))
+  none_after n sc (while start e body close) h = none_hidden n (length sc.locals) (after_all sc body).locals (none_all n sc body h)
+  none_after n sc (print start e) h = h
+  none_after n sc (return_value start e) h = h
+
+  none_else : (n : ℕ) (sc : Scope) (o : Otherwise) → NoneFrom n sc.locals → NoneFrom n (after_else sc o).locals
+  none_else n sc no_else h = h
+  none_else n sc (else_do body close) h = none_hidden n (length sc.locals) (after_all sc body).locals (none_all n sc body h)
+
+  none_all : (n : ℕ) (sc : Scope) (ss : Stmts) → NoneFrom n sc.locals → NoneFrom n (after_all sc ss).locals
+  none_all n sc no_stmts h = h
+  none_all n sc (stmt s rest) h = none_all n (after sc s) rest (none_after n sc s h)
+
+-- all of them are parameters
+abbrev AllParameters : List scopes.Local → Type 0
+AllParameters ls = (k : ℕ) (l : scopes.Local) → slice_get ls k ≡ Some l → l.kind ≡ kind.Parameter
+
+parameters_push : (ls : List scopes.Local) (x : scopes.Local) → x.kind ≡ kind.Parameter → AllParameters ls → AllParameters (ls ++ x ∷ [])
+parameters_push [] x o h zero l e = let s : x ≡ l = cc in sym (ap (λ (y : scopes.Local). y.kind) s) ∙ o
+parameters_push [] x o h (suc k) l e = cc
+parameters_push (y ∷ ls) x o h zero l e = h 0 l e
+parameters_push (y ∷ ls) x o h (suc k) l e = parameters_push ls x o (λ j m g. h (suc j) m g) k l e
+
+parameters_entered : (sc : Scope) (ps : List Param) → AllParameters sc.locals → AllParameters (entered sc ps).locals
+parameters_entered sc [] h = h
+parameters_entered sc (p ∷ ps) h =
+    parameters_entered (bound sc kind.Parameter p.name (type_of (outside sc.decls) p.value_type)) ps (parameters_push sc.locals (record { name = p.name.text; kind = kind.Parameter; value_type = type_of (outside sc.decls) p.value_type; is_visible = true }) refl h)
+
+push_length : {A : Type 0} (xs : List A) (y : A) → length (xs ++ y ∷ []) ≡ length xs + 1
+push_length [] y = refl
+push_length (x ∷ xs) y = let r = push_length xs y in omega (arith, r)
+
+pub entered_length : (sc : Scope) (ps : List Param) → length (entered sc ps).locals ≡ length sc.locals + length ps
+entered_length sc [] = omega arith
+entered_length sc (p ∷ ps) =
+    let x : scopes.Local = record { name = p.name.text; kind = kind.Parameter; value_type = type_of (outside sc.decls) p.value_type; is_visible = true } in
+    let r = entered_length (bound sc kind.Parameter p.name (type_of (outside sc.decls) p.value_type)) ps in
+    let l = push_length sc.locals x in
+    omega (arith, r, l)
+
+get_lt : {A : Type 0} (xs : List A) (n : ℕ) (x : A) → slice_get xs n ≡ Some x → n < length xs
+get_lt [] n x e = cc
+get_lt (y ∷ xs) zero x e = omega arith
+get_lt (y ∷ xs) (suc n) x e = let r = get_lt xs n x e in omega (arith, r)
+
+get_some : {A : Type 0} (xs : List A) (n : ℕ) → n < length xs → (x : A) × (slice_get xs n ≡ Some x)
+get_some [] n lt = absurd (omega (arith, lt))
+get_some (x ∷ xs) zero lt = (x, refl)
+get_some (x ∷ xs) (suc n) lt = get_some xs n (omega (arith, lt))
+
+-- ---- well scoped
+
+pub locals_length : (ls : List scopes.Local) (xs : List core.Local) → core_locals ls ≡ Some xs → length xs ≡ length ls
+locals_length [] xs e = let s : [] ≡ xs = cc in sym (ap (λ (q : List core.Local). length q) s)
+locals_length (l ∷ ls) xs e = by_parts (local_of l) (core_locals ls) e (λ zs g. locals_length ls zs g)
+  where
+    by_parts : (o : Option core.Local) (r : Option (List core.Local)) → added o r ≡ Some xs → ((zs : List core.Local) → r ≡ Some zs → length zs ≡ length ls) → length xs ≡ suc (length ls)
+    by_parts None r h rec = cc
+    by_parts (Some x) None h rec = cc
+    by_parts (Some x) (Some zs) h rec = let s : x ∷ zs ≡ xs = cc in let l = rec zs refl in sym (ap (λ (q : List core.Local). length q) s) ∙ ap suc l
+
+-- a section whose locals are named in scope, bound once and kept by kind
+pub record ScopedOk (x : core.Section) : Type 0 where
+  pub bound : numbers_from 0 x.parameters ++ all_binding x.body ≡ numbers_from 0 (length x.locals)
+  pub kinds : (k : ℕ) (l : core.Local) → slice_get x.locals k ≡ Some l → (k < x.parameters → l.kind ≡ kind.Parameter) × (x.parameters ≤ k → l.kind ≢ kind.Parameter)
+  pub assigned : (k : ℕ) → Contains (all_assigning x.body) k → IsVarAt x.locals k
+  pub body : StmtsName (numbers_from 0 x.parameters) x.body
+  pub result : (r : core.Return) → x.result ≡ Some r → Names (behind_all (numbers_from 0 x.parameters) x.body) r.value
+
+abbrev IfScoped : Option core.Section → Type 0
+IfScoped None = ⊤
+IfScoped (Some x) = ScopedOk x
+
+module _ (decls : List Decl) (s : Section) (xs : List core.Local) (are : core_locals (after_all (entry decls s) s.body.stmts).locals ≡ Some xs) where
+  abbrev sc : Scope
+  sc = entry decls s
+
+  abbrev ends : List scopes.Local
+  ends = (after_all (entry decls s) s.body.stmts).locals
+
+  params : length sc.locals ≡ length s.params
+  params = let r = entered_length (ahead_of decls s) s.params in omega (arith, r)
+
+  becomes : Become ends xs
+  becomes n l e = let r = locals_got ends xs are n l e in (r.0, r.1, r.2)
+
+  kinds_are : (k : ℕ) (x : core.Local) → slice_get xs k ≡ Some x → (k < length s.params → x.kind ≡ kind.Parameter) × (length s.params ≤ k → x.kind ≢ kind.Parameter)
+  kinds_are k x e =
+      let len = locals_length ends xs are in
+      let lt = get_lt xs k x e in
+      let at = get_some ends k (let z : k < length ends = omega (arith, len, lt) in z) in
+      let r = locals_got ends xs are k at.0 at.1 in
+      let same : Some r.0 ≡ Some x = sym r.1 ∙ e in
+      let kd : x.kind ≡ at.0.kind = (let q : r.0 ≡ x = cc in sym (ap (λ (y : core.Local). y.kind) q) ∙ r.2) in (
+        (λ less. kd ∙ first_kind k at.0 at.1 less),
+        (λ le p. none_all (length s.params) sc s.body.stmts none_yet k at.0 at.1 le (sym kd ∙ p)),
+      )
+    where
+      none_yet : NoneFrom (length s.params) sc.locals
+      none_yet j l g le = let lt = get_lt sc.locals j l g in let q = params in absurd (omega (arith, lt, q, le))
+
+      first_kind : (k : ℕ) (l : scopes.Local) → slice_get ends k ≡ Some l → k < length s.params → l.kind ≡ kind.Parameter
+      first_kind k l e less =
+          let q = params in
+          let at = get_some sc.locals k (let z : k < length sc.locals = omega (arith, q, less) in z) in
+          let h = all_front sc s.body.stmts k at.0 at.1 in
+          let same : Some at.0 ≡ Some l = sym h ∙ e in
+          let o : at.0 ≡ l = cc in
+          sym (ap (λ (y : scopes.Local). y.kind) o) ∙ parameters_entered (ahead_of decls s) s.params (λ j m g. cc) k at.0 at.1
+
+  scoped_put : (b : Body) (t : Option core_type.ValueType) (r : Option core.Return) → BodyDone xs sc.locals ends (numbers_from 0 (length sc.locals)) (Some b) → r ≡ b.result →
+      ScopedOk (record { name = s.name.text; parameters = length s.params; locals = xs; result_type = t; body = b.stmts; result = r })
+  scoped_put b t r h same =
+      let d = h.0 in
+      let len = locals_length ends xs are in
+      record {
+        bound = ap (λ (n : ℕ). numbers_from 0 n ++ all_binding b.stmts) (sym params) ∙ d.bound ∙ ap (numbers_from 0) (sym len);
+        kinds = kinds_are;
+        assigned = d.assigned;
+        body = subst (λ (n : ℕ). StmtsName (numbers_from 0 n) b.stmts) params d.named;
+        result = λ q e. given b.result q (sym same ∙ e) h.1;
+      }
+    where
+      given : (o : Option core.Return) (q : core.Return) → o ≡ Some q → ReturnDone xs (behind_all (numbers_from 0 (length sc.locals)) b.stmts) o → Names (behind_all (numbers_from 0 (length s.params)) b.stmts) q.value
+      given None q e g = cc
+      given (Some w) q e g = let same2 : w ≡ q = cc in subst (λ (n : ℕ). Names (behind_all (numbers_from 0 n) b.stmts) q.value) params (subst (λ (y : core.Return). Names (behind_all (numbers_from 0 (length sc.locals)) b.stmts) y.value) same2 g)
+
+  typed_put : (b : Body) (r : core.Return) (o : Option core_type.ValueType) → BodyDone xs sc.locals ends (numbers_from 0 (length sc.locals)) (Some b) → Some r ≡ b.result →
+      IfScoped (o >>= λ v. Some (record { name = s.name.text; parameters = length s.params; locals = xs; result_type = Some v; body = b.stmts; result = Some r }))
+  typed_put b r None h same = tt
+  typed_put b r (Some t) h same = scoped_put b (Some t) (Some r) h same
+
+  with_put : (b : Body) (o : Option ValueType) (q : Option core.Return) → BodyDone xs sc.locals ends (numbers_from 0 (length sc.locals)) (Some b) → q ≡ b.result → IfScoped (section_with decls s xs b.stmts o q)
+  with_put b None None h same = scoped_put b None None h same
+  with_put b None (Some r) h same = tt
+  with_put b (Some t) None h same = tt
+  with_put b (Some t) (Some r) h same = typed_put b r (type_of (outside decls) t) h same
+
+  of_put : (o : Option Body) → BodyDone xs sc.locals ends (numbers_from 0 (length sc.locals)) o → IfScoped (section_of decls s (Some xs) o)
+  of_put None h = tt
+  of_put (Some b) h = with_put b s.result b.result h refl
+
+  pub scoped_if : IfScoped (section_of decls s (Some xs) (typed_body sc s.body.stmts))
+  scoped_if = of_put (typed_body sc s.body.stmts) (body_done xs sc s.body.stmts (numbers_from 0 (length sc.locals)) (numbers_cover sc.locals) becomes)
+
+scoped_any : (decls : List Decl) (s : Section) (o : Option (List core.Local)) → core_locals (after_all (entry decls s) s.body.stmts).locals ≡ o → IfScoped (section_of decls s o (typed_body (entry decls s) s.body.stmts))
+scoped_any decls s None is = tt
+scoped_any decls s (Some xs) is = scoped_if decls s xs is
+
+section_scoped : (decls : List Decl) (s : Section) (x : core.Section) → typed_section decls s ≡ Some x → ScopedOk x
+section_scoped decls s x e = subst IfScoped e (scoped_any decls s (core_locals (after_all (entry decls s) s.body.stmts).locals) refl)
+
+view_length : (ls : List the_local.Local) → length (locals_view ls) ≡ length ls
+view_length [] = refl
+view_length (l ∷ ls) = ap suc (view_length ls)
+
+var_at : (ls : List the_local.Local) (k : ℕ) (l : the_local.Local) → IsVarAt (locals_view ls) k → slice_get ls k ≡ Some l → l.kind ≡ kind.Var
+var_at ls k l h e =
+    let g = get_map core_local ls k l e in
+    let same : Some h.0 ≡ Some (core_local l) = sym h.1 ∙ g in
+    let q : h.0 ≡ core_local l = cc in
+    sym (ap (λ (y : core.Local). y.kind) q) ∙ h.2
+
+pub section_well_scoped : (decls : List Decl) (s : Section) (x : the_section.Section) → typed_section decls s ≡ Some (core_section x) → IsWellScoped x
+section_well_scoped decls s x e =
+    let ok = section_scoped decls s (core_section x) e in
+    record {
+      bound = ap (λ (l : List ℕ). numbers_from 0 x.parameters ++ l) (sym (body_binding x.body.items)) ∙ ok.bound ∙ ap (numbers_from 0) (view_length x.locals.items);
+      kinds = λ k l at. ok.kinds k (core_local l) (get_map core_local x.locals.items k l at);
+      assigned = λ k l c at. var_at x.locals.items k l (ok.assigned k (subst (λ (q : List ℕ). Contains q k) (sym (body_assigning x.body.items)) c)) at;
+      body = body_scoped (numbers_from 0 x.parameters) x.body.items ok.body;
+      result = result_scoped (scope_after_all (numbers_from 0 x.parameters) x.body.items) x.result
+          (λ r is. subst (λ (w : List ℕ). Names w (core_expr r.value)) (body_behind (numbers_from 0 x.parameters) x.body.items) (ok.result (core_return r) (ap (option_map core_return) is)));
+    }

@@ -1,0 +1,152 @@
+-- Resolved programs, without where they lie in memory.
+use Rattle.std.specs.Prelude.{ℕ, ℤ, Bool, List, Option}
+use Rattle.core_lang.specs.declared.value.Value.{Value}
+use Rattle.core_lang.specs.declared.value.ValueType.{ValueType}
+use Rattle.core_lang.specs.declared.shape.Object.{Object}
+use Rattle.core_lang.specs.declared.tree.Operator.{Operator}
+use Rattle.core_lang.specs.declared.tree.Comparison.{Comparison}
+use Rattle.core_lang.specs.declared.tree.FieldStep.{FieldStep}
+use Rattle.core_lang.specs.declared.tree.LocalKind.{LocalKind}
+use Rattle.core_lang.specs.declared.typed.Cell.{Cell}
+
+-- ---- expressions
+
+pub record Path : Type 0 where
+  pub start : ℕ
+  pub local : ℕ
+  pub fields : List FieldStep
+  pub in_parentheses : Bool
+
+mutual
+  pub data Expr : Type 0 where
+    number : ℤ → Expr
+    null : Expr
+    place : Path → Expr
+    global : (start cell : ℕ) → Expr
+    element : (start array : ℕ) → Expr → Expr
+    member : (pool : ℕ) → Expr → Expr
+    negate : Expr → Expr
+    chain : Expr → Operations → Expr
+
+  pub data Operations : Type 0 where
+    no_operations : Operations
+    operation : Operator → Expr → Operations → Operations
+
+mutual
+  pub data Condition : Type 0 where
+    compare : Comparison → Expr → Expr → Condition
+    negation : Condition → Condition
+    all_of : Conditions → Condition → Condition
+    any_of : Conditions → Condition → Condition
+
+  pub data Conditions : Type 0 where
+    no_conditions : Conditions
+    condition : Condition → Conditions → Conditions
+
+-- ---- statements
+
+mutual
+  pub data Action : Type 0 where
+    bind : (local : ℕ) → Expr → Action
+    set_local : (local : ℕ) → Expr → Action
+    set_global : (cell : ℕ) → Expr → Action
+    set_element : (array : ℕ) → Expr → Expr → Action
+    set_field : Path → (field : ℕ) → Expr → Action
+    print : Expr → Action
+    if_true : Condition → Stmts → Action
+    if_else : Condition → Stmts → Stmts → Action
+    while_true : Condition → Stmts → Action
+
+  pub data Stmts : Type 0 where
+    no_stmts : Stmts
+    stmt : (start : ℕ) → Action → Stmts → Stmts
+
+-- a statement, by its start and what it does
+pub record Stmt : Type 0 where
+  pub start : ℕ
+  pub action : Action
+
+pub record Return : Type 0 where
+  pub start : ℕ
+  pub value : Expr
+
+pub record Local : Type 0 where
+  pub name : List ℕ
+  pub kind : LocalKind
+  pub value_type : ValueType
+
+pub record Section : Type 0 where
+  pub name : List ℕ
+  pub parameters : ℕ
+  pub locals : List Local
+  pub result_type : Option ValueType
+  pub body : Stmts
+  pub result : Option Return
+
+-- ---- data
+
+pub data LockClass : Type 0 where
+  global_lock : (name : List ℕ) → LockClass
+  lock_field : (structure lock : ℕ) → LockClass
+
+pub record LockField : Type 0 where
+  pub name : List ℕ
+  pub class : ℕ
+
+pub record FinalField : Type 0 where
+  pub name : List ℕ
+  pub target : ℕ
+
+pub record Protection : Type 0 where
+  pub through : List ℕ
+  pub class : ℕ
+
+pub record Field : Type 0 where
+  pub name : List ℕ
+  pub value_type : ValueType
+  pub protection : Protection
+
+pub record Struct : Type 0 where
+  pub name : List ℕ
+  pub locks : List LockField
+  pub finals : List FinalField
+  pub fields : List Field
+
+pub record GlobalVariable : Type 0 where
+  pub name : List ℕ
+  pub cell : ℕ
+  pub class : ℕ
+
+pub record Array : Type 0 where
+  pub name : List ℕ
+  pub first : ℕ
+  pub length : ℕ
+  pub element_type : ValueType
+  pub class : ℕ
+
+pub record Pool : Type 0 where
+  pub name : List ℕ
+  pub first : ℕ
+  pub length : ℕ
+  pub structure : ℕ
+
+pub record Call : Type 0 where
+  pub section : ℕ
+  pub arguments : List Value
+
+pub record Thread : Type 0 where
+  pub name : List ℕ
+  pub calls : List Call
+
+-- a whole program
+pub record Program : Type 0 where
+  pub classes : List LockClass
+  pub structs : List Struct
+  pub globals : List GlobalVariable
+  pub arrays : List Array
+  pub pools : List Pool
+  pub objects : List Object
+  pub finals : List ℕ
+  pub cells : List Cell
+  pub sections : List Section
+  pub threads : List Thread

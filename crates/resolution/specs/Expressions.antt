@@ -1,0 +1,315 @@
+-- Expressions with each name replaced by the number of what it means, where they have a type.
+use Rattle.std.specs.Prelude.{ℕ, ℤ, pos, neg_ℤ, nat_le, min, Bool, true, false, List, [], ◌∷◌, ◌++◌, ◌==◌, Option, Some, None, if◌then◌else◌}
+use Rattle.source.specs.Texts.{NUMBER_LIMIT}
+use Rattle.source.specs.declared.span.Span.{Span}
+use Rattle.source.specs.declared.token.Number.{Number}
+use Rattle.syntax.specs.declared.tree.Op.{Op}
+use Rattle.syntax.specs.declared.tree.Op.TheVariants as op
+use Rattle.syntax.specs.declared.tree.Level.TheVariants.{Term, Sum, Conjunction, Disjunction}
+use Rattle.syntax.specs.declared.tree.Prefix.TheVariants.{Negate, Not}
+use Rattle.syntax.specs.declared.tree.Comparison as written
+use Rattle.syntax.specs.declared.tree.Comparison.TheVariants as sign
+use Rattle.syntax.specs.Trees.{Ident, Place, lone, element, path, Expr, int, null, place, paren, prefix, chain, compare, Links, no_links, link, Decl, lock, struct, global, array, pool, init, atomic, thread, Member, lock_member, final_member, field_member, Struct}
+use Rattle.core_lang.specs.declared.value.ValueType as core_type
+use Rattle.core_lang.specs.declared.value.ValueType.TheVariants.{Integer, Reference}
+use Rattle.core_lang.specs.declared.tree.Operator.{Operator}
+use Rattle.core_lang.specs.declared.tree.Operator.TheVariants.{Plus, Minus, Times, Divide, Remainder}
+use Rattle.core_lang.specs.declared.tree.Comparison.{Comparison}
+use Rattle.core_lang.specs.declared.tree.Comparison.TheVariants.{Equal, Unequal, Less, LessEqual, Greater, GreaterEqual}
+use Rattle.core_lang.specs.declared.tree.FieldStep.{FieldStep}
+use Rattle.core_lang.specs.declared.tree.FieldStep.TheVariants as step
+use Rattle.resolution.specs.declared.wanted.Sort.{Sort}
+use Rattle.resolution.specs.declared.wanted.Sort.TheVariants as sort
+use Rattle.resolution.specs.declared.wanted.Want.{Want}
+use Rattle.resolution.specs.declared.wanted.Want.TheVariants.{Anything, Condition, Value}
+use Rattle.resolution.specs.Core as core
+use Rattle.resolution.specs.Limits.{MEMBER_LIMIT, CELL_LIMIT}
+use Rattle.resolution.specs.Scopes.{◌>>=◌, Scope, outside, Meaning, a_local, a_decl, nothing, meaning, number_at, the_struct, the_member, number_in, type_of, struct_named}
+use Rattle.resolution.specs.Numbers.{cells_ahead}
+
+-- ---- what is given, and what is wanted
+
+-- what an expression is, with its resolved form
+pub data Sense : Type 0 where
+  value : core.Expr → Sort → Sense
+  truth : core.Condition → Sense
+
+-- a value of this sort is one of the type
+abbrev pub fits_type : core_type.ValueType → Sort → Bool
+fits_type Integer (sort.Of Integer) = true
+fits_type Integer (sort.Of (Reference s)) = false
+fits_type Integer sort.Null = false
+fits_type (Reference s) (sort.Of Integer) = false
+fits_type (Reference s) (sort.Of (Reference r)) = s == r
+fits_type (Reference s) sort.Null = true
+
+abbrev pub fits_sort : Want → Sort → Bool
+fits_sort Anything s = true
+fits_sort Condition s = false
+fits_sort (Value t) s = fits_type t s
+
+abbrev pub fits : Want → Sense → Bool
+fits w (value e s) = fits_sort w s
+fits Anything (truth c) = true
+fits Condition (truth c) = true
+fits (Value t) (truth c) = false
+
+-- what `==` takes: two of one type, and null with a reference or null
+abbrev pub alike_sorts : Sort → Sort → Bool
+alike_sorts (sort.Of t) s = fits_type t s
+alike_sorts sort.Null sort.Null = true
+alike_sorts sort.Null (sort.Of Integer) = false
+alike_sorts sort.Null (sort.Of (Reference r)) = true
+
+abbrev pub fitting : Want → Option Sense → Option Sense
+fitting w (Some s) = if fits w s then Some s else None
+fitting w None = None
+
+abbrev pub as_value : Option Sense → Option core.Expr
+as_value (Some (value e s)) = Some e
+as_value (Some (truth c)) = None
+as_value None = None
+
+abbrev pub as_truth : Option Sense → Option core.Condition
+as_truth (Some (truth c)) = Some c
+as_truth (Some (value e s)) = None
+as_truth None = None
+
+-- what is wanted where a value of the type is; anything where the type is faulty
+abbrev pub want : Option core_type.ValueType → Want
+want (Some t) = Value t
+want None = Anything
+
+-- ---- numbers, names and elements
+
+-- a number, if it is one that a token can have
+abbrev pub number_value : Number → Option ℤ
+number_value n = if nat_le n.value NUMBER_LIMIT then Some (pos n.value) else None
+
+abbrev pub literal : Option ℤ → Option Sense
+literal (Some z) = Some (value (core.number z) (sort.Of Integer))
+literal None = None
+
+-- a value of a type, if the type has no fault
+abbrev pub value_of : core.Expr → Option core_type.ValueType → Option Sense
+value_of e (Some t) = Some (value e (sort.Of t))
+value_of e None = None
+
+abbrev pub local_path : ℕ → ℕ → List FieldStep → core.Path
+local_path start i steps = record { start = start; local = i; fields = steps; in_parentheses = false }
+
+-- the cell of the global at a place; past the limit all have one number, and the program has a fault
+abbrev pub cell_of : List Decl → ℕ → ℕ
+cell_of decls i = min (cells_ahead decls i) CELL_LIMIT
+
+-- a name as a value
+abbrev pub named_value : List Decl → ℕ → Meaning → Option Sense
+named_value decls start (a_local i l) = value_of (core.place (local_path start i [])) l.value_type
+named_value decls start (a_decl i (global v)) = value_of (core.global start (cell_of decls i)) (type_of (outside decls) v.value_type)
+named_value decls start (a_decl i (lock x)) = None
+named_value decls start (a_decl i (struct s)) = None
+named_value decls start (a_decl i (array a)) = None
+named_value decls start (a_decl i (pool p)) = None
+named_value decls start (a_decl i (init j)) = None
+named_value decls start (a_decl i (atomic s)) = None
+named_value decls start (a_decl i (thread t)) = None
+named_value decls start nothing = None
+
+-- a member of a pool of a struct
+abbrev pub member_value : ℕ → core.Expr → Option ℕ → Option Sense
+member_value number index (Some s) = Some (value (core.member number index) (sort.Of (Reference s)))
+member_value number index None = None
+
+-- a name with an index as a value
+abbrev pub element_value : List Decl → ℕ → Meaning → Option core.Expr → Option Sense
+element_value decls start (a_decl i (array a)) (Some index) = value_of (core.element start (number_at decls i (array a)) index) (type_of (outside decls) a.value_type)
+element_value decls start (a_decl i (pool p)) (Some index) = member_value (number_at decls i (pool p)) index (struct_named decls p.target)
+element_value decls start (a_decl i (lock x)) (Some index) = None
+element_value decls start (a_decl i (struct s)) (Some index) = None
+element_value decls start (a_decl i (global v)) (Some index) = None
+element_value decls start (a_decl i (init j)) (Some index) = None
+element_value decls start (a_decl i (atomic s)) (Some index) = None
+element_value decls start (a_decl i (thread t)) (Some index) = None
+element_value decls start (a_local i l) (Some index) = None
+element_value decls start nothing (Some index) = None
+element_value decls start m None = None
+
+-- ---- paths
+
+-- where fields lead: to a value, having made these steps, to a lock, or nowhere
+pub data Walk : Type 0 where
+  reached : List FieldStep → core_type.ValueType → Walk
+  at_lock : Walk
+  lost : Walk
+
+-- the number of a member; past the limit all have one number, and the program has a fault
+abbrev pub member_number : List Member → ℕ → Member → ℕ
+member_number ms i m = min (number_in ms i m) MEMBER_LIMIT
+
+-- over a final reference of this number to its struct
+abbrev pub over_final : List FieldStep → ℕ → Option ℕ → Walk
+over_final steps n (Some s) = reached (steps ++ step.Final n ∷ []) (Reference s)
+over_final steps n None = lost
+
+-- over a field of this number to its value
+abbrev pub over_field : List FieldStep → ℕ → Option core_type.ValueType → Walk
+over_field steps n (Some t) = reached (steps ++ step.Field n ∷ []) t
+over_field steps n None = lost
+
+abbrev pub over_member : List Decl → List FieldStep → List Member → Option (ℕ × Member) → Walk
+over_member decls steps ms (Some (i, lock_member x)) = at_lock
+over_member decls steps ms (Some (i, final_member f)) = over_final steps (member_number ms i (final_member f)) (struct_named decls f.target)
+over_member decls steps ms (Some (i, field_member f)) = over_field steps (member_number ms i (field_member f)) (type_of (outside decls) f.value_type)
+over_member decls steps ms None = lost
+
+abbrev pub over : List Decl → List FieldStep → Option Struct → List ℕ → Walk
+over decls steps (Some s) q = over_member decls steps s.members (the_member s.members q)
+over decls steps None q = lost
+
+-- over one field
+abbrev pub stepped : List Decl → Walk → Ident → Walk
+stepped decls (reached steps (Reference s)) f = over decls steps (the_struct decls s) f.text
+stepped decls (reached steps Integer) f = lost
+stepped decls at_lock f = lost
+stepped decls lost f = lost
+
+-- over fields, one after another
+abbrev pub walked : List Decl → Walk → List Ident → Walk
+walked decls w [] = w
+walked decls w (f ∷ fs) = walked decls (stepped decls w f) fs
+
+-- at a local itself
+abbrev pub at_local : Option core_type.ValueType → Walk
+at_local (Some t) = reached [] t
+at_local None = lost
+
+-- where a local and fields lead
+abbrev pub walk_from : List Decl → Meaning → List Ident → Walk
+walk_from decls (a_local i l) fs = walked decls (at_local l.value_type) fs
+walk_from decls (a_decl i d) fs = lost
+walk_from decls nothing fs = lost
+
+abbrev pub path_value : ℕ → Meaning → Walk → Option Sense
+path_value start (a_local i l) (reached steps t) = Some (value (core.place (local_path start i steps)) (sort.Of t))
+path_value start (a_local i l) at_lock = None
+path_value start (a_local i l) lost = None
+path_value start (a_decl i d) w = None
+path_value start nothing w = None
+
+-- ---- operators
+
+-- what stands in parentheses: a path is noted to, since it is then no stable one
+abbrev pub parenthesised : Option Sense → Option Sense
+parenthesised (Some (value (core.place p) s)) = Some (value (core.place (record p { in_parentheses = true })) s)
+parenthesised s = s
+
+abbrev pub negated : Option core.Expr → Option Sense
+negated (Some e) = Some (value (core.negate e) (sort.Of Integer))
+negated None = None
+
+abbrev pub not_so : Option core.Condition → Option Sense
+not_so (Some c) = Some (truth (core.negation c))
+not_so None = None
+
+-- the operator between two numbers
+abbrev pub operator_of : Op → Option Operator
+operator_of op.Add = Some Plus
+operator_of op.Sub = Some Minus
+operator_of op.Mul = Some Times
+operator_of op.Div = Some Divide
+operator_of op.Rem = Some Remainder
+operator_of op.And = None
+operator_of op.Or = None
+
+abbrev pub chained : Option core.Expr → Option core.Operations → Option Sense
+chained (Some e) (Some rest) = Some (value (core.chain e rest) (sort.Of Integer))
+chained (Some e) None = None
+chained None rest = None
+
+abbrev pub linked : Option Operator → Option core.Expr → Option core.Operations → Option core.Operations
+linked (Some o) (Some e) (Some rest) = Some (core.operation o e rest)
+linked (Some o) (Some e) None = None
+linked (Some o) None rest = None
+linked None e rest = None
+
+-- conditions, the last apart
+pub record Tests : Type 0 where
+  pub before : core.Conditions
+  pub last : core.Condition
+
+abbrev pub one_test : Option core.Condition → Option Tests
+one_test (Some c) = Some (record { before = core.no_conditions; last = c })
+one_test None = None
+
+abbrev pub tested : Option core.Condition → Option Tests → Option Tests
+tested (Some c) (Some ts) = Some (record { before = core.condition c ts.before; last = ts.last })
+tested (Some c) None = None
+tested None ts = None
+
+abbrev pub all_hold : Option Tests → Option Sense
+all_hold (Some ts) = Some (truth (core.all_of ts.before ts.last))
+all_hold None = None
+
+abbrev pub one_holds : Option Tests → Option Sense
+one_holds (Some ts) = Some (truth (core.any_of ts.before ts.last))
+one_holds None = None
+
+-- a comparison of what has an order
+abbrev pub ordered : Comparison → Option core.Expr → Option core.Expr → Option Sense
+ordered c (Some a) (Some b) = Some (truth (core.compare c a b))
+ordered c (Some a) None = None
+ordered c None b = None
+
+-- a comparison of two that are alike
+abbrev pub equated : Comparison → Option Sense → Option Sense → Option Sense
+equated c (Some (value a s)) (Some (value b t)) = if alike_sorts s t then Some (truth (core.compare c a b)) else None
+equated c (Some (value a s)) (Some (truth d)) = None
+equated c (Some (value a s)) None = None
+equated c (Some (truth d)) t = None
+equated c None t = None
+
+abbrev pub number_in_sense : Option Sense → Option core.Expr
+number_in_sense s = as_value (fitting (Value Integer) s)
+
+abbrev pub test_in_sense : Option Sense → Option core.Condition
+test_in_sense s = as_truth (fitting Condition s)
+
+abbrev pub compared : written.Comparison → Option Sense → Option Sense → Option Sense
+compared sign.Equal a b = equated Equal a b
+compared sign.NotEqual a b = equated Unequal a b
+compared sign.Less a b = ordered Less (number_in_sense a) (number_in_sense b)
+compared sign.LessOrEqual a b = ordered LessEqual (number_in_sense a) (number_in_sense b)
+compared sign.Greater a b = ordered Greater (number_in_sense a) (number_in_sense b)
+compared sign.GreaterOrEqual a b = ordered GreaterEqual (number_in_sense a) (number_in_sense b)
+
+-- ---- expressions
+
+abbrev mutual
+  -- an expression resolved, if it has a type
+  pub typed : Scope → Expr → Option Sense
+  typed sc (int n) = literal (number_value n)
+  typed sc (null at) = Some (value core.null sort.Null)
+  typed sc (place p) = typed_place sc p
+  typed sc (paren at e) = parenthesised (typed sc e)
+  typed sc (prefix Negate at e) = negated (number_in_sense (typed sc e))
+  typed sc (prefix Not at e) = not_so (test_in_sense (typed sc e))
+  typed sc (chain Term first links) = chained (number_in_sense (typed sc first)) (typed_links sc links)
+  typed sc (chain Sum first links) = chained (number_in_sense (typed sc first)) (typed_links sc links)
+  typed sc (chain Conjunction first links) = all_hold (typed_tests sc (test_in_sense (typed sc first)) links)
+  typed sc (chain Disjunction first links) = one_holds (typed_tests sc (test_in_sense (typed sc first)) links)
+  typed sc (compare a c b) = compared c (typed sc a) (typed sc b)
+
+  pub typed_place : Scope → Place → Option Sense
+  typed_place sc (lone x) = named_value sc.decls x.span.start (meaning sc x.text)
+  typed_place sc (element x e) = element_value sc.decls x.span.start (meaning sc x.text) (number_in_sense (typed sc e))
+  typed_place sc (path x fs) = path_value x.span.start (meaning sc x.text) (walk_from sc.decls (meaning sc x.text) fs)
+
+  -- the further operands of a chain of numbers
+  pub typed_links : Scope → Links → Option core.Operations
+  typed_links sc no_links = Some core.no_operations
+  typed_links sc (link o e rest) = linked (operator_of o) (number_in_sense (typed sc e)) (typed_links sc rest)
+
+  -- an operand of a chain of conditions, and the further ones
+  pub typed_tests : Scope → Option core.Condition → Links → Option Tests
+  typed_tests sc c no_links = one_test c
+  typed_tests sc c (link o e rest) = tested c (typed_tests sc (test_in_sense (typed sc e)) rest)

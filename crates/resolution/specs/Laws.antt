@@ -1,0 +1,39 @@
+-- What holds of resolution and of faults, as `src/laws.rt` claims it.
+use Rattle.std.specs.Prelude.{◌≡◌, ℕ, List, Option, Some, None, false}
+use Rattle.source.specs.declared.fault.Code.{Code}
+use Rattle.syntax.specs.Trees.{Decl}
+use Rattle.syntax.specs.Returns.{ReturnsRight}
+use Rattle.core_lang.specs.declared.typed.Typed.{Typed}
+use Rattle.core_lang.specs.WellFormed.{IsWellFormed}
+use Rattle.resolution.specs.declared.mistake.Mistake.{Mistake}
+use Rattle.resolution.specs.Core as core
+use Rattle.resolution.specs.Resolution.{resolved}
+use Rattle.resolution.specs.Resolved.{Resolves}
+use Rattle.resolution.specs.Order.{goes_before}
+use Rattle.resolution.specs.Faults.{IsFault, HasNoFault}
+use Rattle.resolution.specs.FaultLists.{program_faults, least_of}
+
+-- the least fault of the program's list, if there is one
+abbrev pub the_least : List Decl → Option Mistake
+the_least decls = least_of None (program_faults decls)
+
+-- it is a fault of the program
+abbrev pub TheLeastIsAFault : Type 0
+TheLeastIsAFault = (decls : List Decl) (f : Mistake) → the_least decls ≡ Some f → IsFault decls f.code f.start
+
+-- and no fault of the program goes before it
+abbrev pub NoneGoesBeforeTheLeast : Type 0
+NoneGoesBeforeTheLeast =
+    (decls : List Decl) (f : Mistake) → the_least decls ≡ Some f → (code : Code) (p : ℕ) → IsFault decls code p → goes_before (record { code = code; start = p }) f ≡ false
+
+-- where there is none, the program has no fault
+abbrev pub NoLeastIsNoFault : Type 0
+NoLeastIsNoFault = (decls : List Decl) → the_least decls ≡ None → HasNoFault decls
+
+-- a program with no fault is resolved
+abbrev pub FaultlessAreResolved : Type 0
+FaultlessAreResolved = (decls : List Decl) → ReturnsRight decls → the_least decls ≡ None → (p : core.Program) × (resolved decls ≡ Some p)
+
+-- and what it is resolved to is well formed
+abbrev pub ResolvedAreWellFormed : Type 0
+ResolvedAreWellFormed = (decls : List Decl) (program : Typed) → the_least decls ≡ None → Resolves decls program → IsWellFormed program

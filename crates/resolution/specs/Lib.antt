@@ -1,0 +1,17 @@
+pub mod Core
+pub mod CoreViews
+pub mod Limits
+pub mod Scopes
+pub mod Numbers
+pub mod Expressions
+pub mod Statements
+pub mod Constants
+pub mod Annotations
+pub mod Resolution
+pub mod Resolved
+pub mod Order
+pub mod Where
+pub mod Faults
+pub mod Leasts
+pub mod FaultLists
+pub mod Laws

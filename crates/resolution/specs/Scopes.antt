@@ -1,0 +1,218 @@
+-- What names mean.
+use Rattle.std.specs.Prelude.{ℕ, zero, suc, ◌+◌, List, [], ◌∷◌, ◌++◌, take, length, Option, Some, None, is_some, Bool, true, false, slice_get, if◌then◌else◌}
+use Rattle.std.specs.Str.{bytes_eq}
+use Rattle.syntax.specs.Trees.{Ident, Decl, lock, struct, global, array, pool, init, atomic, thread, ValueType, int_type, ref_type, Member, lock_member, final_member, field_member, Struct, Pool, Param}
+use Rattle.core_lang.specs.declared.value.ValueType as core_type
+use Rattle.core_lang.specs.declared.value.ValueType.TheVariants.{Integer, Reference}
+use Rattle.core_lang.specs.declared.tree.LocalKind.{LocalKind}
+use Rattle.core_lang.specs.declared.tree.LocalKind.TheVariants.{Parameter}
+
+infixl 10 ◌>>=◌
+abbrev pub ◌>>=◌ : {A B : Type 0} → Option A → (A → Option B) → Option B
+(Some x) >>= f = f x
+None >>= f = None
+
+-- ---- the first of a name
+
+-- the place of the first that passes, counted from n
+abbrev pub place_from : {A : Type 0} → (A → Bool) → ℕ → List A → Option ℕ
+place_from p n [] = None
+place_from p n (x ∷ xs) = if p x then Some n else place_from p (suc n) xs
+
+-- the place of the first that bears the name
+abbrev pub place_of : {A Q : Type 0} → (A → Q → Bool) → List A → Q → Option ℕ
+place_of bears xs q = place_from (λ x. bears x q) 0 xs
+
+-- the first that bears the name, and its place
+abbrev pub named : {A Q : Type 0} → (A → Q → Bool) → List A → Q → Option (ℕ × A)
+named bears xs q = place_of bears xs q >>= λ i. slice_get xs i >>= λ x. Some (i, x)
+
+abbrev pub count : {A : Type 0} → (A → Bool) → List A → ℕ
+count p [] = 0
+count p (x ∷ xs) = if p x then suc (count p xs) else count p xs
+
+-- ---- declarations
+
+-- the name that is declared; an `init` declares none
+abbrev pub declared : Decl → Option Ident
+declared (lock x) = Some x
+declared (struct s) = Some s.name
+declared (global v) = Some v.name
+declared (array a) = Some a.name
+declared (pool p) = Some p.name
+declared (init i) = None
+declared (atomic s) = Some s.name
+declared (thread t) = Some t.name
+
+abbrev pub is_called : Option Ident → List ℕ → Bool
+is_called (Some x) q = bytes_eq q x.text
+is_called None q = false
+
+abbrev pub bears : Decl → List ℕ → Bool
+bears d q = is_called (declared d) q
+
+-- the first declaration that bears the name, and its place
+abbrev pub the_decl : List Decl → List ℕ → Option (ℕ × Decl)
+the_decl decls q = named bears decls q
+
+-- declarations of one kind
+abbrev pub alike : Decl → Decl → Bool
+alike (lock x) (lock y) = true
+alike (struct s) (struct r) = true
+alike (global v) (global w) = true
+alike (array a) (array b) = true
+alike (pool p) (pool q) = true
+alike (init i) (init j) = true
+alike (atomic s) (atomic r) = true
+alike (thread t) (thread u) = true
+alike _ _ = false
+
+-- the number of a declaration: how many of its kind stand before it
+abbrev pub number_at : List Decl → ℕ → Decl → ℕ
+number_at decls i d = count (alike d) (take i decls)
+
+-- the structs, by number
+abbrev pub structs_in : List Decl → List Struct
+structs_in [] = []
+structs_in (struct s ∷ ds) = s ∷ structs_in ds
+structs_in (lock x ∷ ds) = structs_in ds
+structs_in (global v ∷ ds) = structs_in ds
+structs_in (array a ∷ ds) = structs_in ds
+structs_in (pool p ∷ ds) = structs_in ds
+structs_in (init i ∷ ds) = structs_in ds
+structs_in (atomic s ∷ ds) = structs_in ds
+structs_in (thread t ∷ ds) = structs_in ds
+
+abbrev pub the_struct : List Decl → ℕ → Option Struct
+the_struct decls k = slice_get (structs_in decls) k
+
+-- ---- members of a struct
+
+abbrev pub member_name : Member → Ident
+member_name (lock_member x) = x
+member_name (final_member f) = f.name
+member_name (field_member f) = f.name
+
+abbrev pub member_bears : Member → List ℕ → Bool
+member_bears m q = bytes_eq q (member_name m).text
+
+-- the first member that bears the name, and its place
+abbrev pub the_member : List Member → List ℕ → Option (ℕ × Member)
+the_member ms q = named member_bears ms q
+
+abbrev pub members_alike : Member → Member → Bool
+members_alike (lock_member x) (lock_member y) = true
+members_alike (final_member f) (final_member g) = true
+members_alike (field_member f) (field_member g) = true
+members_alike _ _ = false
+
+-- the number of a member: how many of its kind stand before it
+abbrev pub number_in : List Member → ℕ → Member → ℕ
+number_in ms i m = count (members_alike m) (take i ms)
+
+-- ---- locals
+
+-- a local: its type, unless that is faulty, and whether it is in scope
+pub record Local : Type 0 where
+  pub name : List ℕ
+  pub kind : LocalKind
+  pub value_type : Option core_type.ValueType
+  pub is_visible : Bool
+
+abbrev pub local_bears : Local → List ℕ → Bool
+local_bears l q = bytes_eq q l.name
+
+-- the first local that bears the name, and its number
+abbrev pub the_local : List Local → List ℕ → Option (ℕ × Local)
+the_local locals q = named local_bears locals q
+
+-- ---- scopes
+
+-- what is declared; the locals of the section so far, those of blocks behind them included; and the type of the section's result
+pub record Scope : Type 0 where
+  pub decls : List Decl
+  pub locals : List Local
+  pub result : Option core_type.ValueType
+
+-- outside of sections
+abbrev pub outside : List Decl → Scope
+outside decls = record { decls = decls; locals = []; result = None }
+
+-- a local with its number, a declaration with its place, or nothing
+pub data Meaning : Type 0 where
+  a_local : ℕ → Local → Meaning
+  a_decl : ℕ → Decl → Meaning
+  nothing : Meaning
+
+abbrev pub declared_as : Option (ℕ × Decl) → Meaning
+declared_as (Some d) = a_decl d.0 d.1
+declared_as None = nothing
+
+abbrev pub local_or : Option (ℕ × Local) → Meaning → Meaning
+local_or (Some l) other = if l.1.is_visible then a_local l.0 l.1 else other
+local_or None other = other
+
+-- what a name means where a statement stands
+abbrev pub meaning : Scope → List ℕ → Meaning
+meaning sc q = local_or (the_local sc.locals q) (declared_as (the_decl sc.decls q))
+
+-- ---- types
+
+-- the number of the struct that is meant
+abbrev pub struct_meant : List Decl → Meaning → Option ℕ
+struct_meant decls (a_decl i (struct s)) = Some (number_at decls i (struct s))
+struct_meant decls (a_decl i (lock x)) = None
+struct_meant decls (a_decl i (global v)) = None
+struct_meant decls (a_decl i (array a)) = None
+struct_meant decls (a_decl i (pool p)) = None
+struct_meant decls (a_decl i (init j)) = None
+struct_meant decls (a_decl i (atomic s)) = None
+struct_meant decls (a_decl i (thread t)) = None
+struct_meant decls (a_local i l) = None
+struct_meant decls nothing = None
+
+-- the type that is written, if its name names a struct
+abbrev pub type_of : Scope → ValueType → Option core_type.ValueType
+type_of sc int_type = Some Integer
+type_of sc (ref_type x) = struct_meant sc.decls (meaning sc x.text) >>= λ k. Some (Reference k)
+
+-- the number of the struct that a declaration names
+abbrev pub struct_named : List Decl → Ident → Option ℕ
+struct_named decls x = struct_meant decls (meaning (outside decls) x.text)
+
+-- the name's declaration has no fault in its type
+abbrev pub has_type : List Decl → Meaning → Bool
+has_type decls (a_local i l) = is_some l.value_type
+has_type decls (a_decl i (global v)) = is_some (type_of (outside decls) v.value_type)
+has_type decls (a_decl i (array a)) = is_some (type_of (outside decls) a.value_type)
+has_type decls (a_decl i (pool p)) = is_some (struct_named decls p.target)
+has_type decls (a_decl i (lock x)) = true
+has_type decls (a_decl i (struct s)) = true
+has_type decls (a_decl i (init j)) = true
+has_type decls (a_decl i (atomic s)) = true
+has_type decls (a_decl i (thread t)) = true
+has_type decls nothing = true
+
+-- ---- locals come and go
+
+-- the scope behind the declaration of a local
+abbrev pub bound : Scope → LocalKind → Ident → Option core_type.ValueType → Scope
+bound sc kind x t = record sc { locals = sc.locals ++ record { name = x.text; kind = kind; value_type = t; is_visible = true } ∷ [] }
+
+-- the scope behind parameters, whose types are those outside
+abbrev pub entered : Scope → List Param → Scope
+entered sc [] = sc
+entered sc (p ∷ ps) = entered (bound sc Parameter p.name (type_of (outside sc.decls) p.value_type)) ps
+
+abbrev pub hidden : Local → Local
+hidden l = record l { is_visible = false }
+
+-- the locals from a place on are no longer in scope
+abbrev pub hidden_from : ℕ → List Local → List Local
+hidden_from n [] = []
+hidden_from zero (x ∷ xs) = hidden x ∷ hidden_from zero xs
+hidden_from (suc n) (x ∷ xs) = x ∷ hidden_from n xs
+
+-- the scope behind a block, from the one ahead of it and the one at its end
+abbrev pub left : Scope → Scope → Scope
+left ahead end = record ahead { locals = hidden_from (length ahead.locals) end.locals }

@@ -1,0 +1,225 @@
+-- Statements with each name replaced by the number of what it means, where everything in them has a type.
+use Rattle.std.specs.Prelude.{ℕ, Bool, true, false, List, [], ◌∷◌, length, Option, Some, None, if◌then◌else◌}
+use Rattle.syntax.specs.Trees.{Ident, Place, lone, element, path, Expr, Stmt, let_local, var_local, assign, if_then, while, print, return_value, Stmts, no_stmts, stmt, Otherwise, no_else, else_do, Decl, lock, struct, global, array, pool, init, atomic, thread}
+use Rattle.core_lang.specs.declared.value.ValueType as core_type
+use Rattle.core_lang.specs.declared.value.ValueType.TheVariants.{Integer}
+use Rattle.core_lang.specs.declared.tree.FieldStep.{FieldStep}
+use Rattle.core_lang.specs.declared.tree.FieldStep.TheVariants as step
+use Rattle.core_lang.specs.declared.tree.LocalKind.{LocalKind}
+use Rattle.core_lang.specs.declared.tree.LocalKind.TheVariants.{Parameter, Let, Var}
+use Rattle.resolution.specs.declared.wanted.Want.{Want}
+use Rattle.resolution.specs.declared.wanted.Want.TheVariants.{Anything, Condition, Value}
+use Rattle.resolution.specs.Core as core
+use Rattle.resolution.specs.Scopes.{◌>>=◌, Scope, outside, Meaning, a_local, a_decl, nothing, meaning, number_at, type_of, bound, left}
+use Rattle.resolution.specs.Expressions.{want, fitting, as_value, as_truth, number_in_sense, test_in_sense, typed, Walk, reached, at_lock, lost, walk_from, local_path, cell_of}
+
+-- ---- the left side of an assignment
+
+-- what is assigned to
+pub data Target : Type 0 where
+  to_local : (local : ℕ) → Target
+  to_global : (cell : ℕ) → Target
+  to_element : (number : ℕ) → (index : core.Expr) → Target
+  to_field : (base : core.Path) → (field : ℕ) → Target
+
+-- what is assigned to, and its type
+pub record Aim : Type 0 where
+  pub target : Target
+  pub value_type : core_type.ValueType
+
+abbrev pub aim : Option Target → Option core_type.ValueType → Option Aim
+aim (Some t) (Some v) = Some (record { target = t; value_type = v })
+aim (Some t) None = None
+aim None v = None
+
+abbrev pub is_var : LocalKind → Bool
+is_var Var = true
+is_var Let = false
+is_var Parameter = false
+
+-- a name
+abbrev pub aimed_at : List Decl → Meaning → Option Aim
+aimed_at decls (a_local i l) = if is_var l.kind then aim (Some (to_local i)) l.value_type else None
+aimed_at decls (a_decl i (global v)) = aim (Some (to_global (cell_of decls i))) (type_of (outside decls) v.value_type)
+aimed_at decls (a_decl i (lock x)) = None
+aimed_at decls (a_decl i (struct s)) = None
+aimed_at decls (a_decl i (array a)) = None
+aimed_at decls (a_decl i (pool p)) = None
+aimed_at decls (a_decl i (init j)) = None
+aimed_at decls (a_decl i (atomic s)) = None
+aimed_at decls (a_decl i (thread t)) = None
+aimed_at decls nothing = None
+
+-- a name with an index
+abbrev pub aimed_at_element : List Decl → Meaning → Option core.Expr → Option Aim
+aimed_at_element decls (a_decl i (array a)) (Some index) = aim (Some (to_element (number_at decls i (array a)) index)) (type_of (outside decls) a.value_type)
+aimed_at_element decls (a_decl i (lock x)) (Some index) = None
+aimed_at_element decls (a_decl i (struct s)) (Some index) = None
+aimed_at_element decls (a_decl i (global v)) (Some index) = None
+aimed_at_element decls (a_decl i (pool p)) (Some index) = None
+aimed_at_element decls (a_decl i (init j)) (Some index) = None
+aimed_at_element decls (a_decl i (atomic s)) (Some index) = None
+aimed_at_element decls (a_decl i (thread t)) (Some index) = None
+aimed_at_element decls (a_local i l) (Some index) = None
+aimed_at_element decls nothing (Some index) = None
+aimed_at_element decls m None = None
+
+-- the steps ahead of the last, and the last one's number, if it goes over a field that isn't final
+pub record Split : Type 0 where
+  pub base : List FieldStep
+  pub field : ℕ
+
+abbrev pub behind : FieldStep → Split → Split
+behind s p = record { base = s ∷ p.base; field = p.field }
+
+abbrev pub last_field : List FieldStep → Option Split
+last_field [] = None
+last_field (step.Field n ∷ []) = Some (record { base = []; field = n })
+last_field (step.Final n ∷ []) = None
+last_field (s ∷ r ∷ rs) = last_field (r ∷ rs) >>= λ p. Some (behind s p)
+
+abbrev pub field_target : ℕ → ℕ → Option Split → Option Target
+field_target start i (Some p) = Some (to_field (local_path start i p.base) p.field)
+field_target start i None = None
+
+-- a local and fields
+abbrev pub aimed_along : ℕ → Meaning → Walk → Option Aim
+aimed_along start (a_local i l) (reached steps t) = aim (field_target start i (last_field steps)) (Some t)
+aimed_along start (a_local i l) at_lock = None
+aimed_along start (a_local i l) lost = None
+aimed_along start (a_decl i d) w = None
+aimed_along start nothing w = None
+
+-- the left side of an assignment, if it is one
+abbrev pub target_of : Scope → Place → Option Aim
+target_of sc (lone x) = aimed_at sc.decls (meaning sc x.text)
+target_of sc (element x e) = aimed_at_element sc.decls (meaning sc x.text) (number_in_sense (typed sc e))
+target_of sc (path x fs) = aimed_along x.span.start (meaning sc x.text) (walk_from sc.decls (meaning sc x.text) fs)
+
+-- what is wanted to be assigned
+abbrev pub wanted_by : Option Aim → Want
+wanted_by (Some a) = Value a.value_type
+wanted_by None = Anything
+
+abbrev pub first_name : Place → Ident
+first_name (lone x) = x
+first_name (element x e) = x
+first_name (path x fs) = x
+
+-- ---- statements
+
+-- what a statement is: something to do, or what the section gives back
+pub data Part : Type 0 where
+  does : core.Stmt → Part
+  gives : core.Return → Part
+
+abbrev pub acts : ℕ → core.Action → Option Part
+acts start action = Some (does (record { start = start; action = action }))
+
+-- a local is bound, unless its type is faulty
+abbrev pub binds : ℕ → ℕ → Option core_type.ValueType → Option core.Expr → Option Part
+binds start i (Some t) (Some e) = acts start (core.bind i e)
+binds start i (Some t) None = None
+binds start i None e = None
+
+abbrev pub set_to : Target → core.Expr → core.Action
+set_to (to_local i) e = core.set_local i e
+set_to (to_global cell) e = core.set_global cell e
+set_to (to_element number index) e = core.set_element number index e
+set_to (to_field base field) e = core.set_field base field e
+
+abbrev pub assigns : ℕ → Option Aim → Option core.Expr → Option Part
+assigns start (Some a) (Some e) = acts start (set_to a.target e)
+assigns start (Some a) None = None
+assigns start None e = None
+
+abbrev pub prints : ℕ → Option core.Expr → Option Part
+prints start (Some e) = acts start (core.print e)
+prints start None = None
+
+abbrev pub returns : ℕ → Option core.Expr → Option Part
+returns start (Some e) = Some (gives (record { start = start; value = e }))
+returns start None = None
+
+abbrev pub repeats : ℕ → Option core.Condition → Option core.Stmts → Option Part
+repeats start (Some c) (Some body) = acts start (core.while_true c body)
+repeats start (Some c) None = None
+repeats start None body = None
+
+abbrev pub chooses : ℕ → Option core.Condition → Option core.Stmts → Option Part
+chooses start (Some c) (Some body) = acts start (core.if_true c body)
+chooses start (Some c) None = None
+chooses start None body = None
+
+abbrev pub chooses_between : ℕ → Option core.Condition → Option core.Stmts → Option core.Stmts → Option Part
+chooses_between start (Some c) (Some body) (Some other) = acts start (core.if_else c body other)
+chooses_between start (Some c) (Some body) None = None
+chooses_between start (Some c) None other = None
+chooses_between start None body other = None
+
+-- statements, and the `return` at their end, if there is one
+pub record Body : Type 0 where
+  pub stmts : core.Stmts
+  pub result : Option core.Return
+
+-- nothing stands behind a `return`
+abbrev pub given_back : core.Return → core.Stmts → Option core.Return → Option Body
+given_back r core.no_stmts None = Some (record { stmts = core.no_stmts; result = Some r })
+given_back r core.no_stmts (Some q) = None
+given_back r (core.stmt start action rest) q = None
+
+abbrev pub preceded : Option Part → Option Body → Option Body
+preceded (Some (does s)) (Some b) = Some (record { stmts = core.stmt s.start s.action b.stmts; result = b.result })
+preceded (Some (gives r)) (Some b) = given_back r b.stmts b.result
+preceded (Some p) None = None
+preceded None b = None
+
+-- the statements of a block, in which no `return` stands
+abbrev pub block_without : core.Stmts → Option core.Return → Option core.Stmts
+block_without stmts None = Some stmts
+block_without stmts (Some r) = None
+
+abbrev pub block_of : Option Body → Option core.Stmts
+block_of (Some b) = block_without b.stmts b.result
+block_of None = None
+
+abbrev mutual
+  -- the scope behind a statement
+  pub after : Scope → Stmt → Scope
+  after sc (let_local l) = bound sc Let l.name (type_of sc l.value_type)
+  after sc (var_local l) = bound sc Var l.name (type_of sc l.value_type)
+  after sc (assign p e) = sc
+  after sc (if_then start e body close other) = after_else (left sc (after_all sc body)) other
+  after sc (while start e body close) = left sc (after_all sc body)
+  after sc (print start e) = sc
+  after sc (return_value start e) = sc
+
+  pub after_else : Scope → Otherwise → Scope
+  after_else sc no_else = sc
+  after_else sc (else_do body close) = left sc (after_all sc body)
+
+  -- the scope behind statements
+  pub after_all : Scope → Stmts → Scope
+  after_all sc no_stmts = sc
+  after_all sc (stmt s rest) = after_all (after sc s) rest
+
+abbrev mutual
+  -- a statement resolved, if everything in it has a type
+  pub typed_stmt : Scope → Stmt → Option Part
+  typed_stmt sc (let_local l) = binds l.start.start (length sc.locals) (type_of sc l.value_type) (as_value (fitting (want (type_of sc l.value_type)) (typed sc l.value)))
+  typed_stmt sc (var_local l) = binds l.start.start (length sc.locals) (type_of sc l.value_type) (as_value (fitting (want (type_of sc l.value_type)) (typed sc l.value)))
+  typed_stmt sc (assign p e) = assigns (first_name p).span.start (target_of sc p) (as_value (fitting (wanted_by (target_of sc p)) (typed sc e)))
+  typed_stmt sc (if_then start e body close other) = typed_if (left sc (after_all sc body)) start.start (test_in_sense (typed sc e)) (block_of (typed_body sc body)) other
+  typed_stmt sc (while start e body close) = repeats start.start (test_in_sense (typed sc e)) (block_of (typed_body sc body))
+  typed_stmt sc (print start e) = prints start.start (number_in_sense (typed sc e))
+  typed_stmt sc (return_value start e) = returns start.start (as_value (fitting (want sc.result) (typed sc e)))
+
+  -- an `if` by its condition and its block, and the scope behind that
+  pub typed_if : Scope → ℕ → Option core.Condition → Option core.Stmts → Otherwise → Option Part
+  typed_if sc start c body no_else = chooses start c body
+  typed_if sc start c body (else_do other close) = chooses_between start c body (block_of (typed_body sc other))
+
+  -- statements resolved
+  pub typed_body : Scope → Stmts → Option Body
+  typed_body sc no_stmts = Some (record { stmts = core.no_stmts; result = None })
+  typed_body sc (stmt s rest) = preceded (typed_stmt sc s) (typed_body (after sc s) rest)

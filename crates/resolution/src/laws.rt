@@ -1,0 +1,21 @@
+//! What holds of resolution and of faults: functions that do nothing, and whose contracts are the laws.
+
+ghost use Rattle.resolution.specs.Laws.{TheLeastIsAFault, NoneGoesBeforeTheLeast, NoLeastIsNoFault, FaultlessAreResolved, ResolvedAreWellFormed};
+
+/// The least fault of the list is a fault of the program, and no fault of the program goes before it; and where the
+/// list is empty, the program has no fault.
+pub fn least_fault()
+    ensures fault { TheLeastIsAFault }
+    ensures least { NoneGoesBeforeTheLeast }
+    ensures none { NoLeastIsNoFault }
+{}
+
+/// A program with no fault is resolved.
+pub fn faultless_are_resolved()
+    ensures { FaultlessAreResolved }
+{}
+
+/// What a program with no fault is resolved to is well formed.
+pub fn resolved_are_well_formed()
+    ensures { ResolvedAreWellFormed }
+{}

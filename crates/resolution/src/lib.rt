@@ -1,0 +1,8 @@
+//! The program that a tree stands for: each name replaced by the number of what it means, every expression typed; and
+//! the faults of trees that stand for none.
+#![tactic(auto)]
+
+pub mod gift;
+pub mod laws;
+pub mod mistake;
+pub mod wanted;

@@ -1,0 +1,44 @@
+-- What was pushed where a `Vec` stands in a recursive type.
+use Rattle.std.proofs.Common.{◌≡◌, ℕ, List, Option, ◌++◌, Vec, Global, sym, ap, ◌∙◌, append_assoc}
+use Rattle.std.specs.Prelude.{codes}
+use Rattle.std.specs.Fmt.{decimal}
+use Rattle.source.specs.declared.span.Span.{Span}
+use Rattle.syntax.specs.declared.tree.Level.{Level}
+use Rattle.syntax.specs.declared.tree.Expr as the_expr
+use Rattle.syntax.specs.declared.tree.Joined as the_joined
+use Rattle.syntax.specs.declared.tree.Joined.{Chain}
+use Rattle.syntax.specs.declared.tree.Link as the_link
+use Rattle.syntax.specs.declared.tree.Stmt as the_stmt
+use Rattle.syntax.specs.declared.tree.Stmt.{While, If}
+use Rattle.syntax.specs.declared.tree.Block as the_block
+use Rattle.source.specs.declared.token.Number.{Number}
+use Rattle.syntax.specs.declared.tree.Item as the_item
+use Rattle.syntax.specs.declared.tree.Item.{Repeat}
+use Rattle.syntax.specs.Views.{expr_of, joined_of, links_of, stmt_of, stmts_of, else_of, item_of, items_of}
+use Rattle.syntax.specs.Printing.{expr_text, links_text, indent, deeper, stmt_text, stmts_text, else_text, item_text, items_text}
+use Rattle.syntax.proofs.Rows.{joined_of-Chain, stmt_of_While, stmt_of_If, item_of_Repeat}
+
+pub chain_out : (old mid new : List ℕ) (j : the_joined.Joined) (k : Level) (first : the_expr.Expr) (links : Vec the_link.Link Global) → j ≡ Chain k first links → mid ≡ old ++ expr_text (expr_of first) → new ≡ mid ++ links_text (links_of links.items) → new ≡ old ++ expr_text (joined_of j)
+chain_out old mid new j k first links is p q =
+    q ∙ ap (λ (x : List ℕ). x ++ links_text (links_of links.items)) p ∙ append_assoc old (expr_text (expr_of first)) (links_text (links_of links.items)) ∙ ap (λ (x : List ℕ). old ++ x) (sym (ap expr_text (ap joined_of is ∙ joined_of-Chain k first links)))
+
+while_parts : (old w e b ss n i z : List ℕ) → ((((((old ++ w) ++ e) ++ b) ++ ss) ++ n) ++ i) ++ z ≡ old ++ ((((((w ++ e) ++ b) ++ ss) ++ n) ++ i) ++ z)
+while_parts old w e b ss n i z = simp append_assoc
+
+pub while_out : (old new : List ℕ) (d : ℕ) (s : the_stmt.Stmt) (at : Span) (test : the_expr.Expr) (body : the_block.Block) → s ≡ While at test body → new ≡ ((((((old ++ codes "while (") ++ expr_text (expr_of test)) ++ codes ") {") ++ stmts_text (deeper d) (stmts_of body.stmts.items)) ++ codes "\n") ++ indent d) ++ codes "}" → new ≡ old ++ stmt_text d (stmt_of s)
+while_out old new d s at test body is p =
+    p ∙ while_parts old (codes "while (") (expr_text (expr_of test)) (codes ") {") (stmts_text (deeper d) (stmts_of body.stmts.items)) (codes "\n") (indent d) (codes "}") ∙ ap (λ (x : List ℕ). old ++ x) (sym (ap (stmt_text d) (ap stmt_of is ∙ stmt_of_While at test body)))
+
+if_parts : (old w e b ss n i z o : List ℕ) → (((((((old ++ w) ++ e) ++ b) ++ ss) ++ n) ++ i) ++ z) ++ o ≡ old ++ (((((((w ++ e) ++ b) ++ ss) ++ n) ++ i) ++ z) ++ o)
+if_parts old w e b ss n i z o = simp append_assoc
+
+pub if_out : (old new : List ℕ) (d : ℕ) (s : the_stmt.Stmt) (at : Span) (test : the_expr.Expr) (body : the_block.Block) (other : Option the_block.Block) → s ≡ If at test body other → new ≡ (((((((old ++ codes "if (") ++ expr_text (expr_of test)) ++ codes ") {") ++ stmts_text (deeper d) (stmts_of body.stmts.items)) ++ codes "\n") ++ indent d) ++ codes "}") ++ else_text d (else_of other) → new ≡ old ++ stmt_text d (stmt_of s)
+if_out old new d s at test body other is p =
+    p ∙ if_parts old (codes "if (") (expr_text (expr_of test)) (codes ") {") (stmts_text (deeper d) (stmts_of body.stmts.items)) (codes "\n") (indent d) (codes "}") (else_text d (else_of other)) ∙ ap (λ (x : List ℕ). old ++ x) (sym (ap (stmt_text d) (ap stmt_of is ∙ stmt_of_If at test body other)))
+
+repeat_parts : (old w n b is l i z : List ℕ) → ((((((old ++ w) ++ n) ++ b) ++ is) ++ l) ++ i) ++ z ≡ old ++ ((((((w ++ n) ++ b) ++ is) ++ l) ++ i) ++ z)
+repeat_parts old w n b is l i z = simp append_assoc
+
+pub repeat_out : (old new : List ℕ) (d : ℕ) (x : the_item.Item) (n : Number) (items : Vec the_item.Item Global) → x ≡ Repeat n items → new ≡ ((((((old ++ codes "repeat ") ++ decimal n.value) ++ codes " {") ++ items_text (deeper d) (items_of items.items)) ++ codes "\n") ++ indent d) ++ codes "}" → new ≡ old ++ item_text d (item_of x)
+repeat_out old new d x n items is p =
+    p ∙ repeat_parts old (codes "repeat ") (decimal n.value) (codes " {") (items_text (deeper d) (items_of items.items)) (codes "\n") (indent d) (codes "}") ∙ ap (λ (y : List ℕ). old ++ y) (sym (ap (item_text d) (ap item_of is ∙ item_of_Repeat n items)))

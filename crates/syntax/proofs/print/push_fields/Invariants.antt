@@ -1,0 +1,7 @@
+use Rattle.std.proofs.Common.{◌≡◌, ◌++◌, drop, map, string_bytes}
+use Rattle.syntax.specs.Views.{ident}
+use Rattle.syntax.specs.Printing.{many_text, field_text}
+use Rattle.syntax.proofs.print.push_fields.Given as goal
+
+abbrev pub invariant-loop-field : goal.invariant-loop-field
+invariant-loop-field l = string_bytes l.out ++ many_text field_text (map ident (drop l.field-index l.fields)) ≡ string_bytes l.initial.out ++ many_text field_text (map ident l.fields)

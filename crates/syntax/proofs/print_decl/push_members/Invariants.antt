@@ -1,0 +1,7 @@
+use Rattle.std.proofs.Common.{◌≡◌, ◌++◌, drop, map, string_bytes}
+use Rattle.syntax.specs.Views.{member_of}
+use Rattle.syntax.specs.Printing.{many_text, member_text}
+use Rattle.syntax.proofs.print_decl.push_members.Given as goal
+
+abbrev pub invariant-members : goal.invariant-members
+invariant-members l = string_bytes l.out ++ many_text member_text (map member_of (drop l.member-index l.members)) ≡ string_bytes l.initial.out ++ many_text member_text (map member_of l.members)

@@ -1,0 +1,130 @@
+//! The texts of statements.
+
+ghost use Rattle.std.specs.Prelude.{◌≡◌, ◌++◌, OnOk, string_bytes};
+ghost use Rattle.syntax.specs.Views.{local_of, stmt_of, stmts_of, else_of};
+ghost use Rattle.syntax.specs.Printing.{indent, deeper, local_text, stmt_text, stmts_text, else_text};
+
+use crate::print::{push_expr, push_place, push_type};
+use crate::tree::{Block, Local, Stmt};
+use std::alloc::{AllocError, Global};
+
+pub fn push_indent(out: &mut String, depth: usize) -> Result<(), AllocError>
+    ensures { OnOk result (string_bytes out.new ≡ string_bytes out.old ++ indent depth) }
+{
+    if depth == 0 {
+        return Ok(());
+    }
+    out.push_str("    ")?;
+    push_indent(out, depth - 1)
+}
+
+pub fn deeper(depth: usize) -> usize
+    ensures { result ≡ deeper depth }
+{
+    if depth < 64 { depth + 1 } else { depth }
+}
+
+fn push_local(alloc: Global, out: &mut String, local: &Local) -> Result<(), AllocError>
+    ensures { OnOk result (string_bytes out.new ≡ string_bytes out.old ++ local_text (local_of local.now)) }
+{
+    out.push_str(local.name.text.as_str())?;
+    out.push_str(": ")?;
+    push_type(out, &local.value_type)?;
+    out.push_str(" = ")?;
+    push_expr(alloc, out, &local.value)?;
+    out.push_str(";")
+}
+
+/// A statement, whose lines stand at this depth.
+#[cycle(print_stmt)]
+fn push_stmt(alloc: Global, out: &mut String, s: &Stmt, depth: usize) -> Result<(), AllocError>
+    ensures { OnOk result (string_bytes out.new ≡ string_bytes out.old ++ stmt_text depth (stmt_of s.now)) }
+{
+    match s {
+        Stmt::Let(local) => {
+            out.push_str("let ")?;
+            push_local(alloc, out, local)
+        }
+        Stmt::Var(local) => {
+            out.push_str("var ")?;
+            push_local(alloc, out, local)
+        }
+        Stmt::Assign(place, e) => {
+            push_place(alloc, out, place)?;
+            out.push_str(" = ")?;
+            push_expr(alloc, out, e)?;
+            out.push_str(";")
+        }
+        Stmt::If(_, test, body, other) => {
+            out.push_str("if (")?;
+            push_expr(alloc, out, test)?;
+            out.push_str(") {")?;
+            push_stmts(alloc, out, &body.stmts, deeper(depth))?;
+            out.push_str("\n")?;
+            push_indent(out, depth)?;
+            out.push_str("}")?;
+            push_else(alloc, out, other, depth)?;
+            Ok(())
+        }
+        Stmt::While(_, test, body) => {
+            out.push_str("while (")?;
+            push_expr(alloc, out, test)?;
+            out.push_str(") {")?;
+            push_stmts(alloc, out, &body.stmts, deeper(depth))?;
+            out.push_str("\n")?;
+            push_indent(out, depth)?;
+            out.push_str("}")?;
+            Ok(())
+        }
+        Stmt::Print(_, e) => {
+            out.push_str("print ")?;
+            push_expr(alloc, out, e)?;
+            out.push_str(";")
+        }
+        Stmt::Return(_, e) => {
+            out.push_str("return ")?;
+            push_expr(alloc, out, e)?;
+            out.push_str(";")
+        }
+    }
+}
+
+/// What stands behind `else`, with the word, or nothing.
+#[cycle(print_stmt)]
+fn push_else(
+    alloc: Global,
+    out: &mut String,
+    other: &Option<Block>,
+    depth: usize,
+) -> Result<(), AllocError>
+    ensures { OnOk result (string_bytes out.new ≡ string_bytes out.old ++ else_text depth (else_of other.now)) }
+{
+    match other {
+        None => Ok(()),
+        Some(body) => {
+            out.push_str(" else {")?;
+            push_stmts(alloc, out, &body.stmts, deeper(depth))?;
+            out.push_str("\n")?;
+            push_indent(out, depth)?;
+            out.push_str("}")
+        }
+    }
+}
+
+/// Statements, each on a line of its own.
+#[cycle(print_stmt)]
+pub fn push_stmts(
+    alloc: Global,
+    out: &mut String,
+    stmts: &[Stmt],
+    depth: usize,
+) -> Result<(), AllocError>
+    ensures { OnOk result (string_bytes out.new ≡ string_bytes out.old ++ stmts_text depth (stmts_of stmts.now)) }
+{
+    'stmts: for s in stmts {
+        out.push_str("\n")?;
+        push_indent(out, depth)?;
+        push_stmt(alloc, out, s, depth)?;
+    }
+    Ok(())
+}

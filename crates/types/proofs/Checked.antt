@@ -1,0 +1,44 @@
+-- The passes together.
+use Rattle.std.proofs.Common.{◌≡◌, ℕ, List, [], ◌∷◌, ◌++◌, Option, Some, None, Bool, true, false, refl, sym, ap, ◌∙◌, if◌then◌else◌}
+use Rattle.resolution.specs.declared.mistake.Mistake.{Mistake}
+use Rattle.syntax.specs.Trees.{Decl}
+use Rattle.resolution.specs.Core as core
+use Rattle.resolution.specs.Order.{goes_before, lesser}
+use Rattle.resolution.specs.Resolution.{resolved, resolved_from}
+use Rattle.resolution.specs.FaultLists.{least_of, twice_faults, struct_faults, total_faults, repeated_faults, each_faults, program_faults}
+use Rattle.resolution.specs.Laws.{the_least}
+use Rattle.types.specs.Whole.{unless}
+use Rattle.types.proofs.Least.{least_append}
+
+-- the least after the passes over all declarations
+abbrev pub least_after : Option Mistake → List Decl → Option Mistake
+least_after f ds = least_of f (twice_faults [] ds ++ struct_faults ds ++ total_faults ds [] ds ++ repeated_faults ds [] ds)
+
+-- the least of all faults of a program
+pub whole_least : (ds ps : List Decl) (f g : Option Mistake) → ps ≡ ds → f ≡ least_of None (twice_faults [] ds ++ struct_faults ds ++ total_faults ds [] ds ++ repeated_faults ds [] ds) → g ≡ least_of f (each_faults ps 0 ps) → g ≡ the_least ds
+whole_least ds ps f g same hf hg =
+    hg ∙ ap (λ (x : List Decl). least_of f (each_faults x 0 x)) same
+    ∙ ap (λ (o : Option Mistake). least_of o (each_faults ds 0 ds)) hf
+    ∙ sym (least_append None (twice_faults [] ds ++ struct_faults ds ++ total_faults ds [] ds ++ repeated_faults ds [] ds) (each_faults ds 0 ds))
+
+some_next : (f g : Mistake) (gs : List Mistake) → ((h : Mistake) → least_of (Some h) gs ≡ None → ⊥) → (b : Bool) → least_of (if b then Some g else Some f) gs ≡ None → ⊥
+some_next f g gs rec true e = rec g e
+some_next f g gs rec false e = rec f e
+
+some_kept : (f : Mistake) (gs : List Mistake) → least_of (Some f) gs ≡ None → ⊥
+some_kept f [] e = cc
+some_kept f (g ∷ gs) e = some_next f g gs (λ h k. some_kept h gs k) (goes_before g f) e
+
+-- where there is no fault, there was none before
+pub was_none : (f : Option Mistake) (gs : List Mistake) → least_of f gs ≡ None → f ≡ None
+was_none None gs e = refl
+was_none (Some f) gs e = absurd (some_kept f gs e)
+
+-- where there is no fault, the whole is resolved
+pub built : (ds ps : List Decl) (f : Option Mistake) (start v : Option core.Program) → ps ≡ ds → f ≡ None → start ≡ unless f → v ≡ resolved_from ps 0 start ps → v ≡ resolved ds
+built ds ps f start v same none begun made =
+    made ∙ ap (λ (x : List Decl). resolved_from x 0 start x) same ∙ ap (λ (o : Option core.Program). resolved_from ds 0 o ds) (begun ∙ ap unless none)
+
+-- and a program that is not there is none that the tree stands for
+pub none_built : (ds : List Decl) (v : Option core.Program) → v ≡ resolved ds → v ≡ None → ((p : core.Program) × (resolved ds ≡ Some p)) → ⊥
+none_built ds v is none some = let e : None ≡ Some some.0 = sym none ∙ is ∙ some.1 in cc

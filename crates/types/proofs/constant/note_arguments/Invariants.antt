@@ -1,0 +1,11 @@
+use Rattle.std.proofs.Common.{◌≡◌, drop}
+use Rattle.std.specs.Prelude.{map}
+use Rattle.syntax.specs.Views.{param_of, const_of}
+use Rattle.resolution.specs.FaultLists.{least_of, argument_faults}
+use Rattle.types.specs.Views.{declared_by}
+use Rattle.types.proofs.constant.note_arguments.Given as goal
+
+abbrev pub invariant-loop-i : goal.invariant-loop-i
+invariant-loop-i l = record {
+  faults : least_of l.least (argument_faults (declared_by l.decls) (map param_of (drop l.i l.params)) (map const_of (drop l.i l.constants))) ≡ least_of l.fn.least (argument_faults (declared_by l.decls) (map param_of l.params) (map const_of l.constants));
+}

@@ -1,0 +1,10 @@
+use Rattle.std.proofs.Common.{◌≡◌, drop}
+use Rattle.syntax.specs.Views.{items_of}
+use Rattle.resolution.specs.FaultLists.{least_of, items_faults}
+use Rattle.types.specs.Views.{declared_by}
+use Rattle.types.proofs.thread.+faults.Given as goal
+
+abbrev pub invariant-note_items-loop-item : goal.invariant-note_items-loop-item
+invariant-note_items-loop-item l = record {
+  faults : least_of l.least (items_faults (declared_by l.decls) (items_of (drop l.item-index l.items))) ≡ least_of l.fn.least (items_faults (declared_by l.decls) (items_of l.items));
+}

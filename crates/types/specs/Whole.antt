@@ -1,0 +1,29 @@
+-- What the passes over declarations give, by parts.
+use Rattle.std.specs.Prelude.{ℕ, List, Option, Some, None}
+use Rattle.syntax.specs.Trees.{Decl, Variable, Array, Init}
+use Rattle.resolution.specs.declared.mistake.Mistake.{Mistake}
+use Rattle.resolution.specs.Core as core
+use Rattle.resolution.specs.Scopes.{◌>>=◌, outside, the_decl, type_of}
+use Rattle.resolution.specs.Constants.{pool_members}
+use Rattle.resolution.specs.Annotations.{class_of}
+use Rattle.resolution.specs.Resolution.{nothing_yet, extended, with_global, with_array, opening_of}
+use Rattle.resolution.specs.FaultLists.{named_faults}
+
+-- nothing, unless there is a fault
+abbrev pub unless : Option Mistake → Option core.Program
+unless None = Some nothing_yet
+unless (Some f) = None
+
+-- a program, if there is one, with one more declaration
+abbrev pub extended_if : List Decl → ℕ → Option core.Program → Decl → Option core.Program
+extended_if decls i p d = p >>= λ q. extended decls i q d
+
+abbrev pub global_with : List Decl → core.Program → Variable → Option core.Program
+global_with decls p v = with_global p v.name.text (class_of decls v.protection) (type_of (outside decls) v.value_type) (opening_of decls (type_of (outside decls) v.value_type) v.value)
+
+abbrev pub array_with : List Decl → core.Program → Array → Option core.Program
+array_with decls p a = with_array p a.name.text (class_of decls a.protection) (type_of (outside decls) a.value_type) a.length.value
+
+-- the faults of the field that an `init` names
+abbrev pub init_field_faults : List Decl → Init → List Mistake
+init_field_faults decls i = named_faults decls i.field.span.start (pool_members decls (the_decl decls i.pool.text)) i.field.text

@@ -1,0 +1,351 @@
+//! Constants.
+
+ghost use Rattle.std.specs.Prelude.{◌≡◌, IfOk, option_map, map, is_some};
+ghost use Rattle.syntax.specs.Views.{ident, const_of, option_of, param_of};
+ghost use Rattle.resolution.specs.Scopes.{the_decl};
+ghost use Rattle.resolution.specs.Expressions.{number_value, fits_type, fits_sort, want};
+ghost use Rattle.resolution.specs.Constants.{const_sort, const_value, typed_const, want_of, typed_arguments, opened, default_of, member_sort, member_of};
+ghost use Rattle.resolution.specs.Faults.{const_start};
+ghost use Rattle.resolution.specs.FaultLists.{least_of, number_faults, index_faults, own_faults, sort_misfit, const_faults, argument_faults, opening_faults};
+ghost use Rattle.types.specs.Parts.{pushed};
+ghost use Rattle.types.specs.Views.{declared_by, AreDeclarations};
+ghost use Rattle.types.specs.Programs.{program_of, IsProgram};
+
+use crate::declarations::Declarations;
+use crate::note::{note, note_if};
+use crate::scope::{Meaning, note_unfit, struct_named, type_outside};
+use crate::table::Program;
+use core_lang::value::{Value, ValueType};
+use resolution::mistake::Mistake;
+use resolution::wanted::{Sort, Want};
+use source::fault::Code;
+use source::token::Number;
+use std::alloc::{AllocError, Global};
+use syntax::tree::{Const, Decl, Name, Param};
+
+/// The largest number that a token can be.
+const NUMBER_LIMIT: u64 = 9223372036854775807;
+
+/// A number as 64 bits with a sign.
+pub fn number(n: Number) -> Option<i64>
+    ensures { result ≡ number_value n }
+{
+    if n.value <= NUMBER_LIMIT {
+        Some(n.value as i64)
+    } else {
+        None
+    }
+}
+
+/// Notes a number that no token can be.
+pub fn note_number(n: Number, least: &mut Option<Mistake>)
+    ensures { least.new ≡ least_of least.old (number_faults n) }
+{
+    note_if(
+        NUMBER_LIMIT < n.value,
+        Code::NumberTooLarge,
+        n.span.start as usize,
+        least,
+    );
+}
+
+/// What is wanted where a value of the type is.
+pub fn want(t: Option<ValueType>) -> Want
+    ensures { result ≡ want t }
+{
+    match t {
+        Some(t) => Want::Value(t),
+        None => Want::Anything,
+    }
+}
+
+/// Whether a value of this sort is one of the type.
+pub fn fits_type(t: ValueType, s: Sort) -> bool
+    ensures { result ≡ fits_type t s }
+{
+    match (t, s) {
+        (ValueType::Integer, Sort::Of(ValueType::Integer)) => true,
+        (ValueType::Integer, Sort::Of(ValueType::Reference(_))) => false,
+        (ValueType::Integer, Sort::Null) => false,
+        (ValueType::Reference(_), Sort::Of(ValueType::Integer)) => false,
+        (ValueType::Reference(a), Sort::Of(ValueType::Reference(b))) => a == b,
+        (ValueType::Reference(_), Sort::Null) => true,
+    }
+}
+
+/// Whether a value of this sort is what is wanted.
+pub fn fits_sort(w: Want, s: Sort) -> bool
+    ensures { result ≡ fits_sort w s }
+{
+    match w {
+        Want::Anything => true,
+        Want::Condition => false,
+        Want::Value(t) => fits_type(t, s),
+    }
+}
+
+/// What a constant is, if it has a type.
+fn const_sort(decls: &Declarations, c: &Const) -> Option<Sort>
+    requires { AreDeclarations decls.now }
+    ensures { result ≡ const_sort (declared_by decls.now) (const_of c.now) }
+{
+    match c {
+        Const::Int(n) | Const::Negative(_, n) => match number(*n) {
+            Some(_) => Some(Sort::Of(ValueType::Integer)),
+            None => None,
+        },
+        Const::Null(_) => Some(Sort::Null),
+        Const::Member(name, _) => member_sort(decls, name),
+    }
+}
+
+/// What a member of a pool is, if its struct has no fault.
+fn member_sort(decls: &Declarations, name: &Name) -> Option<Sort>
+    requires { AreDeclarations decls.now }
+    ensures { result ≡ member_sort (declared_by decls.now) (the_decl (declared_by decls.now) (ident name.now).text) }
+{
+    match decls.find(name.text.as_str()) {
+        Some((_, Decl::Pool(pool))) => match struct_named(decls, &pool.target) {
+            Some(number) => Some(Sort::Of(ValueType::Reference(number))),
+            None => None,
+        },
+        _ => None,
+    }
+}
+
+/// The member of a pool with this index.
+fn member_of(program: &Program, name: &Name, index: u64) -> Option<Value>
+    requires { IsProgram program.now }
+    ensures { result ≡ member_of (program_of program.now) (the_decl (program_of program.now) (ident name.now).text) index }
+{
+    match program.decls.find(name.text.as_str()) {
+        Some((place, Decl::Pool(pool))) => {
+            if index < pool.length.value {
+                Some(Value::Ref(Some(program.object(place, index))))
+            } else {
+                None
+            }
+        }
+        _ => None,
+    }
+}
+
+/// The value of a constant.
+fn const_value(program: &Program, c: &Const) -> Option<Value>
+    requires { IsProgram program.now }
+    ensures { result ≡ const_value (program_of program.now) (const_of c.now) }
+{
+    match c {
+        Const::Int(n) => match number(*n) {
+            Some(value) => Some(Value::Int(value)),
+            None => None,
+        },
+        Const::Negative(_, n) => match number(*n) {
+            Some(value) => Some(Value::Int(-value)),
+            None => None,
+        },
+        Const::Null(_) => Some(Value::Ref(None)),
+        Const::Member(name, n) => member_of(program, name, n.value),
+    }
+}
+
+/// The value of a constant, if it is what is wanted.
+pub fn typed_const(program: &Program, w: Want, c: &Const) -> Option<Value>
+    requires { IsProgram program.now }
+    ensures { result ≡ typed_const (program_of program.now) w (const_of c.now) }
+{
+    match const_sort(&program.decls, c) {
+        Some(sort) => {
+            if fits_sort(w, sort) {
+                const_value(program, c)
+            } else {
+                None
+            }
+        }
+        None => None,
+    }
+}
+
+/// The value that a thing of the type opens with.
+pub fn opened(program: &Program, t: ValueType, c: Option<&Const>) -> Option<Value>
+    requires { IsProgram program.now }
+    ensures { result ≡ opened (program_of program.now) t (option_map (λ x. const_of x.now) c.entry) }
+{
+    match c {
+        Some(c) => typed_const(program, Want::Value(t), c),
+        None => Some(default_of(t)),
+    }
+}
+
+/// What a value of the type is unless one is given: 0 or null.
+pub fn default_of(t: ValueType) -> Value
+    ensures { result ≡ default_of t }
+{
+    match t {
+        ValueType::Integer => Value::Int(0),
+        ValueType::Reference(_) => Value::Ref(None),
+    }
+}
+
+/// Notes what is wrong with a pool's name and an index behind it.
+pub fn note_index(decls: &Declarations, name: &Name, n: Number, least: &mut Option<Mistake>)
+    requires { AreDeclarations decls.now }
+    ensures { least.new ≡ least_of least.old (index_faults (declared_by decls.now) (ident name.now).span.start (the_decl (declared_by decls.now) (ident name.now).text) n) }
+{
+    let start = name.start as usize;
+    match decls.find(name.text.as_str()) {
+        None => note(least, Code::UnknownName, start),
+        Some((_, Decl::Pool(pool))) => {
+            let is_out = struct_named(decls, &pool.target).is_some()
+                && pool.length.value <= n.value;
+            note_if(
+                is_out,
+                Code::InitOutOfRangeOrRepeated,
+                n.span.start as usize,
+                least,
+            );
+        }
+        Some((place, d)) => {
+            note_unfit(
+                decls,
+                Code::WrongType,
+                start,
+                Meaning::Decl(place, d),
+                least,
+            );
+        }
+    }
+}
+
+/// Notes what is wrong with a constant by itself.
+fn note_own(decls: &Declarations, c: &Const, least: &mut Option<Mistake>)
+    requires { AreDeclarations decls.now }
+    ensures { least.new ≡ least_of least.old (own_faults (declared_by decls.now) (const_of c.now)) }
+{
+    match c {
+        Const::Int(n) | Const::Negative(_, n) => note_number(*n, least),
+        Const::Null(_) => {}
+        Const::Member(name, n) => note_index(decls, name, *n, least),
+    }
+}
+
+/// Where a constant starts.
+fn const_start(c: &Const) -> usize
+    ensures { result ≡ const_start (const_of c.now) }
+{
+    match c {
+        Const::Int(n) => n.span.start as usize,
+        Const::Negative(sign, _) => sign.start as usize,
+        Const::Null(at) => at.start as usize,
+        Const::Member(name, _) => name.start as usize,
+    }
+}
+
+/// Notes what isn't of the sort that is wanted.
+fn note_sort(w: Want, start: usize, s: Option<Sort>, least: &mut Option<Mistake>)
+    ensures { least.new ≡ least_of least.old (sort_misfit w start s) }
+{
+    if let Some(s) = s {
+        if !fits_sort(w, s) {
+            note(least, Code::WrongType, start);
+        }
+    }
+}
+
+/// Notes what is wrong with a constant of which something is wanted.
+#[tactic(auto, using(crate::proofs::Least::least_append))]
+pub fn note_const(decls: &Declarations, w: Want, c: &Const, least: &mut Option<Mistake>)
+    requires { AreDeclarations decls.now }
+    ensures { least.new ≡ least_of least.old (const_faults (declared_by decls.now) w (const_of c.now)) }
+{
+    note_own(decls, c, least);
+    note_sort(w, const_start(c), const_sort(decls, c), least);
+}
+
+/// Notes what is wrong with the constant that a thing opens with.
+pub fn note_opening(decls: &Declarations, w: Want, c: &Option<Const>, least: &mut Option<Mistake>)
+    requires { AreDeclarations decls.now }
+    ensures { least.new ≡ least_of least.old (opening_faults (declared_by decls.now) w (option_of const_of c.now)) }
+{
+    if let Some(c) = c {
+        note_const(decls, w, c, least);
+    }
+}
+
+/// What a parameter wants of its argument.
+fn want_of(decls: &Declarations, p: &Param) -> Want
+    requires { AreDeclarations decls.now }
+    ensures { result ≡ want_of (declared_by decls.now) (param_of p.now) }
+{
+    want(type_outside(decls, &p.value_type))
+}
+
+/// Notes what is wrong with arguments.
+#[tactic(auto, using(crate::proofs::Least::least_append))]
+pub fn note_arguments(
+    decls: &Declarations,
+    params: &[Param],
+    constants: &[Const],
+    least: &mut Option<Mistake>,
+)
+    requires { AreDeclarations decls.now }
+    ensures { least.new ≡ least_of least.old (argument_faults (declared_by decls.now) (map param_of params.now) (map const_of constants.now)) }
+{
+    for i in 0..params.len().min(constants.len()) {
+        note_const(decls, want_of(decls, &params[i]), &constants[i], least);
+    }
+}
+
+/// The values and one more, if none is missing.
+fn with_value(
+    values: Option<Vec<Value>>,
+    value: Option<Value>,
+) -> Result<Option<Vec<Value>>, AllocError>
+    ensures { IfOk result (λ r. option_map (λ vs. vs.items) r ≡ pushed (option_map (λ vs. vs.items) values) value) }
+{
+    match (values, value) {
+        (Some(mut values), Some(value)) => {
+            values.push(value)?;
+            Ok(Some(values))
+        }
+        _ => Ok(None),
+    }
+}
+
+/// The values of arguments, one for each parameter.
+pub fn typed_arguments(
+    alloc: Global,
+    program: &Program,
+    params: &[Param],
+    constants: &[Const],
+) -> Result<Option<Vec<Value>>, AllocError>
+    requires { IsProgram program.now }
+    ensures { IfOk result (λ r. option_map (λ vs. vs.items) r ≡ typed_arguments (program_of program.now) (map param_of params.now) (map const_of constants.now)) }
+{
+    if params.len() != constants.len() {
+        return Ok(None);
+    }
+    let mut values = Some(Vec::new(alloc));
+    for i in 0..params.len() {
+        let wanted = want_of(&program.decls, &params[i]);
+        values = with_value(values, typed_const(program, wanted, &constants[i]))?;
+    }
+    Ok(values)
+}
+
+/// Whether arguments are right: one for each parameter, each of the parameter's type.
+pub fn are_typed(program: &Program, params: &[Param], constants: &[Const]) -> bool
+    requires { IsProgram program.now }
+    ensures { result ≡ is_some (typed_arguments (program_of program.now) (map param_of params.now) (map const_of constants.now)) }
+{
+    if params.len() != constants.len() {
+        return false;
+    }
+    for i in 0..params.len() {
+        let wanted = want_of(&program.decls, &params[i]);
+        if typed_const(program, wanted, &constants[i]).is_none() {
+            return false;
+        }
+    }
+    true
+}

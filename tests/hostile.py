@@ -1,0 +1,154 @@
+#!/usr/bin/env python3
+"""Gives hostile sources to `autolock serial --turns 1000` and looks at how each run ends.
+
+    tests/hostile.py [--program BIN] [--cuts] [--bytes] [--random COUNT] [--every N] [--seed N] [FILE..]
+
+With no choice of kinds: --cuts --bytes --random 2000, each cut and byte at every 7th place, which takes a minute.
+
+--cuts          every beginning of each program
+--bytes         each program with one byte replaced by each of `(`, `}`, `0`, `.`, 0x00 and 0x80
+--random COUNT  so many programs made from the given ones by a few random changes each
+--every N       only every N-th place of --cuts and --bytes
+FILE..          the programs to begin with; by default those of examples/
+
+A run must end within 20 seconds with status 0, 1 or 7. With 0, standard output is a whole history and
+standard error is empty; with 1, standard error is one line and standard output is empty; with 7, the last
+line of standard output begins with `unsettled` and standard error is empty. What doesn't is kept as
+hostile-NUMBER.al in the current folder. The last line is 'N runs, M failed'; exit status 1 where M is not 0.
+"""
+import argparse
+import multiprocessing
+import os
+import pathlib
+import random
+import re
+import subprocess
+import sys
+import tempfile
+
+TOP = pathlib.Path(__file__).resolve().parent.parent
+REPLACEMENTS = [b"(", b"}", b"0", b".", b"\x00", b"\x80"]
+WORDS = (
+    b"lock struct final ref int global protected_by pool init atomic let var if else while print return thread "
+    b"repeat null where call { } ( ) [ ] ; , : . = == != < <= > >= + - * / % && || ! 0 1 2 64 255 256 65536 65537 "
+    b"262144 262145 100000 9223372036854775807 9223372036854775808 a b x n G S p // /"
+).split()
+TOKEN = re.compile(rb"\s+|//[^\n]*|\w+|[=!<>]=|&&|\|\||.", re.S)
+
+
+def cuts(programs, every):
+    for text in programs:
+        for end in range(0, len(text), every):
+            yield text[:end]
+
+
+def replaced(programs, every):
+    for text in programs:
+        for place in range(0, len(text), every):
+            for byte in REPLACEMENTS:
+                yield text[:place] + byte + text[place + 1 :]
+
+
+def mutated(programs, seed):
+    """A program with a few random changes, of tokens and of bytes."""
+    choose = random.Random(seed)
+    tokens = TOKEN.findall(choose.choice(programs))
+    for _ in range(choose.randint(1, 6)):
+        at = choose.randrange(len(tokens) + 1)
+        kind = choose.randrange(7)
+        if kind == 0:
+            tokens[at : at + choose.randint(1, 4)] = []
+        elif kind == 1:
+            tokens[at:at] = [choose.choice(WORDS)]
+        elif kind == 2:
+            tokens[at : at + 1] = [choose.choice(WORDS)]
+        elif kind == 3:
+            tokens[at:at] = tokens[at : at + choose.randint(1, 40)] * choose.randint(1, 3)
+        elif kind == 4:
+            other = TOKEN.findall(choose.choice(programs))
+            start = choose.randrange(len(other) + 1)
+            tokens[at:at] = other[start : start + choose.randint(1, 30)]
+        elif kind == 5:
+            tokens[at : at + 1] = [bytes(choose.randrange(256) for _ in range(choose.randint(1, 3)))]
+        elif tokens and at < len(tokens):
+            there = choose.randrange(len(tokens))
+            tokens[at], tokens[there] = tokens[there], tokens[at]
+    return b"".join(tokens)
+
+
+def fault_of(run):
+    """What is wrong with the way a run ended, or nothing."""
+    out, err = run.stdout, run.stderr
+    if run.returncode == 0:
+        whole = out.startswith(b"history 1\n") and out.endswith(b"end\n")
+        return None if whole and not err else "status 0 without a whole history alone"
+    if run.returncode == 1:
+        one_line = err.count(b"\n") == 1 and err.endswith(b"\n")
+        return None if one_line and not out else "status 1 without one line alone"
+    if run.returncode == 7:
+        unsettled = out.rstrip(b"\n").rsplit(b"\n", 1)[-1].startswith(b"unsettled ")
+        return None if unsettled and not err else "status 7 without an unsettled call"
+    return f"status {run.returncode}"
+
+
+def try_all(part):
+    program, programs, kind, seeds, every, scratch = part
+    inputs = {
+        "cuts": lambda: cuts(programs, every),
+        "bytes": lambda: replaced(programs, every),
+        "random": lambda: (mutated(programs, seed) for seed in seeds),
+    }[kind]()
+    path = os.path.join(scratch, f"source-{os.getpid()}")
+    runs, failed = 0, []
+    for text in inputs:
+        with open(path, "wb") as file:
+            file.write(text)
+        runs += 1
+        try:
+            run = subprocess.run([program, "serial", "--turns", "1000", path], capture_output=True, timeout=20)
+            fault = fault_of(run)
+        except subprocess.TimeoutExpired:
+            fault = "no end within 20 seconds"
+        if fault:
+            failed.append((fault, text))
+    return runs, failed
+
+
+def main():
+    p = argparse.ArgumentParser(formatter_class=argparse.RawDescriptionHelpFormatter, description=__doc__)
+    p.add_argument("--program", default=str(TOP / "autolock"))
+    p.add_argument("--cuts", action="store_true")
+    p.add_argument("--bytes", action="store_true")
+    p.add_argument("--random", type=int, default=0, metavar="COUNT")
+    p.add_argument("--every", type=int, default=0, metavar="N")
+    p.add_argument("--seed", type=int, default=1, metavar="N")
+    p.add_argument("--jobs", type=int, default=os.cpu_count())
+    p.add_argument("files", nargs="*", type=pathlib.Path, metavar="FILE")
+    a = p.parse_args()
+    if not (a.cuts or a.bytes or a.random):
+        a.cuts, a.bytes, a.random, a.every = True, True, 2000, a.every or 7
+    every = a.every or 1
+    program = str(pathlib.Path(a.program).resolve())
+    programs = [f.read_bytes() for f in a.files or sorted((TOP / "examples").glob("*.al"))]
+    shm = "/dev/shm" if os.access("/dev/shm", os.W_OK) else None
+    with tempfile.TemporaryDirectory(dir=shm) as scratch:
+        parts = [(program, [text], kind, (), every, scratch) for kind in ("cuts", "bytes") if getattr(a, kind) for text in programs]
+        step = 500
+        parts += [
+            (program, programs, "random", range(first, min(first + step, a.seed + a.random)), every, scratch)
+            for first in range(a.seed, a.seed + a.random, step)
+        ]
+        runs, failed = 0, []
+        with multiprocessing.Pool(a.jobs) as pool:
+            for count, wrong in pool.imap_unordered(try_all, parts):
+                runs += count
+                failed += wrong
+    for number, (fault, text) in enumerate(failed[:20]):
+        path = pathlib.Path(f"hostile-{number}.al")
+        path.write_bytes(text)
+        print(f"{path}: {fault}")
+    print(f"{runs} runs, {len(failed)} failed")
+    sys.exit(1 if failed else 0)
+
+
+main()
