@@ -140,7 +140,11 @@ fn field_behind(steps: &Vec<FieldStep>) -> Option<u32>
 {
     match steps.last() {
         Some(FieldStep::Field(number)) => Some(*number),
-        Some(FieldStep::Final(_)) | None => None,
+        Some(FieldStep::Final(number)) => {
+            let _number = *number;
+            None
+        }
+        None => None,
     }
 }
 
@@ -158,7 +162,11 @@ fn aimed_along(start: usize, m: Meaning, w: Walk) -> Option<Aim>
         Some(FieldStep::Field(field)) => {
             aiming(Target::Field(local_path(start, i, steps), field), Some(t))
         }
-        Some(FieldStep::Final(_)) | None => None,
+        Some(FieldStep::Final(number)) => {
+            let _number = number;
+            None
+        }
+        None => None,
     }
 }
 
