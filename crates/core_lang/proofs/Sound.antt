@@ -29,13 +29,14 @@ use Rattle.core_lang.specs.declared.tree.Return.{Return}
 use Rattle.core_lang.specs.declared.tree.Local.{Local}
 use Rattle.core_lang.specs.declared.typed.Cell.{Cell}
 use Rattle.core_lang.specs.declared.typed.Owner.{Owner}
+use Rattle.core_lang.specs.declared.typed.Owner.TheVariants as owner
 use Rattle.core_lang.specs.declared.typed.Typed.{Typed}
 use Rattle.core_lang.specs.Arithmetic.{fits, is_zero, number_of, arithmetic, on_values, negated, compared}
 use Rattle.core_lang.specs.Cells.{with, found, at_index, element_cell, reference_to, member_of, field_cell, final_value, not_null, read}
 use Rattle.core_lang.specs.Meaning.{State, Flow, GoesOn, Traps, Beyond, Astray, along, place_of, joined, value_of, chained, and_then, or_else, truth_of, all_true, any_true, given, after, choose, printed, written, stored, turns, effect_of, effects_of, sequence}
 use Rattle.core_lang.specs.Whole.{opening, default_of, default_local, returned, ending, concluded}
-use Rattle.core_lang.specs.Typing.{lookup, struct_of, HasType, HaveTypes, local_types, cell_types, final_target, field_type, array_type, pool_struct, LeadsTo, IsPathTo, IsOf, AreIntegers, CanCompare, IsTest, AreTests, GivesLocal, IsWellTyped, AreWellTyped, AllWellTyped, IsResult}
-use Rattle.core_lang.specs.WellFormed.{IsCell, IsLaidOut}
+use Rattle.core_lang.specs.Typing.{lookup, struct_of, HasType, HaveTypes, local_types, cell_types, final_target, field_type, if_global, global_type, array_type, pool_struct, LeadsTo, IsPathTo, IsOf, AreIntegers, CanCompare, IsTest, AreTests, GivesLocal, IsWellTyped, AreWellTyped, AllWellTyped, IsResult}
+use Rattle.core_lang.specs.WellFormed.{IsCell, IsLaidOut, IsWithinLimits}
 use Rattle.core_lang.specs.Laws.{StaysTyped, NeverGoAstray}
 
 -- a result that is no failure but a trap, and that has the property
@@ -166,7 +167,7 @@ member_struct shape o object p pool here same there =
     ∙ ap (λ (q : ℕ). lookup (slice_get shape.pools.items q) (λ (y : Pool). Some y.structure)) same
     ∙ ap (λ (r : Option Pool). lookup r (λ (y : Pool). Some y.structure)) there
 
-module _ (program : Typed) (types : List ValueType) (laid : IsLaidOut program) where
+module _ (program : Typed) (types : List ValueType) (laid : IsLaidOut program) (within : IsWithinLimits program) where
   abbrev Has : ValueType → Value → Type 0
   Has t v = HasType program.shape t v
 
@@ -176,6 +177,16 @@ module _ (program : Typed) (types : List ValueType) (laid : IsLaidOut program) w
 
   cell_type : (place : ℕ) (owner : Owner) (t : ValueType) → IsCell program place owner t → IsCellOf t place
   cell_type place owner t is = mapped_there (λ (cell : Cell). cell.value_type) program.cells.items place is.cell is.here ∙ ap Some is.typed
+
+  global_owner : (o : Owner) (s t : ValueType) → if_global o s ≡ Some t → s ≡ t
+  global_owner (owner.Global g) s t e = cc
+  global_owner (owner.Element array index) s t e = cc
+  global_owner (owner.Field object field) s t e = cc
+
+  global_cell : (cell : ℕ) (t : ValueType) → global_type program cell ≡ Some t → IsCellOf t cell
+  global_cell cell t e =
+      let x = lookup_some (slice_get program.cells.items cell) (λ (c : Cell). if_global c.owner c.value_type) t e in
+      mapped_there (λ (c : Cell). c.value_type) program.cells.items cell x.0 x.1 ∙ ap Some (global_owner x.0.owner x.0.value_type t x.2)
 
   -- the values of a state have their types
   record IsTyped (s : State) : Type 0 where
@@ -191,7 +202,7 @@ module _ (program : Typed) (types : List ValueType) (laid : IsLaidOut program) w
       (index_sound (IsCellOf t) program.shape x.0.first x.0.length v each h)
 
   few_enough : (o : ℕ) → o < length program.shape.objects.items → o < 2 ^ 32
-  few_enough o lt = let few = laid.few in grind arith
+  few_enough o lt = let few = within.objects in grind arith
 
   reference_if : (o s : ℕ) (b : Bool) → struct_of program.shape o ≡ Some s → o < 2 ^ 32 → nat_lt o (2 ^ 32) ≡ b →
       Gives (Has (Reference s)) (if b then Ok (Ref (Some o)) else Err Wrong)
@@ -256,7 +267,7 @@ module _ (program : Typed) (types : List ValueType) (laid : IsLaidOut program) w
     value_sound Null Integer s ty is = absurd is
     value_sound Null (Reference r) s ty is = tt
     value_sound (Place p) t s ty is = path_sound p t s ty is
-    value_sound (Global start cell) t s ty is = read_sound s.heap cell t ty.heap is
+    value_sound (Global start cell) t s ty is = read_sound s.heap cell t ty.heap (global_cell cell t is)
     value_sound (Element' start array p index) t s ty is =
         gives_with (Has Integer) (Has t) (value_of index program.shape s.locals s.heap) _ (value_sound index Integer s ty is.1)
         (λ v h. gives_with (IsCellOf t) (Has t) (element_cell program.shape array v) _ (element_sound array v t is.0 h) (λ cell c. read_sound s.heap cell t ty.heap c))
@@ -376,7 +387,7 @@ module _ (program : Typed) (types : List ValueType) (laid : IsLaidOut program) w
     effect_sound (Bind local e) n s ty is = store_sound local e s ty is
     effect_sound (SetLocal local e) n s ty is = store_sound local e s ty is
     effect_sound (SetGlobal cell e) n s ty is =
-        given_sound (Has is.0) (value_of e program.shape s.locals s.heap) s _ ty (value_sound e is.0 s ty is.2) (λ v h. write_sound cell is.0 v s ty is.1 h)
+        given_sound (Has is.0) (value_of e program.shape s.locals s.heap) s _ ty (value_sound e is.0 s ty is.2) (λ v h. write_sound cell is.0 v s ty (global_cell cell is.0 is.1) h)
     effect_sound (SetElement array i e) n s ty is =
         given_sound (Has Integer) (value_of i program.shape s.locals s.heap) s _ ty (value_sound i Integer s ty is.2)
         (λ v h. given_sound (IsCellOf is.0) (element_cell program.shape array v) s _ ty (element_sound array v is.0 is.1 h)
@@ -445,7 +456,7 @@ pub never_astray : NeverGoAstray
 never_astray program k n section arguments heap well is fit typed =
     let types = local_types section.locals.items in
     let good = well.sections k section is in
-    let start : IsTyped program types well.laid_out (opening section arguments heap) =
+    let start : IsTyped program types well.laid_out well.within (opening section arguments heap) =
     record { locals = opening_has program.shape section.parameters section.locals.items arguments fit; heap = typed } in
-    concluded_sound program types well.laid_out section.result_type section.result (sequence section.body.items program.shape n (opening section arguments heap)) good.result
-    (sequence_sound program types well.laid_out section.body.items n (opening section arguments heap) start good.body)
+    concluded_sound program types well.laid_out well.within section.result_type section.result (sequence section.body.items program.shape n (opening section arguments heap)) good.result
+    (sequence_sound program types well.laid_out well.within section.body.items n (opening section arguments heap) start good.body)

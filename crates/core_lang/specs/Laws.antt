@@ -76,6 +76,14 @@ SerialSplits =
     (es : List Ended) × (fs : List Ended) × (middle : List Value) ×
     (ends ≡ es ++ fs) × Serial program heap first es middle × Serial program middle second fs last
 
+-- calls that leave the heap as they found it change nothing of what later calls answer
+abbrev pub QuietCallsChangeNothing : Type 0
+QuietCallsChangeNothing =
+    (program : Typed) (heap last : List Value) (quiet calls : List Invocation) (es : List Ended) → Serial program heap quiet es heap →
+    ((fs : List Ended) → Serial program heap calls fs last → Serial program heap (quiet ++ calls) (es ++ fs) last)
+    × ((gs : List Ended) → Serial program heap (quiet ++ calls) gs last →
+    (fs : List Ended) × (gs ≡ es ++ fs) × Serial program heap calls fs last)
+
 -- n turns don't settle the first call
 abbrev pub IsUnsettled : Typed → ℕ → List Value → List Invocation → Type 0
 IsUnsettled program n heap [] = ⊤

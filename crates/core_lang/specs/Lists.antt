@@ -1,4 +1,5 @@
--- The parts of a tree as lists: the same meaning, over the items of each `Vec`.
+-- The parts of a tree as lists: the same meaning, over the items of each `Vec`. Nobody has to believe these equations: they are
+-- proved here, for proofs of the crates above.
 use Rattle.std.specs.Prelude.{◌≡◌, ℕ, zero, suc, Bool, List, [], ◌∷◌, Result, Ok, Err}
 use Rattle.std.proofs.Common.{refl, ap, ◌∙◌, Vec, Box, Global}
 use mathlib.Core.Former.{Count}

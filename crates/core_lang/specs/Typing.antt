@@ -25,6 +25,8 @@ use Rattle.core_lang.specs.declared.tree.Section.{Section}
 use Rattle.core_lang.specs.declared.typed.FinalField.{FinalField}
 use Rattle.core_lang.specs.declared.typed.Field.{Field}
 use Rattle.core_lang.specs.declared.typed.Struct.{Struct}
+use Rattle.core_lang.specs.declared.typed.Owner.{Owner}
+use Rattle.core_lang.specs.declared.typed.Owner.TheVariants as owner
 use Rattle.core_lang.specs.declared.typed.Cell.{Cell}
 use Rattle.core_lang.specs.declared.typed.Typed.{Typed}
 
@@ -91,6 +93,16 @@ abbrev pub field_type : Typed → ℕ → ℕ → Option ValueType
 field_type program s f =
     lookup (slice_get program.structs.items s) (λ (x : Struct). lookup (slice_get x.fields.items f) (λ (field : Field). Some field.value_type))
 
+-- the type of a cell, if it is a global's
+abbrev pub if_global : Owner → ValueType → Option ValueType
+if_global (owner.Global g) t = Some t
+if_global (owner.Element array index) t = None
+if_global (owner.Field object field) t = None
+
+-- the type of the global that has a cell
+abbrev pub global_type : Typed → ℕ → Option ValueType
+global_type program cell = lookup (slice_get program.cells.items cell) (λ (c : Cell). if_global c.owner c.value_type)
+
 -- the type of an array's elements
 abbrev pub array_type : Typed → ℕ → Option ValueType
 array_type program array = lookup (slice_get program.shape.arrays.items array) (λ (a : Array). Some a.element)
@@ -120,7 +132,7 @@ module _ (program : Typed) (locals : List ValueType) where
     IsOf Null Integer = ⊥
     IsOf Null (Reference s) = ⊤
     IsOf (Place p) t = IsPathTo p t
-    IsOf (Global start cell) t = slice_get (cell_types program) cell ≡ Some t
+    IsOf (Global start cell) t = global_type program cell ≡ Some t
     IsOf (Element' start array p index) t = (array_type program array ≡ Some t) × IsOf index Integer
     IsOf (Member' pool p index) Integer = ⊥
     IsOf (Member' pool p index) (Reference s) = (pool_struct program pool ≡ Some s) × IsOf index Integer
@@ -163,7 +175,7 @@ module _ (program : Typed) (locals : List ValueType) where
     pub IsWellTyped : Action → Type 0
     IsWellTyped (Bind local e) = GivesLocal local e
     IsWellTyped (SetLocal local e) = GivesLocal local e
-    IsWellTyped (SetGlobal cell e) = (t : ValueType) × (slice_get (cell_types program) cell ≡ Some t) × IsOf e t
+    IsWellTyped (SetGlobal cell e) = (t : ValueType) × (global_type program cell ≡ Some t) × IsOf e t
     IsWellTyped (SetElement array index e) = (t : ValueType) × (array_type program array ≡ Some t) × IsOf index Integer × IsOf e t
     IsWellTyped (SetField base f e) = (s : ℕ) × IsPathTo base (Reference s) × ((t : ValueType) × (field_type program s f ≡ Some t) × IsOf e t)
     IsWellTyped (Print e) = IsOf e Integer

@@ -1,4 +1,4 @@
--- Programs whose numbers all name what they should, and whose sections are well typed.
+-- Programs within the limits, whose numbers all name what they should, and whose sections are well typed.
 use Rattle.std.specs.Prelude.{◌≡◌, ℕ, ◌+◌, ◌<◌, ◌≤◌, List, [], ◌∷◌, length, slice_get, Some, ⊤}
 use Rattle.core_lang.specs.declared.value.Value.{Value}
 use Rattle.core_lang.specs.declared.value.ValueType.{ValueType}
@@ -44,7 +44,6 @@ IsCellOf program place (owner.Field object field) =
 
 -- each global, array, pool and object has its cells, its members and its final references, and no cell is part of anything else
 pub record IsLaidOut (program : Typed) : Type 0 where
-  pub few : length program.shape.objects.items ≤ 65536
   pub global : (g : ℕ) (x : GlobalVariable) → slice_get program.globals.items g ≡ Some x →
       (t : ValueType) × IsCell program x.cell (owner.Global g) t
   pub array : (a : ℕ) (x : Array) → slice_get program.shape.arrays.items a ≡ Some x →
@@ -88,7 +87,7 @@ IsGlobalLock (class.Field structure lock) = ⊥
 abbrev pub IsGlobalClass : Typed → ℕ → Type 0
 IsGlobalClass program number = (c : LockClass) × (slice_get program.classes.items number ≡ Some c) × IsGlobalLock c
 
--- the class of a struct's lock field, and the lock field of a class, name one another
+-- a class of a lock field: the struct has the field, and the field this class
 abbrev pub IsClassOf : Typed → ℕ → LockClass → Type 0
 IsClassOf program number (class.Global name) = ⊤
 IsClassOf program number (class.Field structure lock) =
@@ -112,8 +111,29 @@ unfoldable pub CanCall : Typed → ℕ → List Value → Type 0
 CanCall program number arguments =
     (section : Section) × (slice_get program.sections.items number ≡ Some section) × Fit program section arguments
 
+-- how many calls threads make together
+abbrev pub calls_together : List Thread → ℕ
+calls_together [] = 0
+calls_together (thread ∷ threads) = length thread.calls.items + calls_together threads
+
+-- of what the language limits, the program has no more than it allows
+pub record IsWithinLimits (program : Typed) : Type 0 where
+  pub classes : length program.classes.items ≤ 128
+  pub structs : length program.structs.items ≤ 64
+  -- a struct's members, of all three kinds together
+  pub members : (s : ℕ) (x : Struct) → slice_get program.structs.items s ≡ Some x → length x.locks.items + length x.finals.items + length x.fields.items ≤ 32
+  pub objects : length program.shape.objects.items ≤ 65536
+  pub cells : length program.cells.items ≤ 262144
+  pub sections : length program.sections.items ≤ 256
+  pub parameters : (k : ℕ) (x : Section) → slice_get program.sections.items k ≡ Some x → x.parameters ≤ 8
+  -- the parameters are among the locals
+  pub locals : (k : ℕ) (x : Section) → slice_get program.sections.items k ≡ Some x → length x.locals.items ≤ 64
+  pub threads : length program.threads.items ≤ 64
+  pub calls : calls_together program.threads.items ≤ 100000
+
 -- each part of the program is as it should be
 pub record IsWellFormed (program : Typed) : Type 0 where
+  pub within : IsWithinLimits program
   pub laid_out : IsLaidOut program
   pub protected : IsProtected program
   pub opens : IsHeap program (opening_heap program)

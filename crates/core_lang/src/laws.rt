@@ -1,6 +1,6 @@
 //! What holds of the meaning of every program: functions that do nothing, and whose contracts are the laws.
 
-ghost use Rattle.core_lang.specs.Laws.{MoreTurnsChangeNothing, HaveAtMostOneWhole, NeverGoAstray, OpeningIsTyped, OverIsWhole, WholeIsOver, SerialOfNone, SerialOfBoth, SerialSplits, HaveAtMostOneSerial, SettledAreSerial};
+ghost use Rattle.core_lang.specs.Laws.{MoreTurnsChangeNothing, HaveAtMostOneWhole, NeverGoAstray, OpeningIsTyped, OverIsWhole, WholeIsOver, SerialOfNone, SerialOfBoth, SerialSplits, QuietCallsChangeNothing, HaveAtMostOneSerial, SettledAreSerial};
 
 /// What a run gives with some turns, it gives with more.
 pub fn more_turns_change_nothing()
@@ -38,6 +38,11 @@ pub fn serial_of_none()
 pub fn serial_of_both()
     ensures both { SerialOfBoth }
     ensures splits { SerialSplits }
+{}
+
+/// Calls that leave the heap as they found it change nothing of what later calls answer.
+pub fn quiet_calls_change_nothing()
+    ensures { QuietCallsChangeNothing }
 {}
 
 /// Calls run serially end in at most one way.

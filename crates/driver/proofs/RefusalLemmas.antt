@@ -8,20 +8,20 @@ use Rattle.syntax.specs.Trees.{Decl}
 use Rattle.syntax.specs.Faults as grammar
 use Rattle.resolution.specs.Faults as names
 use Rattle.resolution.specs.Leasts.{IsLeast}
-use Rattle.driver.specs.Programs.{IsRefusal, HasNoTextFault, HasNoTokenFault, first_of_text, first_of_tokens, first_of_tree}
+use Rattle.driver.specs.Programs.{IsRefusal, HasNoTextFault, HasNoTokenFault, in_text, in_tokens, in_tree}
 
 pub text_refused : (source : List ℕ) (e : Refusal) → text.IsRefusal source e → IsRefusal source e
 text_refused source NoMemory refused = tt
-text_refused source (Fault fault) refused = first_of_text refused
+text_refused source (Fault fault) refused = in_text refused
 
 pub tokens_refused : (source : List ℕ) (tokens : List Tok) (e : Refusal) → HasNoTextFault source → text.HasTokens source tokens
     → grammar.IsRefusal tokens e → IsRefusal source e
 tokens_refused source tokens NoMemory no_text has refused = tt
-tokens_refused source tokens (Fault fault) no_text has refused = first_of_tokens tokens no_text has refused
+tokens_refused source tokens (Fault fault) no_text has refused = in_tokens tokens no_text has refused
 
 pub tree_refused : (source : List ℕ) (tokens : List Tok) (tree : List Decl) (e : Refusal) → HasNoTextFault source
     → text.HasTokens source tokens → HasNoTokenFault tokens → grammar.HasRightTree tokens tree
     → names.IsRefusal tree e → IsLeast tree e → IsRefusal source e
 tree_refused source tokens tree NoMemory no_text has no_token right refused least = tt
 tree_refused source tokens tree (Fault fault) no_text has no_token right refused least =
-    first_of_tree tokens tree no_text has no_token right refused least
+    in_tree tokens tree no_text has no_token right refused least

@@ -10,7 +10,7 @@ use Rattle.report.specs.History.{history_of, unsettled_of}
 use Rattle.source.specs.declared.fault.Fault.{Fault}
 use Rattle.driver.specs.declared.answer.Answer.{Answer}
 use Rattle.driver.specs.declared.status.Status.{Status}
-use Rattle.driver.specs.Programs.{Accepts, IsFirstFault}
+use Rattle.driver.specs.Programs.{Accepts, IsOfFirstPass}
 use Rattle.driver.specs.Running.{Came, GoesBeyond, StopsBeyond, came, came_on}
 use Rattle.driver.specs.Answers.{IsTold, IsRun, IsFaultAnswer}
 use Rattle.driver.specs.Serial.{calls_of, entry, entries, IsHistory, StopsAtCall, SerialAnswers}
@@ -107,7 +107,7 @@ run_answers turns file text program answer accepts run =
     (serially program turns (all_calls program) (opening_heap program)) refl run.0 run.1 run.2
 
 -- so is the line of a fault
-pub fault_answers : (turns : ℕ) (file text : List ℕ) (fault : Fault) (answer : Answer) → IsFirstFault text fault → IsFaultAnswer file text fault answer
+pub fault_answers : (turns : ℕ) (file text : List ℕ) (fault : Fault) (answer : Answer) → IsOfFirstPass text fault → IsFaultAnswer file text fault answer
     → SerialAnswers turns file text answer.status (string_bytes answer.out) (string_bytes answer.err)
-fault_answers turns file text fault answer first is =
-    rw is.0 (record { fault = fault; first = first; written = is.1; told = is.2 })
+fault_answers turns file text fault answer given is =
+    rw is.0 (record { fault = fault; given = given; written = is.1; told = is.2 })

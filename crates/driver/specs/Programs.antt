@@ -36,16 +36,16 @@ HasNoTextFault source = (code : Code) (start : ℕ) → text.IsFault source code
 abbrev pub HasNoTokenFault : List Tok → Type 0
 HasNoTokenFault tokens = (code : Code) (start : ℕ) → grammar.IsFault tokens code start → ⊥
 
--- the fault that is given: one of the first pass that has any. A text has one fault of its own at most; of a tree it is the least
-pub data IsFirstFault (source : List ℕ) (fault : the_fault.Fault) : Type 0 where
-  first_of_text : text.IsRefusal source (Fault fault) → IsFirstFault source fault
-  first_of_tokens : (tokens : List Tok) → HasNoTextFault source → text.HasTokens source tokens
-      → grammar.IsRefusal tokens (Fault fault) → IsFirstFault source fault
-  first_of_tree : (tokens : List Tok) (tree : List Decl) → HasNoTextFault source → text.HasTokens source tokens
+-- a true fault of the first pass that has any: of a text, which has one fault of its own at most; of its tokens; or of its tree, and there the least
+pub data IsOfFirstPass (source : List ℕ) (fault : the_fault.Fault) : Type 0 where
+  in_text : text.IsRefusal source (Fault fault) → IsOfFirstPass source fault
+  in_tokens : (tokens : List Tok) → HasNoTextFault source → text.HasTokens source tokens
+      → grammar.IsRefusal tokens (Fault fault) → IsOfFirstPass source fault
+  in_tree : (tokens : List Tok) (tree : List Decl) → HasNoTextFault source → text.HasTokens source tokens
       → HasNoTokenFault tokens → grammar.HasRightTree tokens tree
-      → names.IsRefusal tree (Fault fault) → IsLeast tree (Fault fault) → IsFirstFault source fault
+      → names.IsRefusal tree (Fault fault) → IsLeast tree (Fault fault) → IsOfFirstPass source fault
 
--- a text was refused for the fault that is to be given, or for want of memory
+-- a text was refused for such a fault, or for want of memory
 abbrev pub IsRefusal : List ℕ → Refusal → Type 0
 IsRefusal source NoMemory = Unit {0}
-IsRefusal source (Fault fault) = IsFirstFault source fault
+IsRefusal source (Fault fault) = IsOfFirstPass source fault

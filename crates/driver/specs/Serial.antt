@@ -9,7 +9,7 @@ use Rattle.source.specs.declared.fault.Fault.{Fault}
 use Rattle.source.specs.Faults.{fault_text}
 use Rattle.driver.specs.declared.status.Status.{Status}
 use Rattle.driver.specs.declared.status.Status.TheVariants.{Done, Refused, Unsettled}
-use Rattle.driver.specs.Programs.{Accepts, IsFirstFault}
+use Rattle.driver.specs.Programs.{Accepts, IsOfFirstPass}
 
 -- what is called
 abbrev pub calls_of : List Scheduled → List Invocation
@@ -52,10 +52,10 @@ pub record StopsAtCall (turns : ℕ) (program : Typed) (out err : List ℕ) : Ty
   pub written : out ≡ unsettled_of program (entries before (serial_run program turns).ends) this.thread this.step
   pub told : err ≡ []
 
--- the text has a fault: out is empty, err is the line of the first fault of the first pass that has one
+-- the text has a fault: out is empty, err is the line of a true fault of the first pass that has one
 pub record IsRefused (file text out err : List ℕ) : Type 0 where
   pub fault : Fault
-  pub first : IsFirstFault text fault
+  pub given : IsOfFirstPass text fault
   pub written : out ≡ []
   pub told : err ≡ line (fault_text file text fault)
 

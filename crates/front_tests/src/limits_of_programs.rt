@@ -1,6 +1,6 @@
 //! Programs at their limits and one past them.
 
-use crate::tests::{checked, numbered};
+use crate::tests::{checked, judge, numbered};
 use std::test::Fail;
 
 #[test]
@@ -241,72 +241,76 @@ fn counts_locals(rt: HostRuntime) -> Result<(), Fail> {
 fn counts_objects(rt: HostRuntime) -> Result<(), Fail> {
     let head = "struct S { lock l; } struct T { lock l; }
 ";
-    for (rest, want) in [
-        ("pool S p[65536];", "accepted"),
-        ("pool S p[65537];", "F:2:8: E15 limit exceeded"),
-        ("pool S p[65535]; pool S q[1];", "accepted"),
-        (
-            "pool S p[65535]; pool S q[2];",
-            "F:2:25: E15 limit exceeded",
-        ),
-        (
-            "pool S p[65535]; pool S q[1]; pool S r[1];",
-            "F:2:38: E15 limit exceeded",
-        ),
-        ("pool S p[65536]; pool S q[0]; pool S r[0];", "accepted"),
-        (
-            "pool S p[65536]; pool T q[1];",
-            "F:2:25: E15 limit exceeded",
-        ),
-        // Only the first that goes over.
-        (
-            "pool S p[65535]; pool S q[2]; pool S r[1];",
-            "F:2:25: E15 limit exceeded",
-        ),
-        (
-            "pool S p[65537]; pool S q[65537];",
-            "F:2:8: E15 limit exceeded",
-        ),
-        // Sums and numbers of any size.
-        (
-            "pool S p[9223372036854775807];",
-            "F:2:8: E15 limit exceeded",
-        ),
-        (
-            "pool S p[9223372036854775807]; pool S q[9223372036854775807]; pool S r[2];",
-            "F:2:8: E15 limit exceeded",
-        ),
-        (
-            "pool S p[1]; pool S q[9223372036854775807];",
-            "F:2:21: E15 limit exceeded",
-        ),
-        ("pool S p[4294967296];", "F:2:8: E15 limit exceeded"),
-        ("pool S p[4294967297];", "F:2:8: E15 limit exceeded"),
-        // What is wrong with a pool's struct stands ahead of its name.
-        ("pool S p[65536]; pool U q[1];", "F:2:23: E06 unknown name"),
-        // A pool that goes over lacks final references too, at the same place.
-        (
-            "struct N { final ref N o; } pool N q[65537];",
-            "F:2:36: E15 limit exceeded",
-        ),
-        (
-            "struct N { final ref N o; } pool N q[9223372036854775807];",
-            "F:2:36: E15 limit exceeded",
-        ),
-        (
-            "struct N { final ref N o; } pool N q[65536];",
-            "F:2:36: E16 final reference without opening value",
-        ),
-        ("lock p; pool S p[65537];", "F:2:16: E05 declared twice"),
-    ] {
-        let text = format!(in rt.alloc(); "{head}{rest}")?;
-        assert_eq!(rt;
-            checked(rt.alloc(), text.as_bytes())?.as_str(),
-            want,
-            "{text}"
-        );
-    }
-    Ok(())
+    judge(
+        rt.alloc(),
+        head,
+        "
+pool S p[65536];
+=> accepted
+
+pool S p[65537];
+=> F:2:8: E15 limit exceeded
+
+pool S p[65535]; pool S q[1];
+=> accepted
+
+pool S p[65535]; pool S q[2];
+=> F:2:25: E15 limit exceeded
+
+pool S p[65535]; pool S q[1]; pool S r[1];
+=> F:2:38: E15 limit exceeded
+
+pool S p[65536]; pool S q[0]; pool S r[0];
+=> accepted
+
+pool S p[65536]; pool T q[1];
+=> F:2:25: E15 limit exceeded
+
+# Only the first that goes over.
+
+pool S p[65535]; pool S q[2]; pool S r[1];
+=> F:2:25: E15 limit exceeded
+
+pool S p[65537]; pool S q[65537];
+=> F:2:8: E15 limit exceeded
+
+# Sums and numbers of any size.
+
+pool S p[9223372036854775807];
+=> F:2:8: E15 limit exceeded
+
+pool S p[9223372036854775807]; pool S q[9223372036854775807]; pool S r[2];
+=> F:2:8: E15 limit exceeded
+
+pool S p[1]; pool S q[9223372036854775807];
+=> F:2:21: E15 limit exceeded
+
+pool S p[4294967296];
+=> F:2:8: E15 limit exceeded
+
+pool S p[4294967297];
+=> F:2:8: E15 limit exceeded
+
+# What is wrong with a pool's struct stands ahead of its name.
+
+pool S p[65536]; pool U q[1];
+=> F:2:23: E06 unknown name
+
+# A pool that goes over lacks final references too, at the same place.
+
+struct N { final ref N o; } pool N q[65537];
+=> F:2:36: E15 limit exceeded
+
+struct N { final ref N o; } pool N q[9223372036854775807];
+=> F:2:36: E15 limit exceeded
+
+struct N { final ref N o; } pool N q[65536];
+=> F:2:36: E16 final reference without opening value
+
+lock p; pool S p[65537];
+=> F:2:16: E05 declared twice
+",
+    )
 }
 
 #[test]
@@ -314,73 +318,61 @@ fn counts_cells_of_globals(rt: HostRuntime) -> Result<(), Fail> {
     let head = "lock G; struct R { lock l; lock m; final ref R o; }
 struct S { lock l; int x protected_by(l); int y protected_by(l); ref S n protected_by(l); int z protected_by(l); }
 ";
-    for (rest, want) in [
-        // Globals and elements, in order of declaration.
-        ("global int a[262144] protected_by(G);", "accepted"),
-        (
-            "global int a[262145] protected_by(G);",
-            "F:3:12: E15 limit exceeded",
-        ),
-        (
-            "global ref S a[262145] protected_by(G);",
-            "F:3:14: E15 limit exceeded",
-        ),
-        (
-            "global int a[262143] protected_by(G); global int n protected_by(G);",
-            "accepted",
-        ),
-        (
-            "global int a[262144] protected_by(G); global int n protected_by(G);",
-            "F:3:50: E15 limit exceeded",
-        ),
-        (
-            "global int n protected_by(G); global ref S a[262143] protected_by(G);",
-            "accepted",
-        ),
-        (
-            "global int n protected_by(G); global int a[262144] protected_by(G);",
-            "F:3:42: E15 limit exceeded",
-        ),
-        // Only the first that goes over.
-        (
-            "global int a[262144] protected_by(G); global int b[1] protected_by(G); global int c[1] protected_by(G);",
-            "F:3:50: E15 limit exceeded",
-        ),
-        (
-            "global int a[262145] protected_by(G); global int b[262145] protected_by(G);",
-            "F:3:12: E15 limit exceeded",
-        ),
-        // Numbers and sums of any size.
-        (
-            "global int a[9223372036854775807] protected_by(G);",
-            "F:3:12: E15 limit exceeded",
-        ),
-        (
-            "global int a[9223372036854775807] protected_by(G); global int b[9223372036854775807] protected_by(G); global int c[2] protected_by(G);",
-            "F:3:12: E15 limit exceeded",
-        ),
-        (
-            "global int a[4294967296] protected_by(G);",
-            "F:3:12: E15 limit exceeded",
-        ),
-        // At one name the lower codes: declared twice, unprotected.
-        (
-            "global int G[262145] protected_by(G);",
-            "F:3:12: E05 declared twice",
-        ),
-        (
-            "global int a[262145];",
-            "F:3:12: E10 neither final nor protected",
-        ),
-    ] {
-        let text = format!(in rt.alloc(); "{head}{rest}")?;
-        assert_eq!(rt;
-            checked(rt.alloc(), text.as_bytes())?.as_str(),
-            want,
-            "{text}"
-        );
-    }
-    Ok(())
+    judge(
+        rt.alloc(),
+        head,
+        "
+# Globals and elements, in order of declaration.
+
+global int a[262144] protected_by(G);
+=> accepted
+
+global int a[262145] protected_by(G);
+=> F:3:12: E15 limit exceeded
+
+global ref S a[262145] protected_by(G);
+=> F:3:14: E15 limit exceeded
+
+global int a[262143] protected_by(G); global int n protected_by(G);
+=> accepted
+
+global int a[262144] protected_by(G); global int n protected_by(G);
+=> F:3:50: E15 limit exceeded
+
+global int n protected_by(G); global ref S a[262143] protected_by(G);
+=> accepted
+
+global int n protected_by(G); global int a[262144] protected_by(G);
+=> F:3:42: E15 limit exceeded
+
+# Only the first that goes over.
+
+global int a[262144] protected_by(G); global int b[1] protected_by(G); global int c[1] protected_by(G);
+=> F:3:50: E15 limit exceeded
+
+global int a[262145] protected_by(G); global int b[262145] protected_by(G);
+=> F:3:12: E15 limit exceeded
+
+# Numbers and sums of any size.
+
+global int a[9223372036854775807] protected_by(G);
+=> F:3:12: E15 limit exceeded
+
+global int a[9223372036854775807] protected_by(G); global int b[9223372036854775807] protected_by(G); global int c[2] protected_by(G);
+=> F:3:12: E15 limit exceeded
+
+global int a[4294967296] protected_by(G);
+=> F:3:12: E15 limit exceeded
+
+# At one name the lower codes: declared twice, unprotected.
+
+global int G[262145] protected_by(G);
+=> F:3:12: E05 declared twice
+
+global int a[262145];
+=> F:3:12: E10 neither final nor protected
+",
+    )
 }
 
 #[test]
@@ -388,52 +380,44 @@ fn counts_cells_of_pools(rt: HostRuntime) -> Result<(), Fail> {
     let head = "lock G; struct R { lock l; lock m; final ref R o; }
 struct S { lock l; int x protected_by(l); int y protected_by(l); ref S n protected_by(l); int z protected_by(l); }
 ";
-    for (rest, want) in [
-        // The fields of members, four of each.
-        ("pool S p[65536];", "accepted"),
-        (
-            "global int n protected_by(G); pool S p[65536];",
-            "F:3:38: E15 limit exceeded",
-        ),
-        (
-            "pool S p[65536]; global int n protected_by(G);",
-            "F:3:29: E15 limit exceeded",
-        ),
-        (
-            "pool S p[65535]; global int a[5] protected_by(G);",
-            "F:3:29: E15 limit exceeded",
-        ),
-        (
-            "pool S p[65535]; global int a[1] protected_by(G); pool S q[1];",
-            "F:3:58: E15 limit exceeded",
-        ),
-        // Products of any size.
-        (
-            "pool S p[4611686018427387904];",
-            "F:3:8: E15 limit exceeded",
-        ),
-        (
-            "pool S p[9223372036854775807];",
-            "F:3:8: E15 limit exceeded",
-        ),
-        // A field that bears the name of another is no cell, but declared twice.
-        (
-            "pool U p[65536]; struct U { int x protected_by(G); int y protected_by(G); int z protected_by(G); int w protected_by(G); int x protected_by(G); }",
-            "F:3:125: E05 declared twice",
-        ),
-        (
-            "pool U p[65536]; struct U { int x protected_by(G); int y protected_by(G); int z protected_by(G); int w protected_by(G); int v protected_by(G); }",
-            "F:3:8: E15 limit exceeded",
-        ),
-    ] {
-        let text = format!(in rt.alloc(); "{head}{rest}")?;
-        assert_eq!(rt;
-            checked(rt.alloc(), text.as_bytes())?.as_str(),
-            want,
-            "{text}"
-        );
-    }
-    Ok(())
+    judge(
+        rt.alloc(),
+        head,
+        "
+# The fields of members, four of each.
+
+pool S p[65536];
+=> accepted
+
+global int n protected_by(G); pool S p[65536];
+=> F:3:38: E15 limit exceeded
+
+pool S p[65536]; global int n protected_by(G);
+=> F:3:29: E15 limit exceeded
+
+pool S p[65535]; global int a[5] protected_by(G);
+=> F:3:29: E15 limit exceeded
+
+pool S p[65535]; global int a[1] protected_by(G); pool S q[1];
+=> F:3:58: E15 limit exceeded
+
+# Products of any size.
+
+pool S p[4611686018427387904];
+=> F:3:8: E15 limit exceeded
+
+pool S p[9223372036854775807];
+=> F:3:8: E15 limit exceeded
+
+# A field that bears the name of another is no cell, but declared twice.
+
+pool U p[65536]; struct U { int x protected_by(G); int y protected_by(G); int z protected_by(G); int w protected_by(G); int x protected_by(G); }
+=> F:3:125: E05 declared twice
+
+pool U p[65536]; struct U { int x protected_by(G); int y protected_by(G); int z protected_by(G); int w protected_by(G); int v protected_by(G); }
+=> F:3:8: E15 limit exceeded
+",
+    )
 }
 
 #[test]
@@ -441,122 +425,107 @@ fn counts_cells_of_globals_and_pools(rt: HostRuntime) -> Result<(), Fail> {
     let head = "lock G; struct R { lock l; lock m; final ref R o; }
 struct S { lock l; int x protected_by(l); int y protected_by(l); ref S n protected_by(l); int z protected_by(l); }
 ";
-    for (rest, want) in [
-        (
-            "pool S p[65535]; global int a[4] protected_by(G);",
-            "accepted",
-        ),
-        // A pool that stands ahead of its struct has its cells there.
-        (
-            "pool U p[10]; global int a[262124] protected_by(G); struct U { int x protected_by(G); int y protected_by(G); }",
-            "accepted",
-        ),
-        (
-            "pool U p[10]; global int a[262125] protected_by(G); struct U { int x protected_by(G); int y protected_by(G); }",
-            "F:3:26: E15 limit exceeded",
-        ),
-        // Lock fields and final references are none.
-        (
-            "global int a[262144] protected_by(G); pool R q[1]; init q[0].o = q[0]; global int b[0] protected_by(G);",
-            "accepted",
-        ),
-        (
-            "global int a[262144] protected_by(G); pool R q[1]; init q[0].o = q[0]; global int b[1] protected_by(G);",
-            "F:3:83: E15 limit exceeded",
-        ),
-    ] {
-        let text = format!(in rt.alloc(); "{head}{rest}")?;
-        assert_eq!(rt;
-            checked(rt.alloc(), text.as_bytes())?.as_str(),
-            want,
-            "{text}"
-        );
-    }
-    Ok(())
+    judge(
+        rt.alloc(),
+        head,
+        "
+pool S p[65535]; global int a[4] protected_by(G);
+=> accepted
+
+# A pool that stands ahead of its struct has its cells there.
+
+pool U p[10]; global int a[262124] protected_by(G); struct U { int x protected_by(G); int y protected_by(G); }
+=> accepted
+
+pool U p[10]; global int a[262125] protected_by(G); struct U { int x protected_by(G); int y protected_by(G); }
+=> F:3:26: E15 limit exceeded
+
+# Lock fields and final references are none.
+
+global int a[262144] protected_by(G); pool R q[1]; init q[0].o = q[0]; global int b[0] protected_by(G);
+=> accepted
+
+global int a[262144] protected_by(G); pool R q[1]; init q[0].o = q[0]; global int b[1] protected_by(G);
+=> F:3:83: E15 limit exceeded
+",
+    )
 }
 
 #[test]
 fn counts_final_references_of_annotations(rt: HostRuntime) -> Result<(), Fail> {
     let head = "struct S { lock l; final ref S o; ";
-    for (rest, want) in [
-        // At the annotation's first name.
-        ("int x protected_by(l); }", "accepted"),
-        ("int x protected_by(o.l); }", "accepted"),
-        ("int x protected_by(o.o.o.l); }", "accepted"),
-        (
-            "int x protected_by(o.o.o.o.l); }",
-            "F:1:54: E15 limit exceeded",
-        ),
-        (
-            "int x protected_by(o.o.o.o.o.o.o.o.o.o.o.o.o.l); }",
-            "F:1:54: E15 limit exceeded",
-        ),
-        (
-            "final ref T t; ref S n protected_by(t.m.t.l); } struct T { final ref S m; lock l; }",
-            "accepted",
-        ),
-        (
-            "final ref T t; ref S n protected_by(t.m.t.m.l); } struct T { final ref S m; lock l; }",
-            "F:1:71: E15 limit exceeded",
-        ),
-        // Ahead of what is wrong with a later name.
-        (
-            "int x protected_by(o.o.o.o.y); }",
-            "F:1:54: E15 limit exceeded",
-        ),
-        ("int x protected_by(o.o.o.y); }", "F:1:60: E06 unknown name"),
-        (
-            "int x protected_by(o.o.o.o.y.l); }",
-            "F:1:54: E15 limit exceeded",
-        ),
-        (
-            "int x protected_by(o.o.o.o.l.l); }",
-            "F:1:54: E15 limit exceeded",
-        ),
-        (
-            "int x protected_by(o.o.o.l.l); }",
-            "F:1:60: E12 protected_by passes a field that is not final",
-        ),
-        (
-            "int x protected_by(o.o.o.x.l); }",
-            "F:1:60: E12 protected_by passes a field that is not final",
-        ),
-        // What ends at no lock is a lower code at the same name.
-        (
-            "int x protected_by(o.o.o.o.x); }",
-            "F:1:54: E11 protected_by does not end at a lock",
-        ),
-        (
-            "int x protected_by(o.o.o.o.o); }",
-            "F:1:54: E11 protected_by does not end at a lock",
-        ),
-        // The last name isn't gone over.
-        (
-            "int x protected_by(o.o.o.o); }",
-            "F:1:54: E11 protected_by does not end at a lock",
-        ),
-        // A walk that ends at a fault has gone over no more than it came to.
-        (
-            "int x protected_by(o.y.o.o.o.o.l); }",
-            "F:1:56: E06 unknown name",
-        ),
-        (
-            "int x protected_by(o.l.o.o.o.o.l); }",
-            "F:1:56: E12 protected_by passes a field that is not final",
-        ),
-        (
-            "int x protected_by(o.o.o.y.o.o.l); }",
-            "F:1:60: E06 unknown name",
-        ),
-    ] {
-        let text = format!(in rt.alloc(); "{head}{rest}")?;
-        assert_eq!(rt;
-            checked(rt.alloc(), text.as_bytes())?.as_str(),
-            want,
-            "{text}"
-        );
-    }
-    Ok(())
+    judge(
+        rt.alloc(),
+        head,
+        "
+# At the annotation's first name.
+
+int x protected_by(l); }
+=> accepted
+
+int x protected_by(o.l); }
+=> accepted
+
+int x protected_by(o.o.o.l); }
+=> accepted
+
+int x protected_by(o.o.o.o.l); }
+=> F:1:54: E15 limit exceeded
+
+int x protected_by(o.o.o.o.o.o.o.o.o.o.o.o.o.l); }
+=> F:1:54: E15 limit exceeded
+
+final ref T t; ref S n protected_by(t.m.t.l); } struct T { final ref S m; lock l; }
+=> accepted
+
+final ref T t; ref S n protected_by(t.m.t.m.l); } struct T { final ref S m; lock l; }
+=> F:1:71: E15 limit exceeded
+
+# Ahead of what is wrong with a later name.
+
+int x protected_by(o.o.o.o.y); }
+=> F:1:54: E15 limit exceeded
+
+int x protected_by(o.o.o.y); }
+=> F:1:60: E06 unknown name
+
+int x protected_by(o.o.o.o.y.l); }
+=> F:1:54: E15 limit exceeded
+
+int x protected_by(o.o.o.o.l.l); }
+=> F:1:54: E15 limit exceeded
+
+int x protected_by(o.o.o.l.l); }
+=> F:1:60: E12 protected_by passes a field that is not final
+
+int x protected_by(o.o.o.x.l); }
+=> F:1:60: E12 protected_by passes a field that is not final
+
+# What ends at no lock is a lower code at the same name.
+
+int x protected_by(o.o.o.o.x); }
+=> F:1:54: E11 protected_by does not end at a lock
+
+int x protected_by(o.o.o.o.o); }
+=> F:1:54: E11 protected_by does not end at a lock
+
+# The last name isn't gone over.
+
+int x protected_by(o.o.o.o); }
+=> F:1:54: E11 protected_by does not end at a lock
+
+# A walk that ends at a fault has gone over no more than it came to.
+
+int x protected_by(o.y.o.o.o.o.l); }
+=> F:1:56: E06 unknown name
+
+int x protected_by(o.l.o.o.o.o.l); }
+=> F:1:56: E12 protected_by passes a field that is not final
+
+int x protected_by(o.o.o.y.o.o.l); }
+=> F:1:60: E06 unknown name
+",
+    )
 }
 
 #[test]

@@ -43,6 +43,29 @@ pub fn checked(alloc: Global, text: &[u8]) -> Result<String, Fail> {
     }
 }
 
+/// Judges each case, a text and what `checked` is to say of it, with `head` ahead of the text. Cases stand apart by an
+/// empty line, and a text from what is said by a line that begins with `=> `. What begins with `#` is a heading.
+pub fn judge(alloc: Global, head: &str, cases: &str) -> Result<(), Fail> {
+    for case in cases.trim().split("\n\n") {
+        if case.starts_with('#') {
+            continue;
+        }
+        let (rest, want) = case.split_once("\n=> ").unwrap_or((case, ""));
+        let text = format!(in alloc; "{head}{rest}")?;
+        judge_one(alloc, text.as_str(), want)?;
+    }
+    Ok(())
+}
+
+fn judge_one(alloc: Global, text: &str, want: &str) -> Result<(), Fail> {
+    let said = checked(alloc, text.as_bytes())?;
+    if said.as_str() == want {
+        return Ok(());
+    }
+    let told = format!(in alloc; "{said}, and not {want}: {text}")?;
+    Err(Fail::new(told))
+}
+
 /// The program of the text, or its first fault.
 fn program_of(alloc: Global, text: &[u8]) -> Result<Typed, Refusal> {
     let tokens = lex(alloc, text)?;

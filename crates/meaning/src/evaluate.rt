@@ -5,7 +5,7 @@ ghost use Rattle.core_lang.specs.Meaning.{value_of, truth_of};
 
 use crate::access::{cell_of_element, follow, member, value_at};
 use crate::operators::{compare, negate, operate};
-use crate::short::number;
+use crate::short::{number, simple};
 use core_lang::shape::Shape;
 use core_lang::tree::{Comparison, Condition, Expr};
 use core_lang::value::{Failure, Value};
@@ -56,7 +56,7 @@ fn walk(e: &Expr, shape: &Shape, locals: &[Value], heap: &[Value]) -> Result<Val
     }
 }
 
-/// Whether a condition is true, by the short way where there is one.
+/// Whether a condition is true, by the short way where there is one: most loops compare locals and constants.
 #[inline(always)]
 pub fn is_true(
     c: &Condition,
@@ -67,7 +67,11 @@ pub fn is_true(
     ensures { result ≡ truth_of c.now shape.now locals.now heap.now }
 {
     if let Condition::Compare(comparison, a, b) = c {
-        return compared_values(*comparison, a, b, shape, locals, heap);
+        if let Some(left) = simple(a, shape, locals, heap) {
+            if let Some(right) = simple(b, shape, locals, heap) {
+                return compare(*comparison, Value::Int(left), Value::Int(right));
+            }
+        }
     }
     walk_condition(c, shape, locals, heap)
 }

@@ -210,6 +210,11 @@ impl Execution {
         ensures follows { Follows result (state_of self.new) (effect_of action.now shape.now turns (state_of self.old)) }
         ensures keeps { Keeps self.old self.new }
     {
+        if let Action::SetGlobal { cell, value } = action {
+            if let Some(v) = short::value(value, shape, &self.locals, self.draft.cells()) {
+                return self.write(*cell as usize, v);
+            }
+        }
         if let Action::SetElement {
             array,
             index,

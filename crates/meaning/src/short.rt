@@ -31,31 +31,21 @@ pub fn value(e: &Expr, shape: &Shape, locals: &[Value], heap: &[Value]) -> Optio
 
 /// The number that an expression gives, if it is found the short way.
 #[inline(always)]
-#[cycle(short)]
 pub fn number(e: &Expr, shape: &Shape, locals: &[Value], heap: &[Value]) -> Option<i64>
     ensures { IfSome result (λ n. value_of e.now shape.now locals.now heap.now ≡ Ok (Value.Int n)) }
 {
-    if let Expr::Number(n) = e {
-        return Some(*n);
-    }
-    if let Expr::Place(path) = e {
-        if path.fields.is_empty() {
-            return int_at(locals, path.local);
-        }
-        return number_at_end(path, shape, locals, heap);
+    if let Some(n) = simple(e, shape, locals, heap) {
+        return Some(n);
     }
     if let Expr::Chain { .. } = e {
-        if let Some(n) = flat(e, shape, locals, heap) {
-            return Some(n);
-        }
         return chain(e, shape, locals, heap);
     }
     other_number(e, shape, locals, heap)
 }
 
-// The number that a constant or a local alone gives.
+/// The number that a constant, a local or a global gives.
 #[inline(always)]
-fn leaf(e: &Expr, shape: &Shape, locals: &[Value], heap: &[Value]) -> Option<i64>
+pub fn simple(e: &Expr, shape: &Shape, locals: &[Value], heap: &[Value]) -> Option<i64>
     ensures { IfSome result (λ n. value_of e.now shape.now locals.now heap.now ≡ Ok (Value.Int n)) }
 {
     if let Expr::Number(n) = e {
@@ -66,79 +56,14 @@ fn leaf(e: &Expr, shape: &Shape, locals: &[Value], heap: &[Value]) -> Option<i64
             return int_at(locals, path.local);
         }
     }
+    if let Expr::Global { cell, .. } = e {
+        return int_at(heap, *cell as usize);
+    }
     None
 }
 
-// The same as a value.
+// A chain. Where its operands are constants, locals and globals, it needs no frame of its own.
 #[inline(always)]
-fn known_leaf(e: &Expr, shape: &Shape, locals: &[Value], heap: &[Value]) -> Option<Value>
-    ensures { IfSome result (λ v. value_of e.now shape.now locals.now heap.now ≡ Ok v) }
-{
-    match leaf(e, shape, locals, heap) {
-        Some(n) => Some(Value::Int(n)),
-        None => None,
-    }
-}
-
-// A chain whose operands are constants and locals alone: it needs no frame of its own.
-#[inline(always)]
-#[tactic(auto, using(crate::proofs::Steps::chains))]
-fn flat(e: &Expr, shape: &Shape, locals: &[Value], heap: &[Value]) -> Option<i64>
-    ensures { IfSome result (λ n. value_of e.now shape.now locals.now heap.now ≡ Ok (Value.Int n)) }
-{
-    let Expr::Chain { first, rest } = e else {
-        return None;
-    };
-    let mut left = known_leaf(first, shape, locals, heap)?;
-    for operation in rest {
-        let right = known_leaf(&operation.operand, shape, locals, heap)?;
-        left = calculated(operation.operator, left, right)?;
-    }
-    int_in(left)
-}
-
-// The forms that `number` leaves. It only passes them on, so a leaf costs no frame.
-#[inline(never)]
-#[cycle(short)]
-fn other_number(e: &Expr, shape: &Shape, locals: &[Value], heap: &[Value]) -> Option<i64>
-    ensures { IfSome result (λ n. value_of e.now shape.now locals.now heap.now ≡ Ok (Value.Int n)) }
-{
-    match e {
-        Expr::Number(n) => Some(*n),
-        Expr::Null => None,
-        Expr::Place(path) => number_at_end(path, shape, locals, heap),
-        Expr::Global { cell, .. } => int_at(heap, *cell as usize),
-        Expr::Element { .. } => element(e, shape, locals, heap),
-        Expr::Member { .. } => None,
-        Expr::Negate(_) => negation(e, shape, locals, heap),
-        Expr::Chain { .. } => chain(e, shape, locals, heap),
-    }
-}
-
-#[inline(never)]
-#[cycle(short)]
-fn negation(e: &Expr, shape: &Shape, locals: &[Value], heap: &[Value]) -> Option<i64>
-    ensures { IfSome result (λ n. value_of e.now shape.now locals.now heap.now ≡ Ok (Value.Int n)) }
-{
-    let Expr::Negate(e) = e else {
-        return None;
-    };
-    negated_number(number(e, shape, locals, heap)?)
-}
-
-#[inline(never)]
-#[cycle(short)]
-fn element(e: &Expr, shape: &Shape, locals: &[Value], heap: &[Value]) -> Option<i64>
-    ensures { IfSome result (λ n. value_of e.now shape.now locals.now heap.now ≡ Ok (Value.Int n)) }
-{
-    let Expr::Element { array, index, .. } = e else {
-        return None;
-    };
-    let index = number(index, shape, locals, heap)?;
-    number_in(shape, heap, *array, index)
-}
-
-#[inline(never)]
 #[cycle(short)]
 #[tactic(auto, using(crate::proofs::Steps::chains))]
 fn chain(e: &Expr, shape: &Shape, locals: &[Value], heap: &[Value]) -> Option<i64>
@@ -155,15 +80,48 @@ fn chain(e: &Expr, shape: &Shape, locals: &[Value], heap: &[Value]) -> Option<i6
     int_in(left)
 }
 
-// The same as a value.
+// The value of an operand.
 #[inline(always)]
 #[cycle(short)]
 fn known(e: &Expr, shape: &Shape, locals: &[Value], heap: &[Value]) -> Option<Value>
     ensures { IfSome result (λ v. value_of e.now shape.now locals.now heap.now ≡ Ok v) }
 {
-    match number(e, shape, locals, heap) {
+    match operand(e, shape, locals, heap) {
         Some(n) => Some(Value::Int(n)),
         None => None,
+    }
+}
+
+// The number that an operand or an index gives.
+#[inline(always)]
+#[cycle(short)]
+fn operand(e: &Expr, shape: &Shape, locals: &[Value], heap: &[Value]) -> Option<i64>
+    ensures { IfSome result (λ n. value_of e.now shape.now locals.now heap.now ≡ Ok (Value.Int n)) }
+{
+    if let Some(n) = simple(e, shape, locals, heap) {
+        return Some(n);
+    }
+    other_number(e, shape, locals, heap)
+}
+
+// The number that any other expression gives.
+#[inline(never)]
+#[cycle(short)]
+fn other_number(e: &Expr, shape: &Shape, locals: &[Value], heap: &[Value]) -> Option<i64>
+    ensures { IfSome result (λ n. value_of e.now shape.now locals.now heap.now ≡ Ok (Value.Int n)) }
+{
+    match e {
+        Expr::Number(n) => Some(*n),
+        Expr::Null => None,
+        Expr::Place(path) => number_at_end(path, shape, locals, heap),
+        Expr::Global { cell, .. } => int_at(heap, *cell as usize),
+        Expr::Element { array, index, .. } => {
+            let index = operand(index, shape, locals, heap)?;
+            number_in(shape, heap, *array, index)
+        }
+        Expr::Member { .. } => None,
+        Expr::Negate(e) => negated_number(operand(e, shape, locals, heap)?),
+        Expr::Chain { .. } => chain(e, shape, locals, heap),
     }
 }
 

@@ -49,7 +49,7 @@ le_is_false n k e = grind (arith, nat_tests)
 not_passed : (limit before own : ℕ) → passes limit before own ≡ false → before ≤ limit → before + own ≤ limit
 not_passed limit before own e le = le_is_false limit (before + own) (and_false (nat_le before limit) (nat_lt limit (before + own)) (le_true before limit le) e)
 
-cells_fit : (decls before : List Decl) (d : Decl) → NoneIn (count_faults decls before d) → total (cells_of decls) before ≤ CELL_LIMIT → total (cells_of decls) before + cells_of decls d ≤ CELL_LIMIT
+pub cells_fit : (decls before : List Decl) (d : Decl) → NoneIn (count_faults decls before d) → total (cells_of decls) before ≤ CELL_LIMIT → total (cells_of decls) before + cells_of decls d ≤ CELL_LIMIT
 cells_fit decls before (global v) none le = not_passed CELL_LIMIT (total (cells_of decls) before) 1 (not_if (passes CELL_LIMIT (total (cells_of decls) before) 1) LimitExceeded v.name.span.start none) le
 cells_fit decls before (array a) none le = not_passed CELL_LIMIT (total (cells_of decls) before) a.length.value (not_if (passes CELL_LIMIT (total (cells_of decls) before) a.length.value) LimitExceeded a.name.span.start none) le
 cells_fit decls before (pool p) none le =
@@ -84,7 +84,7 @@ calls_fit decls before (struct x) none le = omega (arith, le)
 calls_fit decls before (init x) none le = omega (arith, le)
 calls_fit decls before (atomic x) none le = omega (arith, le)
 
-calls_few : (decls before ds : List Decl) → NoneIn (total_faults decls before ds) → total calls_of before ≤ CALL_LIMIT → total calls_of (before ++ ds) ≤ CALL_LIMIT
+pub calls_few : (decls before ds : List Decl) → NoneIn (total_faults decls before ds) → total calls_of before ≤ CALL_LIMIT → total calls_of (before ++ ds) ≤ CALL_LIMIT
 calls_few decls before [] none le = subst (λ (xs : List Decl). total calls_of xs ≤ CALL_LIMIT) (sym (nil before)) le
   where
     nil : (xs : List Decl) → xs ++ [] ≡ xs

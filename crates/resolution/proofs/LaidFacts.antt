@@ -7,6 +7,7 @@ use Rattle.core_lang.specs.declared.value.Value.{Value}
 use Rattle.core_lang.specs.declared.value.ValueType as core_type
 use Rattle.core_lang.specs.declared.typed.Cell.{Cell}
 use Rattle.core_lang.specs.declared.typed.Owner.TheVariants as owner
+use Rattle.core_lang.specs.Typing.{if_global}
 use Rattle.resolution.specs.Core as core
 use Rattle.resolution.specs.Limits.{CELL_LIMIT, MEMBER_LIMIT}
 use Rattle.resolution.specs.Scopes.{◌>>=◌, outside, type_of, struct_named, count, alike, number_at, number_in, structs_in, the_struct}
@@ -17,7 +18,6 @@ use Rattle.resolution.specs.Resolution.{Shaping, empty_struct, nothing_yet, arra
 use Rattle.resolution.proofs.FaultlessExpressions.{struct_has, Clean}
 use Rattle.resolution.proofs.FaultlessMembers.{is_field, is_final, count_few}
 use Rattle.resolution.proofs.FaultlessPrograms.{struct_few}
-use Rattle.resolution.proofs.Typed.{get_map}
 use Rattle.resolution.proofs.TypedSenses.{Sound}
 use Rattle.resolution.proofs.LaidLists.{Rows, rows_left, rows_right, rows_push, get_last, get_behind, get_pushed}
 use Rattle.resolution.proofs.LaidStages.{fields_in, finals_in, locks_in, field_numbered, final_numbered, Adds}
@@ -364,7 +364,7 @@ sound_of decls clean whole is = record {
   cell = λ n v t at ty.
       (let g = global_at decls clean whole is n v at in
       let same : Some g.value_type ≡ Some t = sym g.typed ∙ ty in
-      get_map (λ (c : Cell). c.value_type) whole.cells (cell_of decls n) (record { owner = owner.Global g.number; value_type = g.value_type; opening = g.opening }) g.cell ∙ same);
+      ap (λ (o : Option Cell). o >>= λ c. if_global c.owner c.value_type) g.cell ∙ same);
   array = λ n x t at ty.
       (let g = array_at decls clean whole is n x at in
       let same : Some g.value_type ≡ Some t = sym g.typed ∙ ty in

@@ -132,7 +132,7 @@ has_field (field_member x ∷ ms) zero f e = let s : x ≡ f = cc in subst (λ (
 has_field (field_member x ∷ ms) (suc k) f e = further (has_field ms k f e)
 
 module _ (decls : List Decl) (clean : Clean decls) (whole : core.Program) (is : resolved decls ≡ Some whole) where
-  few_classes : length whole.classes ≤ CLASS_LIMIT
+  pub few_classes : length whole.classes ≤ CLASS_LIMIT
   few_classes = let e = (counted_whole decls clean whole is).classes in let l = classes_few decls [] decls (λ f i. clean f (of_totals decls f i)) (let z : 0 ≤ CLASS_LIMIT = omega arith in z) in omega (arith, e, l)
 
   class_here : (i n : ℕ) (c : core.LockClass) → slice_get whole.classes (classes_ahead decls i + n) ≡ Some c → slice_get whole.classes (class_number decls i n) ≡ Some c

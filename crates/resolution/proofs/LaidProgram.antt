@@ -37,7 +37,7 @@ use Rattle.resolution.proofs.LaidWalk.{FinalRow, FieldRow}
 use Rattle.resolution.proofs.LaidFacts.{StructAt, struct_of_number, sound_of, sections_of}
 use Rattle.resolution.proofs.LaidLocks.{GlobalClass, ClassFact, LeadIn, EndsIn, classes_of_program, globals_have, arrays_have, lock_fields_have, fields_have}
 use Rattle.resolution.proofs.LaidScripts.{Argument, threads_of, sectioned, parameter_local, section_at, argument_holds}
-use Rattle.resolution.proofs.LaidObjects.{one_of, ObjectAt, objects_of_program, pools_of, globals_of, arrays_of, struct_in, OwnerFact, cells_of_program, Holds, few_objects, opened_holds, referred_holds}
+use Rattle.resolution.proofs.LaidObjects.{one_of, ObjectAt, objects_of_program, pools_of, globals_of, arrays_of, struct_in, OwnerFact, cells_of_program, Holds, opened_holds, referred_holds}
 
 -- ---- what the views say
 
@@ -180,7 +180,6 @@ module _ (decls : List Decl) (clean : Clean decls) (program : Typed) (is : resol
 
   pub laid_out : IsLaidOut program
   laid_out = record {
-    few = few_objects decls clean (core_of program) is;
     global = λ g x e.
         (let f = globals_of decls clean (core_of program) is g (core_global x) (get_map core_global program.globals.items g x e) in
         (f.0.value_type, record { cell = f.0; here = f.1; owned = f.2; typed = refl }));

@@ -79,11 +79,11 @@ call_got decls q (Some (i, init x)) cs c at e = cc
 call_got decls q (Some (i, thread x)) cs c at e = cc
 call_got decls q None cs c at e = cc
 
-one_got : (o : Option core.Call) (cs : List core.Call) → one_call o ≡ Some cs → (c : core.Call) × (o ≡ Some c) × (c ∷ [] ≡ cs)
+pub one_got : (o : Option core.Call) (cs : List core.Call) → one_call o ≡ Some cs → (c : core.Call) × (o ≡ Some c) × (c ∷ [] ≡ cs)
 one_got (Some c) cs e = (c, refl, cc)
 one_got None cs e = cc
 
-joined_got : (o r : Option (List core.Call)) (cs : List core.Call) → joined o r ≡ Some cs → (xs : List core.Call) × (ys : List core.Call) × (o ≡ Some xs) × (r ≡ Some ys) × (xs ++ ys ≡ cs)
+pub joined_got : (o r : Option (List core.Call)) (cs : List core.Call) → joined o r ≡ Some cs → (xs : List core.Call) × (ys : List core.Call) × (o ≡ Some xs) × (r ≡ Some ys) × (xs ++ ys ≡ cs)
 joined_got (Some xs) (Some ys) cs e = (xs, ys, refl, refl, cc)
 joined_got (Some xs) None cs e = cc
 joined_got None r cs e = cc

@@ -29,4 +29,5 @@ pub mod LaidObjects
 pub mod LaidProgram
 pub mod LaidLocks
 pub mod LaidScripts
+pub mod WithinLimits
 pub mod WellFormed

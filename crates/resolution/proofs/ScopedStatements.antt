@@ -240,7 +240,7 @@ numbers_bind ls x =
     longer [] x = refl
     longer (y ∷ ls) x = ap suc (longer ls x)
 
-hidden_length : (n : ℕ) (ls : List scopes.Local) → length (hidden_from n ls) ≡ length ls
+pub hidden_length : (n : ℕ) (ls : List scopes.Local) → length (hidden_from n ls) ≡ length ls
 hidden_length n [] = refl
 hidden_length zero (x ∷ ls) = ap suc (hidden_length zero ls)
 hidden_length (suc n) (x ∷ ls) = ap suc (hidden_length n ls)

@@ -23,7 +23,7 @@ use Rattle.core_lang.specs.declared.typed.Field as the_field
 use Rattle.core_lang.specs.declared.typed.Struct as the_struct
 use Rattle.core_lang.specs.declared.typed.Typed.{Typed}
 use Rattle.core_lang.specs.Typing as the_typing
-use Rattle.core_lang.specs.Typing.{cell_types, array_type, pool_struct, final_target, field_type, LeadsTo, IsPathTo, IsOf, AreIntegers, CanCompare, IsTest, AreTests, IsWellTyped, AreWellTyped, AllWellTyped, IsResult}
+use Rattle.core_lang.specs.Typing.{if_global, global_type, array_type, pool_struct, final_target, field_type, LeadsTo, IsPathTo, IsOf, AreIntegers, CanCompare, IsTest, AreTests, IsWellTyped, AreWellTyped, AllWellTyped, IsResult}
 use Rattle.resolution.specs.Core as core
 use Rattle.resolution.specs.CoreViews.{core_path, core_expr, core_operations_row, core_condition, core_conditions_row, core_action, core_stmts_row, core_stmts, core_return, core_struct, core_final, core_field, core_array, core_pool, core_of}
 use Rattle.resolution.specs.Scopes.{◌>>=◌}
@@ -44,8 +44,8 @@ get_map f (y ∷ xs) (suc k) x e = get_map f xs k x e
 
 -- ---- the parts of a program, as data
 
-abbrev pub types_in : core.Program → List ValueType
-types_in p = map (λ (cell : Cell). cell.value_type) p.cells
+abbrev pub global_in : core.Program → ℕ → Option ValueType
+global_in p n = slice_get p.cells n >>= λ x. if_global x.owner x.value_type
 
 abbrev pub array_in : core.Program → ℕ → Option ValueType
 array_in p n = slice_get p.arrays n >>= λ x. Some x.element_type
@@ -60,6 +60,13 @@ abbrev pub field_in : core.Program → ℕ → ℕ → Option ValueType
 field_in p s f = slice_get p.structs s >>= λ x. slice_get x.fields f >>= λ y. Some y.value_type
 
 -- the same of what stands for them
+global_type_is : (program : Typed) (n : ℕ) (t : ValueType) → global_in (core_of program) n ≡ Some t → global_type program n ≡ Some t
+global_type_is program n t h = by_cell (slice_get program.cells.items n) refl
+  where
+    by_cell : (o : Option Cell) → slice_get program.cells.items n ≡ o → global_type program n ≡ Some t
+    by_cell (Some y) is = rw is (sym (ap (λ (o : Option Cell). o >>= λ x. if_global x.owner x.value_type) is) ∙ h)
+    by_cell None is = let v : None ≡ Some t = sym (ap (λ (o : Option Cell). o >>= λ x. if_global x.owner x.value_type) is) ∙ h in cc
+
 array_type_is : (program : Typed) (n : ℕ) (t : ValueType) → array_in (core_of program) n ≡ Some t → array_type program n ≡ Some t
 array_type_is program n t h = by_array (slice_get (core_of program).arrays n) refl
   where
@@ -136,7 +143,7 @@ module _ (p : core.Program) (locals : List ValueType) where
     Is core.null Integer = ⊥
     Is core.null (Reference s) = ⊤
     Is (core.place x) t = IsPath x t
-    Is (core.global start cell) t = slice_get (types_in p) cell ≡ Some t
+    Is (core.global start cell) t = global_in p cell ≡ Some t
     Is (core.element start n index) t = (array_in p n ≡ Some t) × Is index Integer
     Is (core.member n index) Integer = ⊥
     Is (core.member n index) (Reference s) = (pool_in p n ≡ Some s) × Is index Integer
@@ -175,7 +182,7 @@ module _ (p : core.Program) (locals : List ValueType) where
     pub Acts : core.Action → Type 0
     Acts (core.bind n x) = Gives n x
     Acts (core.set_local n x) = Gives n x
-    Acts (core.set_global cell x) = (t : ValueType) × (slice_get (types_in p) cell ≡ Some t) × Is x t
+    Acts (core.set_global cell x) = (t : ValueType) × (global_in p cell ≡ Some t) × Is x t
     Acts (core.set_element n index x) = (t : ValueType) × (array_in p n ≡ Some t) × Is index Integer × Is x t
     Acts (core.set_field base f x) = (s : ℕ) × IsPath base (Reference s) × ((t : ValueType) × (field_in p s f ≡ Some t) × Is x t)
     Acts (core.print x) = Is x Integer
@@ -209,7 +216,7 @@ module _ (program : Typed) (locals : List ValueType) where
     expr_is Null Integer h = h
     expr_is Null (Reference s) h = h
     expr_is (Place q) t h = (h.0, h.1, leads_is h.0 q.fields.items t h.2)
-    expr_is (Global start cell) t h = h
+    expr_is (Global start cell) t h = global_type_is program cell t h
     expr_is (Element' start n _ index) t h = (array_type_is program n t h.0, expr_is index Integer h.1)
     expr_is (Member' n _ index) Integer h = absurd h
     expr_is (Member' n _ index) (Reference s) h = (pool_struct_is program n s h.0, expr_is index Integer h.1)
@@ -245,7 +252,7 @@ module _ (program : Typed) (locals : List ValueType) where
     action_is : (x : a.Action) → Acts (core_of program) locals (core_action x) → IsWellTyped program locals x
     action_is (Bind n x) h = (h.0, h.1, expr_is x h.0 h.2)
     action_is (SetLocal n x) h = (h.0, h.1, expr_is x h.0 h.2)
-    action_is (SetGlobal cell x) h = (h.0, h.1, expr_is x h.0 h.2)
+    action_is (SetGlobal cell x) h = (h.0, global_type_is program cell h.0 h.1, expr_is x h.0 h.2)
     action_is (SetElement n index x) h = (h.0, array_type_is program n h.0 h.1, expr_is index Integer h.2, expr_is x h.0 h.3)
     action_is (SetField base f x) h = (h.0, (h.1.0, h.1.1, leads_is h.1.0 base.fields.items (Reference h.0) h.1.2), (h.2.0, field_type_is program h.0 f h.2.0 h.2.1, expr_is x h.2.0 h.2.2))
     action_is (Print x) h = expr_is x Integer h

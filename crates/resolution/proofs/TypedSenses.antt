@@ -25,13 +25,13 @@ use Rattle.resolution.specs.Expressions.{Sense, value, truth, fits_type, fits, f
 use Rattle.resolution.proofs.Named.{named_is, member_is}
 use Rattle.resolution.proofs.FaultlessExpressions.{IsMeant, meant}
 use Rattle.resolution.proofs.Typed as well
-use Rattle.resolution.proofs.Typed.{types_in, array_in, pool_in, final_in, field_in, Leads, IsPath, Is, Are, Compares, AllTest}
+use Rattle.resolution.proofs.Typed.{global_in, array_in, pool_in, final_in, field_in, Leads, IsPath, Is, Are, Compares, AllTest}
 
 -- ---- what a program holds of its declarations
 
 -- the program has each thing with its type at its number
 pub record Sound (decls : List Decl) (p : core.Program) : Type 0 where
-  pub cell : (n : ℕ) (v : Variable) (t : ValueType) → slice_get decls n ≡ Some (global v) → type_of (outside decls) v.value_type ≡ Some t → slice_get (types_in p) (cell_of decls n) ≡ Some t
+  pub cell : (n : ℕ) (v : Variable) (t : ValueType) → slice_get decls n ≡ Some (global v) → type_of (outside decls) v.value_type ≡ Some t → global_in p (cell_of decls n) ≡ Some t
   pub array : (n : ℕ) (a : Array) (t : ValueType) → slice_get decls n ≡ Some (array a) → type_of (outside decls) a.value_type ≡ Some t → array_in p (number_at decls n (array a)) ≡ Some t
   pub pool : (n : ℕ) (q : Pool) (s : ℕ) → slice_get decls n ≡ Some (pool q) → struct_named decls q.target ≡ Some s → pool_in p (number_at decls n (pool q)) ≡ Some s
   pub final : (s : ℕ) (x : Struct) (m : ℕ) (f : Final) (k : ℕ) → the_struct decls s ≡ Some x → slice_get x.members m ≡ Some (final_member f) → struct_named decls f.target ≡ Some k → final_in p s (member_number x.members m (final_member f)) ≡ Some k

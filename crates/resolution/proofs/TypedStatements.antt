@@ -21,7 +21,7 @@ use Rattle.resolution.proofs.FaultlessExpressions.{IsMeant, meant}
 use Rattle.resolution.proofs.FaultlessStatements.{all_same}
 use Rattle.resolution.proofs.FaultlessSections.{entered_result}
 use Rattle.resolution.proofs.Typed as well
-use Rattle.resolution.proofs.Typed.{types_in, array_in, pool_in, final_in, field_in, Leads, IsPath, Is, Gives, Acts, AllAct, Returns, get_map}
+use Rattle.resolution.proofs.Typed.{global_in, array_in, pool_in, final_in, field_in, Leads, IsPath, Is, Gives, Acts, AllAct, Returns, get_map}
 use Rattle.resolution.proofs.TypedSenses.{Sound, Have, IsLocal, meant_local, GoodValue, GoodTest, GoodPath, local_walk, value_good_of, test_good_of}
 
 -- ---- locals stay
@@ -103,7 +103,7 @@ module _ (decls : List Decl) (p : core.Program) (types : List core_type.ValueTyp
   -- what can be assigned to has its type
   abbrev AimsAt : Target → core_type.ValueType → Type 0
   AimsAt (to_local n) t = slice_get types n ≡ Some t
-  AimsAt (to_global cell) t = slice_get (types_in p) cell ≡ Some t
+  AimsAt (to_global cell) t = global_in p cell ≡ Some t
   AimsAt (to_element n index) t = (array_in p n ≡ Some t) × Is p types index Integer
   AimsAt (to_field base f) t = (s : ℕ) × IsPath p types base (Reference s) × (field_in p s f ≡ Some t)
 

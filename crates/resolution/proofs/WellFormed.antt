@@ -11,6 +11,7 @@ use Rattle.resolution.specs.Resolution.{resolved, typed_section}
 use Rattle.resolution.proofs.Typed.{get_map}
 use Rattle.resolution.proofs.FaultlessExpressions.{Clean}
 use Rattle.resolution.proofs.LaidProgram.{sound, laid_out, protected, opens, sections_are, scripts}
+use Rattle.resolution.proofs.WithinLimits.{within_limits}
 use Rattle.resolution.proofs.WellSections.{section_well_typed, section_well_scoped}
 
 -- a section of the program is that of a declaration
@@ -21,6 +22,7 @@ section_from decls clean program is k x at =
 
 pub well_formed : (decls : List Decl) → Clean decls → (program : Typed) → resolved decls ≡ Some (core_of program) → IsWellFormed program
 well_formed decls clean program is = record {
+  within = within_limits decls clean program is;
   laid_out = laid_out decls clean program is;
   protected = protected decls clean program is;
   opens = opens decls clean program is;

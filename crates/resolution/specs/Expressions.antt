@@ -198,7 +198,7 @@ path_value start nothing w = None
 
 -- ---- operators
 
--- what stands in parentheses: a path is noted to, since it is then no stable one
+-- what stands in parentheses; a local or a path that does is marked, since it is then no stable path
 abbrev pub parenthesised : Option Sense → Option Sense
 parenthesised (Some (value (core.place p) s)) = Some (value (core.place (record p { in_parentheses = true })) s)
 parenthesised s = s

@@ -46,7 +46,7 @@ const_start (negative sign n) = sign.start
 const_start (null_const at) = at.start
 const_start (member_const p n) = p.span.start
 
--- ---- E02: a number that no token can be; no tree of tokens has one
+-- ---- E02: a number of an expression or a constant that no token can be; no tree of tokens has one
 
 pub data IsTooLarge (decls : List Decl) : ℕ → Type 0 where
   expression : {sc : Scope} {w : Want} {n : Number} → HasExpr decls sc w (int n) → NUMBER_LIMIT < n.value → IsTooLarge decls n.span.start
@@ -124,7 +124,7 @@ IsOfNumbers Term = Unit {0}
 IsOfNumbers Sum = Unit {0}
 IsOfNumbers _ = ⊥
 
--- neither a global nor a lock, which are told apart
+-- a declaration whose name alone is no value and can't be assigned to. A global is a value, and a lock has a fault of its own
 abbrev pub IsNoValue : Decl → Type 0
 IsNoValue (lock x) = ⊥
 IsNoValue (global v) = ⊥

@@ -210,7 +210,7 @@ field_cell p o (Some t) (Some v) = Some (with_cell p o t v)
 field_cell p o (Some t) None = None
 field_cell p o None v = None
 
--- an object's members from a place on, where so many fields stand ahead of it
+-- an object's members, the first of them at this place of its struct, with so many of the struct's fields ahead of them
 abbrev pub with_members : List Decl → Slot → ℕ → ℕ → Option core.Program → List Member → Option core.Program
 with_members decls slot place fields p [] = p
 with_members decls slot place fields p (lock_member x ∷ ms) = with_members decls slot (place + 1) fields p ms

@@ -1,12 +1,11 @@
 -- Arguments, one after another.
-use Rattle.std.proofs.Common.{◌≡◌, ℕ, zero, suc, ◌≤◌, List, [], ◌∷◌, Option, Some, None, Bool, true, false, length, drop, refl, sym, ap, ◌∙◌, arith}
+use Rattle.std.proofs.Common.{◌≡◌, ℕ, suc, ◌≤◌, List, [], ◌∷◌, Option, Some, None, Bool, true, false, length, drop, refl, ap, ◌∙◌, arith}
 use Rattle.std.specs.Prelude.{min, map, nat_le}
 use Rattle.std.proofs.lemmas.Bool.Decides.{nat_tests}
 use Rattle.std.proofs.Math.ListN.{drop_of_length-le}
 use Rattle.syntax.specs.declared.tree.Param as rust_param
 use Rattle.syntax.specs.declared.tree.Const as rust_const
 use Rattle.syntax.specs.Views.{param_of, const_of}
-use Rattle.resolution.specs.declared.mistake.Mistake.{Mistake}
 use Rattle.syntax.specs.Trees.{Decl, Param, Const}
 use Rattle.core_lang.specs.declared.value.Value.{Value}
 use Rattle.resolution.specs.Constants.{added, typed_const, want_of, typed_arguments}

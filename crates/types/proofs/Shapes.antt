@@ -1,5 +1,5 @@
 -- The faults of members, one after another.
-use Rattle.std.proofs.Common.{◌≡◌, ℕ, List, [], ◌∷◌, ◌++◌, refl}
+use Rattle.std.proofs.Common.{◌≡◌, ℕ, List, ◌∷◌, ◌++◌, refl}
 use Rattle.syntax.specs.Trees.{Decl, Member, lock_member, final_member, field_member}
 use Rattle.resolution.specs.FaultLists.{members_faults}
 use Rattle.types.specs.Shapings.{member_faults}

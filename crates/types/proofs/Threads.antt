@@ -1,5 +1,5 @@
 -- What threads do, one thing after another.
-use Rattle.std.proofs.Common.{◌≡◌, ℕ, zero, suc, ◌+◌, ◌<◌, List, [], ◌∷◌, ◌++◌, Option, Some, None, Bool, true, false, Vec, Global, length, drop, get_or, refl, sym, ap, ◌∙◌, append_assoc}
+use Rattle.std.proofs.Common.{◌≡◌, ℕ, zero, suc, List, [], ◌++◌, Option, Some, None, true, false, Vec, Global, refl, sym, ap, ◌∙◌, append_assoc}
 use Rattle.std.specs.Prelude.{is_some}
 use Rattle.resolution.specs.declared.mistake.Mistake.{Mistake}
 use Rattle.source.specs.declared.token.Number.{Number}
@@ -12,8 +12,8 @@ use Rattle.resolution.specs.Core as core
 use Rattle.resolution.specs.Scopes.{◌>>=◌}
 use Rattle.resolution.specs.Resolution.{copies, typed_item, typed_items}
 use Rattle.resolution.specs.FaultLists.{least_of, item_faults, items_faults}
-use Rattle.types.specs.Parts.{repeated_calls}
-use Rattle.types.proofs.Steps.{step, noted_one, nil_right}
+use Rattle.types.specs.Calls.{repeated_calls}
+use Rattle.symbols.proofs.Steps.{nil_right}
 
 pub repeat_faults : (decls : List Decl) (x : tree.Item) (n : Number) (vec : Vec tree.Item Global) (items : List tree.Item) (f g : Option Mistake) → x ≡ Repeat n vec → items ≡ vec.items → g ≡ least_of f (items_faults decls (items_of items)) → g ≡ least_of f (item_faults decls (item_of x))
 repeat_faults decls x n vec items f g is all hg = hg ∙ ap (λ ys. least_of f (items_faults decls (items_of ys))) all ∙ ap (λ y. least_of f (item_faults decls y)) (sym (ap item_of is ∙ item_of_Repeat n vec))

@@ -1,14 +1,4 @@
-pub mod Found
-pub mod Counted
-pub mod Views
-pub mod Capped
-pub mod Given
-pub mod Programs
-pub mod Scoped
-pub mod Senses
-pub mod Parts
-pub mod Targets
-pub mod Standings
 pub mod Shapings
 pub mod Slots
+pub mod Calls
 pub mod Whole

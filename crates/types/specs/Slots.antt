@@ -1,5 +1,5 @@
 -- What the checker's values of objects stand for.
-use Rattle.std.specs.Prelude.{ℕ, List, Option, Some, None}
+use Rattle.std.specs.Prelude.{ℕ, List, Option}
 use Rattle.syntax.specs.Trees.{Decl, Member, lock_member, final_member, field_member}
 use Rattle.core_lang.specs.declared.value.Value.{Value}
 use Rattle.core_lang.specs.declared.value.ValueType as core_type

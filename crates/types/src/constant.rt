@@ -3,86 +3,25 @@
 ghost use Rattle.std.specs.Prelude.{◌≡◌, IfOk, option_map, map, is_some};
 ghost use Rattle.syntax.specs.Views.{ident, const_of, option_of, param_of};
 ghost use Rattle.resolution.specs.Scopes.{the_decl};
-ghost use Rattle.resolution.specs.Expressions.{number_value, fits_type, fits_sort, want};
 ghost use Rattle.resolution.specs.Constants.{const_sort, const_value, typed_const, want_of, typed_arguments, opened, default_of, member_sort, member_of};
 ghost use Rattle.resolution.specs.Faults.{const_start};
-ghost use Rattle.resolution.specs.FaultLists.{least_of, number_faults, index_faults, own_faults, sort_misfit, const_faults, argument_faults, opening_faults};
-ghost use Rattle.types.specs.Parts.{pushed};
-ghost use Rattle.types.specs.Views.{declared_by, AreDeclarations};
-ghost use Rattle.types.specs.Programs.{program_of, IsProgram};
+ghost use Rattle.resolution.specs.FaultLists.{least_of, index_faults, own_faults, sort_misfit, const_faults, argument_faults, opening_faults};
+ghost use Rattle.sections.specs.Parts.{pushed};
+ghost use Rattle.symbols.specs.Views.{declared_by, AreDeclarations};
+ghost use Rattle.symbols.specs.Programs.{program_of, IsProgram};
 
-use crate::declarations::Declarations;
-use crate::note::{note, note_if};
-use crate::scope::{Meaning, note_unfit, struct_named, type_outside};
-use crate::table::Program;
 use core_lang::value::{Value, ValueType};
 use resolution::mistake::Mistake;
 use resolution::wanted::{Sort, Want};
+use sections::wanted::{fits_sort, note_number, number, want};
 use source::fault::Code;
 use source::token::Number;
 use std::alloc::{AllocError, Global};
+use symbols::declarations::Declarations;
+use symbols::note::{note, note_if};
+use symbols::scope::{Meaning, note_unfit, struct_named, type_outside};
+use symbols::table::Program;
 use syntax::tree::{Const, Decl, Name, Param};
-
-/// The largest number that a token can be.
-const NUMBER_LIMIT: u64 = 9223372036854775807;
-
-/// A number as 64 bits with a sign.
-pub fn number(n: Number) -> Option<i64>
-    ensures { result ≡ number_value n }
-{
-    if n.value <= NUMBER_LIMIT {
-        Some(n.value as i64)
-    } else {
-        None
-    }
-}
-
-/// Notes a number that no token can be.
-pub fn note_number(n: Number, least: &mut Option<Mistake>)
-    ensures { least.new ≡ least_of least.old (number_faults n) }
-{
-    note_if(
-        NUMBER_LIMIT < n.value,
-        Code::NumberTooLarge,
-        n.span.start as usize,
-        least,
-    );
-}
-
-/// What is wanted where a value of the type is.
-pub fn want(t: Option<ValueType>) -> Want
-    ensures { result ≡ want t }
-{
-    match t {
-        Some(t) => Want::Value(t),
-        None => Want::Anything,
-    }
-}
-
-/// Whether a value of this sort is one of the type.
-pub fn fits_type(t: ValueType, s: Sort) -> bool
-    ensures { result ≡ fits_type t s }
-{
-    match (t, s) {
-        (ValueType::Integer, Sort::Of(ValueType::Integer)) => true,
-        (ValueType::Integer, Sort::Of(ValueType::Reference(_))) => false,
-        (ValueType::Integer, Sort::Null) => false,
-        (ValueType::Reference(_), Sort::Of(ValueType::Integer)) => false,
-        (ValueType::Reference(a), Sort::Of(ValueType::Reference(b))) => a == b,
-        (ValueType::Reference(_), Sort::Null) => true,
-    }
-}
-
-/// Whether a value of this sort is what is wanted.
-pub fn fits_sort(w: Want, s: Sort) -> bool
-    ensures { result ≡ fits_sort w s }
-{
-    match w {
-        Want::Anything => true,
-        Want::Condition => false,
-        Want::Value(t) => fits_type(t, s),
-    }
-}
 
 /// What a constant is, if it has a type.
 fn const_sort(decls: &Declarations, c: &Const) -> Option<Sort>
@@ -253,7 +192,7 @@ fn note_sort(w: Want, start: usize, s: Option<Sort>, least: &mut Option<Mistake>
 }
 
 /// Notes what is wrong with a constant of which something is wanted.
-#[tactic(auto, using(crate::proofs::Least::least_append))]
+#[tactic(auto, using(symbols::proofs::Least::least_append))]
 pub fn note_const(decls: &Declarations, w: Want, c: &Const, least: &mut Option<Mistake>)
     requires { AreDeclarations decls.now }
     ensures { least.new ≡ least_of least.old (const_faults (declared_by decls.now) w (const_of c.now)) }
@@ -281,7 +220,7 @@ fn want_of(decls: &Declarations, p: &Param) -> Want
 }
 
 /// Notes what is wrong with arguments.
-#[tactic(auto, using(crate::proofs::Least::least_append))]
+#[tactic(auto, using(symbols::proofs::Least::least_append))]
 pub fn note_arguments(
     decls: &Declarations,
     params: &[Param],

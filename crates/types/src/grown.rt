@@ -6,22 +6,22 @@ ghost use Rattle.syntax.specs.Views.{ident, array_of, variable_of};
 ghost use Rattle.resolution.specs.CoreViews.{core_of, core_struct, core_section, core_call};
 ghost use Rattle.resolution.specs.Core.{global_lock};
 ghost use Rattle.resolution.specs.Resolution.{with_class, empty_struct, with_section, with_thread, extended, with_elements};
-ghost use Rattle.types.specs.Views.{structure_of, IsStructure};
-ghost use Rattle.types.specs.Programs.{program_of, IsProgram};
+ghost use Rattle.symbols.specs.Views.{structure_of, IsStructure};
+ghost use Rattle.symbols.specs.Programs.{program_of, IsProgram};
 ghost use Rattle.types.specs.Whole.{global_with, array_with};
 
-use crate::annotation::class_of;
 use crate::constant::{default_of, opened};
-use crate::members::Structure;
 use crate::pool::{cell_at, with_cell};
-use crate::scope::type_outside;
 use crate::shaping::{Shaping, with_members};
-use crate::table::Program;
 use core_lang::tree::Section;
 use core_lang::typed::{Call, GlobalVariable, LockClass, Owner, Thread, Typed};
 use core_lang::value::ValueType;
 use core_lang::{shape, typed};
 use std::alloc::{AllocError, Global};
+use symbols::annotation::class_of;
+use symbols::members::Structure;
+use symbols::scope::type_outside;
+use symbols::table::Program;
 use syntax::tree::{Array, Name, Variable};
 
 /// The program with a global lock more.

@@ -8,17 +8,12 @@ ghost use Rattle.resolution.specs.Constants.{members_of, referred};
 ghost use Rattle.resolution.specs.Resolution.{slot_given, opening_of, with_cell, with_members, with_object, with_objects, with_pool};
 ghost use Rattle.resolution.specs.Limits.{up_to, object_at, cell_at, final_at};
 ghost use Rattle.resolution.specs.FaultLists.{least_of, some_lacks, is_at, is_due, lacks, missing_faults};
-ghost use Rattle.types.specs.Views.{members_seen, IsStructure};
-ghost use Rattle.types.specs.Programs.{program_of, IsProgram};
-ghost use Rattle.types.specs.Counted.{field_if};
+ghost use Rattle.symbols.specs.Views.{members_seen, IsStructure};
+ghost use Rattle.symbols.specs.Programs.{program_of, IsProgram};
+ghost use Rattle.symbols.specs.Counted.{field_if};
 ghost use Rattle.types.specs.Slots.{slot_of, then_final, then_field, member_with};
 
 use crate::constant::{opened, typed_const};
-use crate::members::Structure;
-use crate::note::note_if;
-use crate::scope::{struct_named, type_outside};
-use crate::table::Program;
-use crate::totals::{CELL_LIMIT, OBJECT_LIMIT};
 use core_lang::shape;
 use core_lang::shape::Object;
 use core_lang::typed::{Cell, Owner, Typed};
@@ -28,6 +23,11 @@ use resolution::mistake::Mistake;
 use resolution::wanted::Want;
 use source::fault::Code;
 use std::alloc::{AllocError, Global};
+use symbols::members::Structure;
+use symbols::note::note_if;
+use symbols::scope::{struct_named, type_outside};
+use symbols::table::Program;
+use symbols::totals::{CELL_LIMIT, OBJECT_LIMIT};
 use syntax::tree::{Const, Member, Pool};
 
 /// Where final references may lie: up to the end of the last one.

@@ -1,7 +1,8 @@
 //! Programs.
 
 ghost use Rattle.std.specs.Prelude.{◌≡◌, OnOk, IfOk, IfErr, option_map, slice_get, Some};
-ghost use Rattle.syntax.specs.Views.{decl_of, tree_of};
+ghost use Rattle.syntax.specs.Trees.{struct};
+ghost use Rattle.syntax.specs.Views.{array_of, decl_of, tree_of, variable_of};
 ghost use Rattle.syntax.specs.Returns.{ReturnsRight};
 ghost use Rattle.core_lang.specs.WellFormed.{IsWellFormed};
 ghost use Rattle.resolution.specs.CoreViews.{core_of};
@@ -10,30 +11,102 @@ ghost use Rattle.resolution.specs.Resolved.{Resolves};
 ghost use Rattle.resolution.specs.Faults.{IsRefusal, HasNoFault};
 ghost use Rattle.resolution.specs.FaultLists.{least_of, decl_faults, each_faults};
 ghost use Rattle.resolution.specs.Leasts.{IsLeast};
-ghost use Rattle.types.specs.Programs.{program_of, IsProgram};
-ghost use Rattle.types.specs.Whole.{unless, extended_if};
+ghost use Rattle.symbols.specs.Programs.{program_of, IsProgram};
+ghost use Rattle.symbols.specs.Views.{structure_of, IsStructure};
+ghost use Rattle.types.specs.Whole.{unless, extended_if, global_if, array_if, global_faults, array_faults};
 
-use crate::annotation::note_lock;
-use crate::constant::{note_opening, want};
+use crate::constant::note_opening;
 use crate::grown::{with_array, with_global, with_lock, with_section, with_struct, with_thread};
 use crate::initial::note_init;
 use crate::pool::{note_missing, with_pool};
-use crate::scope::{note_target, note_type, type_outside};
-use crate::section::judge_section;
 use crate::shaping::note_members;
-use crate::table::Program;
 use crate::thread::{note_items, typed_calls};
 use core_lang::shape::Shape;
 use core_lang::typed::Typed;
 use core_lang::{shape, typed};
 use resolution::laws;
 use resolution::mistake::Mistake;
+use sections::section::judge_section;
+use sections::wanted::want;
 use source::fault::{Fault, Refusal};
 use std::alloc::{AllocError, Global};
-use syntax::tree::{Decl, Tree};
+use symbols::annotation::note_lock;
+use symbols::members::Structure;
+use symbols::scope::{note_target, note_type, type_outside};
+use symbols::table::Program;
+use syntax::tree::{Array, Decl, Tree, Variable};
+
+/// The program with a struct more, which has this place, if everything in it is right.
+#[tactic(auto, using(symbols::proofs::Least::least_append))]
+fn judge_struct<'a, 't>(
+    alloc: Global,
+    program: &'a Program<'t>,
+    place: usize,
+    typed: Option<Typed>,
+    structure: &'a Structure<'t>,
+    least: &mut Option<Mistake>,
+) -> Result<Option<Typed>, AllocError>
+    requires program { IsProgram program.now }
+    requires structure { IsStructure structure.now }
+    ensures value { IfOk result (λ r. option_map core_of r ≡ extended_if (program_of program.now) place (option_map core_of typed) (struct (structure_of structure.now))) }
+    ensures faults { OnOk result (least.new ≡ least_of least.old (decl_faults (program_of program.now) place (struct (structure_of structure.now)))) }
+{
+    let members = &structure.item.members;
+    note_members(alloc, &program.decls, place, structure, members, least)?;
+    match typed {
+        Some(typed) => with_struct(alloc, program, place, typed, structure),
+        None => Ok(None),
+    }
+}
+
+/// The program with a global more, if everything in it is right.
+#[tactic(auto, using(symbols::proofs::Least::least_append))]
+fn judge_global(
+    alloc: Global,
+    program: &Program,
+    typed: Option<Typed>,
+    v: &Variable,
+    least: &mut Option<Mistake>,
+) -> Result<Option<Typed>, AllocError>
+    requires { IsProgram program.now }
+    ensures value { IfOk result (λ r. option_map core_of r ≡ global_if (program_of program.now) (option_map core_of typed) (variable_of v.now)) }
+    ensures faults { OnOk result (least.new ≡ least_of least.old (global_faults (program_of program.now) (variable_of v.now))) }
+{
+    let decls = &program.decls;
+    note_type(decls, &v.value_type, least);
+    note_lock(decls, &v.name, &v.protection, least);
+    let wanted = want(type_outside(decls, &v.value_type));
+    note_opening(decls, wanted, &v.value, least);
+    match typed {
+        Some(typed) => with_global(alloc, program, typed, v),
+        None => Ok(None),
+    }
+}
+
+/// The program with an array more, if everything in it is right.
+#[tactic(auto, using(symbols::proofs::Least::least_append))]
+fn judge_array(
+    alloc: Global,
+    program: &Program,
+    typed: Option<Typed>,
+    a: &Array,
+    least: &mut Option<Mistake>,
+) -> Result<Option<Typed>, AllocError>
+    requires { IsProgram program.now }
+    ensures value { IfOk result (λ r. option_map core_of r ≡ array_if (program_of program.now) (option_map core_of typed) (array_of a.now)) }
+    ensures faults { OnOk result (least.new ≡ least_of least.old (array_faults (program_of program.now) (array_of a.now))) }
+{
+    let decls = &program.decls;
+    note_type(decls, &a.value_type, least);
+    note_lock(decls, &a.name, &a.protection, least);
+    match typed {
+        Some(typed) => with_array(alloc, program, typed, a),
+        None => Ok(None),
+    }
+}
 
 /// The program with one more declaration, which has this place, if everything in it is right.
-#[tactic(auto, using(crate::proofs::Least::least_append))]
+#[tactic(auto, using(symbols::proofs::Least::least_append))]
 fn judge_decl(
     alloc: Global,
     program: &Program,
@@ -57,37 +130,10 @@ fn judge_decl(
             let Some(structure) = decls.structure(decls.number(place, d)) else {
                 unreachable!()
             };
-            note_members(
-                alloc,
-                decls,
-                place,
-                structure,
-                &structure.item.members,
-                least,
-            )?;
-            match typed {
-                Some(typed) => with_struct(alloc, program, place, typed, structure),
-                None => Ok(None),
-            }
+            judge_struct(alloc, program, place, typed, structure, least)
         }
-        Decl::Global(v) => {
-            note_type(decls, &v.value_type, least);
-            note_lock(decls, &v.name, &v.protection, least);
-            let wanted = want(type_outside(decls, &v.value_type));
-            note_opening(decls, wanted, &v.value, least);
-            match typed {
-                Some(typed) => with_global(alloc, program, typed, v),
-                None => Ok(None),
-            }
-        }
-        Decl::Array(a) => {
-            note_type(decls, &a.value_type, least);
-            note_lock(decls, &a.name, &a.protection, least);
-            match typed {
-                Some(typed) => with_array(alloc, program, typed, a),
-                None => Ok(None),
-            }
-        }
+        Decl::Global(v) => judge_global(alloc, program, typed, v, least),
+        Decl::Array(a) => judge_array(alloc, program, typed, a, least),
         Decl::Pool(p) => {
             note_target(decls, &p.target, least);
             note_missing(program, place, p, least);
@@ -151,7 +197,7 @@ fn unless(alloc: Global, least: &Option<Mistake>) -> Option<Typed>
 }
 
 /// The program with its declarations, one after another.
-#[tactic(auto, using(crate::proofs::Least::least_append))]
+#[tactic(auto, using(symbols::proofs::Least::least_append))]
 fn judge_decls(
     alloc: Global,
     program: &Program,

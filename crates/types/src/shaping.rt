@@ -5,19 +5,19 @@ ghost use Rattle.syntax.specs.Views.{ident, member_of};
 ghost use Rattle.resolution.specs.CoreViews.{core_protection};
 ghost use Rattle.resolution.specs.Resolution.{lock_added, final_added, field_added, member_added, members_added};
 ghost use Rattle.resolution.specs.FaultLists.{least_of, members_faults};
-ghost use Rattle.types.specs.Views.{declared_by, members_seen, IsStructure, AreDeclarations};
-ghost use Rattle.types.specs.Programs.{program_of, IsProgram};
+ghost use Rattle.symbols.specs.Views.{declared_by, members_seen, IsStructure, AreDeclarations};
+ghost use Rattle.symbols.specs.Programs.{program_of, IsProgram};
 ghost use Rattle.types.specs.Shapings.{shaping_of, member_faults};
 
-use crate::annotation::{note_protection, protection_of};
-use crate::declarations::Declarations;
-use crate::members::Structure;
-use crate::scope::{note_target, note_type, struct_named, type_outside};
-use crate::table::Program;
 use core_lang::typed::{Field, FinalField, LockClass, LockField, Protection, Struct};
 use core_lang::value::ValueType;
 use resolution::mistake::Mistake;
 use std::alloc::{AllocError, Global};
+use symbols::annotation::{note_protection, protection_of};
+use symbols::declarations::Declarations;
+use symbols::members::Structure;
+use symbols::scope::{note_target, note_type, struct_named, type_outside};
+use symbols::table::Program;
 use syntax::tree::{Member, Name};
 
 /// A struct with some of its members, and the lock classes so far.
@@ -145,7 +145,7 @@ pub fn with_members<'a, 't>(
 }
 
 /// Notes what is wrong with a member of the struct at a place.
-#[tactic(auto, using(crate::proofs::Least::least_append))]
+#[tactic(auto, using(symbols::proofs::Least::least_append))]
 fn note_member<'a, 't>(
     alloc: Global,
     decls: &'a Declarations<'t>,
@@ -180,7 +180,7 @@ fn note_member<'a, 't>(
 }
 
 /// Notes what is wrong with members of the struct at a place.
-#[tactic(auto, using(crate::proofs::Least::least_append))]
+#[tactic(auto, using(symbols::proofs::Least::least_append))]
 pub fn note_members<'a, 't>(
     alloc: Global,
     decls: &'a Declarations<'t>,

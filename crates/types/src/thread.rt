@@ -7,18 +7,19 @@ ghost use Rattle.resolution.specs.CoreViews.{core_call};
 ghost use Rattle.resolution.specs.Scopes.{the_decl};
 ghost use Rattle.resolution.specs.Resolution.{call_of, one_call, copies, typed_item, typed_items, typed_calls};
 ghost use Rattle.resolution.specs.FaultLists.{least_of, item_faults, items_faults};
-ghost use Rattle.types.specs.Parts.{joined, repeated_calls};
-ghost use Rattle.types.specs.Views.{declared_by, AreDeclarations};
-ghost use Rattle.types.specs.Programs.{program_of, IsProgram};
+ghost use Rattle.sections.specs.Parts.{joined};
+ghost use Rattle.types.specs.Calls.{repeated_calls};
+ghost use Rattle.symbols.specs.Views.{declared_by, AreDeclarations};
+ghost use Rattle.symbols.specs.Programs.{program_of, IsProgram};
 
 use crate::constant::{are_typed, note_arguments, typed_arguments};
-use crate::declarations::Declarations;
-use crate::note::note;
-use crate::table::Program;
 use core_lang::typed::Call;
 use resolution::mistake::Mistake;
 use source::fault::Code;
 use std::alloc::{AllocError, Global};
+use symbols::declarations::Declarations;
+use symbols::note::note;
+use symbols::table::Program;
 use syntax::tree;
 use syntax::tree::{Decl, Item};
 
@@ -61,7 +62,7 @@ fn note_item(decls: &Declarations, item: &Item, least: &mut Option<Mistake>)
 
 /// Notes what is wrong with what a thread does.
 #[cycle(faults)]
-#[tactic(auto, using(crate::proofs::Least::least_append))]
+#[tactic(auto, using(symbols::proofs::Least::least_append))]
 pub fn note_items(decls: &Declarations, items: &[Item], least: &mut Option<Mistake>)
     requires { AreDeclarations decls.now }
     ensures { least.new ≡ least_of least.old (items_faults (declared_by decls.now) (items_of items.now)) }

@@ -6,20 +6,14 @@ use Rattle.meaning.proofs.short.+short.Given as goal
 abbrev pub invariant-chain-loop-operation : goal.invariant-chain-loop-operation
 invariant-chain-loop-operation l = operations (drop l.operation-index l.operation-items) l.shape l.locals l.heap (Ok l.left) ≡ value_of l.e l.shape l.locals l.heap
 
-abbrev pub decreases-other_number : goal.decreases-other_number
-decreases-other_number l = 4 * goal.size-other_number l + 1
-
-abbrev pub decreases-number : goal.decreases-number
-decreases-number l = 4 * goal.size-number l + 2
+abbrev pub decreases-chain : goal.decreases-chain
+decreases-chain l = 4 * goal.size-chain l
 
 abbrev pub decreases-known : goal.decreases-known
 decreases-known l = 4 * goal.size-known l + 3
 
-abbrev pub decreases-chain : goal.decreases-chain
-decreases-chain l = 4 * goal.size-chain l
+abbrev pub decreases-operand : goal.decreases-operand
+decreases-operand l = 4 * goal.size-operand l + 2
 
-abbrev pub decreases-element : goal.decreases-element
-decreases-element l = 4 * goal.size-element l
-
-abbrev pub decreases-negation : goal.decreases-negation
-decreases-negation l = 4 * goal.size-negation l
+abbrev pub decreases-other_number : goal.decreases-other_number
+decreases-other_number l = 4 * goal.size-other_number l + 1

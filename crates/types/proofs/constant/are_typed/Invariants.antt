@@ -2,7 +2,7 @@ use Rattle.std.proofs.Common.{◌≡◌, drop}
 use Rattle.std.specs.Prelude.{map, is_some}
 use Rattle.syntax.specs.Views.{param_of, const_of}
 use Rattle.resolution.specs.Constants.{typed_arguments}
-use Rattle.types.specs.Programs.{program_of}
+use Rattle.symbols.specs.Programs.{program_of}
 use Rattle.types.proofs.constant.are_typed.Given as goal
 
 abbrev pub invariant-loop-i : goal.invariant-loop-i

@@ -1,8 +1,8 @@
-use Rattle.std.proofs.Common.{◌≡◌, ◌≤◌, sym, ap, ◌∙◌, arith, length}
+use Rattle.std.proofs.Common.{◌≤◌, sym, ap, ◌∙◌, arith, length}
 use Rattle.std.proofs.lemmas.Grind.{common_steps}
 use Rattle.std.specs.Prelude.{min}
 use Rattle.resolution.specs.FaultLists.{least_of}
-use Rattle.types.specs.Views.{declared_by}
+use Rattle.symbols.specs.Views.{declared_by}
 use Rattle.types.proofs.Arguments.{arguments_end}
 use Rattle.types.proofs.constant.note_arguments.Goals as goal
 

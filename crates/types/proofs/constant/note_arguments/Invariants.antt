@@ -2,7 +2,7 @@ use Rattle.std.proofs.Common.{◌≡◌, drop}
 use Rattle.std.specs.Prelude.{map}
 use Rattle.syntax.specs.Views.{param_of, const_of}
 use Rattle.resolution.specs.FaultLists.{least_of, argument_faults}
-use Rattle.types.specs.Views.{declared_by}
+use Rattle.symbols.specs.Views.{declared_by}
 use Rattle.types.proofs.constant.note_arguments.Given as goal
 
 abbrev pub invariant-loop-i : goal.invariant-loop-i

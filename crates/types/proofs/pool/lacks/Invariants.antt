@@ -2,8 +2,8 @@ use Rattle.std.proofs.Common.{◌≡◌, drop}
 use Rattle.std.specs.Prelude.{map}
 use Rattle.syntax.specs.Views.{member_of}
 use Rattle.resolution.specs.FaultLists.{lacks}
-use Rattle.types.specs.Views.{members_seen}
-use Rattle.types.specs.Programs.{program_of}
+use Rattle.symbols.specs.Views.{members_seen}
+use Rattle.symbols.specs.Programs.{program_of}
 use Rattle.types.proofs.pool.lacks.Given as goal
 
 abbrev pub invariant-loop-place : goal.invariant-loop-place

@@ -2,7 +2,7 @@ use Rattle.std.proofs.Common.{arith, sym, ◌≡◌, false}
 use Rattle.std.proofs.lemmas.Grind.{common_steps}
 use Rattle.std.specs.Prelude.{is_some}
 use Rattle.resolution.specs.Constants.{given}
-use Rattle.types.specs.Programs.{program_of}
+use Rattle.symbols.specs.Programs.{program_of}
 use Rattle.types.proofs.Objects.{lacking}
 use Rattle.types.proofs.pool.some_lacks.Goals as goal
 

@@ -1,6 +1,6 @@
 use Rattle.std.proofs.Common.{◌≡◌, false}
 use Rattle.resolution.specs.FaultLists.{some_lacks}
-use Rattle.types.specs.Programs.{program_of}
+use Rattle.symbols.specs.Programs.{program_of}
 use Rattle.types.proofs.pool.some_lacks.Given as goal
 
 abbrev pub invariant-loop-index : goal.invariant-loop-index

@@ -1,9 +1,9 @@
-use Rattle.std.proofs.Common.{◌≡◌, ℕ, arith, sym, ap, ◌∙◌, Some, None, add-one}
+use Rattle.std.proofs.Common.{sym, ap, ◌∙◌, Some, add-one}
 use Rattle.std.specs.Prelude.{map, option_map}
 use Rattle.syntax.specs.Views.{member_of}
 use Rattle.resolution.specs.CoreViews.{core_of}
 use Rattle.resolution.specs.Resolution.{with_objects}
-use Rattle.types.specs.Programs.{program_of}
+use Rattle.symbols.specs.Programs.{program_of}
 use Rattle.types.proofs.Objects.{objects_none, objects_next}
 use Rattle.types.proofs.pool.with_objects.Goals as goal
 

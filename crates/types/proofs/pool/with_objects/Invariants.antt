@@ -3,7 +3,7 @@ use Rattle.std.specs.Prelude.{map}
 use Rattle.syntax.specs.Views.{member_of}
 use Rattle.resolution.specs.CoreViews.{core_of}
 use Rattle.resolution.specs.Resolution.{with_objects}
-use Rattle.types.specs.Programs.{program_of}
+use Rattle.symbols.specs.Programs.{program_of}
 use Rattle.types.proofs.pool.with_objects.Given as goal
 
 abbrev pub invariant-loop-index : goal.invariant-loop-index

@@ -1,9 +1,9 @@
-use Rattle.std.proofs.Common.{◌≡◌, sym, ap, ◌∙◌, Some, None, List, Option}
+use Rattle.std.proofs.Common.{sym, ap, ◌∙◌, None}
 use Rattle.std.specs.Prelude.{map, option_map}
 use Rattle.syntax.specs.Views.{tree_of, decl_of}
 use Rattle.resolution.specs.CoreViews.{core_of}
 use Rattle.resolution.specs.FaultLists.{each_faults}
-use Rattle.types.specs.Programs.{program_of}
+use Rattle.symbols.specs.Programs.{program_of}
 use Rattle.types.proofs.Checked.{least_after, whole_least, was_none, built, none_built}
 use Rattle.types.proofs.program.check.Goals as goal
 

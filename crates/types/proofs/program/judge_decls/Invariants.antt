@@ -3,8 +3,8 @@ use Rattle.std.specs.Prelude.{option_map}
 use Rattle.resolution.specs.CoreViews.{core_of}
 use Rattle.resolution.specs.Resolution.{resolved_from}
 use Rattle.resolution.specs.FaultLists.{least_of, each_faults}
-use Rattle.types.specs.Views.{decls_of}
-use Rattle.types.specs.Programs.{program_of}
+use Rattle.symbols.specs.Views.{decls_of}
+use Rattle.symbols.specs.Programs.{program_of}
 use Rattle.types.proofs.program.judge_decls.Given as goal
 
 abbrev pub invariant-loop-place : goal.invariant-loop-place

@@ -1,12 +1,11 @@
-use Rattle.std.proofs.Common.{◌≡◌, ◌+◌, ◌∙◌, ap, sym, drop, List, ◌∷◌, ◌++◌, [], refl}
+use Rattle.std.proofs.Common.{◌+◌, ◌∙◌, ap, sym, drop}
 use Rattle.std.specs.Prelude.{map}
-use Rattle.syntax.specs.Trees.{Decl, Member, lock_member, final_member, field_member}
 use Rattle.syntax.specs.Views.{member_of}
 use Rattle.resolution.specs.FaultLists.{least_of, members_faults}
-use Rattle.types.specs.Views.{declared_by, members_seen}
+use Rattle.symbols.specs.Views.{declared_by, members_seen}
 use Rattle.types.specs.Shapings.{member_faults}
 use Rattle.types.proofs.Shapes.{members_one}
-use Rattle.types.proofs.Steps.{step, noted_one}
+use Rattle.symbols.proofs.Steps.{step, noted_one}
 use Rattle.types.proofs.shaping.note_members.Goals as goal
 
 pub loop-m-preserved : goal.loop-m-preserved

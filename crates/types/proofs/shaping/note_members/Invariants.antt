@@ -2,7 +2,7 @@ use Rattle.std.proofs.Common.{◌≡◌, drop}
 use Rattle.std.specs.Prelude.{map}
 use Rattle.syntax.specs.Views.{member_of}
 use Rattle.resolution.specs.FaultLists.{least_of, members_faults}
-use Rattle.types.specs.Views.{declared_by, members_seen}
+use Rattle.symbols.specs.Views.{declared_by, members_seen}
 use Rattle.types.proofs.shaping.note_members.Given as goal
 
 abbrev pub invariant-loop-m : goal.invariant-loop-m

@@ -2,8 +2,8 @@ use Rattle.std.proofs.Common.{◌≡◌, drop}
 use Rattle.std.specs.Prelude.{map, option_map}
 use Rattle.syntax.specs.Views.{member_of}
 use Rattle.resolution.specs.Resolution.{members_added}
-use Rattle.types.specs.Views.{members_seen}
-use Rattle.types.specs.Programs.{program_of}
+use Rattle.symbols.specs.Views.{members_seen}
+use Rattle.symbols.specs.Programs.{program_of}
 use Rattle.types.specs.Shapings.{shaping_of}
 use Rattle.types.proofs.shaping.with_members.Given as goal
 

@@ -2,7 +2,7 @@ use Rattle.std.proofs.Common.{◌≡◌, drop}
 use Rattle.std.specs.Prelude.{is_some}
 use Rattle.syntax.specs.Views.{items_of}
 use Rattle.resolution.specs.Resolution.{typed_items}
-use Rattle.types.specs.Programs.{program_of}
+use Rattle.symbols.specs.Programs.{program_of}
 use Rattle.types.proofs.thread.+are.Given as goal
 
 abbrev pub invariant-all_typed-loop-item : goal.invariant-all_typed-loop-item

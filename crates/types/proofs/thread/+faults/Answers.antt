@@ -1,8 +1,8 @@
 use Rattle.std.proofs.Common.{◌+◌, drop}
 use Rattle.syntax.specs.Views.{item_of, items_of}
 use Rattle.resolution.specs.FaultLists.{least_of, item_faults, items_faults}
-use Rattle.types.specs.Views.{declared_by}
-use Rattle.types.proofs.Steps.{step, noted_one}
+use Rattle.symbols.specs.Views.{declared_by}
+use Rattle.symbols.proofs.Steps.{step, noted_one}
 use Rattle.types.proofs.Threads.{repeat_faults}
 use Rattle.types.proofs.thread.+faults.Goals as goal
 

@@ -1,7 +1,7 @@
-use Rattle.std.proofs.Common.{◌≡◌, ap, ◌∙◌, subst, List, [], Some}
+use Rattle.std.proofs.Common.{◌≡◌, ap, ◌∙◌, subst, Some}
 use Rattle.std.specs.Prelude.{IfOk, option_map, map}
 use Rattle.resolution.specs.CoreViews.{core_call}
-use Rattle.types.specs.Programs.{program_of}
+use Rattle.symbols.specs.Programs.{program_of}
 use Rattle.types.proofs.Threads.{repeat_value, repeat_no_times, repeat_none}
 use Rattle.types.proofs.thread.+typed.Goals as goal
 

@@ -1,4 +1,4 @@
-use Rattle.std.proofs.Common.{◌≡◌, ℕ, [], ◌++◌, arith, List, sym, ap, ◌∙◌, add-one}
+use Rattle.std.proofs.Common.{ℕ, ◌++◌, arith, List, sym, ap, ◌∙◌, add-one}
 use Rattle.std.proofs.lemmas.Grind.{common_steps}
 use Rattle.std.specs.Prelude.{map}
 use Rattle.resolution.specs.Core as core

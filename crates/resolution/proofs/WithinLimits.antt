@@ -1,0 +1,303 @@
+-- A program with no fault is within the limits of the language.
+use Rattle.std.proofs.Common.{◌≡◌, ℕ, zero, suc, ◌+◌, ◌*◌, ◌<◌, ◌≤◌, List, [], ◌∷◌, ◌++◌, length, Some, true, false, refl, sym, ap, ◌∙◌, subst, append_assoc, arith}
+use Rattle.std.specs.Prelude.{nat_le, slice_get, take, map}
+use Rattle.std.proofs.lemmas.List.{length-append, length-map}
+use Rattle.source.specs.declared.fault.Code.TheVariants.{LimitExceeded}
+use Rattle.syntax.specs.Trees.{Ident, Stmt, let_local, var_local, assign, if_then, while, print, return_value, Stmts, no_stmts, stmt, Otherwise, no_else, else_do, Param, Item, call, repeat, Items, no_items, item, Member, lock_member, final_member, field_member, Thread, Decl, lock, struct, global, array, pool, init, atomic, thread}
+use Rattle.core_lang.specs.declared.tree.LocalKind.TheVariants as kind
+use Rattle.core_lang.specs.declared.tree.Section as the_section
+use Rattle.core_lang.specs.declared.typed.Struct as the_struct
+use Rattle.core_lang.specs.declared.typed.Thread as the_thread
+use Rattle.core_lang.specs.declared.typed.Typed.{Typed}
+use Rattle.core_lang.specs.WellFormed.{calls_together, IsWithinLimits}
+use Rattle.resolution.specs.Core as core
+use Rattle.resolution.specs.CoreViews.{core_class, core_lock, core_final, core_field, core_struct, core_local, core_section, core_call, core_thread, core_of}
+use Rattle.resolution.specs.Limits.{STRUCT_LIMIT, MEMBER_LIMIT, CELL_LIMIT, SECTION_LIMIT, THREAD_LIMIT, PARAMETER_LIMIT, LOCAL_LIMIT, CALL_LIMIT}
+use Rattle.resolution.specs.Scopes as scopes
+use Rattle.resolution.specs.Scopes.{Scope, outside, the_local, the_decl, type_of, count, alike, bound, left}
+use Rattle.resolution.specs.Numbers.{total, cells_of, calls_in, calls_in_all, calls_of}
+use Rattle.resolution.specs.Expressions.{want}
+use Rattle.resolution.specs.Statements.{after, after_else, after_all}
+use Rattle.resolution.specs.Resolution.{ahead_of, entry, call_of, copies, typed_item, typed_items, resolved}
+use Rattle.resolution.specs.FaultLists.{one_if, taken, local_faults, type_faults, wanted_faults, stmt_faults, else_faults, stmts_faults, param_faults, result_faults, count_faults, total_faults}
+use Rattle.resolution.specs.declared.wanted.Want.TheVariants as wanted
+use Rattle.resolution.proofs.Parts.{of_place_at}
+use Rattle.resolution.proofs.AllFaults.{of_counts, of_totals}
+use Rattle.resolution.proofs.TrueStatements.{length_push}
+use Rattle.resolution.proofs.FaultlessExpressions.{NoneIn, none_left, none_right, not_if, struct_has, Clean}
+use Rattle.resolution.proofs.FaultlessConstants.{le_false}
+use Rattle.resolution.proofs.FaultlessMembers.{parts_at}
+use Rattle.resolution.proofs.FaultlessPrograms.{total_push, cells_fit, calls_few, struct_few}
+use Rattle.resolution.proofs.Typed.{get_map}
+use Rattle.resolution.proofs.ScopedStatements.{hidden_length}
+use Rattle.resolution.proofs.WellSections.{entered_length, locals_length}
+use Rattle.resolution.proofs.LaidLists.{rows_length, take_front, append_nil, as_one, count_push, bind_got}
+use Rattle.resolution.proofs.LaidStages.{fields_in, finals_in, locks_in}
+use Rattle.resolution.proofs.LaidWalk.{LockRow, FinalRow, FieldRow, Step, walked_whole, counted_whole}
+use Rattle.resolution.proofs.LaidFacts.{keeps_structs, keeps_sections, keeps_threads, struct_by_number, sections_of}
+use Rattle.resolution.proofs.LaidLocks.{few_classes}
+use Rattle.resolution.proofs.LaidObjects.{few_objects}
+use Rattle.resolution.proofs.LaidScripts.{one_got, joined_got, sectioned}
+
+-- ---- cells
+
+cells_few : (decls before ds : List Decl) → NoneIn (total_faults decls before ds) → total (cells_of decls) before ≤ CELL_LIMIT → total (cells_of decls) (before ++ ds) ≤ CELL_LIMIT
+cells_few decls before [] none le = subst (λ (xs : List Decl). total (cells_of decls) xs ≤ CELL_LIMIT) (sym (append_nil before)) le
+cells_few decls before (d ∷ ds) none le =
+    let fit = cells_fit decls before d (none_left (count_faults decls before d) (total_faults decls (before ++ d ∷ []) ds) none) le in
+    let more : total (cells_of decls) (before ++ d ∷ []) ≤ CELL_LIMIT = (let t = total_push (cells_of decls) before d in omega (arith, t, fit)) in
+    subst (λ (xs : List Decl). total (cells_of decls) xs ≤ CELL_LIMIT) (append_assoc before (d ∷ []) ds) (cells_few decls (before ++ d ∷ []) ds (none_right (count_faults decls before d) (total_faults decls (before ++ d ∷ []) ds) none) more)
+
+-- ---- calls
+
+copies_length : {A : Type 0} (n : ℕ) (xs : List A) → length (copies n xs) ≡ n * length xs
+copies_length zero xs = omega arith
+copies_length (suc n) xs =
+    let a : length (xs ++ copies n xs) ≡ length xs + length (copies n xs) = length-append xs (copies n xs) in
+    let r = copies_length n xs in
+    let z : length (xs ++ copies n xs) ≡ suc n * length xs = omega (arith, a, r) in
+    z
+
+mutual
+  item_counted : (decls : List Decl) (i : Item) (cs : List core.Call) → typed_item decls i ≡ Some cs → length cs ≡ calls_in i
+  item_counted decls (call c) cs e = let r = one_got (call_of decls (the_decl decls c.section.text) c.arguments) cs e in sym (ap length r.2)
+  item_counted decls (repeat k is) cs e =
+      let b = bind_got (typed_items decls is) (λ xs. Some (copies k.value xs)) cs e in
+      let same : copies k.value b.0 ≡ cs = (let u = b.2 in cc) in
+      sym (ap length same) ∙ copies_length k.value b.0 ∙ ap (λ (n : ℕ). k.value * n) (items_counted decls is b.0 b.1)
+
+  items_counted : (decls : List Decl) (is : Items) (cs : List core.Call) → typed_items decls is ≡ Some cs → length cs ≡ calls_in_all is
+  items_counted decls no_items cs e = let s : [] ≡ cs = cc in sym (ap (λ (q : List core.Call). length q) s)
+  items_counted decls (item i is) cs e =
+      let r = joined_got (typed_item decls i) (typed_items decls is) cs e in
+      let a = item_counted decls i r.0 r.2 in
+      let b = items_counted decls is r.1 r.3 in
+      let l = length-append r.0 r.1 in
+      let z : length (r.0 ++ r.1) ≡ calls_in i + calls_in_all is = omega (arith, a, b, l) in
+      sym (ap length r.4) ∙ z
+
+-- how many calls threads of a resolved program make together
+abbrev calls_in_threads : List core.Thread → ℕ
+calls_in_threads [] = 0
+calls_in_threads (t ∷ ts) = length t.calls + calls_in_threads ts
+
+calls_push : (ts : List core.Thread) (t : core.Thread) → calls_in_threads (ts ++ t ∷ []) ≡ calls_in_threads ts + length t.calls
+calls_push [] t = omega arith
+calls_push (x ∷ ts) t = let r = calls_push ts t in omega (arith, r)
+
+calls_viewed : (ts : List the_thread.Thread) → calls_in_threads (map core_thread ts) ≡ calls_together ts
+calls_viewed [] = refl
+calls_viewed (t ∷ ts) =
+    let l = length-map t.calls.items core_call in
+    let r = calls_viewed ts in
+    omega (arith, l, r)
+
+-- ---- declarations of which each counts as one
+
+-- nothing is listed for the count at a step
+none_at_step : (decls : List Decl) → Clean decls → (whole : core.Program) (before : List Decl) (d : Decl) (p q : core.Program) → Step decls whole before d p q → NoneIn (count_faults decls before d)
+none_at_step decls clean whole before d p q st =
+    let r = parts_at decls (length before) d st.at in
+    let same : r.before ≡ before = sym (take_front r.before (d ∷ r.behind)) ∙ ap (take (length r.before)) (sym r.parts) ∙ ap (λ (n : ℕ). take n decls) r.place ∙ st.ahead in
+    λ f i. clean f (of_counts decls before r.behind d (r.parts ∙ ap (λ (bs : List Decl). bs ++ d ∷ r.behind) same) f i)
+
+-- how many structs, sections, threads and calls a program has behind these declarations
+record Few (before : List Decl) (p : core.Program) : Type 0 where
+  structs : length p.structs ≤ STRUCT_LIMIT
+  sections : length p.sections ≤ SECTION_LIMIT
+  threads : length p.threads ≤ THREAD_LIMIT
+  threads_are : (t : Thread) → length p.threads ≡ count (alike (thread t)) before
+  calls_are : calls_in_threads p.threads ≡ total calls_of before
+
+-- a list that stays the same gets no longer
+same_few : {A : Type 0} (limit : ℕ) (xs ys : List A) → ys ≡ xs → length xs ≤ limit → length ys ≤ limit
+same_few {A = A} limit xs ys e le = subst (λ (zs : List A). length zs ≤ limit) (sym e) le
+
+-- one more, where there is room
+one_more : {A : Type 0} (limit n : ℕ) (xs ys : List A) (x : A) → xs ++ x ∷ [] ≡ ys → length xs ≡ n → nat_le limit n ≡ false → length ys ≤ limit
+one_more {A = A} limit n xs ys x e is full =
+    let less = le_false limit n full in
+    let l = length_push xs x in
+    same_few limit (xs ++ x ∷ []) ys (sym e) (omega (arith, less, l, is))
+
+-- behind a declaration that is no thread
+few_more : (before : List Decl) (d : Decl) (p q : core.Program) → Few before p → length q.structs ≤ STRUCT_LIMIT → length q.sections ≤ SECTION_LIMIT → q.threads ≡ p.threads → ((t : Thread) → as_one (alike (thread t) d) ≡ 0) → calls_of d ≡ 0 → Few (before ++ d ∷ []) q
+few_more before d p q h structs sections same none no_calls = record {
+  structs = structs;
+  sections = sections;
+  threads = same_few THREAD_LIMIT p.threads q.threads same h.threads;
+  threads_are = λ t. (let s : length q.threads ≡ length p.threads = ap length same in let a = h.threads_are t in let c = count_push (alike (thread t)) before d in let n = none t in omega (arith, s, a, c, n));
+  calls_are = (let s : calls_in_threads q.threads ≡ calls_in_threads p.threads = ap calls_in_threads same in let a = h.calls_are in let c = total_push calls_of before d in omega (arith, s, a, c, no_calls));
+}
+
+few_next : (decls : List Decl) → Clean decls → (whole : core.Program) (before : List Decl) (d : Decl) (p q : core.Program) → Step decls whole before d p q → Few before p → Few (before ++ d ∷ []) q
+few_next decls clean whole before (struct s) p q st h =
+    let a = st.adds in
+    let none = none_left (one_if (nat_le STRUCT_LIMIT (count (alike (struct s)) before)) LimitExceeded s.name.span.start) _ (none_at_step decls clean whole before (struct s) p q st) in
+    few_more before (struct s) p q h
+    (one_more STRUCT_LIMIT (count (alike (struct s)) before) p.structs q.structs a.0.structure (ap (λ (z : core.Program). z.structs) a.2) (st.counts.structs s)
+    (not_if (nat_le STRUCT_LIMIT (count (alike (struct s)) before)) LimitExceeded s.name.span.start none))
+    (same_few SECTION_LIMIT p.sections q.sections (keeps_sections decls (length before) p (struct s) q a) h.sections) (keeps_threads decls (length before) p (struct s) q a) (λ t. refl) refl
+few_next decls clean whole before (atomic s) p q st h =
+    let a = st.adds in
+    few_more before (atomic s) p q h (same_few STRUCT_LIMIT p.structs q.structs (keeps_structs decls (length before) p (atomic s) q a) h.structs)
+    (one_more SECTION_LIMIT (count (alike (atomic s)) before) p.sections q.sections a.0 (ap (λ (z : core.Program). z.sections) a.2) (st.counts.sections s)
+    (not_if (nat_le SECTION_LIMIT (count (alike (atomic s)) before)) LimitExceeded s.name.span.start (none_at_step decls clean whole before (atomic s) p q st)))
+    (keeps_threads decls (length before) p (atomic s) q a) (λ t. refl) refl
+few_next decls clean whole before (thread t) p q st h =
+    let a = st.adds in
+    let n = count (alike (thread t)) before in
+    let x : core.Thread = record { name = t.name.text; calls = a.0 } in
+    let threads : p.threads ++ x ∷ [] ≡ q.threads = ap (λ (z : core.Program). z.threads) a.2 in
+    let none = none_left (one_if (nat_le THREAD_LIMIT n) LimitExceeded t.name.span.start) _ (none_at_step decls clean whole before (thread t) p q st) in
+    record {
+      structs = same_few STRUCT_LIMIT p.structs q.structs (keeps_structs decls (length before) p (thread t) q a) h.structs;
+      sections = same_few SECTION_LIMIT p.sections q.sections (keeps_sections decls (length before) p (thread t) q a) h.sections;
+      threads = one_more THREAD_LIMIT n p.threads q.threads x threads (h.threads_are t) (not_if (nat_le THREAD_LIMIT n) LimitExceeded t.name.span.start none);
+      threads_are = λ y. (let s : length q.threads ≡ length (p.threads ++ x ∷ []) = ap length (sym threads) in let l = length_push p.threads x in let b = h.threads_are y in let c = count_push (alike (thread y)) before (thread t) in omega (arith, s, l, b, c));
+      calls_are = (let s : calls_in_threads q.threads ≡ calls_in_threads (p.threads ++ x ∷ []) = ap calls_in_threads (sym threads) in let l = calls_push p.threads x in let b = h.calls_are in let c = total_push calls_of before (thread t) in let i : length a.0 ≡ calls_of (thread t) = items_counted decls t.items a.0 a.1 in omega (arith, s, l, b, c, i));
+    }
+few_next decls clean whole before (lock x) p q st h =
+    few_more before (lock x) p q h (same_few STRUCT_LIMIT p.structs q.structs (keeps_structs decls (length before) p (lock x) q st.adds) h.structs) (same_few SECTION_LIMIT p.sections q.sections (keeps_sections decls (length before) p (lock x) q st.adds) h.sections) (keeps_threads decls (length before) p (lock x) q st.adds) (λ t. refl) refl
+few_next decls clean whole before (global x) p q st h =
+    few_more before (global x) p q h (same_few STRUCT_LIMIT p.structs q.structs (keeps_structs decls (length before) p (global x) q st.adds) h.structs) (same_few SECTION_LIMIT p.sections q.sections (keeps_sections decls (length before) p (global x) q st.adds) h.sections) (keeps_threads decls (length before) p (global x) q st.adds) (λ t. refl) refl
+few_next decls clean whole before (array x) p q st h =
+    few_more before (array x) p q h (same_few STRUCT_LIMIT p.structs q.structs (keeps_structs decls (length before) p (array x) q st.adds) h.structs) (same_few SECTION_LIMIT p.sections q.sections (keeps_sections decls (length before) p (array x) q st.adds) h.sections) (keeps_threads decls (length before) p (array x) q st.adds) (λ t. refl) refl
+few_next decls clean whole before (pool x) p q st h =
+    few_more before (pool x) p q h (same_few STRUCT_LIMIT p.structs q.structs (keeps_structs decls (length before) p (pool x) q st.adds) h.structs) (same_few SECTION_LIMIT p.sections q.sections (keeps_sections decls (length before) p (pool x) q st.adds) h.sections) (keeps_threads decls (length before) p (pool x) q st.adds) (λ t. refl) refl
+few_next decls clean whole before (init x) p q st h =
+    few_more before (init x) p q h (same_few STRUCT_LIMIT p.structs q.structs (keeps_structs decls (length before) p (init x) q st.adds) h.structs) (same_few SECTION_LIMIT p.sections q.sections (keeps_sections decls (length before) p (init x) q st.adds) h.sections) (keeps_threads decls (length before) p (init x) q st.adds) (λ t. refl) refl
+
+few_whole : (decls : List Decl) → Clean decls → (whole : core.Program) → resolved decls ≡ Some whole → Few decls whole
+few_whole decls clean whole is = walked_whole decls clean whole is Few (record { structs = omega arith; sections = omega arith; threads = omega arith; threads_are = λ t. refl; calls_are = refl }) (few_next decls clean whole)
+
+-- ---- members
+
+-- each member is a lock field, a final reference or a field
+kinds_together : (ms : List Member) → length (locks_in ms) + length (finals_in ms) + length (fields_in ms) ≡ length ms
+kinds_together [] = refl
+kinds_together (lock_member x ∷ ms) = let r = kinds_together ms in omega (arith, r)
+kinds_together (final_member f ∷ ms) = let r = kinds_together ms in omega (arith, r)
+kinds_together (field_member f ∷ ms) = let r = kinds_together ms in omega (arith, r)
+
+members_within : (decls : List Decl) → Clean decls → (whole : core.Program) → resolved decls ≡ Some whole → (s : ℕ) (y : core.Struct) → slice_get whole.structs s ≡ Some y → length y.locks + length y.finals + length y.fields ≤ MEMBER_LIMIT
+members_within decls clean whole is s y at =
+    let r = struct_by_number decls clean whole is s y at in
+    let ms = r.0.members in
+    let a : length y.locks ≡ length (locks_in ms) = rows_length LockRow _ (locks_in ms) y.locks r.2.locks in
+    let b : length y.finals ≡ length (finals_in ms) = rows_length (FinalRow decls) 0 (finals_in ms) y.finals r.2.finals in
+    let c : length y.fields ≡ length (fields_in ms) = rows_length (FieldRow decls r.2.place ms) 0 (fields_in ms) y.fields r.2.fields in
+    let few = struct_few decls clean r.0 (struct_has decls s r.0 r.1) in
+    let all = kinds_together ms in
+    omega (arith, a, b, c, few, all)
+
+-- ---- parameters and locals
+
+parameters_few : (sc : Scope) (n : ℕ) (ps : List Param) → NoneIn (param_faults sc n ps) → n ≤ PARAMETER_LIMIT → n + length ps ≤ PARAMETER_LIMIT
+parameters_few sc n [] none le = omega (arith, le)
+parameters_few sc n (p ∷ ps) none le =
+    let t = type_of (outside sc.decls) p.value_type in
+    let a = local_faults sc p.name in
+    let b = one_if (nat_le PARAMETER_LIMIT n) LimitExceeded p.name.span.start in
+    let c = type_faults (outside sc.decls) p.value_type in
+    let rest = param_faults (bound sc kind.Parameter p.name t) (n + 1) ps in
+    let less : n < PARAMETER_LIMIT = le_false PARAMETER_LIMIT n (not_if (nat_le PARAMETER_LIMIT n) LimitExceeded p.name.span.start (none_right a b (none_left (a ++ b) c (none_left (a ++ b ++ c) rest none)))) in
+    let r = parameters_few (bound sc kind.Parameter p.name t) (n + 1) ps (none_right (a ++ b ++ c) rest none) (let z : n + 1 ≤ PARAMETER_LIMIT = omega (arith, less) in z) in
+    omega (arith, r)
+
+-- a local that may be bound has room
+room : (sc : Scope) (x : Ident) → NoneIn (local_faults sc x) → length sc.locals < LOCAL_LIMIT
+room sc x none = le_false LOCAL_LIMIT (length sc.locals) (not_if (nat_le LOCAL_LIMIT (length sc.locals)) LimitExceeded x.span.start (none_right (taken x.span.start (the_local sc.locals x.text) (the_decl sc.decls x.text)) _ none))
+
+-- behind a block there are as many locals as at its end
+left_few : (sc end : Scope) → length end.locals ≤ LOCAL_LIMIT → length (left sc end).locals ≤ LOCAL_LIMIT
+left_few sc end le = let l = hidden_length (length sc.locals) end.locals in omega (arith, l, le)
+
+mutual
+  after_few : (sc : Scope) (s : Stmt) → NoneIn (stmt_faults sc s) → length sc.locals ≤ LOCAL_LIMIT → length (after sc s).locals ≤ LOCAL_LIMIT
+  after_few sc (let_local l) none le =
+      let a = local_faults sc l.name in
+      let b = type_faults sc l.value_type in
+      let less = room sc l.name (none_left a b (none_left (a ++ b) (wanted_faults sc (want (type_of sc l.value_type)) l.value) none)) in
+      let x : scopes.Local = record { name = l.name.text; kind = kind.Let; value_type = type_of sc l.value_type; is_visible = true } in
+      let n = length_push sc.locals x in
+      omega (arith, less, n)
+  after_few sc (var_local l) none le =
+      let a = local_faults sc l.name in
+      let b = type_faults sc l.value_type in
+      let less = room sc l.name (none_left a b (none_left (a ++ b) (wanted_faults sc (want (type_of sc l.value_type)) l.value) none)) in
+      let x : scopes.Local = record { name = l.name.text; kind = kind.Var; value_type = type_of sc l.value_type; is_visible = true } in
+      let n = length_push sc.locals x in
+      omega (arith, less, n)
+  after_few sc (assign q e) none le = le
+  after_few sc (if_then start e body close other) none le =
+      let a = wanted_faults sc wanted.Condition e in
+      let b = stmts_faults sc body in
+      let c = else_faults (left sc (after_all sc body)) other in
+      else_few (left sc (after_all sc body)) other (none_right (a ++ b) c none) (left_few sc (after_all sc body) (all_few sc body (none_right a b (none_left (a ++ b) c none)) le))
+  after_few sc (while start e body close) none le = left_few sc (after_all sc body) (all_few sc body (none_right (wanted_faults sc wanted.Condition e) (stmts_faults sc body) none) le)
+  after_few sc (print start e) none le = le
+  after_few sc (return_value start e) none le = le
+
+  else_few : (sc : Scope) (o : Otherwise) → NoneIn (else_faults sc o) → length sc.locals ≤ LOCAL_LIMIT → length (after_else sc o).locals ≤ LOCAL_LIMIT
+  else_few sc no_else none le = le
+  else_few sc (else_do body close) none le = left_few sc (after_all sc body) (all_few sc body none le)
+
+  all_few : (sc : Scope) (ss : Stmts) → NoneIn (stmts_faults sc ss) → length sc.locals ≤ LOCAL_LIMIT → length (after_all sc ss).locals ≤ LOCAL_LIMIT
+  all_few sc no_stmts none le = le
+  all_few sc (stmt s rest) none le =
+      let a = stmt_faults sc s in
+      let b = stmts_faults (after sc s) rest in
+      all_few (after sc s) rest (none_right a b none) (after_few sc s (none_left a b none) le)
+
+-- the parameters and the locals of a section
+record FewIn (x : core.Section) : Type 0 where
+  parameters : x.parameters ≤ PARAMETER_LIMIT
+  locals : length x.locals ≤ LOCAL_LIMIT
+
+section_within : (decls : List Decl) → Clean decls → (whole : core.Program) → resolved decls ≡ Some whole → (k : ℕ) (x : core.Section) → slice_get whole.sections k ≡ Some x → FewIn x
+section_within decls clean whole is k x e =
+    let at = sections_of decls clean whole is k x e in
+    let s = at.section in
+    let made = sectioned decls s x at.typed in
+    let a = result_faults decls s.result in
+    let b = param_faults (ahead_of decls s) 0 s.params in
+    let c = stmts_faults (entry decls s) s.body.stmts in
+    let none : NoneIn (a ++ b ++ c) = λ f i. clean f (of_place_at decls at.place (atomic s) at.at f i) in
+    let few = parameters_few (ahead_of decls s) 0 s.params (none_right a b (none_left (a ++ b) c none)) (let z : 0 ≤ PARAMETER_LIMIT = omega arith in z) in
+    let start = entered_length (ahead_of decls s) s.params in
+    let all = all_few (entry decls s) s.body.stmts (none_right (a ++ b) c none) (let z : length (entry decls s).locals ≤ LOCAL_LIMIT = omega (arith, start, few) in z) in
+    let n = locals_length (after_all (entry decls s) s.body.stmts).locals x.locals made.locals in
+    let parameters = made.parameters in
+    record { parameters = omega (arith, parameters, few); locals = omega (arith, n, all) }
+
+-- ---- the whole
+
+module _ (decls : List Decl) (clean : Clean decls) (program : Typed) (is : resolved decls ≡ Some (core_of program)) where
+  struct_within : (s : ℕ) (x : the_struct.Struct) → slice_get program.structs.items s ≡ Some x → length x.locks.items + length x.finals.items + length x.fields.items ≤ 32
+  struct_within s x at =
+      let few = members_within decls clean (core_of program) is s (core_struct x) (get_map core_struct program.structs.items s x at) in
+      let a = length-map x.locks.items core_lock in
+      let b = length-map x.finals.items core_final in
+      let c = length-map x.fields.items core_field in
+      omega (arith, few, a, b, c)
+
+  section_few : (k : ℕ) (x : the_section.Section) → slice_get program.sections.items k ≡ Some x → FewIn (core_section x)
+  section_few k x at = section_within decls clean (core_of program) is k (core_section x) (get_map core_section program.sections.items k x at)
+
+  pub within_limits : IsWithinLimits program
+  within_limits =
+      let few = few_whole decls clean (core_of program) is in
+      let counted = counted_whole decls clean (core_of program) is in
+      record {
+        classes = (let n = few_classes decls clean (core_of program) is in let l = length-map program.classes.items core_class in omega (arith, n, l));
+        structs = (let n = few.structs in let l = length-map program.structs.items core_struct in omega (arith, n, l));
+        members = struct_within;
+        objects = few_objects decls clean (core_of program) is;
+        cells = (let n = counted.cells in let l = cells_few decls [] decls (λ f i. clean f (of_totals decls f i)) (let z : 0 ≤ CELL_LIMIT = omega arith in z) in omega (arith, n, l));
+        sections = (let n = few.sections in let l = length-map program.sections.items core_section in omega (arith, n, l));
+        parameters = λ k x at. (section_few k x at).parameters;
+        locals = λ k x at. (let n = (section_few k x at).locals in let l = length-map x.locals.items core_local in omega (arith, n, l));
+        threads = (let n = few.threads in let l = length-map program.threads.items core_thread in omega (arith, n, l));
+        calls = (let n = few.calls_are in let v = calls_viewed program.threads.items in let l = calls_few decls [] decls (λ f i. clean f (of_totals decls f i)) (let z : 0 ≤ CALL_LIMIT = omega arith in z) in omega (arith, n, v, l));
+      }

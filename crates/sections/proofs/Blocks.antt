@@ -1,0 +1,215 @@
+-- Blocks; statements and parameters one after another.
+use Rattle.std.proofs.Common.{◌≡◌, ℕ, ◌+◌, ◌<◌, List, [], ◌∷◌, ◌++◌, Option, Some, None, length, drop, get_or, refl, sym, ap, ◌∙◌}
+use Rattle.std.specs.Prelude.{option_map, map, nat_le}
+use Rattle.source.specs.declared.fault.Code.TheVariants.{LimitExceeded}
+use Rattle.source.specs.declared.span.Span.{Span}
+use Rattle.resolution.specs.declared.mistake.Mistake.{Mistake}
+use Rattle.syntax.specs.declared.tree.Expr as tree
+use Rattle.syntax.specs.declared.tree.Stmt as tree_stmt
+use Rattle.syntax.specs.declared.tree.Stmt.{While, If}
+use Rattle.syntax.specs.declared.tree.Block as tree_block
+use Rattle.syntax.specs.declared.tree.Param as tree_param
+use Rattle.syntax.specs.Views.{expr_of, stmt_of, stmts_of, else_of, param_of}
+use Rattle.syntax.specs.Trees.{Decl, Stmt, let_local, var_local, assign, if_then, while, print, return_value, Stmts, no_stmts, stmt, Otherwise, no_else, else_do}
+use Rattle.core_lang.specs.declared.value.ValueType as core_type
+use Rattle.syntax.proofs.Rows.{stmt_of_While, stmt_of_If}
+use Rattle.core_lang.specs.declared.tree.LocalKind.TheVariants.{Parameter}
+use Rattle.core_lang.specs.declared.tree.Stmt as r
+use Rattle.resolution.specs.Core as core
+use Rattle.resolution.specs.CoreViews.{core_stmt, core_stmts, core_return}
+use Rattle.resolution.specs.declared.wanted.Want.TheVariants.{Condition}
+use Rattle.sections.specs.declared.stmt.Body as the_body
+use Rattle.sections.specs.Targets.{Row, row_of, body_of, pushed_to, body_pushed}
+use Rattle.resolution.specs.Limits.{PARAMETER_LIMIT}
+use Rattle.resolution.specs.Scopes.{Local, Scope, hidden_from, bound, entered, outside, type_of, left}
+use Rattle.resolution.specs.Expressions.{typed, test_in_sense}
+use Rattle.resolution.specs.Statements.{Part, does, gives, Body, given_back, preceded, typed_body, typed_stmt, typed_if, after, after_else, after_all, block_of, repeats}
+use Rattle.resolution.specs.FaultLists.{least_of, one_if, local_faults, type_faults, param_faults, stmt_faults, stmts_faults, wanted_faults, else_faults}
+use Rattle.symbols.proofs.Steps.{step, noted_one, noted_two, noted_three}
+
+-- ---- bodies
+
+-- statements, and then those behind them
+abbrev pub stmts_before : List core.Stmt → core.Stmts → core.Stmts
+stmts_before [] rest = rest
+stmts_before (x ∷ xs) rest = core.stmt x.start x.action (stmts_before xs rest)
+
+-- a body and then the rest; behind a `return` there is none
+abbrev pub body_and : List core.Stmt → Option core.Return → core.Stmts → Option core.Return → Option Body
+body_and xs None ys q = Some (record { stmts = stmts_before xs ys; result = q })
+body_and xs (Some r) core.no_stmts None = Some (record { stmts = stmts_before xs core.no_stmts; result = Some r })
+body_and xs (Some r) core.no_stmts (Some q) = None
+body_and xs (Some r) (core.stmt s a ys) q = None
+
+abbrev pub body_joined : Option Row → Option Body → Option Body
+body_joined (Some b) (Some rest) = body_and b.stmts b.result rest.stmts rest.result
+body_joined (Some b) None = None
+body_joined None rest = None
+
+before_push : (xs : List core.Stmt) (x : core.Stmt) (rest : core.Stmts) → stmts_before (xs ++ x ∷ []) rest ≡ stmts_before xs (core.stmt x.start x.action rest)
+before_push [] x rest = refl
+before_push (y ∷ xs) x rest = ap (core.stmt y.start y.action) (before_push xs x rest)
+
+body_step : (xs : List core.Stmt) (q : Option core.Return) (p : Part) (b : Body) → body_joined (pushed_to xs q p) (Some b) ≡ body_joined (Some (record { stmts = xs; result = q })) (preceded (Some p) (Some b))
+body_step xs None (does x) b = ap (λ (ys : core.Stmts). Some (record { stmts = ys; result = b.result })) (before_push xs x b.stmts)
+body_step xs None (gives r) b = behind b.stmts b.result
+  where
+    behind : (ys : core.Stmts) (s : Option core.Return) → body_and xs (Some r) ys s ≡ body_joined (Some (record { stmts = xs; result = None })) (given_back r ys s)
+    behind core.no_stmts None = refl
+    behind core.no_stmts (Some s) = refl
+    behind (core.stmt y a ys) s = refl
+body_step xs (Some q) (does x) b = refl
+body_step xs (Some q) (gives r) b = behind b.stmts b.result
+  where
+    behind : (ys : core.Stmts) (s : Option core.Return) → None ≡ body_joined (Some (record { stmts = xs; result = Some q })) (given_back r ys s)
+    behind core.no_stmts None = refl
+    behind core.no_stmts (Some s) = refl
+    behind (core.stmt y a ys) s = refl
+
+none_step : (xs : List core.Stmt) (q : Option core.Return) (p : Part) → body_joined (pushed_to xs q p) None ≡ None
+none_step xs None (does x) = refl
+none_step xs None (gives r) = refl
+none_step xs (Some q) p = refl
+
+preceded_none : (p : Part) → preceded (Some p) None ≡ None
+preceded_none (does x) = refl
+preceded_none (gives r) = refl
+
+pub body_more : (so_far : Option Row) (p : Option Part) (rest : Option Body) → body_joined (body_pushed so_far p) rest ≡ body_joined so_far (preceded p rest)
+body_more None p rest = refl
+body_more (Some b) None rest = refl
+body_more (Some b) (Some p) None = none_step b.stmts b.result p ∙ sym (ap (body_joined (Some b)) (preceded_none p))
+body_more (Some b) (Some p) (Some rest) = body_step b.stmts b.result p rest
+
+stmts_all : (xs : List r.Stmt) → stmts_before (map core_stmt xs) core.no_stmts ≡ core_stmts xs
+stmts_all [] = refl
+stmts_all (x ∷ xs) = ap (core.stmt x.start (core_stmt x).action) (stmts_all xs)
+
+pub body_end : (o : Option the_body.Body) → body_joined (option_map row_of o) (Some (record { stmts = core.no_stmts; result = None })) ≡ option_map body_of o
+body_end None = refl
+body_end (Some b) = last b.stmts.items (option_map core_return b.result)
+  where
+    last : (xs : List r.Stmt) (q : Option core.Return) → body_and (map core_stmt xs) q core.no_stmts None ≡ Some (record { stmts = core_stmts xs; result = q })
+    last xs None = ap (λ (ys : core.Stmts). Some (record { stmts = ys; result = None })) (stmts_all xs)
+    last xs (Some q) = ap (λ (ys : core.Stmts). Some (record { stmts = ys; result = Some q })) (stmts_all xs)
+
+-- ---- statements one after another
+
+pub stmt_step : (sc sc' : Scope) (items : List tree_stmt.Stmt) (i : ℕ) (item : tree_stmt.Stmt) (so_far new : Option Row) (p : Option Part) (whole : Option Body) →
+    i < length items → item ≡ get_or items i item → new ≡ body_pushed so_far p → p ≡ typed_stmt sc (stmt_of item) → sc' ≡ after sc (stmt_of item) →
+    body_joined so_far (typed_body sc (stmts_of (drop i items))) ≡ whole → body_joined new (typed_body sc' (stmts_of (drop (i + 1) items))) ≡ whole
+stmt_step sc sc' items i item so_far new p whole lt is made one behind before =
+    let rest = drop (i + 1) items in
+    step (λ ss. body_joined so_far (typed_body sc (stmts_of ss))) (λ ss. body_joined new (typed_body sc' (stmts_of ss))) items i item whole lt is
+    (ap (λ (n : Option Row). body_joined n (typed_body sc' (stmts_of rest))) made
+    ∙ body_more so_far p (typed_body sc' (stmts_of rest))
+    ∙ ap (λ (y : Option Part). body_joined so_far (preceded y (typed_body sc' (stmts_of rest)))) one
+    ∙ ap (λ (z : Scope). body_joined so_far (preceded (typed_stmt sc (stmt_of item)) (typed_body z (stmts_of rest)))) behind)
+    before
+
+pub stmt_fault_step : (sc sc' : Scope) (items : List tree_stmt.Stmt) (i : ℕ) (item : tree_stmt.Stmt) (f g whole : Option Mistake) →
+    i < length items → item ≡ get_or items i item → g ≡ least_of f (stmt_faults sc (stmt_of item)) → sc' ≡ after sc (stmt_of item) →
+    least_of f (stmts_faults sc (stmts_of (drop i items))) ≡ whole → least_of g (stmts_faults sc' (stmts_of (drop (i + 1) items))) ≡ whole
+stmt_fault_step sc sc' items i item f g whole lt is one behind before =
+    let rest = drop (i + 1) items in
+    step (λ ss. least_of f (stmts_faults sc (stmts_of ss))) (λ ss. least_of g (stmts_faults sc' (stmts_of ss))) items i item whole lt is
+    (ap (λ (z : Scope). least_of g (stmts_faults z (stmts_of rest))) behind ∙ noted_one f g (stmt_faults sc (stmt_of item)) (stmts_faults (after sc (stmt_of item)) (stmts_of rest)) one)
+    before
+
+pub stmt_scope_step : (sc sc' whole : Scope) (items : List tree_stmt.Stmt) (i : ℕ) (item : tree_stmt.Stmt) →
+    i < length items → item ≡ get_or items i item → sc' ≡ after sc (stmt_of item) →
+    after_all sc (stmts_of (drop i items)) ≡ whole → after_all sc' (stmts_of (drop (i + 1) items)) ≡ whole
+stmt_scope_step sc sc' whole items i item lt is behind before =
+    step (λ ss. after_all sc (stmts_of ss)) (λ ss. after_all sc' (stmts_of ss)) items i item whole lt is (ap (λ (z : Scope). after_all z (stmts_of (drop (i + 1) items))) behind) before
+
+-- ---- parameters
+
+pub param_fault_step : (sc sc' : Scope) (items : List tree_param.Param) (i : ℕ) (item : tree_param.Param) (f g h k whole : Option Mistake) →
+    i < length items → item ≡ get_or items i item →
+    g ≡ least_of f (local_faults sc (param_of item).name) → h ≡ least_of g (one_if (nat_le PARAMETER_LIMIT i) LimitExceeded (param_of item).name.span.start) →
+    k ≡ least_of h (type_faults (outside sc.decls) (param_of item).value_type) → sc' ≡ bound sc Parameter (param_of item).name (type_of (outside sc.decls) (param_of item).value_type) →
+    least_of f (param_faults sc i (map param_of (drop i items))) ≡ whole → least_of k (param_faults sc' (i + 1) (map param_of (drop (i + 1) items))) ≡ whole
+param_fault_step sc sc' items i item f g h k whole lt is one two three behind before =
+    let p = param_of item in
+    let rest = map param_of (drop (i + 1) items) in
+    step (λ ps. least_of f (param_faults sc i (map param_of ps))) (λ ps. least_of k (param_faults sc' (i + 1) (map param_of ps))) items i item whole lt is
+    (ap (λ (z : Scope). least_of k (param_faults z (i + 1) rest)) behind
+    ∙ noted_three f g h k (local_faults sc p.name) (one_if (nat_le PARAMETER_LIMIT i) LimitExceeded p.name.span.start) (type_faults (outside sc.decls) p.value_type) (param_faults (bound sc Parameter p.name (type_of (outside sc.decls) p.value_type)) (i + 1) rest) one two three)
+    before
+
+pub param_scope_step : (sc sc' whole : Scope) (items : List tree_param.Param) (i : ℕ) (item : tree_param.Param) →
+    i < length items → item ≡ get_or items i item → sc' ≡ bound sc Parameter (param_of item).name (type_of (outside sc.decls) (param_of item).value_type) →
+    entered sc (map param_of (drop i items)) ≡ whole → entered sc' (map param_of (drop (i + 1) items)) ≡ whole
+param_scope_step sc sc' whole items i item lt is behind before =
+    step (λ ps. entered sc (map param_of ps)) (λ ps. entered sc' (map param_of ps)) items i item whole lt is (ap (λ (z : Scope). entered z (map param_of (drop (i + 1) items))) behind) before
+
+-- ---- blocks
+
+after_else_result : (sc : Scope) (o : Otherwise) → (after_else sc o).result ≡ sc.result
+after_else_result sc no_else = refl
+after_else_result sc (else_do body close) = refl
+
+after_result : (sc : Scope) (s : Stmt) → (after sc s).result ≡ sc.result
+after_result sc (let_local l) = refl
+after_result sc (var_local l) = refl
+after_result sc (assign p e) = refl
+after_result sc (if_then start e body close other) = after_else_result (left sc (after_all sc body)) other
+after_result sc (while start e body close) = refl
+after_result sc (print start e) = refl
+after_result sc (return_value start e) = refl
+
+after_all_result : (sc : Scope) (ss : Stmts) → (after_all sc ss).result ≡ sc.result
+after_all_result sc no_stmts = refl
+after_all_result sc (stmt s rest) = after_all_result (after sc s) rest ∙ after_result sc s
+
+-- behind a block, whose locals are hidden
+pub left_is : (ds : List Decl) (old inner new : List Local) (r0 r1 r2 : Option core_type.ValueType) (place : ℕ) (ss : Stmts) → place ≡ length old →
+    ◌≡◌ {A = Scope} (record { decls = ds; locals = inner; result = r1 }) (after_all (record { decls = ds; locals = old; result = r0 }) ss) → new ≡ hidden_from place inner → r2 ≡ r1 →
+    ◌≡◌ {A = Scope} (record { decls = ds; locals = new; result = r2 }) (left (record { decls = ds; locals = old; result = r0 }) (after_all (record { decls = ds; locals = old; result = r0 }) ss))
+left_is ds old inner new r0 r1 r2 place ss here within made same =
+    let sc : Scope = record { decls = ds; locals = old; result = r0 } in
+    let a : new ≡ hidden_from (length old) (after_all sc ss).locals = made ∙ ap (λ (n : ℕ). hidden_from n inner) here ∙ ap (λ (z : Scope). hidden_from (length old) z.locals) within in
+    let b : r2 ≡ r0 = same ∙ ap (λ (z : Scope). z.result) within ∙ after_all_result sc ss in
+    ap (λ (ws : List Local). record { decls = ds; locals = ws; result = r2 }) a ∙ ap (λ (r : Option core_type.ValueType). record { decls = ds; locals = hidden_from (length old) (after_all sc ss).locals; result = r }) b
+
+-- ---- loops and choices
+
+pub while_value : (sc : Scope) (s : tree_stmt.Stmt) (at : Span) (test : tree.Expr) (body : tree_block.Block) (items : List tree_stmt.Stmt) (cond : Option core.Condition) (block : Option core.Stmts) (inner : Option Body) (made : Option Part) →
+    s ≡ While at test body → items ≡ body.stmts.items → cond ≡ test_in_sense (typed sc (expr_of test)) → block ≡ block_of inner → inner ≡ typed_body sc (stmts_of items) → made ≡ repeats at.start cond block → made ≡ typed_stmt sc (stmt_of s)
+while_value sc s at test body items cond block inner made is all hc hb hi hm =
+    hm ∙ ap (λ c. repeats at.start c block) hc
+    ∙ ap (repeats at.start (test_in_sense (typed sc (expr_of test)))) (hb ∙ ap block_of (hi ∙ ap (λ ss. typed_body sc (stmts_of ss)) all))
+    ∙ ap (typed_stmt sc) (sym (ap stmt_of is ∙ stmt_of_While at test body))
+
+pub while_faults : (sc : Scope) (s : tree_stmt.Stmt) (at : Span) (test : tree.Expr) (body : tree_block.Block) (items : List tree_stmt.Stmt) (f g h : Option Mistake) →
+    s ≡ While at test body → items ≡ body.stmts.items → g ≡ least_of f (wanted_faults sc Condition (expr_of test)) → h ≡ least_of g (stmts_faults sc (stmts_of items)) → h ≡ least_of f (stmt_faults sc (stmt_of s))
+while_faults sc s at test body items f g h is all hg hh =
+    hh ∙ ap (λ ss. least_of g (stmts_faults sc (stmts_of ss))) all
+    ∙ noted_one f g (wanted_faults sc Condition (expr_of test)) (stmts_faults sc (stmts_of body.stmts.items)) hg
+    ∙ ap (λ x. least_of f (stmt_faults sc x)) (sym (ap stmt_of is ∙ stmt_of_While at test body))
+
+pub while_scope : (sc sc2 : Scope) (s : tree_stmt.Stmt) (at : Span) (test : tree.Expr) (body : tree_block.Block) (items : List tree_stmt.Stmt) →
+    s ≡ While at test body → items ≡ body.stmts.items → sc2 ≡ left sc (after_all sc (stmts_of items)) → sc2 ≡ after sc (stmt_of s)
+while_scope sc sc2 s at test body items is all behind = behind ∙ ap (λ ss. left sc (after_all sc (stmts_of ss))) all ∙ ap (after sc) (sym (ap stmt_of is ∙ stmt_of_While at test body))
+
+pub if_value : (sc sc2 : Scope) (s : tree_stmt.Stmt) (at : Span) (test : tree.Expr) (body : tree_block.Block) (other : Option tree_block.Block) (items : List tree_stmt.Stmt) (cond : Option core.Condition) (block : Option core.Stmts) (inner : Option Body) →
+    s ≡ If at test body other → items ≡ body.stmts.items → sc2 ≡ left sc (after_all sc (stmts_of items)) → cond ≡ test_in_sense (typed sc (expr_of test)) → block ≡ block_of inner → inner ≡ typed_body sc (stmts_of items) →
+    typed_if sc2 at.start cond block (else_of other) ≡ typed_stmt sc (stmt_of s)
+if_value sc sc2 s at test body other items cond block inner is all behind hc hb hi =
+    ap (λ z. typed_if z at.start cond block (else_of other)) (behind ∙ ap (λ ss. left sc (after_all sc (stmts_of ss))) all)
+    ∙ ap (λ c. typed_if (left sc (after_all sc (stmts_of body.stmts.items))) at.start c block (else_of other)) hc
+    ∙ ap (λ b. typed_if (left sc (after_all sc (stmts_of body.stmts.items))) at.start (test_in_sense (typed sc (expr_of test))) b (else_of other)) (hb ∙ ap block_of (hi ∙ ap (λ ss. typed_body sc (stmts_of ss)) all))
+    ∙ ap (typed_stmt sc) (sym (ap stmt_of is ∙ stmt_of_If at test body other))
+
+pub if_faults : (sc sc2 : Scope) (s : tree_stmt.Stmt) (at : Span) (test : tree.Expr) (body : tree_block.Block) (other : Option tree_block.Block) (items : List tree_stmt.Stmt) (f g h k : Option Mistake) →
+    s ≡ If at test body other → items ≡ body.stmts.items → sc2 ≡ left sc (after_all sc (stmts_of items)) → g ≡ least_of f (wanted_faults sc Condition (expr_of test)) → h ≡ least_of g (stmts_faults sc (stmts_of items)) → k ≡ least_of h (else_faults sc2 (else_of other)) →
+    k ≡ least_of f (stmt_faults sc (stmt_of s))
+if_faults sc sc2 s at test body other items f g h k is all behind hg hh hk =
+    hk ∙ ap (λ z. least_of h (else_faults z (else_of other))) (behind ∙ ap (λ ss. left sc (after_all sc (stmts_of ss))) all)
+    ∙ noted_two f g h (wanted_faults sc Condition (expr_of test)) (stmts_faults sc (stmts_of body.stmts.items)) (else_faults (left sc (after_all sc (stmts_of body.stmts.items))) (else_of other)) hg (hh ∙ ap (λ ss. least_of g (stmts_faults sc (stmts_of ss))) all)
+    ∙ ap (λ x. least_of f (stmt_faults sc x)) (sym (ap stmt_of is ∙ stmt_of_If at test body other))
+
+pub if_scope : (sc sc2 sc3 : Scope) (s : tree_stmt.Stmt) (at : Span) (test : tree.Expr) (body : tree_block.Block) (other : Option tree_block.Block) (items : List tree_stmt.Stmt) →
+    s ≡ If at test body other → items ≡ body.stmts.items → sc2 ≡ left sc (after_all sc (stmts_of items)) → sc3 ≡ after_else sc2 (else_of other) → sc3 ≡ after sc (stmt_of s)
+if_scope sc sc2 sc3 s at test body other items is all behind made =
+    made ∙ ap (λ z. after_else z (else_of other)) (behind ∙ ap (λ ss. left sc (after_all sc (stmts_of ss))) all) ∙ ap (after sc) (sym (ap stmt_of is ∙ stmt_of_If at test body other))

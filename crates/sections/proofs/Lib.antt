@@ -1,0 +1,4 @@
+pub mod CoreRows
+pub mod Chains
+pub mod Blocks
+pub mod Lasts

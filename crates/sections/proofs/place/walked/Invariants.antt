@@ -1,0 +1,14 @@
+use Rattle.std.proofs.Common.{◌≡◌, drop}
+use Rattle.std.specs.Prelude.{map}
+use Rattle.syntax.specs.Views.{ident}
+use Rattle.resolution.specs.Expressions.{walked}
+use Rattle.resolution.specs.FaultLists.{least_of, walk_faults}
+use Rattle.symbols.specs.Views.{declared_by}
+use Rattle.sections.specs.Senses.{walk_of}
+use Rattle.sections.proofs.place.walked.Given as goal
+
+abbrev pub invariant-loop-f : goal.invariant-loop-f
+invariant-loop-f l = record {
+  value : walked (declared_by l.decls) (walk_of l.reached) (map ident (drop l.f-index l.fields)) ≡ walked (declared_by l.decls) (walk_of l.fn.w) (map ident l.fields);
+  faults : least_of l.least (walk_faults (declared_by l.decls) l.start (walk_of l.reached) (map ident (drop l.f-index l.fields))) ≡ least_of l.fn.least (walk_faults (declared_by l.decls) l.start (walk_of l.fn.w) (map ident l.fields));
+}

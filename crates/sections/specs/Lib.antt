@@ -1,0 +1,3 @@
+pub mod Senses
+pub mod Parts
+pub mod Targets

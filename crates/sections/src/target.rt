@@ -1,0 +1,237 @@
+//! The left sides of assignments.
+
+ghost use Rattle.std.specs.Prelude.{◌≡◌, OnOk, IfOk, option_map, Some};
+ghost use Rattle.syntax.specs.Views.{place_of};
+ghost use Rattle.resolution.specs.CoreViews.{core_expr};
+ghost use Rattle.resolution.specs.Statements.{aim, aimed_at, aimed_at_element, aimed_along, target_of, wanted_by};
+ghost use Rattle.resolution.specs.FaultLists.{least_of, no_target, no_array, final_faults, target_faults};
+ghost use Rattle.symbols.specs.Views.{declared_by, AreDeclarations};
+ghost use Rattle.symbols.specs.Programs.{program_of, IsProgram};
+ghost use Rattle.symbols.specs.Scoped.{scope_of, AreLocals, meaning_of};
+ghost use Rattle.sections.specs.Senses.{walk_of};
+ghost use Rattle.sections.specs.Targets.{target_seen, aim_of, field_behind};
+
+use crate::expr::judge_number;
+use crate::place::{Walk, local_path, note_no_elements, walk_from};
+use core_lang::tree::{Expr, FieldStep, LocalKind, Path};
+use core_lang::value::ValueType;
+use resolution::mistake::Mistake;
+use resolution::wanted::Want;
+use source::fault::Code;
+use std::alloc::{AllocError, Global};
+use symbols::declarations::Declarations;
+use symbols::note::{note, note_if};
+use symbols::scope::{Locals, Meaning, meaning_at, note_unfit, type_outside};
+use symbols::table::Program;
+use syntax::tree::{Decl, Place};
+
+/// What is assigned to.
+#[derive(Drop)]
+pub enum Target {
+    /// A `var`, by its number.
+    Local(usize),
+    /// A global, by its cell.
+    Global(u32),
+    /// An element of an array, by the array's number and the index.
+    Element(usize, Expr),
+    /// A field, by what leads to the object and the field's number.
+    Field(Path, u32),
+}
+
+/// What is assigned to, and its type.
+#[derive(Drop)]
+pub struct Aim {
+    pub target: Target,
+    pub value_type: ValueType,
+}
+
+/// What is assigned to, if its type has no fault.
+fn aiming(target: Target, t: Option<ValueType>) -> Option<Aim>
+    ensures { option_map aim_of result ≡ aim (Some (target_seen target)) t }
+{
+    match t {
+        Some(value_type) => Some(Aim { target, value_type }),
+        None => None,
+    }
+}
+
+/// A name on the left.
+fn aimed_at(program: &Program, m: Meaning) -> Option<Aim>
+    requires { IsProgram program.now }
+    ensures { option_map aim_of result ≡ aimed_at (program_of program.now) (meaning_of m.entry) }
+{
+    match m {
+        Meaning::Local(i, local) => match local.kind {
+            LocalKind::Var => aiming(Target::Local(i), local.value_type),
+            LocalKind::Let | LocalKind::Parameter => None,
+        },
+        Meaning::Decl(place, Decl::Global(v)) => {
+            let cell = program.cell(place);
+            aiming(
+                Target::Global(cell),
+                type_outside(&program.decls, &v.value_type),
+            )
+        }
+        _ => None,
+    }
+}
+
+/// Notes a name that can't stand on the left.
+fn note_no_target(decls: &Declarations, start: usize, m: Meaning, least: &mut Option<Mistake>)
+    requires { AreDeclarations decls.now }
+    ensures { least.new ≡ least_of least.old (no_target (declared_by decls.now) start (meaning_of m.entry)) }
+{
+    match m {
+        Meaning::Local(_, local) => match local.kind {
+            LocalKind::Var => {}
+            LocalKind::Let | LocalKind::Parameter => note(least, Code::NotAssignable, start),
+        },
+        Meaning::Decl(_, Decl::Global(_)) => {}
+        Meaning::Decl(_, Decl::Lock(_)) => note(least, Code::LockAsValue, start),
+        Meaning::Decl(_, Decl::Struct(_))
+        | Meaning::Decl(_, Decl::Array(_))
+        | Meaning::Decl(_, Decl::Pool(_))
+        | Meaning::Decl(_, Decl::Init(_))
+        | Meaning::Decl(_, Decl::Atomic(_))
+        | Meaning::Decl(_, Decl::Thread(_)) => {
+            note_unfit(decls, Code::NotAssignable, start, m, least);
+        }
+        Meaning::Nothing => note(least, Code::UnknownName, start),
+    }
+}
+
+/// A name with an index on the left.
+fn aimed_at_element(decls: &Declarations, m: Meaning, index: Option<Expr>) -> Option<Aim>
+    requires { AreDeclarations decls.now }
+    ensures { option_map aim_of result ≡ aimed_at_element (declared_by decls.now) (meaning_of m.entry) (option_map core_expr index) }
+{
+    let index = index?;
+    let Meaning::Decl(place, d) = m else {
+        return None;
+    };
+    match d {
+        Decl::Array(a) => {
+            let number = decls.number(place, d);
+            aiming(
+                Target::Element(number, index),
+                type_outside(decls, &a.value_type),
+            )
+        }
+        _ => None,
+    }
+}
+
+/// Notes a pool's member on the left.
+fn note_no_array(decls: &Declarations, start: usize, m: Meaning, least: &mut Option<Mistake>)
+    requires { AreDeclarations decls.now }
+    ensures { least.new ≡ least_of least.old (no_array (declared_by decls.now) start (meaning_of m.entry)) }
+{
+    match m {
+        Meaning::Decl(_, Decl::Pool(_)) => {
+            note_unfit(decls, Code::NotAssignable, start, m, least);
+        }
+        _ => {}
+    }
+}
+
+/// The number of the field that the last step goes over, if it isn't final.
+fn field_behind(steps: &Vec<FieldStep>) -> Option<u32>
+    ensures { result ≡ field_behind steps.now.items }
+{
+    match steps.last() {
+        Some(FieldStep::Field(number)) => Some(*number),
+        Some(FieldStep::Final(number)) => {
+            let _number = *number;
+            None
+        }
+        None => None,
+    }
+}
+
+/// A local and fields on the left.
+fn aimed_along(start: usize, m: Meaning, w: Walk) -> Option<Aim>
+    ensures { option_map aim_of result ≡ aimed_along start (meaning_of m.entry) (walk_of w) }
+{
+    let Meaning::Local(i, _) = m else {
+        return None;
+    };
+    let Walk::Reached(mut steps, t) = w else {
+        return None;
+    };
+    match steps.pop() {
+        Some(FieldStep::Field(field)) => {
+            aiming(Target::Field(local_path(start, i, steps), field), Some(t))
+        }
+        Some(FieldStep::Final(number)) => {
+            let _number = number;
+            None
+        }
+        None => None,
+    }
+}
+
+/// Notes a path that ends at no field that can be assigned to.
+fn note_final(start: usize, w: &Walk, least: &mut Option<Mistake>)
+    ensures { least.new ≡ least_of least.old (final_faults start (walk_of w.now)) }
+{
+    match w {
+        Walk::Reached(steps, _) => {
+            note_if(
+                field_behind(steps).is_none(),
+                Code::NotAssignable,
+                start,
+                least,
+            );
+        }
+        Walk::AtLock | Walk::Lost => {}
+    }
+}
+
+/// The left side of an assignment, if it is one.
+#[tactic(auto, using(symbols::proofs::Least::least_append))]
+pub fn judge_target(
+    alloc: Global,
+    program: &Program,
+    locals: &Locals,
+    p: &Place,
+    least: &mut Option<Mistake>,
+) -> Result<Option<Aim>, AllocError>
+    requires program { IsProgram program.now }
+    requires locals { AreLocals locals.now }
+    ensures value { IfOk result (λ r. option_map aim_of r ≡ target_of (scope_of (program_of program.now) locals.now) (place_of p.now)) }
+    ensures faults { OnOk result (least.new ≡ least_of least.old (target_faults (scope_of (program_of program.now) locals.now) (place_of p.now))) }
+{
+    let decls = &program.decls;
+    match p {
+        Place::Name(name) => {
+            let m = meaning_at(decls, locals, name);
+            note_no_target(decls, name.start as usize, m, least);
+            Ok(aimed_at(program, m))
+        }
+        Place::Element(element) => {
+            let name = &element.name;
+            let m = meaning_at(decls, locals, name);
+            note_no_elements(decls, name.start as usize, m, least);
+            note_no_array(decls, name.start as usize, m, least);
+            let index = judge_number(alloc, program, locals, &element.index, least)?;
+            Ok(aimed_at_element(decls, m, index))
+        }
+        Place::Path(path) => {
+            let start = path.first.start as usize;
+            let m = meaning_at(decls, locals, &path.first);
+            let w = walk_from(alloc, decls, start, m, &path.fields, least)?;
+            note_final(start, &w, least);
+            Ok(aimed_along(start, m, w))
+        }
+    }
+}
+
+/// What is wanted to be assigned.
+pub fn wanted_by(a: &Option<Aim>) -> Want
+    ensures { result ≡ wanted_by (option_map aim_of a.now) }
+{
+    match a {
+        Some(a) => Want::Value(a.value_type),
+        None => Want::Anything,
+    }
+}

@@ -1,0 +1,10 @@
+pub mod Least
+pub mod Tables
+pub mod Ahead
+pub mod Steps
+pub mod Hiding
+pub mod Declared
+pub mod Sums
+pub mod Giving
+pub mod Structs
+pub mod Given

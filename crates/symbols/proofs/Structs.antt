@@ -1,0 +1,93 @@
+-- Structs among declarations, and their members, one after another.
+use Rattle.std.proofs.Common.{◌≡◌, ℕ, zero, suc, ◌≤◌, List, [], ◌∷◌, ◌++◌, Option, Some, None, Bool, true, false, refl, sym, ap, ◌∙◌, arith, subst, inl, inr}
+use Rattle.std.proofs.lemmas.List.{map-append}
+use Rattle.std.specs.Prelude.{slice_get, is_some, not, ◌⊎◌}
+use Rattle.source.specs.declared.fault.Code.TheVariants.{DeclaredTwice}
+use Rattle.syntax.specs.declared.tree.Decl as rust
+use Rattle.syntax.specs.declared.tree.Decl.TheVariants as variant
+use Rattle.syntax.specs.declared.tree.Struct as rust_struct
+use Rattle.syntax.specs.Trees.{Decl, lock, struct, global, array, pool, init, atomic, thread, Struct, Member, lock_member, final_member, field_member}
+use Rattle.syntax.specs.Views.{decl_of}
+use Rattle.resolution.specs.Scopes.{structs_in}
+use Rattle.resolution.specs.Numbers.{new_field}
+use Rattle.resolution.specs.FaultLists.{one_if, again, struct_faults}
+use Rattle.symbols.specs.Counted.{field_if}
+use Rattle.symbols.specs.Views.{structure_of, IsStructure, AreStructures}
+use Rattle.symbols.specs.declared.members.Structure.{Structure}
+
+pub again_if : (b : Bool) (o : Option ℕ) (start : ℕ) → is_some o ≡ not b → one_if (not b) DeclaredTwice start ≡ again start o
+again_if true None start e = refl
+again_if true (Some i) start e = absurd (cc)
+again_if false None start e = absurd (cc)
+again_if false (Some i) start e = refl
+
+pub field_is : (b : Bool) (o : Option ℕ) (m : Member) → is_some o ≡ not b → field_if b m ≡ new_field o m
+field_is true None (lock_member x) e = refl
+field_is true None (final_member f) e = refl
+field_is true None (field_member f) e = refl
+field_is true (Some i) m e = absurd (cc)
+field_is false None m e = absurd (cc)
+field_is false (Some i) (lock_member x) e = refl
+field_is false (Some i) (final_member f) e = refl
+field_is false (Some i) (field_member f) e = refl
+
+pub field_le : (b : Bool) (m : Member) → field_if b m ≤ 1
+field_le true (lock_member x) = omega arith
+field_le true (final_member f) = omega arith
+field_le true (field_member f) = omega arith
+field_le false (lock_member x) = omega arith
+field_le false (final_member f) = omega arith
+field_le false (field_member f) = omega arith
+
+structs_push : (ds : List Decl) (d : Decl) → structs_in (ds ++ d ∷ []) ≡ structs_in ds ++ structs_in (d ∷ [])
+structs_push [] d = refl
+structs_push (lock x ∷ ds) d = structs_push ds d
+structs_push (struct x ∷ ds) d = ap (λ (l : List Struct). x ∷ l) (structs_push ds d)
+structs_push (global x ∷ ds) d = structs_push ds d
+structs_push (array x ∷ ds) d = structs_push ds d
+structs_push (pool x ∷ ds) d = structs_push ds d
+structs_push (init x ∷ ds) d = structs_push ds d
+structs_push (atomic x ∷ ds) d = structs_push ds d
+structs_push (thread x ∷ ds) d = structs_push ds d
+
+get_push : {A : Type 0} (xs : List A) (x y : A) (i : ℕ) → slice_get (xs ++ x ∷ []) i ≡ Some y → (slice_get xs i ≡ Some y) ⊎ (x ≡ y)
+get_push [] x y zero e = inr (cc)
+get_push [] x y (suc i) e = absurd (cc)
+get_push (z ∷ xs) x y zero e = inl e
+get_push (z ∷ xs) x y (suc i) e = get_push xs x y i e
+
+pub structures_more : (ds : List Decl) (s : Struct) (ss new : List Structure) (x : Structure) → structure_of x ≡ s → IsStructure x → new ≡ ss ++ x ∷ [] → AreStructures ds ss → AreStructures (ds ++ struct s ∷ []) new
+structures_more ds s ss new x is right made all =
+    let P : List Structure → Type 0 = λ l. AreStructures (ds ++ struct s ∷ []) l in
+    subst P (sym made) (
+      map-append structure_of ss (x ∷ []) ∙ ap (λ (l : List Struct). l ++ structure_of x ∷ []) all.0 ∙ ap (λ (y : Struct). structs_in ds ++ y ∷ []) is ∙ sym (structs_push ds (struct s)),
+      (λ i y e. elim (get_push ss x y i e) [ inl h ↦ all.1 i y h | inr h ↦ subst IsStructure h right ]),
+    )
+
+none_struct : (d : rust.Decl) → ((x : rust_struct.Struct) → d ≡ variant.Struct x → ⊥) → structs_in (decl_of d ∷ []) ≡ []
+none_struct (variant.Lock x) h = refl
+none_struct (variant.Struct x) h = absurd (h x refl)
+none_struct (variant.Global x) h = refl
+none_struct (variant.Array x) h = refl
+none_struct (variant.Pool x) h = refl
+none_struct (variant.Init x) h = refl
+none_struct (variant.Atomic x) h = refl
+none_struct (variant.Thread x) h = refl
+
+pub no_faults : (d : rust.Decl) (ds : List Decl) → ((x : rust_struct.Struct) → d ≡ variant.Struct x → ⊥) → struct_faults ds ≡ struct_faults (decl_of d ∷ ds)
+no_faults (variant.Lock x) ds h = refl
+no_faults (variant.Struct x) ds h = absurd (h x refl)
+no_faults (variant.Global x) ds h = refl
+no_faults (variant.Array x) ds h = refl
+no_faults (variant.Pool x) ds h = refl
+no_faults (variant.Init x) ds h = refl
+no_faults (variant.Atomic x) ds h = refl
+no_faults (variant.Thread x) ds h = refl
+
+nil_right : {A : Type 0} (xs : List A) → xs ++ [] ≡ xs
+nil_right [] = refl
+nil_right (x ∷ xs) = ap (λ (l : List _). x ∷ l) (nil_right xs)
+
+pub structures_same : (ds : List Decl) (d : rust.Decl) (ss : List Structure) → ((x : rust_struct.Struct) → d ≡ variant.Struct x → ⊥) → AreStructures ds ss → AreStructures (ds ++ decl_of d ∷ []) ss
+structures_same ds d ss other all =
+    (all.0 ∙ sym (structs_push ds (decl_of d) ∙ ap (λ (l : List Struct). structs_in ds ++ l) (none_struct d other) ∙ nil_right (structs_in ds)), all.1)

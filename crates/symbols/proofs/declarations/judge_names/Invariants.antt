@@ -1,0 +1,16 @@
+use Rattle.std.proofs.Common.{◌≡◌, [], take, drop, length}
+use Rattle.resolution.specs.Scopes.{bears}
+use Rattle.resolution.specs.FaultLists.{least_of, twice_faults}
+use Rattle.symbols.specs.Found.{IsTableOf, AreAhead}
+use Rattle.symbols.specs.Counted.{counts_from, no_counts}
+use Rattle.symbols.specs.Views.{decls_of}
+use Rattle.symbols.proofs.declarations.judge_names.Given as goal
+
+abbrev pub invariant-loop-place : goal.invariant-loop-place
+invariant-loop-place l = record {
+  table : IsTableOf bears (decls_of (take l.place l.decls)) l.names;
+  counts : AreAhead (counts_from no_counts) (decls_of (take l.place l.decls)) l.ahead.items l.counts;
+  so_far : l.counts ≡ counts_from no_counts (decls_of (take l.place l.decls));
+  len : length l.ahead.items ≡ l.place;
+  faults : least_of l.least (twice_faults (decls_of (take l.place l.decls)) (decls_of (drop l.place l.decls))) ≡ least_of l.fn.least (twice_faults [] (decls_of l.decls));
+}

@@ -1,0 +1,10 @@
+use Rattle.std.proofs.Common.{◌≡◌, take, drop}
+use Rattle.resolution.specs.FaultLists.{least_of, struct_faults}
+use Rattle.symbols.specs.Views.{decls_of, AreStructures}
+use Rattle.symbols.proofs.declarations.judge_structs.Given as goal
+
+abbrev pub invariant-loop-d : goal.invariant-loop-d
+invariant-loop-d l = record {
+  structs : AreStructures (decls_of (take l.d-index l.decls)) l.structs.items;
+  faults : least_of l.least (struct_faults (decls_of (drop l.d-index l.decls))) ≡ least_of l.fn.least (struct_faults (decls_of l.decls));
+}

@@ -1,0 +1,20 @@
+use Rattle.std.proofs.Common.{◌≡◌, ◌≤◌, ◌+◌, [], take, drop, length}
+use Rattle.std.specs.Prelude.{map}
+use Rattle.syntax.specs.Views.{member_of, struct_of}
+use Rattle.resolution.specs.Scopes.{member_bears}
+use Rattle.resolution.specs.Numbers.{fields_from}
+use Rattle.resolution.specs.FaultLists.{least_of, member_twice_faults}
+use Rattle.symbols.specs.Found.{IsTableOf, AreAhead}
+use Rattle.symbols.specs.Counted.{member_counts_from, no_members}
+use Rattle.symbols.proofs.members.Structure.new.Given as goal
+
+abbrev pub invariant-loop-place : goal.invariant-loop-place
+invariant-loop-place l = record {
+  table : IsTableOf member_bears (map member_of (take l.place l.item.members.items)) l.names;
+  counts : AreAhead (member_counts_from no_members) (map member_of (take l.place l.item.members.items)) l.ahead.items l.counts;
+  so_far : l.counts ≡ member_counts_from no_members (map member_of (take l.place l.item.members.items));
+  len : length l.ahead.items ≡ l.place;
+  width : l.width + fields_from (map member_of (take l.place l.item.members.items)) (map member_of (drop l.place l.item.members.items)) ≡ fields_from [] (struct_of l.item).members;
+  few : l.width ≤ l.place;
+  faults : least_of l.least (member_twice_faults (map member_of (take l.place l.item.members.items)) (map member_of (drop l.place l.item.members.items))) ≡ least_of l.fn.least (member_twice_faults [] (struct_of l.item).members);
+}

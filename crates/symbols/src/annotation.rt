@@ -1,0 +1,324 @@
+//! Annotations: which lock protects what.
+
+ghost use Rattle.std.specs.Prelude.{◌≡◌, OnOk, IfOk, option_map, map, Some};
+ghost use Rattle.syntax.specs.Views.{ident, protection_of as protection_view, option_of};
+ghost use Rattle.resolution.specs.CoreViews.{core_protection};
+ghost use Rattle.resolution.specs.Scopes.{the_decl, the_member};
+ghost use Rattle.resolution.specs.Annotations.{class_in, class_of, at_struct, stepped_on, ended, along, protection_of};
+ghost use Rattle.resolution.specs.FaultLists.{least_of, global_lock_faults, lock_faults, passed_faults, last_faults, passed, ended as end_faults, along_faults, protection_faults};
+ghost use Rattle.symbols.specs.Views.{declared_by, structure_of, members_seen, IsStructure, AreDeclarations};
+ghost use Rattle.symbols.specs.Programs.{program_of, IsProgram};
+ghost use Rattle.symbols.specs.Standings.{standing_of, IsStanding};
+
+use crate::declarations::Declarations;
+use crate::members::Structure;
+use crate::note::{note, note_if};
+use crate::table::Program;
+use core_lang::typed::Protection;
+use resolution::mistake::Mistake;
+use source::fault::Code;
+use std::alloc::{AllocError, Global};
+use syntax::tree;
+use syntax::tree::{Decl, Member, Name};
+
+/// How many final references an annotation may go over.
+const FINAL_LIMIT: usize = 3;
+
+/// Where a walk along an annotation stands: a struct with its place, and the final references on the way to it.
+#[derive(Drop)]
+pub(crate) struct Standing<'a, 't> {
+    /// The struct's place among the declarations.
+    pub place: usize,
+    /// The struct, with its tables.
+    pub structure: &'a Structure<'t>,
+    /// The final references, each by the number by which paths name it.
+    pub through: Vec<u32>,
+}
+
+/// The class of a global lock that is named alone.
+fn class_in(program: &Program, first: &Name, rest: &[Name]) -> Option<usize>
+    requires { IsProgram program.now }
+    ensures { result ≡ class_in (program_of program.now) (the_decl (program_of program.now) (ident first.now).text) (map ident rest.now) }
+{
+    match program.decls.find(first.text.as_str()) {
+        Some((place, Decl::Lock(_))) => {
+            if rest.is_empty() {
+                Some(program.class(place, 0))
+            } else {
+                None
+            }
+        }
+        _ => None,
+    }
+}
+
+/// The class of the lock that protects a global or an array: of the global lock that its annotation names. `None` where
+/// it has no annotation, or that names no global lock.
+pub fn class_of(program: &Program, p: &Option<tree::Protection>) -> Option<usize>
+    requires { IsProgram program.now }
+    ensures { result ≡ class_of (program_of program.now) (option_of protection_view p.now) }
+{
+    match p {
+        Some(p) => class_in(program, &p.first, &p.rest),
+        None => None,
+    }
+}
+
+/// Notes what is wrong with an annotation that is to name a global lock.
+fn note_global_lock(decls: &Declarations, first: &Name, rest: &[Name], least: &mut Option<Mistake>)
+    requires { AreDeclarations decls.now }
+    ensures { least.new ≡ least_of least.old (global_lock_faults (ident first.now).span.start (the_decl (declared_by decls.now) (ident first.now).text) (map ident rest.now)) }
+{
+    let start = first.start as usize;
+    match decls.find(first.text.as_str()) {
+        None => note(least, Code::UnknownName, start),
+        Some((_, Decl::Lock(_))) => {
+            if !rest.is_empty() {
+                note(least, Code::ProtectedByNoLock, start);
+            }
+        }
+        Some((_, Decl::Struct(_)))
+        | Some((_, Decl::Global(_)))
+        | Some((_, Decl::Array(_)))
+        | Some((_, Decl::Pool(_)))
+        | Some((_, Decl::Init(_)))
+        | Some((_, Decl::Atomic(_)))
+        | Some((_, Decl::Thread(_))) => note(least, Code::ProtectedByNoLock, start),
+    }
+}
+
+/// Notes what is wrong with the annotation of a global or an array: there is none, or it names no global lock. `name`
+/// is the name of what is to be protected.
+pub fn note_lock(
+    decls: &Declarations,
+    name: &Name,
+    p: &Option<tree::Protection>,
+    least: &mut Option<Mistake>,
+)
+    requires { AreDeclarations decls.now }
+    ensures { least.new ≡ least_of least.old (lock_faults (declared_by decls.now) (ident name.now).span.start (option_of protection_view p.now)) }
+{
+    match p {
+        Some(p) => note_global_lock(decls, &p.first, &p.rest, least),
+        None => note(least, Code::NeitherFinalNorProtected, name.start as usize),
+    }
+}
+
+/// At the struct of a final reference, which is one of those on the way there.
+fn at_struct<'a, 't>(
+    decls: &'a Declarations<'t>,
+    through: Vec<u32>,
+    number: u32,
+    target: &Name,
+) -> Result<Option<Standing<'a, 't>>, AllocError>
+    requires { AreDeclarations decls.now }
+    ensures standing { IfOk result (λ r. option_map standing_of r ≡ at_struct through.items number (the_decl (declared_by decls.now) (ident target.now).text)) }
+    ensures tables { IfOk result IsStanding }
+{
+    let Some((place, structure)) = decls.struct_of(target) else {
+        return Ok(None);
+    };
+    let mut through = through;
+    through.push(number)?;
+    Ok(Some(Standing {
+        place,
+        structure,
+        through,
+    }))
+}
+
+/// Over a final reference to its struct; nothing else leads on.
+fn stepped_on<'a, 't>(
+    decls: &'a Declarations<'t>,
+    standing: Option<Standing<'a, 't>>,
+    y: &Name,
+) -> Result<Option<Standing<'a, 't>>, AllocError>
+    requires decls { AreDeclarations decls.now }
+    requires standing { IsStanding standing }
+    ensures standing { IfOk result (λ r. option_map standing_of r ≡ stepped_on (declared_by decls.now) (option_map standing_of standing.entry) (ident y.now)) }
+    ensures tables { IfOk result IsStanding }
+{
+    let Some(standing) = standing else {
+        return Ok(None);
+    };
+    let Some((place, m)) = standing.structure.find(y.text.as_str()) else {
+        return Ok(None);
+    };
+    let number = standing.structure.step(place, m);
+    match m {
+        Member::Final(reference) => at_struct(decls, standing.through, number, &reference.target),
+        Member::Lock(_) | Member::Field(_) => Ok(None),
+    }
+}
+
+/// The walk's end: a lock field.
+fn ended(program: &Program, standing: Option<Standing>, y: &Name) -> Option<Protection>
+    requires program { IsProgram program.now }
+    requires standing { IsStanding standing }
+    ensures { option_map core_protection result ≡ ended (program_of program.now) (option_map standing_of standing.entry) (ident y.now) }
+{
+    let standing = standing?;
+    let (place, m) = standing.structure.find(y.text.as_str())?;
+    let number = standing.structure.number(place, m);
+    match m {
+        Member::Lock(_) => Some(Protection {
+            through: standing.through,
+            class: program.class(standing.place, number),
+        }),
+        Member::Final(_) | Member::Field(_) => None,
+    }
+}
+
+/// Along names, the last of which is the lock's.
+fn along<'a, 't>(
+    program: &'a Program<'t>,
+    standing: Option<Standing<'a, 't>>,
+    first: &Name,
+    rest: &[Name],
+) -> Result<Option<Protection>, AllocError>
+    requires program { IsProgram program.now }
+    requires standing { IsStanding standing }
+    ensures { IfOk result (λ r. option_map core_protection r ≡ along (program_of program.now) (option_map standing_of standing.entry) (ident first.now) (map ident rest.now)) }
+{
+    let mut standing = standing;
+    let mut y = first;
+    for z in rest {
+        standing = stepped_on(&program.decls, standing, y)?;
+        y = z;
+    }
+    Ok(ended(program, standing, y))
+}
+
+/// What protects a field of the struct at a place: a lock field of the struct itself or of one that final references
+/// lead to, or a global lock. `None` where it has no annotation, or that names no lock. The one error is a refused
+/// growth.
+pub fn protection_of<'a, 't>(
+    alloc: Global,
+    program: &'a Program<'t>,
+    place: usize,
+    structure: &'a Structure<'t>,
+    p: &Option<tree::Protection>,
+) -> Result<Option<Protection>, AllocError>
+    requires program { IsProgram program.now }
+    requires structure { IsStructure structure.now }
+    ensures { IfOk result (λ r. option_map core_protection r ≡ protection_of (program_of program.now) place (members_seen structure.now) (option_of protection_view p.now)) }
+{
+    let Some(p) = p else {
+        return Ok(None);
+    };
+    if structure.find(p.first.text.as_str()).is_some() {
+        let standing = Some(Standing {
+            place,
+            structure,
+            through: Vec::new(alloc),
+        });
+        return along(program, standing, &p.first, &p.rest);
+    }
+    match class_in(program, &p.first, &p.rest) {
+        Some(class) => Ok(Some(Protection {
+            through: Vec::new(alloc),
+            class,
+        })),
+        None => Ok(None),
+    }
+}
+
+/// Notes what is wrong with a name that others follow.
+fn note_passed(start: usize, standing: &Option<Standing>, y: &Name, least: &mut Option<Mistake>)
+    requires { IsStanding standing.now }
+    ensures { least.new ≡ least_of least.old (passed start (option_map standing_of standing.now) (ident y.now)) }
+{
+    let Some(standing) = standing else {
+        return;
+    };
+    match standing.structure.find(y.text.as_str()) {
+        None => note(least, Code::UnknownName, y.start as usize),
+        Some((_, Member::Final(_))) => {
+            let is_over = FINAL_LIMIT <= standing.through.len();
+            note_if(is_over, Code::LimitExceeded, start, least);
+        }
+        Some((_, Member::Field(_))) | Some((_, Member::Lock(_))) => {
+            note(least, Code::ProtectedByPassesNonFinal, y.start as usize);
+        }
+    }
+}
+
+/// Notes what is wrong with the last name.
+fn note_last(start: usize, standing: &Option<Standing>, y: &Name, least: &mut Option<Mistake>)
+    requires { IsStanding standing.now }
+    ensures { least.new ≡ least_of least.old (end_faults start (option_map standing_of standing.now) (ident y.now)) }
+{
+    let Some(standing) = standing else {
+        return;
+    };
+    match standing.structure.find(y.text.as_str()) {
+        None => note(least, Code::UnknownName, y.start as usize),
+        Some((_, Member::Lock(_))) => {}
+        Some((_, Member::Final(_))) | Some((_, Member::Field(_))) => {
+            note(least, Code::ProtectedByNoLock, start);
+        }
+    }
+}
+
+/// Notes what is wrong along names, of which the first of all starts there.
+#[tactic(auto, using(crate::proofs::Least::least_append))]
+fn note_along<'a, 't>(
+    decls: &'a Declarations<'t>,
+    start: usize,
+    standing: Option<Standing<'a, 't>>,
+    first: &Name,
+    rest: &[Name],
+    least: &mut Option<Mistake>,
+) -> Result<(), AllocError>
+    requires decls { AreDeclarations decls.now }
+    requires standing { IsStanding standing }
+    ensures { OnOk result (least.new ≡ least_of least.old (along_faults (declared_by decls.now) start (option_map standing_of standing.entry) (ident first.now) (map ident rest.now))) }
+{
+    let mut standing = standing;
+    let mut y = first;
+    for z in rest {
+        note_passed(start, &standing, y, least);
+        standing = stepped_on(decls, standing, y)?;
+        y = z;
+    }
+    note_last(start, &standing, y, least);
+    Ok(())
+}
+
+/// Notes what is wrong with the annotation of a field of the struct at a place: there is none, it names no lock, or it
+/// goes over what is no final reference or over too many. `name` is the field's. The one error is a refused growth.
+pub fn note_protection<'a, 't>(
+    alloc: Global,
+    decls: &'a Declarations<'t>,
+    place: usize,
+    structure: &'a Structure<'t>,
+    name: &Name,
+    p: &Option<tree::Protection>,
+    least: &mut Option<Mistake>,
+) -> Result<(), AllocError>
+    requires decls { AreDeclarations decls.now }
+    requires structure { IsStructure structure.now }
+    ensures { OnOk result (least.new ≡ least_of least.old (protection_faults (declared_by decls.now) place (members_seen structure.now) (ident name.now).span.start (option_of protection_view p.now))) }
+{
+    let Some(p) = p else {
+        note(least, Code::NeitherFinalNorProtected, name.start as usize);
+        return Ok(());
+    };
+    if structure.find(p.first.text.as_str()).is_some() {
+        let standing = Some(Standing {
+            place,
+            structure,
+            through: Vec::new(alloc),
+        });
+        return note_along(
+            decls,
+            p.first.start as usize,
+            standing,
+            &p.first,
+            &p.rest,
+            least,
+        );
+    }
+    note_global_lock(decls, &p.first, &p.rest, least);
+    Ok(())
+}

@@ -1,0 +1,55 @@
+//! Names and their places.
+
+ghost use Rattle.std.specs.Prelude.{◌≡◌, ℕ, List, IfOk, OnOk, Some, None, is_some, if◌then◌else◌};
+ghost use Rattle.std.specs.Rc.{rc_str_bytes};
+ghost use Rattle.std.specs.Str.{bytes_eq};
+ghost use Rattle.std.specs.Option.{option_or};
+ghost use Rattle.symbols.specs.Found.{found};
+
+use indexmap::IndexMap;
+use std::alloc::{AllocError, Global};
+use std::rc::RcStr;
+
+/// A table of names: for each name the place of the first thing that bears it, in the list that the table is of.
+#[derive(Drop)]
+pub struct Names {
+    /// The place of each name that there is, counted from 0.
+    pub places: IndexMap<String, usize>,
+}
+
+impl Names {
+    /// A table without names.
+    pub(crate) fn new(alloc: Global) -> Names
+        ensures { (q : List ℕ) → found result q ≡ None }
+    {
+        Names {
+            places: IndexMap::new(alloc),
+        }
+    }
+
+    /// The place of the first thing that bears the name, counted from 0. `None` where nothing does.
+    pub fn find(&self, name: &str) -> Option<usize>
+        ensures { result ≡ found self.now name.now }
+    {
+        match self.places.get(name) {
+            Some(place) => Some(*place),
+            None => None,
+        }
+    }
+
+    /// Adds a name with its place, if it isn't there yet. The one error is a refused growth.
+    pub(crate) fn add(
+        &mut self,
+        alloc: Global,
+        name: &RcStr,
+        place: usize,
+    ) -> Result<(), AllocError>
+        ensures { OnOk result ((q : List ℕ) → found self.new q ≡ option_or (found self.old q) (if bytes_eq q (rc_str_bytes name.now) then Some place else None)) }
+    {
+        if self.places.get(name.as_str()).is_none() {
+            self.places
+                .insert(String::from_str(alloc, name.as_str())?, place)?;
+        }
+        Ok(())
+    }
+}

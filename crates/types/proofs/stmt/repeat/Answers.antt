@@ -1,7 +1,0 @@
-use Rattle.std.proofs.Common.{arith}
-use Rattle.std.proofs.lemmas.Grind.{common_steps}
-use Rattle.types.proofs.CoreRows.{core_while_view}
-use Rattle.types.proofs.stmt.repeat.Goals as goal
-
-pub returns-in-Some-Some : goal.returns-in-Some-Some
-returns-in-Some-Some c = let h = core_while_view c.in-Some-Some.condition c.in-Some-Some.body in grind (arith, common_steps, h)
