@@ -6,8 +6,11 @@
 //! 7 where a call is not settled by the given turns; `--help` exits with 0.
 #![tactic(auto)]
 
-ghost use Rattle.std.specs.Prelude.{◌≡◌, ◌≢◌, ◌⊎◌, IfOk, map, string_bytes};
+ghost use Rattle.std.specs.Prelude.{◌≡◌, ◌≢◌, ◌⊎◌, false, IfOk, map, string_bytes};
+ghost use Rattle.std.specs.Io.KnownBytes.{Appends};
 ghost use Rattle.clap.specs.Values.{kind_of};
+ghost use Rattle.driver.specs.Messages.{cannot_write, no_memory};
+ghost use Rattle.driver.specs.Streams.{writer_of, writing_failed};
 
 use clap::Error;
 use clap::error::ErrorKind;
@@ -35,11 +38,17 @@ fn run_line<E: Write>(rt: &HostRuntime, line: Line<'_>, err: &mut Sink<E>) -> St
     }
 }
 
-/// Prints what `clap` says of the words: help on standard output, anything else on standard error.
+/// Prints what `clap` says of the words: help on standard output, anything else on standard error. `err` gets no more
+/// than a message, where memory ran out or the help could not be written.
 fn tell_words<E: Write>(rt: &HostRuntime, error: &Error, err: &mut Sink<E>) -> Status
     ensures memory { kind_of error.now ≡ ErrorKind.OutOfMemory → result ≡ Status.OutOfMemory }
     ensures help { kind_of error.now ≡ ErrorKind.DisplayHelp → (result ≡ Status.Done) ⊎ (result ≡ Status.Failed) }
     ensures bad { kind_of error.now ≢ ErrorKind.OutOfMemory → kind_of error.now ≢ ErrorKind.DisplayHelp → result ≡ Status.BadWords }
+    ensures memory_err { kind_of error.now ≡ ErrorKind.OutOfMemory → writing_failed err.new ≡ false →
+        Appends (E.contents (writer_of err.old)) (E.contents (writer_of err.new)) no_memory }
+    ensures help_err { result ≡ Status.Failed → writing_failed err.new ≡ false →
+        Appends (E.contents (writer_of err.old)) (E.contents (writer_of err.new)) cannot_write }
+    ensures quiet { result ≢ Status.OutOfMemory → result ≢ Status.Failed → err.new ≡ err.old }
 {
     match error.kind() {
         ErrorKind::OutOfMemory => {
@@ -69,7 +78,7 @@ fn arguments(rt: &HostRuntime) -> io::Result<Vec<String>> {
     Ok(all)
 }
 
-/// The same as slices.
+/// The words as slices.
 fn slices(alloc: Global, arguments: &[String]) -> Result<Vec<&str>, AllocError>
     ensures { IfOk result (λ all. map (λ word. word.now) all.items ≡ map (λ word. string_bytes word) arguments.now) }
 {

@@ -78,11 +78,13 @@ pub fn serial<S: Read, O: Write, E: Write>(
     requires readable { reading_failed source.old ≡ false }
     requires writable { writing_failed out.old ≡ false }
 
-    // The exact bytes, where the reader and the writers tell theirs.
-    ensures answers { result ≢ Status.Failed → result ≢ Status.OutOfMemory → IfSome (S.remaining (reader_of source.old)) (λ text.
-        (wrote : List ℕ) × (told : List ℕ) × SerialAnswers turns file.now text result wrote told
+    // The exact bytes, of the text that the reader tells where it tells it, and as far as the writers tell theirs.
+    ensures answers { result ≢ Status.Failed → result ≢ Status.OutOfMemory →
+        (text : List ℕ) × (wrote : List ℕ) × (told : List ℕ)
+        × IfSome (S.remaining (reader_of source.old)) (λ bytes. text ≡ bytes)
+        × SerialAnswers turns file.now text result wrote told
         × Appends (O.contents (writer_of out.old)) (O.contents (writer_of out.new)) wrote
-        × (writing_failed err.new ≡ false → Appends (E.contents (writer_of err.old)) (E.contents (writer_of err.new)) told)) }
+        × (writing_failed err.new ≡ false → Appends (E.contents (writer_of err.old)) (E.contents (writer_of err.new)) told) }
 
     // No word is its to judge.
     ensures words { result ≢ Status.BadWords }

@@ -10,7 +10,7 @@ pub struct Sink<W> {
 }
 
 impl<W: Write> Sink<W> {
-    ghost use Rattle.std.specs.Prelude.{◌≡◌, true, false};
+    ghost use Rattle.std.specs.Prelude.{◌≡◌, true, false, []};
     ghost use Rattle.std.specs.Io.KnownBytes.{Appends, Keeps};
     ghost use Rattle.driver.specs.Streams.{writer_of, writing_failed};
 
@@ -40,13 +40,17 @@ impl<W: Write> Sink<W> {
         writer
     }
 
-    /// Writes all the bytes; after a failure, none.
+    /// Writes all the bytes; after a failure, none. The writer is not called for none.
     pub fn put(&mut self, bytes: &[u8])
+        ensures empty { bytes.now ≡ [] → self.new ≡ self.old }
         ensures stopped { writing_failed self.old ≡ true → writer_of self.new ≡ writer_of self.old }
         ensures appends { writing_failed self.new ≡ false → Appends (W.contents (writer_of self.old)) (W.contents (writer_of self.new)) bytes.now }
         ensures sticky { writing_failed self.new ≡ false → writing_failed self.old ≡ false }
     {
-        if !self.failed && self.writer.write_all(bytes).is_err() {
+        if bytes.is_empty() || self.failed {
+            return;
+        }
+        if self.writer.write_all(bytes).is_err() {
             self.failed = true;
         }
     }

@@ -34,7 +34,7 @@ impl<R: Read> SourceText<R> {
         }
     }
 
-    /// All the bytes that are left.
+    /// All the bytes that are left. After an error the reader stands somewhere in them, and is to be read no further.
     pub fn read_whole(&mut self, alloc: Global) -> Result<Vec<u8>, ReadError>
         ensures bytes { IfOk result (λ text. IfSome (R.remaining (reader_of self.old)) (λ bytes. text.items ≡ bytes)) }
         ensures ok { OnOk result (reading_failed self.new ≡ reading_failed self.old) }

@@ -139,12 +139,13 @@ fn bounds_nesting(rt: HostRuntime) -> Result<(), Fail> {
 struct FailingReader<'a> {
     bytes: &'a [u8],
     calls: usize,
+    kind: ErrorKind,
 }
 
 impl Read for FailingReader<'_> {
     fn read(&mut self, buf: &mut [u8]) -> io::Result<usize> {
         if self.calls == 0 {
-            return Err(io::Error::from(ErrorKind::BrokenPipe));
+            return Err(io::Error::from(self.kind));
         }
         self.calls -= 1;
         let n = self.bytes.len().min(buf.len()).min(7);
@@ -155,16 +156,18 @@ impl Read for FailingReader<'_> {
     }
 }
 
-/// Takes at most seven bytes a call, and fails at the call after `calls` others.
+/// Takes at most seven bytes a call, and fails at the call after `calls` others and at each further one, which it counts.
 #[derive(Drop)]
 struct FailingWriter {
     taken: Vec<u8>,
     calls: usize,
+    failures: u32,
 }
 
 impl Write for FailingWriter {
     fn write(&mut self, buf: &[u8]) -> io::Result<usize> {
         if self.calls == 0 {
+            self.failures = self.failures.saturating_add(1);
             return Err(io::Error::from(ErrorKind::BrokenPipe));
         }
         self.calls -= 1;
@@ -175,6 +178,7 @@ impl Write for FailingWriter {
 
     fn flush(&mut self) -> io::Result<()> {
         if self.calls == 0 {
+            self.failures = self.failures.saturating_add(1);
             return Err(io::Error::from(ErrorKind::BrokenPipe));
         }
         self.calls -= 1;
@@ -190,6 +194,7 @@ fn a_failing_reader(rt: HostRuntime) -> Result<(), Fail> {
         let mut source = SourceText::new(FailingReader {
             bytes: LOST_UPDATE.text.as_bytes(),
             calls,
+            kind: ErrorKind::BrokenPipe,
         });
         let mut out = Sink::new(Vec::new(alloc));
         let mut err = Sink::new(Vec::new(alloc));
@@ -219,10 +224,15 @@ fn a_failing_writer(rt: HostRuntime) -> Result<(), Fail> {
         let mut out = Sink::new(FailingWriter {
             taken: Vec::new(alloc),
             calls,
+            failures: 0,
         });
         let mut err = Sink::new(Vec::new(alloc));
         let ended = serial(alloc, &mut source, "F", 0, &mut out, &mut err);
-        let taken = out.into_writer().taken;
+        let FailingWriter {
+            taken,
+            failures: after,
+            ..
+        } = out.into_writer();
         if ended == Status::Done {
             assert_eq!(rt; taken.as_slice(), LOST_UPDATE.out.as_bytes());
             assert!(rt; err.into_writer().is_empty());
@@ -230,6 +240,8 @@ fn a_failing_writer(rt: HostRuntime) -> Result<(), Fail> {
             failures = failures.saturating_add(1);
             assert_eq!(rt; ended.code(), 3, "after {calls} calls");
             assert!(rt; LOST_UPDATE.out.as_bytes().starts_with(taken.as_slice()));
+            // Nothing is written or sent on behind the call that failed.
+            assert_eq!(rt; after, 1);
             let told = err.into_writer();
             assert_eq!(rt; told.as_slice(), b"autolock: cannot write\n".as_slice());
         }
@@ -248,10 +260,68 @@ fn a_failing_standard_error(rt: HostRuntime) -> Result<(), Fail> {
         let mut err = Sink::new(FailingWriter {
             taken: Vec::new(alloc),
             calls,
+            failures: 0,
         });
         let ended = serial(alloc, &mut source, "F", 0, &mut out, &mut err);
         assert_eq!(rt; ended.code(), 1);
         assert!(rt; out.into_writer().is_empty());
+    }
+    Ok(())
+}
+
+#[test]
+fn a_standard_error_that_failed_before(rt: HostRuntime) -> Result<(), Fail> {
+    let alloc = rt.alloc();
+    let mut source = SourceText::new(LOST_UPDATE.text.as_bytes());
+    let mut out = Sink::new(Vec::new(alloc));
+    let mut err = Sink::new(FailingWriter {
+        taken: Vec::new(alloc),
+        calls: 0,
+        failures: 0,
+    });
+    err.put(b"a message".as_slice());
+    assert!(rt; err.has_failed());
+    let ended = serial(alloc, &mut source, "F", 0, &mut out, &mut err);
+    assert_eq!(rt; ended.code(), 0);
+    assert_eq!(rt; out.into_writer().as_slice(), LOST_UPDATE.out.as_bytes());
+    Ok(())
+}
+
+#[test]
+fn a_reader_without_memory(rt: HostRuntime) -> Result<(), Fail> {
+    let alloc = rt.alloc();
+    let mut source = SourceText::new(FailingReader {
+        bytes: LOST_UPDATE.text.as_bytes(),
+        calls: 3,
+        kind: ErrorKind::OutOfMemory,
+    });
+    let mut out = Sink::new(Vec::new(alloc));
+    let mut err = Sink::new(Vec::new(alloc));
+    let ended = serial(alloc, &mut source, "F", 0, &mut out, &mut err);
+    assert_eq!(rt; ended.code(), 4);
+    assert!(rt; out.into_writer().is_empty());
+    let told = err.into_writer();
+    assert_eq!(rt; told.as_slice(), b"autolock: no memory\n".as_slice());
+    Ok(())
+}
+
+/// A text of as many bytes as a source may have, and of one more.
+#[test]
+fn long_texts(rt: HostRuntime) -> Result<(), Fail> {
+    let alloc = rt.alloc();
+    for (length, status, written, told) in [
+        (1_048_576, 0, LOST_UPDATE.out, ""),
+        (1_048_577, 1, "", "F:1:1: E15 limit exceeded\n"),
+    ] {
+        let mut text = Vec::from_slice(alloc, LOST_UPDATE.text.as_bytes())?;
+        text.resize(length, b' ')?;
+        let mut source = SourceText::new(text.as_slice());
+        let mut out = Sink::new(Vec::new(alloc));
+        let mut err = Sink::new(Vec::new(alloc));
+        let ended = serial(alloc, &mut source, "F", 0, &mut out, &mut err);
+        assert_eq!(rt; ended.code(), status);
+        assert_eq!(rt; out.into_writer().as_slice(), written.as_bytes());
+        assert_eq!(rt; err.into_writer().as_slice(), told.as_bytes());
     }
     Ok(())
 }

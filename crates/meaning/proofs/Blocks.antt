@@ -50,9 +50,12 @@ if_else_false x c a b items shape n s locals heap t is l h e fails all =
     ∙ sym (effect_of-IfElse c a b shape n s)
     ∙ ap (λ y. effect_of y shape n s) (sym is)
 
-pub while_starts : (x : Action) (c : Condition) (body : Vec Stmt Global) (shape : Shape) (n : ℕ) (s : State) → x ≡ While c body →
-    turns n (λ s. truth_of c shape s.locals s.heap) (sequence body.items shape n) s ≡ effect_of x shape n s
-while_starts x c body shape n s is = sym (effect_of-While c body shape n s) ∙ ap (λ y. effect_of y shape n s) (sym is)
+pub while_is : (x : Action) (c : Condition) (body : Vec Stmt Global) (items : List Stmt) (shape : Shape) (n : ℕ) (s : State) → x ≡ While c body → items ≡ body.items →
+    turns n (λ s. truth_of c shape s.locals s.heap) (sequence items shape n) s ≡ effect_of x shape n s
+while_is x c body items shape n s is all =
+    ap (λ i. turns n (λ s. truth_of c shape s.locals s.heap) (sequence i shape n) s) all
+    ∙ sym (effect_of-While c body shape n s)
+    ∙ ap (λ y. effect_of y shape n s) (sym is)
 
 turn : (left : ℕ) (test : State → Result Bool Failure) (body : State → Flow) (s s' : State) → left ≢ 0 → test s ≡ Ok true → body s ≡ GoesOn s' →
     turns (left - 1) test body s' ≡ turns left test body s
@@ -62,9 +65,9 @@ turn (suc left) test body s s' some holds goes =
     ∙ sym (ap (λ f. after f (turns left test body)) goes)
     ∙ sym (ap (λ r. given r s (λ b. choose b (after (body s) (turns left test body)) (GoesOn s))) holds)
 
-pub while_turns : (c : Condition) (items : List Stmt) (body : Vec Stmt Global) (shape : Shape) (n left : ℕ) (s s' : State) (locals heap : List Value) (t : Bool) →
-    left ≢ 0 → locals ≡ s.locals → heap ≡ s.heap → Ok t ≡ truth_of c shape locals heap → t ≡ true → items ≡ body.items → sequence items shape n s ≡ GoesOn s' →
-    turns (left - 1) (λ s. truth_of c shape s.locals s.heap) (sequence body.items shape n) s' ≡ turns left (λ s. truth_of c shape s.locals s.heap) (sequence body.items shape n) s
-while_turns c items body shape n left s s' locals heap t some l h e holds all goes =
-    turn left (λ s. truth_of c shape s.locals s.heap) (sequence body.items shape n) s s' some
-    (found_truth c shape s locals heap t true l h e holds) (ap (λ i. sequence i shape n s) (sym all) ∙ goes)
+pub while_turns : (c : Condition) (items : List Stmt) (shape : Shape) (n left : ℕ) (s s' : State) (locals heap : List Value) (t : Bool) →
+    left ≢ 0 → locals ≡ s.locals → heap ≡ s.heap → Ok t ≡ truth_of c shape locals heap → t ≡ true → sequence items shape n s ≡ GoesOn s' →
+    turns (left - 1) (λ s. truth_of c shape s.locals s.heap) (sequence items shape n) s' ≡ turns left (λ s. truth_of c shape s.locals s.heap) (sequence items shape n) s
+while_turns c items shape n left s s' locals heap t some l h e holds goes =
+    turn left (λ s. truth_of c shape s.locals s.heap) (sequence items shape n) s s' some
+    (found_truth c shape s locals heap t true l h e holds) goes

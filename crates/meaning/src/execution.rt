@@ -1,7 +1,7 @@
 //! A section under way.
 
 ghost use Rattle.std.specs.Prelude.{◌≡◌};
-ghost use Rattle.core_lang.specs.Meaning.{effect_of, sequence, stored, written, printed};
+ghost use Rattle.core_lang.specs.Meaning.{effect_of, sequence, stored, written, printed, truth_of, turns};
 ghost use Rattle.core_lang.specs.Whole.{concluded};
 ghost use Rattle.meaning.specs.Answer.{Follows, Concludes};
 ghost use Rattle.meaning.specs.Execution.{state_of, Keeps};
@@ -11,7 +11,7 @@ use crate::draft::Draft;
 use crate::evaluate::{evaluate, is_true};
 use crate::short;
 use core_lang::shape::Shape;
-use core_lang::tree::{Action, Section, Stmt};
+use core_lang::tree::{Action, Condition, Section, Stmt};
 use core_lang::value::{Failure, Outcome, Trap, Value};
 use std::alloc::AllocError;
 
@@ -162,22 +162,46 @@ impl Execution {
                     self.run_all(otherwise, shape, turns)
                 }
             }
-            Action::While { condition, body } => {
-                let mut left = turns;
-                while is_true(condition, shape, &self.locals, self.draft.cells())? {
-                    if left == 0 {
-                        return Err(Stop::Beyond);
-                    }
-                    left -= 1;
-                    self.run_all(body, shape, turns)?;
-                }
-                Ok(())
-            }
+            Action::While { condition, body } => self.repeat(body, condition, shape, turns),
         }
     }
 
+    // A loop. It has a frame of its own, and its statements in line: a call for each turn costs as much as a statement.
+    #[inline(never)]
+    #[cycle(run)]
+    fn repeat(
+        &mut self,
+        body: &[Stmt],
+        condition: &Condition,
+        shape: &Shape,
+        most: u64,
+    ) -> Result<(), Stop>
+        ensures follows { Follows result (state_of self.new) (turns most (λ s. truth_of condition.now shape.now s.locals s.heap) (sequence body.now shape.now most) (state_of self.old)) }
+        ensures keeps { Keeps self.old self.new }
+    {
+        let mut left = most;
+        while is_true(condition, shape, &self.locals, self.draft.cells())? {
+            if left == 0 {
+                return Err(Stop::Beyond);
+            }
+            left -= 1;
+            self.steps(body, shape, most)?;
+        }
+        Ok(())
+    }
+
+    #[inline(never)]
     #[cycle(run)]
     fn run_all(&mut self, block: &[Stmt], shape: &Shape, turns: u64) -> Result<(), Stop>
+        ensures follows { Follows result (state_of self.new) (sequence block.now shape.now turns (state_of self.old)) }
+        ensures keeps { Keeps self.old self.new }
+    {
+        self.steps(block, shape, turns)
+    }
+
+    #[inline(always)]
+    #[cycle(run)]
+    fn steps(&mut self, block: &[Stmt], shape: &Shape, turns: u64) -> Result<(), Stop>
         ensures follows { Follows result (state_of self.new) (sequence block.now shape.now turns (state_of self.old)) }
         ensures keeps { Keeps self.old self.new }
     {

@@ -27,10 +27,9 @@ fn calculate(operator: Operator, a: i64, b: i64) -> Result<Value, Failure>
         Operator::Plus => fitted(a.checked_add(b)),
         Operator::Minus => fitted(a.checked_sub(b)),
         Operator::Times => fitted(a.checked_mul(b)),
-        Operator::Divide | Operator::Remainder if b == 0 => {
-            Err(Failure::Trap(Trap::ZeroDivisor))
-        }
+        Operator::Divide if b == 0 => Err(Failure::Trap(Trap::ZeroDivisor)),
         Operator::Divide => fitted(a.checked_div(b)),
+        Operator::Remainder if b == 0 => Err(Failure::Trap(Trap::ZeroDivisor)),
         Operator::Remainder => fitted(a.checked_rem(b)),
     }
 }

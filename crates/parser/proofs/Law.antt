@@ -127,6 +127,12 @@ same_keyword-true a b h = sym (word_back a) ∙ ap word_of_code (eqb-true (keywo
 pub same_keyword-refl : (w : Keyword) → same_keyword w w ≡ true
 same_keyword-refl w = eq-eqb (keyword_code w) (keyword_code w) refl
 
+abbrev no_place : Span
+no_place = record { start = 0; end = 0 }
+
+abbrev tok_example : (k : Lexeme) (rest : List Tok) → (x : Span) × (other : List Tok) × IsTok k x other rest
+tok_example k rest = (no_place, tok k no_place ∷ rest, is_tok)
+
 -- a sign that is not an opening one leaves the nesting lower or as it is
 abbrev pub after_sign : ℕ → Sign → ℕ
 after_sign d s = open_after d (mark s)
@@ -163,6 +169,8 @@ module _ (limit : ℕ) where
       pub parts : ts ≡ before ++ token ∷ after
       pub place : length after ≡ left
       pub again : (other : List Tok) → S (before ++ token ∷ other) (Err (Unexpected (suc (length other))))
+      pub shallow : ShallowFrom d before
+      pub begun : (rest : List Tok) → (x : A) × (other : List Tok) × R x (before ++ other) rest
 
     -- an opening sign is too deep
     pub record Deep (left : ℕ) : Type 0 where
@@ -203,6 +211,8 @@ module _ (limit : ℕ) where
       parts = f.parts ∙ ap (λ (l : List Tok). f.taken ++ l) s.parts ∙ sym (append_assoc f.taken s.before (s.token ∷ s.after));
       place = s.place;
       again = λ other. subst (λ (l : List Tok). SH l (Err (Unexpected (suc (length other))))) (sym (append_assoc f.taken s.before (s.token ∷ other))) (glue (f.taken ++ (s.before ++ s.token ∷ other)) (s.before ++ s.token ∷ other) x (Err (Unexpected (suc (length other)))) (f.again (s.before ++ s.token ∷ other) (subst (λ (l : List Tok). SameNext l (s.before ++ s.token ∷ other)) (sym s.parts) (SameNext-at s.before s.token s.after other))) (s.again other));
+      shallow = ShallowFrom-append d f.taken s.before f.shallow (subst (λ n. ShallowFrom n s.before) (sym f.level) s.shallow);
+      begun = λ rest'. let p = s.begun rest' in (p.0, p.1, subst (λ (l : List Tok). RH p.0 l rest') (sym (append_assoc f.taken s.before p.1)) (p.2 (f.taken ++ (s.before ++ p.1)) (f.is (s.before ++ p.1))));
     }
     joined x rest (Err (TooDeep n)) f s = record {
       before = f.taken ++ s.before;
@@ -220,7 +230,7 @@ module _ (limit : ℕ) where
     pub then_at : (r : Result (A × List Tok) Stop) (k : A → List Tok → Result (B × List Tok) Stop) → LawAt RF SF least d e ts r → ((rest : List Tok) → (mid : List Tok) × ((x : A) → (y : B) × Then RF RH x y mid rest)) → ((x : A) (rest : List Tok) → Took RF SF least d e ts x rest → LawAt (Then RF RH x) (SG x) m e g rest (k x rest)) → LawAt RH SH least d g ts (r >>= λ x. k x.0 x.1)
     then_at (Ok x) k f sample s = joined x.0 x.1 (k x.0 x.1) f (s x.0 x.1 f)
     then_at (Err (Unexpected zero)) k f sample s = f
-    then_at (Err (Unexpected (suc n))) k f sample s = record { before = f.before; token = f.token; after = f.after; parts = f.parts; place = f.place; again = λ other. stop (f.before ++ f.token ∷ other) _ (f.again other) }
+    then_at (Err (Unexpected (suc n))) k f sample s = record { before = f.before; token = f.token; after = f.after; parts = f.parts; place = f.place; again = λ other. stop (f.before ++ f.token ∷ other) _ (f.again other); shallow = f.shallow; begun = λ rest. let m = sample rest in let p = f.begun m.0 in let q = m.1 p.0 in (q.0, p.1, q.1 (f.before ++ p.1) p.2) }
     then_at (Err (TooDeep n)) k f sample s = record { before = f.before; token = f.token; after = f.after; parts = f.parts; place = f.place; opens = f.opens; deep = f.deep; shallow = f.shallow; expected = λ rest. let m = sample rest in let p = f.expected m.0 in let q = m.1 p.0 in (q.0, p.1, q.1 (f.before ++ f.token ∷ p.1) p.2) }
     then_at (Err NoMemory) k f sample s = f
 
@@ -266,7 +276,7 @@ module _ (limit : ℕ) where
       again = λ other same. glue (s.taken ++ other) (Ok (x.0, other)) (s.again other same);
     }
     prefixed ts no_end low (Err (Unexpected zero)) s = (no_end, s)
-    prefixed ts no_end low (Err (Unexpected (suc m))) s = record { before = t ∷ s.before; token = s.token; after = s.after; parts = ap (λ (l : List Tok). t ∷ l) s.parts; place = s.place; again = λ other. glue (s.before ++ s.token ∷ other) _ (s.again other) }
+    prefixed ts no_end low (Err (Unexpected (suc m))) s = record { before = t ∷ s.before; token = s.token; after = s.after; parts = ap (λ (l : List Tok). t ∷ l) s.parts; place = s.place; again = λ other. glue (s.before ++ s.token ∷ other) _ (s.again other); shallow = (low, s.shallow); begun = s.begun }
     prefixed ts no_end low (Err (TooDeep m)) s = record { before = t ∷ s.before; token = s.token; after = s.after; parts = ap (λ (l : List Tok). t ∷ l) s.parts; place = s.place; opens = s.opens; deep = s.deep; shallow = (low, s.shallow); expected = s.expected }
     prefixed ts no_end low (Err NoMemory) s = s
 
@@ -274,7 +284,7 @@ module _ (limit : ℕ) where
   pub implies : {A : Type 0} (R R' : A → List Tok → List Tok → Type 0) (S : List Tok → Result (A × List Tok) Stop → Type 0) (n d e : ℕ) (ts : List Tok) → ((x : A) (us rest : List Tok) → R x us rest → R' x us rest) → (r : Result (A × List Tok) Stop) → LawAt R S n d e ts r → LawAt R' S n d e ts r
   implies R R' S n d e ts h (Ok x) s = record { taken = s.taken; parts = s.parts; some = s.some; no_end = s.no_end; level = s.level; shallow = s.shallow; is = λ other. h x.0 (s.taken ++ other) other (s.is other); again = s.again }
   implies R R' S n d e ts h (Err (Unexpected zero)) s = s
-  implies R R' S n d e ts h (Err (Unexpected (suc m))) s = record { before = s.before; token = s.token; after = s.after; parts = s.parts; place = s.place; again = s.again }
+  implies R R' S n d e ts h (Err (Unexpected (suc m))) s = record { before = s.before; token = s.token; after = s.after; parts = s.parts; place = s.place; again = s.again; shallow = s.shallow; begun = λ rest. let p = s.begun rest in (p.0, p.1, h p.0 (s.before ++ p.1) rest p.2) }
   implies R R' S n d e ts h (Err (TooDeep m)) s = record { before = s.before; token = s.token; after = s.after; parts = s.parts; place = s.place; opens = s.opens; deep = s.deep; shallow = s.shallow; expected = λ rest. let p = s.expected rest in (p.0, p.1, h p.0 (s.before ++ s.token ∷ p.1) rest p.2) }
   implies R R' S n d e ts h (Err NoMemory) s = s
 
@@ -283,13 +293,13 @@ module _ (limit : ℕ) where
     pub said : (r : Result (A × List Tok) Stop) → LawAt R S' n d e ts r → LawAt R S n d e ts r
     said (Ok x) s = record { taken = s.taken; parts = s.parts; some = s.some; no_end = s.no_end; level = s.level; shallow = s.shallow; is = s.is; again = λ other same. same_says (s.taken ++ other) (Ok (x.0, other)) (subst (λ (l : List Tok). SameNext l (s.taken ++ other)) (sym s.parts) (SameNext-append s.taken x.1 other same)) (s.again other same) }
     said (Err (Unexpected zero)) s = s
-    said (Err (Unexpected (suc m))) s = record { before = s.before; token = s.token; after = s.after; parts = s.parts; place = s.place; again = λ other. same_says (s.before ++ s.token ∷ other) _ (subst (λ (l : List Tok). SameNext l (s.before ++ s.token ∷ other)) (sym s.parts) (SameNext-at s.before s.token s.after other)) (s.again other) }
+    said (Err (Unexpected (suc m))) s = record { before = s.before; token = s.token; after = s.after; parts = s.parts; place = s.place; again = λ other. same_says (s.before ++ s.token ∷ other) _ (subst (λ (l : List Tok). SameNext l (s.before ++ s.token ∷ other)) (sym s.parts) (SameNext-at s.before s.token s.after other)) (s.again other); shallow = s.shallow; begun = s.begun }
     said (Err (TooDeep m)) s = record { before = s.before; token = s.token; after = s.after; parts = s.parts; place = s.place; opens = s.opens; deep = s.deep; shallow = s.shallow; expected = s.expected }
     said (Err NoMemory) s = s
 
-  module _ {A : Type 0} (R : A → List Tok → List Tok → Type 0) (f : Lexeme → Span → Reader A) (d e : ℕ) where
+  module _ {A : Type 0} (R : A → List Tok → List Tok → Type 0) (f : Lexeme → Span → Reader A) (d e : ℕ) (example : (rest : List Tok) → (x : A) × (other : List Tok) × R x other rest) where
     headed : (t : Tok) (ts : List Tok) → Head R d e t.kind t.span (f t.kind t.span) → LawAt R (Says (first_at f)) 1 d e (t ∷ ts) (f t.kind t.span ts)
-    headed t ts (refuses h) = rw (h ts) (record { before = []; token = t; after = ts; parts = refl; place = refl; again = λ other. h other })
+    headed t ts (refuses h) = rw (h ts) (record { before = []; token = t; after = ts; parts = refl; place = refl; again = λ other. h other; shallow = tt; begun = example })
     headed t ts (deepens opens deep sample h) = rw (h ts) (record { before = []; token = t; after = ts; parts = refl; place = refl; opens = opens; deep = deep; shallow = tt; expected = sample })
     headed t ts (takes n no_end low law) = prefixed R (Says (f t.kind t.span)) (Says (first_at f)) n d e t (λ us q h. h) ts no_end low (f t.kind t.span ts) (law ts)
 
@@ -314,7 +324,7 @@ module _ (limit : ℕ) where
 
   pub sign_law : (s : Sign) (d : ℕ) → (IsOpening (mark s) → d < limit) → Law (IsTok (mark s)) (sign_at s) 1 d (after_sign d s)
   unfolding sign_at
-  sign_law s d low = first_law (IsTok (mark s)) (sign_from s) d (after_sign d s) (sign_from_head s d low)
+  sign_law s d low = first_law (IsTok (mark s)) (sign_from s) d (after_sign d s) (tok_example (mark s)) (sign_from_head s d low)
 
   word_head : (w v : Keyword) (d : ℕ) (at : Span) (b : Bool) → same_keyword v w ≡ b → Head (IsTok (word w)) d d (word v) at (λ ts. cond b (Ok (at, ts)) (refused ts))
   word_head w v d at false e = refuses (λ ts. refl)
@@ -331,7 +341,7 @@ module _ (limit : ℕ) where
 
   pub word_law : (w : Keyword) (d : ℕ) → Law (IsTok (word w)) (word_at w) 1 d d
   unfolding word_at
-  word_law w d = first_law (IsTok (word w)) (word_from w) d d (word_from_head w d)
+  word_law w d = first_law (IsTok (word w)) (word_from w) d d (tok_example (word w)) (word_from_head w d)
 
   name_head : (d : ℕ) (k : Lexeme) (at : Span) → Head IsName d d k at (name_from k at)
   name_head d (name x) at = takes 0 (λ e. cc) (λ o. absurd o) (λ ts. record { taken = []; parts = refl; some = omega arith; no_end = tt; level = refl; shallow = tt; is = λ other. is_name; again = λ other same. refl })
@@ -339,7 +349,7 @@ module _ (limit : ℕ) where
 
   pub name_law : (d : ℕ) → Law IsName name_at 1 d d
   unfolding name_at
-  name_law d = first_law IsName name_from d d (name_head d)
+  name_law d = first_law IsName name_from d d (λ rest. (record { text = []; span = no_place }, tok (name []) no_place ∷ rest, is_name)) (name_head d)
 
   int_head : (d : ℕ) (k : Lexeme) (at : Span) → Head IsInt d d k at (int_from k at)
   int_head d (int n) at = takes 0 (λ e. cc) (λ o. absurd o) (λ ts. record { taken = []; parts = refl; some = omega arith; no_end = tt; level = refl; shallow = tt; is = λ other. is_int_tok; again = λ other same. refl })
@@ -347,7 +357,7 @@ module _ (limit : ℕ) where
 
   pub int_law : (d : ℕ) → Law IsInt int_at 1 d d
   unfolding int_at
-  int_law d = first_law IsInt int_from d d (int_head d)
+  int_law d = first_law IsInt int_from d d (λ rest. (record { value = 0; span = no_place }, tok (int 0) no_place ∷ rest, is_int_tok)) (int_head d)
 
   -- an opening sign, and what follows it with one sign less to open
   open_head : (s m : Sign) (room d : ℕ) (at : Span) (b : Bool) → same_sign m s ≡ b → d < limit → Head (IsTok (mark s)) d (after_sign d s) (mark m) at (λ ts. cond b (opened (suc room) at ts) (refused ts))
@@ -385,6 +395,6 @@ module _ (limit : ℕ) where
       → ((r : ℕ) → room ≡ suc r → (x : Span) → Law (Then (IsTok (mark s)) RH x) (g x) m (after_sign d s) h) → Law RH (λ ts. open_at s room ts >>= λ x. g x.0 x.1) 1 d h
   unfolding open_at
   open_then_law RH s zero g m d h sum opens sample lg ts =
-      then_at (IsTok (mark s)) RH (Says (open_at s zero)) (λ x. Says (g x)) (Says (λ ts. open_at s zero ts >>= λ x. g x.0 x.1)) (λ ts rest x q p s. ap (λ (r : Result (_ × List Tok) Stop). r >>= λ x. g x.0 x.1) p ∙ s) (λ ts e p. ap (λ (r : Result (_ × List Tok) Stop). r >>= λ x. g x.0 x.1) p) 1 m d d h ts (open_at s zero ts) g (first_law (IsTok (mark s)) (open_from s zero) d d (no_room_from s d d opens (omega arith)) ts) sample (λ x rest took. absurd (no_took s d d d ts x rest opens (omega arith) took refl))
+      then_at (IsTok (mark s)) RH (Says (open_at s zero)) (λ x. Says (g x)) (Says (λ ts. open_at s zero ts >>= λ x. g x.0 x.1)) (λ ts rest x q p s. ap (λ (r : Result (_ × List Tok) Stop). r >>= λ x. g x.0 x.1) p ∙ s) (λ ts e p. ap (λ (r : Result (_ × List Tok) Stop). r >>= λ x. g x.0 x.1) p) 1 m d d h ts (open_at s zero ts) g (first_law (IsTok (mark s)) (open_from s zero) d d (tok_example (mark s)) (no_room_from s d d opens (omega arith)) ts) sample (λ x rest took. absurd (no_took s d d d ts x rest opens (omega arith) took refl))
   open_then_law RH s (suc r) g m d h sum opens sample lg ts =
-      then_law (IsTok (mark s)) RH (open_at s (suc r)) g 1 m d (after_sign d s) h (first_law (IsTok (mark s)) (open_from s (suc r)) d (after_sign d s) (open_from_head s r d (omega arith))) sample (lg r refl) ts
+      then_law (IsTok (mark s)) RH (open_at s (suc r)) g 1 m d (after_sign d s) h (first_law (IsTok (mark s)) (open_from s (suc r)) d (after_sign d s) (tok_example (mark s)) (open_from_head s r d (omega arith))) sample (lg r refl) ts

@@ -307,7 +307,7 @@ module _ (limit : ℕ) where
 
     pub prim_with_law : Law limit (IsExpr PRIM) (prim_with room inner) 1 d d
     unfolding prim_with
-    prim_with_law = first_law limit (IsExpr PRIM) (prim_from room inner) d d prim_head
+    prim_with_law = first_law limit (IsExpr PRIM) (prim_from room inner) d d (λ rest. (zero_expr, tok (lexeme.int 0) nowhere ∷ rest, is_int)) prim_head
 
   -- ---- by level
 

@@ -60,6 +60,9 @@ decls_end room ts = on_weaker (decls_at room ts) (λ l. next_until end (decl_at 
 
 -- ---- the whole
 
+abbrev nowhere : Span
+nowhere = record { start = 0; end = 0 }
+
 record Ended (ts : List Tok) (ds : List Decl) : Type 0 where
   spelled : Spells ds ts
   shallow : ShallowFrom LIMIT 0 ts
@@ -71,6 +74,8 @@ record MetAt (ts : List Tok) (left : ℕ) : Type 0 where
   parts : ts ≡ before ++ token ∷ after
   place : suc (length after) ≡ left
   again : (other : List Tok) → program_at LIMIT (before ++ token ∷ other) ≡ Err (Unexpected (suc (length other)))
+  shallow : ShallowFrom LIMIT 0 before
+  begun : (ds : List Decl) × (other : List Tok) × Spells ds (before ++ other)
 
 abbrev WholeAt : List Tok → Result (List Decl) Stop → Type 0
 WholeAt ts (Ok ds) = Ended ts ds
@@ -93,20 +98,25 @@ finished ts ds (t ∷ []) took e =
       spelled = spells (subst (AreMany IsDecl ds ts) last (subst (λ (l : List Tok). AreMany IsDecl ds l (t ∷ [])) (sym took.parts) (took.is (t ∷ []))));
       shallow = subst (ShallowFrom LIMIT 0) (sym took.parts) (ShallowFrom-append LIMIT 0 took.taken (t ∷ []) took.shallow (λ opens. absurd (subst IsOpening is_end opens), tt));
     }
-finished ts ds (t ∷ u ∷ us) took e = record {
-  before = took.taken ++ t ∷ [];
-  token = u;
-  after = us;
-  parts = took.parts ∙ sym (append_assoc took.taken (t ∷ []) (u ∷ us));
-  place = refl;
-  again = λ other. ap (λ (l : List Tok). program_at LIMIT l) (append_assoc took.taken (t ∷ []) (u ∷ other)) ∙ ap (λ r. r >>= finish) (took.again (t ∷ u ∷ other) (u ∷ other, refl));
-}
+finished ts ds (t ∷ u ∷ us) took e =
+    let is_end : t.kind ≡ end = same_kind-end t.kind e in
+    let last : (t ∷ []) ≡ tok end t.span ∷ [] = ap (λ (k : Lexeme). tok k t.span ∷ []) is_end in
+    record {
+      before = took.taken ++ t ∷ [];
+      token = u;
+      after = us;
+      parts = took.parts ∙ sym (append_assoc took.taken (t ∷ []) (u ∷ us));
+      place = refl;
+      again = λ other. ap (λ (l : List Tok). program_at LIMIT l) (append_assoc took.taken (t ∷ []) (u ∷ other)) ∙ ap (λ r. r >>= finish) (took.again (t ∷ u ∷ other) (u ∷ other, refl));
+      shallow = ShallowFrom-append LIMIT 0 took.taken (t ∷ []) took.shallow (λ opens. absurd (subst IsOpening is_end opens), tt);
+      begun = (ds, [], subst (λ (l : List Tok). Spells ds l) (sym (append_assoc took.taken (t ∷ []) [])) (spells (subst (λ (l : List Tok). AreMany IsDecl ds (took.taken ++ t ∷ []) l) last (took.is (t ∷ [])))));
+    }
 
 whole : (ts : List Tok) (r : Result (List Decl × List Tok) Stop) → LawAt LIMIT (AreMany IsDecl) (Says (decls_at LIMIT)) 0 0 0 ts r → OnValue r (λ l. is_next end l.1 ≡ true) → WholeAt ts (r >>= finish)
 unfolding program_at
 whole ts (Ok x) law e = finished ts x.0 x.1 law e
 whole ts (Err (Unexpected zero)) law e = law
-whole ts (Err (Unexpected (suc n))) law e = record { before = law.before; token = law.token; after = law.after; parts = law.parts; place = ap suc law.place; again = λ other. ap (λ r. r >>= finish) (law.again other) }
+whole ts (Err (Unexpected (suc n))) law e = record { before = law.before; token = law.token; after = law.after; parts = law.parts; place = ap suc law.place; again = λ other. ap (λ r. r >>= finish) (law.again other); shallow = law.shallow; begun = let p = law.begun (tok end nowhere ∷ []) in (p.0, p.1, spells p.2) }
 whole ts (Err (TooDeep n)) law e = law
 whole ts (Err NoMemory) law e = law
 
@@ -152,11 +162,10 @@ unexpected_at ts n e =
       after = w.after;
       parts = w.parts;
       place = start_is ts w.before w.after w.token (suc n) w.parts w.place;
+      begun = w.begun;
+      shallow = is_shallow w.before w.shallow;
       no_program = λ ds other h. met_none (w.before ++ w.token ∷ other) (suc (length other)) ds (w.again other) (program_found h LIMIT);
     }
-
-abbrev nowhere : Span
-nowhere = record { start = 0; end = 0 }
 
 pub too_deep_at : (ts : List Tok) (left : ℕ) → program_at LIMIT ts ≡ Err (TooDeep left) → IsTooDeep ts (first_start (drop (length ts - left) ts))
 too_deep_at ts left e =
@@ -181,3 +190,43 @@ no_answer ts ds e h f = let g = program_again ts ds h in cc
 -- in the program's own tokens
 pub start_seen : (ts : List Token) (n : ℕ) → first_start (seen (drop (length ts - n) ts)) ≡ first_start (drop (length (seen ts) - n) (seen ts))
 start_seen ts n = ap first_start (sym (drop-map seen_token (length ts - n) ts) ∙ ap (λ k. drop (k - n) (seen ts)) (sym (length-map ts seen_token)))
+
+-- of two places neither of which is behind the other, both hold the same token
+one_place : (b c : List Tok) (t u : Tok) (x y : List Tok) → b ++ t ∷ x ≡ c ++ u ∷ y → ((mid : List Tok) → c ≡ b ++ t ∷ mid → ⊥) → ((mid : List Tok) → b ≡ c ++ u ∷ mid → ⊥) → t ≡ u
+one_place [] [] t u x y e h g = cc
+one_place [] (v ∷ c) t u x y e h g = let same : v ≡ t = cc in absurd (h c (ap (λ (s : Tok). s ∷ c) same))
+one_place (w ∷ b) [] t u x y e h g = let same : w ≡ u = cc in absurd (g b (ap (λ (s : Tok). s ∷ b) same))
+one_place (w ∷ b) (v ∷ c) t u x y e h g =
+    let same : w ≡ v = cc in
+    let rest : b ++ t ∷ x ≡ c ++ u ∷ y = cc in
+    one_place b c t u x y rest (λ mid p. h mid (ap (λ (s : Tok). s ∷ c) (sym same) ∙ ap (λ (l : List Tok). w ∷ l) p)) (λ mid p. g mid (ap (λ (s : Tok). s ∷ b) same ∙ ap (λ (l : List Tok). v ∷ l) p))
+
+-- tokens have one place with the token of which no program begins, and with those ahead of it one does
+begun_too : (ts : List Tok) (a b : ℕ) (m : IsUnexpected ts a) (n : IsUnexpected ts b) (mid : List Tok) → n.before ≡ m.before ++ m.token ∷ mid → ⊥
+begun_too ts a b m n mid e =
+    let p = n.begun in
+    m.no_program p.0 (mid ++ p.1) (subst (λ (l : List Tok). Spells p.0 l) (ap (λ (l : List Tok). l ++ p.1) e ∙ append_assoc m.before (m.token ∷ mid) p.1) p.2)
+
+pub only_unexpected : (ts : List Tok) (a b : ℕ) → IsUnexpected ts a → IsUnexpected ts b → a ≡ b
+only_unexpected ts a b m n =
+    let same : m.token ≡ n.token = one_place m.before n.before m.token n.token m.after n.after (sym m.parts ∙ n.parts) (begun_too ts a b m n) (begun_too ts b a n m) in
+    sym m.place ∙ ap (λ (t : Tok). t.span.start) same ∙ n.place
+
+one_end : (b c : List Tok) (t u : Tok) (x y : List Tok) → b ++ t ∷ x ≡ c ++ u ∷ y → ((mid : List Tok) → c ≡ b ++ t ∷ mid → ⊥) → ((mid : List Tok) → b ≡ c ++ u ∷ mid → ⊥) → b ++ t ∷ [] ≡ c ++ u ∷ []
+one_end [] [] t u x y e h g = let same : t ≡ u = cc in ap (λ (s : Tok). s ∷ []) same
+one_end [] (v ∷ c) t u x y e h g = let same : v ≡ t = cc in absurd (h c (ap (λ (s : Tok). s ∷ c) same))
+one_end (w ∷ b) [] t u x y e h g = let same : w ≡ u = cc in absurd (g b (ap (λ (s : Tok). s ∷ b) same))
+one_end (w ∷ b) (v ∷ c) t u x y e h g =
+    let same : w ≡ v = cc in
+    let rest : b ++ t ∷ x ≡ c ++ u ∷ y = cc in
+    let ends = one_end b c t u x y rest (λ mid p. h mid (ap (λ (s : Tok). s ∷ c) (sym same) ∙ ap (λ (l : List Tok). w ∷ l) p)) (λ mid p. g mid (ap (λ (s : Tok). s ∷ b) same ∙ ap (λ (l : List Tok). v ∷ l) p)) in
+    ap (λ (s : Tok). s ∷ b ++ t ∷ []) same ∙ ap (λ (l : List Tok). v ∷ l) ends
+
+-- no tokens have both faults
+pub never_both : (ts : List Tok) (a b : ℕ) → IsUnexpected ts a → IsTooDeep ts b → ⊥
+never_both ts a b m n =
+    let p = n.expected in
+    let ends = one_end m.before n.before m.token n.token m.after n.after (sym m.parts ∙ n.parts)
+    (λ mid e. m.no_program p.0 (mid ++ n.token ∷ p.1) (subst (λ (l : List Tok). Spells p.0 l) (ap (λ (l : List Tok). l ++ n.token ∷ p.1) e ∙ append_assoc m.before (m.token ∷ mid) (n.token ∷ p.1)) p.2))
+    (λ mid e. let low : nesting 0 n.before < LIMIT = m.shallow n.before mid n.token e n.opens in omega (arith, n.deep, low)) in
+    m.no_program p.0 p.1 (subst (λ (l : List Tok). Spells p.0 l) (sym (append_assoc n.before (n.token ∷ []) p.1) ∙ ap (λ (l : List Tok). l ++ p.1) (sym ends) ∙ append_assoc m.before (m.token ∷ []) p.1) p.2)

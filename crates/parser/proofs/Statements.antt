@@ -197,7 +197,7 @@ module _ (limit : ℕ) where
 
   pub type_law : (d : ℕ) → Law limit IsType type_at 1 d d
   unfolding type_at
-  type_law d = first_law limit IsType type_from d d (type_head d)
+  type_law d = first_law limit IsType type_from d d (λ rest. (int_type, tok (word keyword.Int) nowhere ∷ rest, is_int_type)) (type_head d)
 
   type_part : {P : Type 0} (d : ℕ) → Part limit P IsType type_at 1 d d
   type_part d = record { law = λ p. type_law d; can = λ rest. (int_type, tok (word keyword.Int) nowhere ∷ rest, is_int_type) }
@@ -246,7 +246,7 @@ module _ (limit : ℕ) where
 
     pub const_law : Law limit IsConst (const_at room) 1 d d
     unfolding const_at
-    const_law = first_law limit IsConst (const_from room) d d const_head
+    const_law = first_law limit IsConst (const_from room) d d (λ rest. (zero_const, zero_tok ∷ rest, is_int_const)) const_head
 
     const_part : {P : Type 0} → Part limit P IsConst (const_at room) 1 d d
     const_part = record { law = λ p. const_law; can = λ rest. (zero_const, zero_tok ∷ rest, is_int_const) }
@@ -333,7 +333,7 @@ module _ (limit : ℕ) where
 
       stmt_with_law : Law limit IsStmt (stmt_with room body) 1 d d
       unfolding stmt_with
-      stmt_with_law = first_law limit IsStmt (stmt_from room body) d d stmt_head
+      stmt_with_law = first_law limit IsStmt (stmt_from room body) d d (λ rest. (print nowhere zero_expr, tok (word keyword.Print) nowhere ∷ zero_tok ∷ tok (mark Semicolon) nowhere ∷ rest, print_is (ended is_int))) stmt_head
 
   stmts_law : (f : Reader Stmt) (d : ℕ) → Law limit IsStmt f 1 d d → Law limit IsStmts (stmts_with f) 0 d d
   unfolding stmts_with
@@ -584,7 +584,7 @@ module _ (limit : ℕ) where
 
     pub decl_law : Law limit IsDecl (decl_at room) 1 d d
     unfolding decl_at
-    decl_law = first_law limit IsDecl (decl_from room) d d decl_head
+    decl_law = first_law limit IsDecl (decl_from room) d d (λ rest. (lock no_name, tok (word keyword.Lock) nowhere ∷ name_tok no_name ∷ tok (mark Semicolon) nowhere ∷ rest, is_lock)) decl_head
 
     pub decls_law : Law limit (AreMany IsDecl) (decls_at room) 0 d d
     unfolding decls_at

@@ -1,7 +1,8 @@
 //! From tokens to the tree of a program.
 //!
-//! - [`parse`]: the tree, or the first fault: `E03`, `E04`, then `E18`.
+//! - [`parse`]: the tree, or the first fault: of the grammar, `E03` or `E04`, and where there is none, `E18`.
 //! - [`one_tree`]: tokens have one tree at most.
+//! - [`one_unexpected`], [`never_both`]: tokens have one `E03` at most, and never an `E03` and an `E04`.
 //!
 //! Which tokens spell which tree is the grammar of `syntax/specs/Grammar.antt`; what each fault
 //! means, `syntax/specs/Faults.antt`.
@@ -19,4 +20,4 @@ mod take;
 mod thread;
 mod whole;
 
-pub use whole::{one_tree, parse};
+pub use whole::{never_both, one_tree, one_unexpected, parse};

@@ -8,7 +8,7 @@ ghost use Rattle.source.specs.Faults.{IsFaultAt};
 ghost use Rattle.syntax.specs.Trees.{Decl};
 ghost use Rattle.syntax.specs.Views.{tree_of};
 ghost use Rattle.syntax.specs.Grammar.{HasTree};
-ghost use Rattle.syntax.specs.Faults.{HasRightTree, IsMisplaced, IsRefusal};
+ghost use Rattle.syntax.specs.Faults.{HasRightTree, IsMisplaced, IsRefusal, IsTooDeep, IsUnexpected};
 ghost use Rattle.parser.specs.Declarations.{first_start};
 
 use crate::decl::program;
@@ -75,4 +75,14 @@ pub fn parse(alloc: Global, tokens: &[Token]) -> Result<Tree, Refusal>
 /// Tokens have one tree at most.
 pub fn one_tree()
     ensures { (ts : List Tok) (a b : List Decl) → HasTree ts a → HasTree ts b → a ≡ b }
+{}
+
+/// A law: tokens have one `E03` at most.
+pub fn one_unexpected()
+    ensures { (ts : List Tok) (a b : ℕ) → IsUnexpected ts a → IsUnexpected ts b → a ≡ b }
+{}
+
+/// A law: no tokens have both an `E03` and an `E04`.
+pub fn never_both()
+    ensures { (ts : List Tok) (a b : ℕ) → IsUnexpected ts a → IsTooDeep ts b → ⊥ }
 {}

@@ -3,7 +3,6 @@ use Rattle.std.proofs.Common.{◌≡◌, ℕ, zero, suc, ◌+◌, ◌<◌, ◌�
 use Rattle.std.specs.Prelude.{nat_le, nat_lt, not, is_some, ◌==◌, ◌&&◌, ◌||◌, slice_get}
 use Rattle.std.proofs.lemmas.Bool.Decides.{nat_tests}
 use Rattle.source.specs.Texts.{NUMBER_LIMIT}
-use Rattle.source.specs.declared.span.Span.{Span}
 use Rattle.source.specs.declared.fault.Code.{Code}
 use Rattle.source.specs.declared.fault.Code.TheVariants.{NumberTooLarge, DeclaredTwice, UnknownName, WrongType, WrongArgumentCount, NotAssignable, NeitherFinalNorProtected, ProtectedByNoLock, ProtectedByPassesNonFinal, LimitExceeded, FinalWithoutOpeningValue, InitOutOfRangeOrRepeated, LockAsValue}
 use Rattle.source.specs.declared.token.Number.{Number}
@@ -12,36 +11,29 @@ use Rattle.syntax.specs.declared.tree.Level.{Level}
 use Rattle.syntax.specs.declared.tree.Level.TheVariants.{Term, Sum, Conjunction, Disjunction}
 use Rattle.syntax.specs.declared.tree.Comparison as written
 use Rattle.syntax.specs.declared.tree.Comparison.TheVariants as sign
-use Rattle.syntax.specs.Trees.{Ident, ValueType, ref_type, Const, int_const, negative, null_const, member_const, Place, lone, element, path, Expr, int, null, place, chain, compare, Links, Stmt, assign, Protection, Member, lock_member, final_member, field_member, Final, Field, Struct, Variable, Array, Pool, Init, Param, Section, Call, Decl, lock, struct, global, array, pool, init, atomic, thread}
-use Rattle.core_lang.specs.declared.value.ValueType as core_type
+use Rattle.syntax.specs.Trees.{Ident, ref_type, Const, int_const, negative, member_const, Place, lone, element, path, Expr, int, place, chain, compare, assign, Protection, Member, lock_member, final_member, field_member, Struct, Pool, Init, Call, Decl, lock, struct, global, array, pool, init, atomic, thread}
 use Rattle.core_lang.specs.declared.value.ValueType.TheVariants.{Integer, Reference}
 use Rattle.core_lang.specs.declared.tree.FieldStep.{FieldStep}
-use Rattle.resolution.specs.declared.gift.Gift.{Gift}
 use Rattle.resolution.specs.declared.mistake.Mistake.{Mistake}
-use Rattle.resolution.specs.declared.wanted.Sort.{Sort}
 use Rattle.resolution.specs.declared.wanted.Want.{Want}
 use Rattle.resolution.specs.declared.wanted.Want.TheVariants.{Value}
-use Rattle.resolution.specs.Core as core
 use Rattle.resolution.specs.Limits.{STRUCT_LIMIT, MEMBER_LIMIT, FINAL_LIMIT, CLASS_LIMIT, OBJECT_LIMIT, CELL_LIMIT, SECTION_LIMIT, THREAD_LIMIT, PARAMETER_LIMIT, LOCAL_LIMIT, CALL_LIMIT}
-use Rattle.resolution.specs.Scopes.{Scope, Local, outside, Meaning, a_local, a_decl, nothing, meaning, place_of, count, declared, bears, the_decl, alike, the_struct, member_name, member_bears, the_member, the_local, has_type, type_of, struct_named, entered}
+use Rattle.resolution.specs.Scopes.{Scope, Local, outside, Meaning, a_local, a_decl, nothing, meaning, place_of, count, declared, the_decl, alike, the_struct, member_name, member_bears, the_member, the_local, has_type, type_of, struct_named, entered}
 use Rattle.resolution.specs.Numbers.{is_lock, total, classes_of, objects_of, cells_of, calls_of}
-use Rattle.resolution.specs.Expressions.{Sense, value, truth, fits, fits_sort, alike_sorts, want, typed, operator_of, Walk, reached, at_lock, lost, stepped, walked, at_local, walk_from}
-use Rattle.resolution.specs.Statements.{is_var, last_field, first_name, target_of, wanted_by}
-use Rattle.resolution.specs.Constants.{const_sort, members_of, pool_members, initialised, member_want, gift_of, giver, given}
-use Rattle.resolution.specs.Annotations.{Standing, through_member, stepped_on, standing_at}
+use Rattle.resolution.specs.Expressions.{ResolvedExpr, value, truth, fits, fits_sort, alike_sorts, want, typed, operator_of, Walk, reached, at_lock, lost, stepped, walked, at_local, walk_from}
+use Rattle.resolution.specs.Statements.{first_name, target_of, wanted_by}
+use Rattle.resolution.specs.Constants.{pool_members, initialised, member_want, given}
+use Rattle.resolution.specs.Annotations.{AnnotationCursor, stepped_on, cursor_at}
 use Rattle.resolution.specs.Resolution.{ahead_of}
-use Rattle.resolution.specs.Where.{Has, first, further, HasLink, operand_want, HasStmt, HasExpr, HasPlace, is_read, is_written, Binds, HasType, HasCall, HasConst, HasLock, of_variable, of_elements, Annotates, annotates}
+use Rattle.resolution.specs.Where.{Has, first, further, HasStmt, HasExpr, HasPlace, is_read, is_written, Binds, HasCall, HasConst, of_variable, of_elements, Annotates, annotates}
 use Rattle.resolution.specs.Faults as fault
 use Rattle.resolution.specs.Faults.{start_of, const_start, IsTooLarge, IsDeclaredTwice, Reaches, stays, goes_on, Walks, walks, NamesGlobal, IsLockDecl, IsLockMember, IsFinalMember, IsUnknown, AreUnlike, IsEquality, IsOfNumbers, IsNoValue, HasNoElements, IsNoReference, IsNoStruct, IsSection, IsPool, IsWrongType, IsWrongCount, IsNotAssignable, IsUnprotected, EndsAtNoLock, PassesNonFinal, limit_of, IsOverLimit, IsFinalMissing, IsOutOfRange, IsLockAsValue, IsFault, too_large, declared_twice, unknown, wrong_type, miscounted, not_assignable, without_lock, ends_at_no_lock, passes_non_final, over_limit, final_missing, out_of_range, lock_as_value}
 use Rattle.resolution.specs.FaultLists as list
-use Rattle.resolution.specs.FaultLists.{one, one_if, unfit, no_struct, type_faults, number_faults, index_faults, own_faults, sort_misfit, const_faults, argument_faults, no_elements, no_member, no_field, step_faults, end_faults, walk_faults, path_faults, misfit, unlike, side_faults, operator_faults, expr_faults, place_faults, wanted_faults, taken, local_faults, no_target, no_array, final_faults, target_faults, global_lock_faults, lock_faults, passed_faults, last_faults, passed, along_faults, annotation_faults, protection_faults, opening_faults, some_lacks, is_at, is_due, lacks, missing_faults, field_faults, named_faults, null_faults, init_faults, call_faults, again, twice, twice_faults, member_twice_faults, struct_faults, passes, lock_count, member_counts, count_faults, total_faults, given_before, gift_again, repeated, repeated_faults, each_faults, program_faults}
+use Rattle.resolution.specs.FaultLists.{one, one_if, unfit, no_struct, type_faults, number_faults, index_faults, own_faults, sort_misfit, const_faults, argument_faults, no_elements, no_member, no_field, step_faults, end_faults, walk_faults, path_faults, misfit, unlike, side_faults, operator_faults, expr_faults, place_faults, wanted_faults, taken, local_faults, no_target, no_array, final_faults, target_faults, global_lock_faults, lock_faults, passed_faults, last_faults, passed, along_faults, annotation_faults, protection_faults, opening_faults, some_lacks, is_at, is_due, lacks, missing_faults, field_faults, named_faults, null_faults, init_faults, call_faults, again, twice, twice_faults, member_twice_faults, struct_faults, passes, lock_count, member_counts, count_faults, total_faults, given_before, init_target_again, repeated, repeated_faults, each_faults, program_faults}
 use Rattle.resolution.proofs.Members.{In, at, at_if}
 use Rattle.resolution.proofs.Members as m
-use Rattle.resolution.proofs.TrueExpressions.{walked_push}
-use Rattle.resolution.proofs.TrueStatements.{entered_same, length_push}
-use Rattle.resolution.proofs.TrueFaults.{count_push}
 use Rattle.resolution.proofs.Named.{member_is}
-use Rattle.resolution.proofs.Parts.{chain_link, has_at, of_place_at, of_decl, of_stmt, stmt_decls, of_wanted, expr_decls, of_expr, own, of_param, of_local, local_decls, in_members_field, of_type, of_call, of_const}
+use Rattle.resolution.proofs.Parts.{chain_link, of_place_at, of_decl, of_stmt, stmt_decls, of_wanted, expr_decls, of_expr, own, of_param, of_local, local_decls, in_members_field, of_type, of_call, of_const}
 
 lt_is : (n k : ℕ) → n < k → nat_lt n k ≡ true
 lt_is n k l = grind (arith, nat_tests)
@@ -188,31 +180,31 @@ unknown_field decls ds p x before y steps k s same to is e =
 
 -- ---- annotations
 
-in_along : (decls : List Decl) (p : ℕ) (from : Standing) (y : Ident) (ys : List Ident) (st : Standing) (x z : Ident) (zs : List Ident) → Reaches decls from y ys st x (z ∷ zs) → (f : Mistake) → In f (passed p (Some st) x) → In f (along_faults decls p (Some from) y ys)
+in_along : (decls : List Decl) (p : ℕ) (from : AnnotationCursor) (y : Ident) (ys : List Ident) (st : AnnotationCursor) (x z : Ident) (zs : List Ident) → Reaches decls from y ys st x (z ∷ zs) → (f : Mistake) → In f (passed p (Some st) x) → In f (along_faults decls p (Some from) y ys)
 in_along decls p from y ys st x z zs stays f i = m.in_left f (passed p (Some from) y) (along_faults decls p (stepped_on decls (Some from) y) z zs) i
 in_along decls p from y (v ∷ vs) st x z zs (goes_on {next = next} e r) f i =
-    m.in_right f (passed p (Some from) y) _ (subst (λ (o : Option Standing). In f (along_faults decls p o v vs)) (sym e) (in_along decls p next v vs st x z zs r f i))
+    m.in_right f (passed p (Some from) y) _ (subst (λ (o : Option AnnotationCursor). In f (along_faults decls p o v vs)) (sym e) (in_along decls p next v vs st x z zs r f i))
 
-in_along_end : (decls : List Decl) (p : ℕ) (from : Standing) (y : Ident) (ys : List Ident) (st : Standing) (x : Ident) → Reaches decls from y ys st x [] → (f : Mistake) → In f (list.ended p (Some st) x) → In f (along_faults decls p (Some from) y ys)
+in_along_end : (decls : List Decl) (p : ℕ) (from : AnnotationCursor) (y : Ident) (ys : List Ident) (st : AnnotationCursor) (x : Ident) → Reaches decls from y ys st x [] → (f : Mistake) → In f (list.ended p (Some st) x) → In f (along_faults decls p (Some from) y ys)
 in_along_end decls p from y ys st x stays f i = i
 in_along_end decls p from y (v ∷ vs) st x (goes_on {next = next} e r) f i =
-    m.in_right f (passed p (Some from) y) _ (subst (λ (o : Option Standing). In f (along_faults decls p o v vs)) (sym e) (in_along_end decls p next v vs st x r f i))
+    m.in_right f (passed p (Some from) y) _ (subst (λ (o : Option AnnotationCursor). In f (along_faults decls p o v vs)) (sym e) (in_along_end decls p next v vs st x r f i))
 
-of_annotation : (decls : List Decl) (n : ℕ) (ms : List Member) (p : Protection) → Annotates decls n ms p → (f : Mistake) → In f (annotation_faults decls (standing_at n ms) p (the_member ms p.first.text)) → In f (program_faults decls)
+of_annotation : (decls : List Decl) (n : ℕ) (ms : List Member) (p : Protection) → Annotates decls n ms p → (f : Mistake) → In f (annotation_faults decls (cursor_at n ms) p (the_member ms p.first.text)) → In f (program_faults decls)
 of_annotation decls n ms p (annotates {s = s} {f = g} here b e) f i =
     of_place_at decls n (struct s) here f (in_members_field decls n s.members s.members g b f (m.in_right f (type_faults (outside decls) g.value_type) _ (subst (λ (o : Option Protection). In f (protection_faults decls n s.members g.name.span.start o)) (sym e) i)))
 
 -- a walk's name that others follow
-of_passed : (decls : List Decl) (p : Protection) (st : Standing) (x z : Ident) (zs : List Ident) → Walks decls p st x (z ∷ zs) → (f : Mistake) → In f (passed p.first.span.start (Some st) x) → In f (program_faults decls)
+of_passed : (decls : List Decl) (p : Protection) (st : AnnotationCursor) (x z : Ident) (zs : List Ident) → Walks decls p st x (z ∷ zs) → (f : Mistake) → In f (passed p.first.span.start (Some st) x) → In f (program_faults decls)
 of_passed decls p st x z zs (walks {i = n} {ms = ms} {own = o} h is r) f i =
-    of_annotation decls n ms p h f (subst (λ (q : Option (ℕ × Member)). In f (annotation_faults decls (standing_at n ms) p q)) (sym is) (in_along decls p.first.span.start (standing_at n ms) p.first p.rest st x z zs r f i))
+    of_annotation decls n ms p h f (subst (λ (q : Option (ℕ × Member)). In f (annotation_faults decls (cursor_at n ms) p q)) (sym is) (in_along decls p.first.span.start (cursor_at n ms) p.first p.rest st x z zs r f i))
 
 -- its last name
-of_last : (decls : List Decl) (p : Protection) (st : Standing) (x : Ident) → Walks decls p st x [] → (f : Mistake) → In f (list.ended p.first.span.start (Some st) x) → In f (program_faults decls)
+of_last : (decls : List Decl) (p : Protection) (st : AnnotationCursor) (x : Ident) → Walks decls p st x [] → (f : Mistake) → In f (list.ended p.first.span.start (Some st) x) → In f (program_faults decls)
 of_last decls p st x (walks {i = n} {ms = ms} {own = o} h is r) f i =
-    of_annotation decls n ms p h f (subst (λ (q : Option (ℕ × Member)). In f (annotation_faults decls (standing_at n ms) p q)) (sym is) (in_along_end decls p.first.span.start (standing_at n ms) p.first p.rest st x r f i))
+    of_annotation decls n ms p h f (subst (λ (q : Option (ℕ × Member)). In f (annotation_faults decls (cursor_at n ms) p q)) (sym is) (in_along_end decls p.first.span.start (cursor_at n ms) p.first p.rest st x r f i))
 
-unknown_passed : (decls : List Decl) (p : Protection) (st : Standing) (y : Ident) (ys : List Ident) → Walks decls p st y ys → the_member st.members y.text ≡ None → listed decls UnknownName y.span.start
+unknown_passed : (decls : List Decl) (p : Protection) (st : AnnotationCursor) (y : Ident) (ys : List Ident) → Walks decls p st y ys → the_member st.members y.text ≡ None → listed decls UnknownName y.span.start
 unknown_passed decls p st y [] h e = of_last decls p st y h _ (at UnknownName y.span.start _ (ap (last_faults p.first.span.start y.span.start) e))
 unknown_passed decls p st y (z ∷ zs) h e = of_passed decls p st y z zs h _ (at UnknownName y.span.start _ (ap (passed_faults p.first.span.start y.span.start (length st.through)) e))
 
@@ -224,7 +216,7 @@ of_global_lock decls p (fault.of_global (of_variable {v = v} h e)) f i =
 of_global_lock decls p (fault.of_global (of_elements {a = a} h e)) f i =
     of_decl decls (array a) h f (λ n here. m.in_right f (type_faults (outside decls) a.value_type) _ (subst (λ (o : Option Protection). In f (lock_faults decls a.name.span.start o)) (sym e) i))
 of_global_lock decls p (fault.no_member {i = n} {ms = ms} h is) f i =
-    of_annotation decls n ms p h f (subst (λ (q : Option (ℕ × Member)). In f (annotation_faults decls (standing_at n ms) p q)) (sym is) i)
+    of_annotation decls n ms p h f (subst (λ (q : Option (ℕ × Member)). In f (annotation_faults decls (cursor_at n ms) p q)) (sym is) i)
 
 -- ---- inits
 
@@ -267,13 +259,13 @@ unknown_in decls p (fault.no_field_passed {p = q} {st = st} {y = y} {ys = ys} h 
 misfit_is : (p : ℕ) (b : Bool) → b ≡ false → (if b then [] else one WrongType p) ≡ one WrongType p
 misfit_is p b e = ap (λ (t : Bool). if t then [] else one WrongType p) e
 
-unlike_is : (a b : ℕ) (s t : Sense) → AreUnlike s t → unlike a b (Some s) (Some t) ≡ one WrongType b
+unlike_is : (a b : ℕ) (s t : ResolvedExpr) → AreUnlike s t → unlike a b (Some s) (Some t) ≡ one WrongType b
 unlike_is a b (value x s) (value y t) h = misfit_is b (alike_sorts s t) h
 unlike_is a b (value x s) (truth d) h = refl
 unlike_is a b (truth c) (value y t) h = refl
 unlike_is a b (truth c) (truth d) h = absurd h
 
-sides_are : (c : written.Comparison) (a b : ℕ) (s t : Option Sense) → IsEquality c → side_faults c a b s t ≡ unlike a b s t
+sides_are : (c : written.Comparison) (a b : ℕ) (s t : Option ResolvedExpr) → IsEquality c → side_faults c a b s t ≡ unlike a b s t
 sides_are sign.Equal a b s t h = refl
 sides_are sign.NotEqual a b s t h = refl
 sides_are sign.Less a b s t h = absurd h
@@ -362,9 +354,9 @@ wrong_in decls p (fault.unwanted {sc = sc} {w = w} {e = e} {s = s} h is no_fit) 
 wrong_in decls p (fault.unwanted_constant {w = w} {c = c} {s = s} h is no_fit) =
     of_const decls w c h _ (m.in_right _ (own_faults decls c) _ (at WrongType (const_start c) _ (ap (sort_misfit w (const_start c)) is ∙ misfit_is (const_start c) (fits_sort w s) no_fit)))
 wrong_in decls p (fault.unlike_sides {sc = sc} {w = w} {a = a} {b = b} {c = c} {s = s} {t = t} h so x y un) =
-    of_sides decls sc w a b c h so (start_of b) (ap (λ (q : Option Sense). unlike (start_of a) (start_of b) q (typed sc b)) x ∙ ap (unlike (start_of a) (start_of b) (Some s)) y ∙ unlike_is (start_of a) (start_of b) s t un)
+    of_sides decls sc w a b c h so (start_of b) (ap (λ (q : Option ResolvedExpr). unlike (start_of a) (start_of b) q (typed sc b)) x ∙ ap (unlike (start_of a) (start_of b) (Some s)) y ∙ unlike_is (start_of a) (start_of b) s t un)
 wrong_in decls p (fault.truths_compared {sc = sc} {w = w} {a = a} {b = b} {c = c} {x = x} h so e g) =
-    of_sides decls sc w a b c h so (start_of a) (ap (λ (q : Option Sense). unlike (start_of a) (start_of b) q (typed sc b)) e ∙ ap (unlike (start_of a) (start_of b) (Some (truth x))) g)
+    of_sides decls sc w a b c h so (start_of a) (ap (λ (q : Option ResolvedExpr). unlike (start_of a) (start_of b) q (typed sc b)) e ∙ ap (unlike (start_of a) (start_of b) (Some (truth x))) g)
 wrong_in decls p (fault.no_value {sc = sc} {w = w} {x = x} {i = k} {d = d} h is not_so e) =
     of_expr decls sc w (place (lone x)) h _ (at WrongType x.span.start _ (ap (list.no_value sc.decls x.span.start) is ∙ no_value_is sc.decls x.span.start k d not_so (has_same decls sc.decls (a_decl k d) (expr_decls decls sc w (place (lone x)) h) e)))
 wrong_in decls p (fault.no_elements {sc = sc} {x = x} {e = e} h not_so t) =
@@ -652,7 +644,7 @@ range_in decls p (fault.init_beyond {j = x} {i = k} {p = q} h is t le) =
     of_init_index decls x h _ (subst (λ (o : Option (ℕ × Decl)). In (record { code = InitOutOfRangeOrRepeated; start = x.index.span.start }) (index_faults decls x.pool.span.start o x.index)) (sym is) (beyond decls k x.pool.span.start q x.index t le))
 range_in decls p (fault.given_again before behind j {g = g} parts is e) =
     of_repeated decls _ (subst (λ (ds : List Decl). In (record { code = InitOutOfRangeOrRepeated; start = j.start.start }) (repeated_faults decls [] ds)) (sym parts) (in_repeated decls [] before behind (init j) _
-    (at InitOutOfRangeOrRepeated j.start.start _ (ap (gift_again decls before j.start.start) is ∙ ap (given_before j.start.start) e))))
+    (at InitOutOfRangeOrRepeated j.start.start _ (ap (init_target_again decls before j.start.start) is ∙ ap (given_before j.start.start) e))))
 
 locks_in : (decls : List Decl) (p : ℕ) → IsLockAsValue decls p → listed decls LockAsValue p
 locks_in decls p (fault.global_lock {sc = sc} {x = x} h is) =

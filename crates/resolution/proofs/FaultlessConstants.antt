@@ -1,44 +1,32 @@
 -- Constants, annotations, sections and calls for which no fault is listed are resolved.
-use Rattle.std.proofs.Common.{◌≡◌, ℕ, zero, suc, ◌+◌, ◌<◌, ◌≤◌, List, [], ◌∷◌, ◌++◌, length, Option, Some, None, Bool, true, false, ◌⊎◌, inl, inr, refl, sym, ap, ◌∙◌, subst, if◌then◌else◌, arith}
-use Rattle.std.specs.Prelude.{ℤ, neg_ℤ, nat_le, nat_lt, is_some, ◌==◌, ◌&&◌, slice_get}
-use Rattle.std.proofs.lemmas.Bool.{eqb-true}
+use Rattle.std.proofs.Common.{◌≡◌, ℕ, ◌<◌, List, [], ◌∷◌, ◌++◌, length, Option, Some, None, Bool, true, false, refl, sym, ap, ◌∙◌, subst, if◌then◌else◌, arith}
+use Rattle.std.specs.Prelude.{ℤ, neg_ℤ, nat_le, nat_lt, ◌&&◌, slice_get}
 use Rattle.std.proofs.lemmas.Bool.Decides.{nat_tests}
 use Rattle.source.specs.declared.span.Span.{Span}
-use Rattle.source.specs.declared.fault.Code.{Code}
-use Rattle.source.specs.declared.fault.Code.TheVariants.{UnknownName, WrongType, WrongArgumentCount, NeitherFinalNorProtected, ProtectedByNoLock, ProtectedByPassesNonFinal, LimitExceeded, InitOutOfRangeOrRepeated}
+use Rattle.source.specs.declared.fault.Code.TheVariants.{UnknownName, WrongType, NeitherFinalNorProtected, ProtectedByNoLock, ProtectedByPassesNonFinal, InitOutOfRangeOrRepeated}
 use Rattle.source.specs.declared.token.Number.{Number}
-use Rattle.syntax.specs.Returns.{ReturnsRight, HasReturn, HasStrayReturn, EndsInReturn, IsSectionFault, no_result, stray, missing, IsReturnFault, this_section, later_section}
-use Rattle.syntax.specs.Trees.{Ident, ValueType, ref_type, Const, int_const, negative, null_const, member_const, Protection, Member, lock_member, final_member, field_member, Field, Final, Struct, Param, Section, Call, Item, call, repeat, Items, no_items, item, Stmts, Decl, lock, struct, global, array, pool, init, atomic, thread}
+use Rattle.syntax.specs.Trees.{Ident, ref_type, Const, int_const, negative, null_const, member_const, Protection, Member, lock_member, final_member, field_member, Struct, Param, Decl, lock, struct, global, array, pool, init, atomic, thread}
 use Rattle.core_lang.specs.declared.value.Value.{Value}
 use Rattle.core_lang.specs.declared.value.Value.TheVariants.{Int, Ref}
-use Rattle.core_lang.specs.declared.value.ValueType as core_type
 use Rattle.core_lang.specs.declared.value.ValueType.TheVariants.{Integer, Reference}
-use Rattle.core_lang.specs.declared.tree.LocalKind.TheVariants as kind
 use Rattle.resolution.specs.declared.wanted.Sort.{Sort}
 use Rattle.resolution.specs.declared.wanted.Sort.TheVariants as sort
 use Rattle.resolution.specs.declared.wanted.Want.{Want}
 use Rattle.resolution.specs.declared.wanted.Want.TheVariants as wanted
 use Rattle.resolution.specs.Core as core
-use Rattle.resolution.specs.Limits.{FINAL_LIMIT}
 use Rattle.resolution.specs.Scopes as scope
 use Rattle.resolution.specs.Scopes.{◌>>=◌, Scope, outside, a_decl, meaning, declared_as, number_at, the_decl, the_member, has_type, type_of, struct_named, bound, entered}
-use Rattle.resolution.specs.Expressions.{number_value, fits_sort, want, member_number}
+use Rattle.resolution.specs.Expressions.{number_value, fits_sort, member_number}
 use Rattle.resolution.specs.Constants.{number_sort, const_sort, const_value, if_fitting, typed_const, added, want_of, typed_arguments, member_sort, reference_sort, member_of, object_of, referred, object_in}
-use Rattle.resolution.specs.Annotations.{class_in, class_of, class_number, Standing, at_struct, through_member, stepped_on, ended_at, along, protection_by, standing_at, protection_of}
+use Rattle.resolution.specs.Annotations.{class_in, class_of, class_number, AnnotationCursor, at_struct, through_member, stepped_on, ended_at, along, protection_by, cursor_at, protection_of}
 use Rattle.resolution.specs.Annotations as annotation
-use Rattle.resolution.specs.Resolution.{result_of, ahead_of, entry, core_local, core_locals, section_with, section_of, typed_section, call_of, copies, joined, one_call, typed_item, typed_items}
-use Rattle.resolution.specs.Statements.{typed_body, Body, after_all}
-use Rattle.resolution.specs.Where.{Has, first, further, HasType, of_pool, of_final, of_field, of_parameter, of_result}
+use Rattle.resolution.specs.Where.{Has, HasType, of_pool, of_final}
 use Rattle.resolution.specs.Faults.{const_start}
 use Rattle.resolution.specs.FaultLists as list
 use Rattle.resolution.specs.FaultLists.{one, one_if, unfit, type_faults, number_faults, index_faults, own_faults, sort_misfit, const_faults, argument_faults, local_faults, stmts_faults, param_faults, result_faults, global_lock_faults, lock_faults, passed_faults, last_faults, passed, along_faults, annotation_faults, protection_faults, call_faults, item_faults, items_faults, decl_faults}
-use Rattle.resolution.specs.Limits.{PARAMETER_LIMIT}
 use Rattle.resolution.proofs.Named.{named_is, member_is}
-use Rattle.resolution.proofs.Parts.{of_decl}
-use Rattle.resolution.proofs.TrueStatements.{entered_same}
-use Rattle.resolution.proofs.FaultlessExpressions.{NoneIn, none_left, none_right, not_one, not_if, at_has, decl_has, struct_has, Clean, IsType, Found, Typing, type_is, known, known_named, AllTyped, Context, decl_typed, unfit_not, fit_if}
-use Rattle.resolution.proofs.FaultlessSenses.{number_is}
-use Rattle.resolution.proofs.FaultlessStatements.{typed_push, all_same, all_context, Bodied, body_is}
+use Rattle.resolution.proofs.FaultlessExpressions.{NoneIn, none_left, none_right, not_one, not_if, at_has, decl_has, Clean, known_named, decl_typed, unfit_not, fit_if}
+use Rattle.resolution.proofs.FaultlessResolvedExprs.{number_is}
 
 -- ---- constants
 
@@ -172,8 +160,8 @@ named_struct decls (Some (n, thread x)) k e = cc
 named_struct decls None k e = cc
 
 -- a walk stands at a struct of the program
-abbrev Stands : List Decl → Option Standing → Type 0
-Stands decls o = (st : Standing) × (s : Struct) × (o ≡ Some st) × (slice_get decls st.structure ≡ Some (struct s)) × (st.members ≡ s.members)
+abbrev Stands : List Decl → Option AnnotationCursor → Type 0
+Stands decls o = (st : AnnotationCursor) × (s : Struct) × (o ≡ Some st) × (slice_get decls st.structure ≡ Some (struct s)) × (st.members ≡ s.members)
 
 pub named_decl : (decls : List Decl) → Clean decls → (x : Ident) → HasType decls (outside decls) (ref_type x) → (n : ℕ) × (s : Struct) × (the_decl decls x.text ≡ Some (n, struct s))
 named_decl decls clean x h = let k = known_named decls clean x h in named_struct decls (the_decl decls x.text) k.number k.is
@@ -184,7 +172,7 @@ on_final decls clean through n x h =
     let f = named_is scope.bears decls x.text r.0 (struct r.1) r.2 in
     (record { structure = r.0; members = r.1.members; through = through ++ n ∷ [] }, r.1, ap (at_struct through n) r.2, f.here, refl)
 
-on_passed : (decls : List Decl) → Clean decls → (head here : ℕ) (st : Standing) (s : Struct) → slice_get decls st.structure ≡ Some (struct s) → st.members ≡ s.members → (o : Option (ℕ × Member)) → ((n : ℕ) (m : Member) → ◌≡◌ {A = Option (ℕ × Member)} o (Some (n, m)) → Has s.members m) →
+on_passed : (decls : List Decl) → Clean decls → (head here : ℕ) (st : AnnotationCursor) (s : Struct) → slice_get decls st.structure ≡ Some (struct s) → st.members ≡ s.members → (o : Option (ℕ × Member)) → ((n : ℕ) (m : Member) → ◌≡◌ {A = Option (ℕ × Member)} o (Some (n, m)) → Has s.members m) →
     NoneIn (passed_faults head here (length st.through) o) → Stands decls (through_member decls st o)
 on_passed decls clean head here st s at same None up none = absurd (not_one UnknownName here none)
 on_passed decls clean head here st s at same (Some (n, final_member g)) up none =
@@ -192,30 +180,30 @@ on_passed decls clean head here st s at same (Some (n, final_member g)) up none 
 on_passed decls clean head here st s at same (Some (n, field_member g)) up none = absurd (not_one ProtectedByPassesNonFinal here none)
 on_passed decls clean head here st s at same (Some (n, lock_member x)) up none = absurd (not_one ProtectedByPassesNonFinal here none)
 
-on_ended : (decls : List Decl) (head here : ℕ) (st : Standing) (o : Option (ℕ × Member)) → NoneIn (last_faults head here o) → (p : core.Protection) × (ended_at decls st o ≡ Some p)
+on_ended : (decls : List Decl) (head here : ℕ) (st : AnnotationCursor) (o : Option (ℕ × Member)) → NoneIn (last_faults head here o) → (p : core.Protection) × (ended_at decls st o ≡ Some p)
 on_ended decls head here st None none = absurd (not_one UnknownName here none)
 on_ended decls head here st (Some (n, lock_member x)) none = (record { through = st.through; class = class_number decls st.structure (scope.number_in st.members n (lock_member x)) }, refl)
 on_ended decls head here st (Some (n, final_member g)) none = absurd (not_one ProtectedByNoLock head none)
 on_ended decls head here st (Some (n, field_member g)) none = absurd (not_one ProtectedByNoLock head none)
 
-along_is : (decls : List Decl) → Clean decls → (head : ℕ) (o : Option Standing) (y : Ident) (ys : List Ident) → Stands decls o → NoneIn (along_faults decls head o y ys) → (p : core.Protection) × (along decls o y ys ≡ Some p)
+along_is : (decls : List Decl) → Clean decls → (head : ℕ) (o : Option AnnotationCursor) (y : Ident) (ys : List Ident) → Stands decls o → NoneIn (along_faults decls head o y ys) → (p : core.Protection) × (along decls o y ys ≡ Some p)
 along_is decls clean head o y [] st none =
-    let ended : NoneIn (last_faults head y.span.start (the_member st.0.members y.text)) = subst (λ (x : Option Standing). NoneIn (list.ended head x y)) st.2 none in
+    let ended : NoneIn (last_faults head y.span.start (the_member st.0.members y.text)) = subst (λ (x : Option AnnotationCursor). NoneIn (list.ended head x y)) st.2 none in
     let e = on_ended decls head y.span.start st.0 (the_member st.0.members y.text) ended in
-    (e.0, ap (λ (x : Option Standing). annotation.ended decls x y) st.2 ∙ e.1)
+    (e.0, ap (λ (x : Option AnnotationCursor). annotation.ended decls x y) st.2 ∙ e.1)
 along_is decls clean head o y (z ∷ zs) st none =
     let rest = along_faults decls head (stepped_on decls o y) z zs in
-    let step : NoneIn (passed_faults head y.span.start (length st.0.through) (the_member st.0.members y.text)) = subst (λ (x : Option Standing). NoneIn (passed head x y)) st.2 (none_left (passed head o y) rest none) in
+    let step : NoneIn (passed_faults head y.span.start (length st.0.through) (the_member st.0.members y.text)) = subst (λ (x : Option AnnotationCursor). NoneIn (passed head x y)) st.2 (none_left (passed head o y) rest none) in
     let next = on_passed decls clean head y.span.start st.0 st.1 st.3 st.4 (the_member st.0.members y.text)
     (λ n m e. subst (λ (ms : List Member). Has ms m) st.4 (at_has st.0.members n m (member_is st.0.members y.text n m e).0)) step in
     along_is decls clean head (stepped_on decls o y) z zs
-    (next.0, next.1, ap (λ (x : Option Standing). stepped_on decls x y) st.2 ∙ next.2, next.3, next.4)
+    (next.0, next.1, ap (λ (x : Option AnnotationCursor). stepped_on decls x y) st.2 ∙ next.2, next.3, next.4)
     (none_right (passed head o y) rest none)
 
 pub protection_is : (decls : List Decl) → Clean decls → (n : ℕ) (s : Struct) → slice_get decls n ≡ Some (struct s) → (name : ℕ) (o : Option Protection) → NoneIn (protection_faults decls n s.members name o) → (p : core.Protection) × (protection_of decls n s.members o ≡ Some p)
 protection_is decls clean n s at name None none = absurd (not_one NeitherFinalNorProtected name none)
 protection_is decls clean n s at name (Some p) none = by_member (the_member s.members p.first.text) none
   where
-    by_member : (o : Option (ℕ × Member)) → NoneIn (annotation_faults decls (standing_at n s.members) p o) → (q : core.Protection) × (protection_by decls (standing_at n s.members) p o ≡ Some q)
-    by_member (Some m) h = along_is decls clean p.first.span.start (Some (standing_at n s.members)) p.first p.rest (standing_at n s.members, s, refl, at, refl) h
+    by_member : (o : Option (ℕ × Member)) → NoneIn (annotation_faults decls (cursor_at n s.members) p o) → (q : core.Protection) × (protection_by decls (cursor_at n s.members) p o ≡ Some q)
+    by_member (Some m) h = along_is decls clean p.first.span.start (Some (cursor_at n s.members)) p.first p.rest (cursor_at n s.members, s, refl, at, refl) h
     by_member None h = let c = global_lock_is decls p.first.span.start (the_decl decls p.first.text) p.rest h in (record { through = []; class = c.0 }, ap (λ (o : Option ℕ). o >>= λ k. Some (record { through = []; class = k })) c.1)

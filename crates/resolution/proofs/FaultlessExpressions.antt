@@ -1,31 +1,21 @@
 -- Expressions for which no fault is listed have a type.
-use Rattle.std.proofs.Common.{◌≡◌, ℕ, zero, suc, ◌+◌, ◌≤◌, List, [], ◌∷◌, ◌++◌, length, Option, Some, None, Bool, true, false, refl, sym, ap, ◌∙◌, subst, inl, inr, if◌then◌else◌, arith}
-use Rattle.std.specs.Prelude.{ℤ, pos, nat_le, nat_lt, not, is_some, slice_get}
+use Rattle.std.proofs.Common.{◌≡◌, ℕ, zero, suc, ◌≤◌, List, [], ◌∷◌, ◌++◌, Option, Some, None, Bool, true, false, refl, sym, ap, ◌∙◌, subst, inl, if◌then◌else◌, arith}
+use Rattle.std.specs.Prelude.{nat_le, nat_lt, not, is_some, slice_get}
 use Rattle.std.proofs.lemmas.Bool.Decides.{nat_tests}
-use Rattle.source.specs.Texts.{NUMBER_LIMIT}
 use Rattle.source.specs.declared.fault.Code.{Code}
 use Rattle.source.specs.declared.fault.Code.TheVariants.{UnknownName, WrongType, LockAsValue}
-use Rattle.source.specs.declared.token.Number.{Number}
-use Rattle.syntax.specs.declared.tree.Op.{Op}
-use Rattle.syntax.specs.declared.tree.Level.{Level}
-use Rattle.syntax.specs.declared.tree.Level.TheVariants.{Term, Sum, Conjunction, Disjunction}
-use Rattle.syntax.specs.declared.tree.Prefix.TheVariants.{Negate, Not}
-use Rattle.syntax.specs.declared.tree.Comparison as written
-use Rattle.syntax.specs.declared.tree.Comparison.TheVariants as sign
-use Rattle.syntax.specs.Trees.{Ident, ValueType, int_type, ref_type, Place, lone, element, path, Expr, int, null, place, paren, prefix, chain, compare, Links, no_links, link, Member, lock_member, final_member, field_member, Struct, Decl, lock, struct, global, array, pool, init, atomic, thread}
+use Rattle.syntax.specs.Trees.{Ident, ValueType, int_type, ref_type, Member, lock_member, final_member, field_member, Struct, Decl, lock, struct, global, array, pool, init, atomic, thread}
 use Rattle.core_lang.specs.declared.value.ValueType as core_type
 use Rattle.core_lang.specs.declared.value.ValueType.TheVariants.{Integer, Reference}
-use Rattle.core_lang.specs.declared.tree.Operator.{Operator}
 use Rattle.core_lang.specs.declared.tree.FieldStep.{FieldStep}
 use Rattle.resolution.specs.declared.mistake.Mistake.{Mistake}
 use Rattle.resolution.specs.declared.wanted.Sort.TheVariants as sort
 use Rattle.resolution.specs.declared.wanted.Want.{Want}
-use Rattle.resolution.specs.declared.wanted.Want.TheVariants.{Anything, Condition, Value}
+use Rattle.resolution.specs.declared.wanted.Want.TheVariants.{Condition, Value}
 use Rattle.resolution.specs.Core as core
 use Rattle.resolution.specs.Scopes.{Scope, Local, outside, Meaning, a_local, a_decl, nothing, meaning, declared_as, local_or, bears, local_bears, ◌>>=◌, number_at, the_decl, the_local, structs_in, the_struct, the_member, has_type, type_of, struct_meant, struct_named}
-use Rattle.resolution.specs.Expressions.{Sense, value, truth, fits, value_of, member_value, local_path, cell_of, typed, typed_place, typed_links, typed_tests, Tests, alike_sorts, number_value, operator_of, fitting, as_value, as_truth, number_in_sense, test_in_sense, named_value, element_value, path_value, Walk, reached, at_lock, lost, stepped, walked, at_local, walk_from, over_final, over_field, over_member, over, member_number, compared, equated}
-use Rattle.resolution.specs.Where.{Has, first, further, operand_want, prefix_want, side_want, HasType, of_global, of_array, of_pool, of_final, of_field}
-use Rattle.resolution.specs.Faults.{start_of}
+use Rattle.resolution.specs.Expressions.{ResolvedExpr, value, truth, fits, value_of, member_value, local_path, cell_of, fitting, as_value, as_truth, test_resolved, named_value, element_value, path_value, Walk, reached, at_lock, lost, stepped, walked, at_local, walk_from, over_final, over_field, over_member, over, member_number}
+use Rattle.resolution.specs.Where.{Has, first, further, HasType, of_global, of_array, of_pool, of_final, of_field}
 use Rattle.resolution.specs.FaultLists as list
 use Rattle.resolution.specs.FaultLists.{one, one_if, unfit, no_struct, type_faults, number_faults, no_elements, no_member, no_field, step_faults, end_faults, walk_faults, path_faults, misfit, unlike, side_faults, operator_faults, expr_faults, place_faults, link_faults, wanted_faults, program_faults}
 use Rattle.resolution.proofs.Members.{In}
@@ -211,8 +201,8 @@ meaning_known sc c q =
 -- ---- places
 
 -- it has a type
-abbrev pub HasSense : Option Sense → Type 0
-HasSense o = (s : Sense) × (o ≡ Some s)
+abbrev pub HasResolvedExpr : Option ResolvedExpr → Type 0
+HasResolvedExpr o = (s : ResolvedExpr) × (o ≡ Some s)
 
 pub unfit_not : (decls : List Decl) (c : Code) (p : ℕ) (x : Meaning) → has_type decls x ≡ true → NoneIn (unfit decls c p x) → ⊥
 unfit_not decls c p x e h = let f = not_if (has_type decls x) c p h in absurd cc
@@ -243,35 +233,35 @@ decl_typed decls clean n (thread t) h = refl
 local_typed : (decls : List Decl) (n : ℕ) (l : Local) → Typing decls l.value_type → has_type decls (a_local n l) ≡ true
 local_typed decls n l t = some_true l.value_type t.value_type t.is
 
-value_sense : (e : core.Expr) (o : Option core_type.ValueType) (t : core_type.ValueType) → o ≡ Some t → HasSense (value_of e o)
-value_sense e o t is = (value e (sort.Of t), ap (value_of e) is)
+value_resolved : (e : core.Expr) (o : Option core_type.ValueType) (t : core_type.ValueType) → o ≡ Some t → HasResolvedExpr (value_of e o)
+value_resolved e o t is = (value e (sort.Of t), ap (value_of e) is)
 
-member_sense : (n : ℕ) (e : core.Expr) (o : Option ℕ) (k : ℕ) → o ≡ Some k → HasSense (member_value n e o)
-member_sense n e o k is = (value (core.member n e) (sort.Of (Reference k)), ap (member_value n e) is)
+member_resolved : (n : ℕ) (e : core.Expr) (o : Option ℕ) (k : ℕ) → o ≡ Some k → HasResolvedExpr (member_value n e o)
+member_resolved n e o k is = (value (core.member n e) (sort.Of (Reference k)), ap (member_value n e) is)
 
-pub name_sense : (decls : List Decl) → Clean decls → (p : ℕ) (x : Meaning) → IsKnown decls x → NoneIn (list.no_value decls p x) → HasSense (named_value decls p x)
-name_sense decls clean p (a_local n l) k h = value_sense (core.place (local_path p n [])) l.value_type k.value_type k.is
-name_sense decls clean p (a_decl n (global v)) k h = let t = known decls clean (outside decls) v.value_type (of_global k) in value_sense (core.global p (cell_of decls n)) (type_of (outside decls) v.value_type) t.value_type t.is
-name_sense decls clean p (a_decl n (lock y)) k h = absurd (not_one LockAsValue p h)
-name_sense decls clean p (a_decl n (struct s)) k h = absurd (unfit_not decls WrongType p (a_decl n (struct s)) refl h)
-name_sense decls clean p (a_decl n (array a)) k h = absurd (unfit_not decls WrongType p (a_decl n (array a)) (array_typed decls clean n a k) h)
-name_sense decls clean p (a_decl n (pool q)) k h = absurd (unfit_not decls WrongType p (a_decl n (pool q)) (pool_typed decls clean n q k) h)
-name_sense decls clean p (a_decl n (init j)) k h = absurd (unfit_not decls WrongType p (a_decl n (init j)) refl h)
-name_sense decls clean p (a_decl n (atomic s)) k h = absurd (unfit_not decls WrongType p (a_decl n (atomic s)) refl h)
-name_sense decls clean p (a_decl n (thread t)) k h = absurd (unfit_not decls WrongType p (a_decl n (thread t)) refl h)
-name_sense decls clean p nothing k h = absurd (not_one UnknownName p h)
+pub name_resolved : (decls : List Decl) → Clean decls → (p : ℕ) (x : Meaning) → IsKnown decls x → NoneIn (list.no_value decls p x) → HasResolvedExpr (named_value decls p x)
+name_resolved decls clean p (a_local n l) k h = value_resolved (core.place (local_path p n [])) l.value_type k.value_type k.is
+name_resolved decls clean p (a_decl n (global v)) k h = let t = known decls clean (outside decls) v.value_type (of_global k) in value_resolved (core.global p (cell_of decls n)) (type_of (outside decls) v.value_type) t.value_type t.is
+name_resolved decls clean p (a_decl n (lock y)) k h = absurd (not_one LockAsValue p h)
+name_resolved decls clean p (a_decl n (struct s)) k h = absurd (unfit_not decls WrongType p (a_decl n (struct s)) refl h)
+name_resolved decls clean p (a_decl n (array a)) k h = absurd (unfit_not decls WrongType p (a_decl n (array a)) (array_typed decls clean n a k) h)
+name_resolved decls clean p (a_decl n (pool q)) k h = absurd (unfit_not decls WrongType p (a_decl n (pool q)) (pool_typed decls clean n q k) h)
+name_resolved decls clean p (a_decl n (init j)) k h = absurd (unfit_not decls WrongType p (a_decl n (init j)) refl h)
+name_resolved decls clean p (a_decl n (atomic s)) k h = absurd (unfit_not decls WrongType p (a_decl n (atomic s)) refl h)
+name_resolved decls clean p (a_decl n (thread t)) k h = absurd (unfit_not decls WrongType p (a_decl n (thread t)) refl h)
+name_resolved decls clean p nothing k h = absurd (not_one UnknownName p h)
 
-pub element_sense : (decls : List Decl) → Clean decls → (p : ℕ) (x : Meaning) (index : core.Expr) → IsKnown decls x → NoneIn (no_elements decls p x) → HasSense (element_value decls p x (Some index))
-element_sense decls clean p (a_local n l) index k h = absurd (unfit_not decls WrongType p (a_local n l) (local_typed decls n l k) h)
-element_sense decls clean p (a_decl n (array a)) index k h = let t = known decls clean (outside decls) a.value_type (of_array k) in value_sense (core.element p (number_at decls n (array a)) index) (type_of (outside decls) a.value_type) t.value_type t.is
-element_sense decls clean p (a_decl n (pool q)) index k h = let t = known_named decls clean q.target (of_pool k) in member_sense (number_at decls n (pool q)) index (struct_named decls q.target) t.number t.is
-element_sense decls clean p (a_decl n (lock y)) index k h = absurd (unfit_not decls WrongType p (a_decl n (lock y)) refl h)
-element_sense decls clean p (a_decl n (struct s)) index k h = absurd (unfit_not decls WrongType p (a_decl n (struct s)) refl h)
-element_sense decls clean p (a_decl n (global v)) index k h = absurd (unfit_not decls WrongType p (a_decl n (global v)) (global_typed decls clean n v k) h)
-element_sense decls clean p (a_decl n (init j)) index k h = absurd (unfit_not decls WrongType p (a_decl n (init j)) refl h)
-element_sense decls clean p (a_decl n (atomic s)) index k h = absurd (unfit_not decls WrongType p (a_decl n (atomic s)) refl h)
-element_sense decls clean p (a_decl n (thread t)) index k h = absurd (unfit_not decls WrongType p (a_decl n (thread t)) refl h)
-element_sense decls clean p nothing index k h = absurd (not_one UnknownName p h)
+pub element_resolved : (decls : List Decl) → Clean decls → (p : ℕ) (x : Meaning) (index : core.Expr) → IsKnown decls x → NoneIn (no_elements decls p x) → HasResolvedExpr (element_value decls p x (Some index))
+element_resolved decls clean p (a_local n l) index k h = absurd (unfit_not decls WrongType p (a_local n l) (local_typed decls n l k) h)
+element_resolved decls clean p (a_decl n (array a)) index k h = let t = known decls clean (outside decls) a.value_type (of_array k) in value_resolved (core.element p (number_at decls n (array a)) index) (type_of (outside decls) a.value_type) t.value_type t.is
+element_resolved decls clean p (a_decl n (pool q)) index k h = let t = known_named decls clean q.target (of_pool k) in member_resolved (number_at decls n (pool q)) index (struct_named decls q.target) t.number t.is
+element_resolved decls clean p (a_decl n (lock y)) index k h = absurd (unfit_not decls WrongType p (a_decl n (lock y)) refl h)
+element_resolved decls clean p (a_decl n (struct s)) index k h = absurd (unfit_not decls WrongType p (a_decl n (struct s)) refl h)
+element_resolved decls clean p (a_decl n (global v)) index k h = absurd (unfit_not decls WrongType p (a_decl n (global v)) (global_typed decls clean n v k) h)
+element_resolved decls clean p (a_decl n (init j)) index k h = absurd (unfit_not decls WrongType p (a_decl n (init j)) refl h)
+element_resolved decls clean p (a_decl n (atomic s)) index k h = absurd (unfit_not decls WrongType p (a_decl n (atomic s)) refl h)
+element_resolved decls clean p (a_decl n (thread t)) index k h = absurd (unfit_not decls WrongType p (a_decl n (thread t)) refl h)
+element_resolved decls clean p nothing index k h = absurd (not_one UnknownName p h)
 
 -- ---- paths
 
@@ -337,8 +327,8 @@ path_is decls clean p (a_local n l) fs k none = record { number = n; local = l; 
 path_is decls clean p (a_decl n d) fs k none = absurd (unfit_not decls WrongType p (a_decl n d) (decl_typed decls clean n d k) none)
 path_is decls clean p nothing fs k none = absurd (not_one UnknownName p none)
 
-pub path_sense : (decls : List Decl) (p : ℕ) (x : Meaning) (fs : List Ident) → Path decls x fs → HasSense (path_value p x (walk_from decls x fs))
-path_sense decls p x fs r = (
+pub path_resolved : (decls : List Decl) (p : ℕ) (x : Meaning) (fs : List Ident) → Path decls x fs → HasResolvedExpr (path_value p x (walk_from decls x fs))
+path_resolved decls p x fs r = (
   value (core.place (local_path p r.number r.arrives.steps)) (sort.Of r.arrives.value_type),
   ap (path_value p x) r.arrives.is ∙ ap (λ (y : Meaning). path_value p y (reached r.arrives.steps r.arrives.value_type)) r.is,
 )
@@ -350,20 +340,20 @@ fit_if p true h = refl
 fit_if p false h = absurd (not_one WrongType p h)
 
 -- what has a type and is no misfit is what is wanted
-pub fit_is : (w : Want) (p : ℕ) (o : Option Sense) (s : Sense) → o ≡ Some s → NoneIn (misfit w p o) → fits w s ≡ true
-fit_is w p o s is none = fit_if p (fits w s) (subst (λ (x : Option Sense). NoneIn (misfit w p x)) is none)
+pub fit_is : (w : Want) (p : ℕ) (o : Option ResolvedExpr) (s : ResolvedExpr) → o ≡ Some s → NoneIn (misfit w p o) → fits w s ≡ true
+fit_is w p o s is none = fit_if p (fits w s) (subst (λ (x : Option ResolvedExpr). NoneIn (misfit w p x)) is none)
 
-given_value : (t : core_type.ValueType) (s : Sense) → fits (Value t) s ≡ true → (e : core.Expr) × (as_value (fitting (Value t) (Some s)) ≡ Some e)
+given_value : (t : core_type.ValueType) (s : ResolvedExpr) → fits (Value t) s ≡ true → (e : core.Expr) × (as_value (fitting (Value t) (Some s)) ≡ Some e)
 given_value t (value e s) h = (e, ap (λ (b : Bool). as_value (if b then Some (value e s) else None)) h)
 given_value t (truth c) h = cc
 
-given_test : (s : Sense) → fits Condition s ≡ true → (c : core.Condition) × (as_truth (fitting Condition (Some s)) ≡ Some c)
+given_test : (s : ResolvedExpr) → fits Condition s ≡ true → (c : core.Condition) × (as_truth (fitting Condition (Some s)) ≡ Some c)
 given_test (truth c) h = (c, refl)
 given_test (value e s) h = cc
 
 -- a value, where one is wanted
-pub wanted_value : (t : core_type.ValueType) (o : Option Sense) (s : Sense) → o ≡ Some s → fits (Value t) s ≡ true → (e : core.Expr) × (as_value (fitting (Value t) o) ≡ Some e)
-wanted_value t o s is h = let r = given_value t s h in (r.0, ap (λ (x : Option Sense). as_value (fitting (Value t) x)) is ∙ r.1)
+pub wanted_value : (t : core_type.ValueType) (o : Option ResolvedExpr) (s : ResolvedExpr) → o ≡ Some s → fits (Value t) s ≡ true → (e : core.Expr) × (as_value (fitting (Value t) o) ≡ Some e)
+wanted_value t o s is h = let r = given_value t s h in (r.0, ap (λ (x : Option ResolvedExpr). as_value (fitting (Value t) x)) is ∙ r.1)
 
-pub wanted_test : (o : Option Sense) (s : Sense) → o ≡ Some s → fits Condition s ≡ true → (c : core.Condition) × (test_in_sense o ≡ Some c)
-wanted_test o s is h = let r = given_test s h in (r.0, ap test_in_sense is ∙ r.1)
+pub wanted_test : (o : Option ResolvedExpr) (s : ResolvedExpr) → o ≡ Some s → fits Condition s ≡ true → (c : core.Condition) × (test_resolved o ≡ Some c)
+wanted_test o s is h = let r = given_test s h in (r.0, ap test_resolved is ∙ r.1)

@@ -1,33 +1,31 @@
 -- In a program with no fault, each member of a pool's member has its value.
-use Rattle.std.proofs.Common.{◌≡◌, ℕ, zero, suc, ◌+◌, ◌*◌, ◌<◌, ◌≤◌, List, [], ◌∷◌, ◌++◌, length, Option, Some, None, Bool, true, false, if◌then◌else◌, refl, sym, ap, ◌∙◌, subst, append_assoc, arith}
+use Rattle.std.proofs.Common.{◌≡◌, ℕ, zero, suc, ◌+◌, ◌<◌, ◌≤◌, List, [], ◌∷◌, ◌++◌, length, Option, Some, None, Bool, true, false, if◌then◌else◌, refl, sym, ap, ◌∙◌, subst, arith}
 use Rattle.std.specs.Prelude.{is_some, nat_le, slice_get, ◌&&◌}
-use Rattle.std.specs.Str.{bytes_eq}
 use Rattle.std.proofs.lemmas.Slice.Eq.{bytes_eq-Decides}
 use Rattle.source.specs.declared.span.Span.{Span}
 use Rattle.source.specs.declared.fault.Code.TheVariants.{DeclaredTwice, LimitExceeded, FinalWithoutOpeningValue}
-use Rattle.syntax.specs.Trees.{Const, null_const, ref_type, Member, lock_member, final_member, field_member, Final, Field, Struct, Init, Pool, Decl, struct, pool, init}
+use Rattle.syntax.specs.Trees.{Const, null_const, ref_type, Member, lock_member, final_member, field_member, Final, Field, Struct, Pool, Decl, struct, pool, init}
 use Rattle.core_lang.specs.declared.value.Value.{Value}
 use Rattle.core_lang.specs.declared.value.ValueType as core_type
 use Rattle.core_lang.specs.declared.value.ValueType.TheVariants.{Reference}
-use Rattle.resolution.specs.declared.gift.Gift.{Gift}
-use Rattle.resolution.specs.declared.wanted.Want.{Want}
+use Rattle.resolution.specs.declared.init_target.InitTarget.{InitTarget}
 use Rattle.resolution.specs.declared.wanted.Want.TheVariants as wanted
 use Rattle.resolution.specs.Limits.{MEMBER_LIMIT, CLASS_LIMIT}
-use Rattle.resolution.specs.Scopes.{◌>>=◌, outside, place_from, place_of, bears, named, the_decl, member_name, member_bears, the_member, type_of, struct_named, count}
+use Rattle.resolution.specs.Scopes.{◌>>=◌, outside, place_from, place_of, bears, the_decl, member_name, member_bears, the_member, type_of, struct_named, count}
 use Rattle.resolution.specs.Numbers.{is_lock, new_field, fields_from}
 use Rattle.resolution.specs.Expressions.{want}
-use Rattle.resolution.specs.Constants.{members_of, pool_members, initialised, member_want, given, opened, default_of, referred, typed_const}
+use Rattle.resolution.specs.Constants.{members_of, pool_members, initialised, member_want, given, opened, default_of, referred}
 use Rattle.resolution.specs.Resolution.{opening_of}
-use Rattle.resolution.specs.Where.{Has, HasType, of_final, of_field}
+use Rattle.resolution.specs.Where.{Has, of_final, of_field}
 use Rattle.resolution.specs.Faults as fault
 use Rattle.resolution.specs.Faults.{final_missing}
-use Rattle.resolution.specs.FaultLists.{one, one_if, again, member_twice_faults, member_counts, lock_count, const_faults, index_faults, named_faults, null_faults, init_faults}
+use Rattle.resolution.specs.FaultLists.{one_if, again, member_twice_faults, member_counts, lock_count, const_faults, index_faults, named_faults, null_faults, init_faults}
 use Rattle.resolution.proofs.Members.{In}
 use Rattle.resolution.proofs.Named.{named_is, member_is}
 use Rattle.resolution.proofs.Parts.{of_decl}
 use Rattle.resolution.proofs.AllFaults.{in_member_twice, all_faults}
-use Rattle.resolution.proofs.Gifts.{Giving, giving, Names, names_it, initialised_is}
-use Rattle.resolution.proofs.FaultlessExpressions.{NoneIn, none_left, none_right, not_one, not_if, at_has, struct_has, Clean, Found, Typing, known, known_named}
+use Rattle.resolution.proofs.InitTargets.{Giving, giving, names_it, initialised_is}
+use Rattle.resolution.proofs.FaultlessExpressions.{NoneIn, none_left, none_right, not_one, not_if, at_has, Clean, Found, Typing, known, known_named}
 use Rattle.resolution.proofs.FaultlessConstants.{const_is, referred_is, le_false}
 
 -- ---- names of members
@@ -116,7 +114,7 @@ count_few p (m ∷ ms) = by_test (p m) (count_few p ms)
 -- ---- values
 
 -- a member that has its value
-abbrev pub Ready : List Decl → Gift → Member → Type 0
+abbrev pub Ready : List Decl → InitTarget → Member → Type 0
 Ready decls g (lock_member x) = Unit {0}
 Ready decls g (final_member f) = (o : ℕ) × (referred decls (struct_named decls f.target) (given decls g) ≡ Some o)
 Ready decls g (field_member f) = (t : core_type.ValueType) × (v : Value) × (type_of (outside decls) f.value_type ≡ Some t) × (opening_of decls (type_of (outside decls) f.value_type) (given decls g) ≡ Some v)
@@ -132,9 +130,9 @@ same_pool decls n p q a b = let s : Some (pool p) ≡ Some (pool q) = sym a ∙ 
 judged : (decls : List Decl) → Clean decls → (i n m : ℕ) (p : Pool) (ms : List Member) (x : Member) → slice_get decls i ≡ Some (pool p) → members_of decls p.target ≡ Some ms → slice_get ms m ≡ Some x → (c : Const) →
     Giving decls (record { pool = i; index = n; member = m }) c → Judged decls x m c
 judged decls clean i n m p ms x at are here c by =
-    let g : Gift = record { pool = i; index = n; member = m } in
+    let g : InitTarget = record { pool = i; index = n; member = m } in
     let j = by.by in
-    let names = names_it decls j g by.gift in
+    let names = names_it decls j g by.init_target in
     let f = named_is bears decls j.pool.text i (pool names.of) names.named_pool in
     let same = same_pool decls i names.of p f.here at in
     let mss : Some names.members ≡ Some ms = sym names.are ∙ ap (λ (q : Pool). members_of decls q.target) same ∙ are in
@@ -153,7 +151,7 @@ judged decls clean i n m p ms x at are here c by =
       not_null = subst (λ (y : Const). NoneIn (null_faults decls (Some (m, x)) y)) by.value (subst (λ (o : Option (ℕ × Member)). NoneIn (null_faults decls o j.value)) ini (none_right (a ++ b ++ d) e none));
     }
 
-field_ready : (decls : List Decl) → Clean decls → (g : Gift) (f : Field) → Typing decls (type_of (outside decls) f.value_type) → (o : Option Const) → given decls g ≡ o → ((c : Const) → o ≡ Some c → NoneIn (const_faults decls (want (type_of (outside decls) f.value_type)) c)) → Ready decls g (field_member f)
+field_ready : (decls : List Decl) → Clean decls → (g : InitTarget) (f : Field) → Typing decls (type_of (outside decls) f.value_type) → (o : Option Const) → given decls g ≡ o → ((c : Const) → o ≡ Some c → NoneIn (const_faults decls (want (type_of (outside decls) f.value_type)) c)) → Ready decls g (field_member f)
 field_ready decls clean g f t None is up =
     (t.value_type, default_of t.value_type, t.is, ap (λ (y : Option core_type.ValueType). opening_of decls y (given decls g)) t.is ∙ ap (opened decls t.value_type) is)
 field_ready decls clean g f t (Some c) is up =
@@ -167,7 +165,7 @@ no_null decls f m s c is none at e =
     let t : is_some (struct_named decls f.target) ≡ true = ap is_some is in
     cc
 
-final_ready : (decls : List Decl) → Clean decls → (g : Gift) (f : Final) → Found decls (struct_named decls f.target) → (o : Option Const) → given decls g ≡ o → (o ≡ None → ⊥) →
+final_ready : (decls : List Decl) → Clean decls → (g : InitTarget) (f : Final) → Found decls (struct_named decls f.target) → (o : Option Const) → given decls g ≡ o → (o ≡ None → ⊥) →
     ((c : Const) → o ≡ Some c → Judged decls (final_member f) g.member c) → Ready decls g (final_member f)
 final_ready decls clean g f k None is missing up = absurd (missing refl)
 final_ready decls clean g f k (Some c) is missing up =
@@ -182,11 +180,11 @@ pub ready : (decls : List Decl) → Clean decls → (i n : ℕ) (p : Pool) (s : 
     (m : ℕ) (x : Member) → slice_get s.members m ≡ Some x → Ready decls (record { pool = i; index = n; member = m }) x
 ready decls clean i n p s at less are has once m (lock_member x) here = tt
 ready decls clean i n p s at less are has once m (field_member f) here =
-    let g : Gift = record { pool = i; index = n; member = m } in
+    let g : InitTarget = record { pool = i; index = n; member = m } in
     field_ready decls clean g f (known decls clean (outside decls) f.value_type (of_field has (at_has s.members m (field_member f) here))) (given decls g) refl
     (λ c e. (judged decls clean i n m p s.members (field_member f) at are here c (giving decls g c e)).fits)
 ready decls clean i n p s at less are has once m (final_member f) here =
-    let g : Gift = record { pool = i; index = n; member = m } in
+    let g : InitTarget = record { pool = i; index = n; member = m } in
     let k = known_named decls clean f.target (of_final has (at_has s.members m (final_member f) here)) in
     final_ready decls clean g f k (given decls g) refl
     (λ e. clean _ (all_faults decls FinalWithoutOpeningValue p.name.span.start (final_missing (fault.not_given i f.name.text n at are (first_of_name s.members once m (final_member f) here) k.is less e))))

@@ -1,10 +1,10 @@
 -- A program with no fault is resolved.
 use Rattle.std.proofs.Common.{◌≡◌, ℕ, zero, suc, ◌+◌, ◌*◌, ◌<◌, ◌≤◌, List, [], ◌∷◌, ◌++◌, length, Option, Some, None, Bool, true, false, if◌then◌else◌, refl, sym, ap, ◌∙◌, subst, append_assoc, arith}
-use Rattle.std.specs.Prelude.{nat_le, nat_lt, ◌&&◌, slice_get}
+use Rattle.std.specs.Prelude.{nat_le, nat_lt, slice_get}
 use Rattle.std.proofs.lemmas.Bool.Decides.{nat_tests}
 use Rattle.source.specs.declared.fault.Code.TheVariants.{LimitExceeded}
 use Rattle.syntax.specs.Returns.{ReturnsRight}
-use Rattle.syntax.specs.Trees.{Ident, ref_type, Const, Member, lock_member, final_member, field_member, Struct, Variable, Array, Pool, Decl, lock, struct, global, array, pool, init, atomic, thread}
+use Rattle.syntax.specs.Trees.{ref_type, Const, Member, lock_member, final_member, field_member, Struct, Variable, Array, Pool, Decl, lock, struct, global, array, pool, init, atomic, thread}
 use Rattle.core_lang.specs.declared.value.Value.{Value}
 use Rattle.core_lang.specs.declared.value.ValueType as core_type
 use Rattle.core_lang.specs.declared.typed.Owner.{Owner}
@@ -12,21 +12,20 @@ use Rattle.core_lang.specs.declared.typed.Owner.TheVariants as owner
 use Rattle.resolution.specs.declared.wanted.Want.TheVariants as wanted
 use Rattle.resolution.specs.Core as core
 use Rattle.resolution.specs.Limits.{MEMBER_LIMIT, OBJECT_LIMIT, CELL_LIMIT, CALL_LIMIT, up_to, object_at, cell_at, final_at, STRUCT_LIMIT}
-use Rattle.resolution.specs.Scopes.{◌>>=◌, outside, bears, the_decl, type_of, struct_named, count, alike}
-use Rattle.resolution.specs.Numbers.{fields_from, width, total, classes_of, objects_of, cells_of, calls_of}
+use Rattle.resolution.specs.Scopes.{◌>>=◌, outside, bears, the_decl, type_of, count, alike}
+use Rattle.resolution.specs.Numbers.{width, total, classes_of, objects_of, cells_of, calls_of}
 use Rattle.resolution.specs.Expressions.{want}
-use Rattle.resolution.specs.Constants.{members_of, members_in, given, opened, default_of, referred}
-use Rattle.resolution.specs.Annotations.{class_of, protection_of}
-use Rattle.resolution.specs.Resolution.{few_calls, typed_calls, typed_items, typed_section, Shaping, lock_added, final_added, field_added, member_added, members_added, empty_struct, nothing_yet, with_class, with_struct, with_cell, with_section, with_thread, global_added, with_global, opening_of, with_elements, array_added, with_array, Slot, slot_given, final_cell, field_cell, with_members, object_added, with_object, with_objects, pool_added, with_pool, extended, resolved_from, resolved}
+use Rattle.resolution.specs.Constants.{members_of, members_in, default_of}
+use Rattle.resolution.specs.Annotations.{protection_of}
+use Rattle.resolution.specs.Resolution.{few_calls, typed_items, StructBuilder, lock_added, final_added, field_added, members_added, empty_struct, nothing_yet, with_class, with_struct, with_cell, with_section, with_thread, global_added, with_global, opening_of, with_elements, array_added, with_array, Slot, slot_given, final_cell, field_cell, with_members, object_added, with_object, with_objects, pool_added, with_pool, extended, resolved_from, resolved}
 use Rattle.resolution.specs.Where.{Has, first, further, of_pool, of_global, of_array, of_final, of_field}
-use Rattle.resolution.specs.FaultLists.{one, one_if, passes, member_twice_faults, struct_faults, member_counts, count_faults, total_faults, type_faults, lock_faults, opening_faults, const_faults, protection_faults, members_faults, missing_faults, decl_faults, each_faults, twice_faults, repeated_faults, program_faults}
+use Rattle.resolution.specs.FaultLists.{one_if, passes, member_twice_faults, member_counts, count_faults, total_faults, type_faults, lock_faults, opening_faults, const_faults, protection_faults, members_faults, decl_faults}
 use Rattle.resolution.proofs.Members.{in_right}
 use Rattle.resolution.proofs.Named.{named_is}
-use Rattle.resolution.proofs.Parts.{has_at}
 use Rattle.resolution.proofs.AllFaults.{in_structs, of_structs, of_counts, of_totals, has_parts}
 use Rattle.resolution.proofs.Parts.{of_place_at}
 use Rattle.resolution.proofs.TrueStatements.{length_push}
-use Rattle.resolution.proofs.FaultlessExpressions.{NoneIn, none_left, none_right, not_one, not_if, le_true, at_has, Clean, Typing, Found, known, known_named}
+use Rattle.resolution.proofs.FaultlessExpressions.{NoneIn, none_left, none_right, not_if, le_true, at_has, Clean, Typing, known, known_named}
 use Rattle.resolution.proofs.FaultlessConstants.{const_is, class_is, protection_is, named_decl, and_false}
 use Rattle.resolution.proofs.FaultlessSections.{section_is, items_are}
 use Rattle.resolution.proofs.FaultlessMembers.{fields_are, members_few, count_few, is_final, is_field, Ready, ready}
@@ -186,14 +185,14 @@ elements_put p a t (suc n) =
 
 -- ---- structs
 
-struct_put : (decls : List Decl) → Clean decls → (k i : ℕ) (s : Struct) → slice_get decls i ≡ Some (struct s) → (st : Shaping) (ms : List Member) → ((m : Member) → Has ms m → Has s.members m) → NoneIn (members_faults decls i s.members ms) →
-    (to : Shaping) × (members_added decls k i s.members (Some st) ms ≡ Some to)
+struct_put : (decls : List Decl) → Clean decls → (k i : ℕ) (s : Struct) → slice_get decls i ≡ Some (struct s) → (st : StructBuilder) (ms : List Member) → ((m : Member) → Has ms m → Has s.members m) → NoneIn (members_faults decls i s.members ms) →
+    (to : StructBuilder) × (members_added decls k i s.members (Some st) ms ≡ Some to)
 struct_put decls clean k i s at st [] up none = (st, refl)
 struct_put decls clean k i s at st (lock_member x ∷ ms) up none = struct_put decls clean k i s at (lock_added k st x.text) ms (λ m h. up m (further h)) none
 struct_put decls clean k i s at st (final_member f ∷ ms) up none =
     let has = at_has decls i (struct s) at in
     let t = known_named decls clean f.target (of_final has (up (final_member f) first)) in
-    let to : Shaping = record st { structure = record (st.structure) { finals = st.structure.finals ++ record { name = f.name.text; target = t.number } ∷ [] } } in
+    let to : StructBuilder = record st { structure = record (st.structure) { finals = st.structure.finals ++ record { name = f.name.text; target = t.number } ∷ [] } } in
     let r = struct_put decls clean k i s at to ms (λ m h. up m (further h)) (none_right (type_faults (outside decls) (ref_type f.target)) (members_faults decls i s.members ms) none) in
     (r.0, ap (λ (o : Option ℕ). members_added decls k i s.members (final_added st f.name.text o) ms) t.is ∙ r.1)
 struct_put decls clean k i s at st (field_member f ∷ ms) up none =
@@ -203,7 +202,7 @@ struct_put decls clean k i s at st (field_member f ∷ ms) up none =
     let rest = members_faults decls i s.members ms in
     let t = known decls clean (outside decls) f.value_type (of_field has (up (field_member f) first)) in
     let p = protection_is decls clean i s at f.name.span.start f.protection (none_right a b (none_left (a ++ b) rest none)) in
-    let to : Shaping = record st { structure = record (st.structure) { fields = st.structure.fields ++ record { name = f.name.text; value_type = t.value_type; protection = p.0 } ∷ [] } } in
+    let to : StructBuilder = record st { structure = record (st.structure) { fields = st.structure.fields ++ record { name = f.name.text; value_type = t.value_type; protection = p.0 } ∷ [] } } in
     let r = struct_put decls clean k i s at to ms (λ m h. up m (further h)) (none_right (a ++ b) rest none) in (
       r.0,
       ap (λ (o : Option core_type.ValueType). members_added decls k i s.members (field_added st f.name.text o (protection_of decls i s.members f.protection)) ms) t.is

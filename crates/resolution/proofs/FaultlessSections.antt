@@ -1,10 +1,10 @@
 -- Sections and threads for which no fault is listed are resolved.
-use Rattle.std.proofs.Common.{◌≡◌, ℕ, zero, suc, ◌+◌, ◌≤◌, List, [], ◌∷◌, ◌++◌, length, Option, Some, None, Bool, true, false, ◌⊎◌, inl, inr, refl, sym, ap, ◌∙◌, subst, if◌then◌else◌, arith}
-use Rattle.std.specs.Prelude.{nat_le, ◌==◌, slice_get}
+use Rattle.std.proofs.Common.{◌≡◌, ℕ, suc, ◌+◌, List, [], ◌∷◌, ◌++◌, length, Option, Some, None, Bool, true, false, ◌⊎◌, inl, inr, refl, sym, ap, ◌∙◌, subst, if◌then◌else◌}
+use Rattle.std.specs.Prelude.{nat_le, ◌==◌}
 use Rattle.std.proofs.lemmas.Bool.{eqb-true}
 use Rattle.source.specs.declared.fault.Code.TheVariants.{UnknownName, WrongType, WrongArgumentCount, LimitExceeded}
 use Rattle.syntax.specs.Returns.{ReturnsRight, HasReturn, this_returns, returns_inside, later_returns, HasStrayReturn, this_early, stray_inside, later_stray, EndsInReturn, IsSectionFault, no_result, stray, missing, IsReturnFault, this_section, later_section}
-use Rattle.syntax.specs.Trees.{ValueType, Const, Param, Section, Call, Item, call, repeat, Items, no_items, item, Stmts, stmt, Decl, lock, struct, global, array, pool, init, atomic, thread}
+use Rattle.syntax.specs.Trees.{ValueType, Const, Param, Section, Item, call, repeat, Items, no_items, item, Stmts, stmt, Decl, lock, struct, global, array, pool, init, atomic, thread}
 use Rattle.core_lang.specs.declared.value.ValueType as core_type
 use Rattle.core_lang.specs.declared.tree.LocalKind.TheVariants as kind
 use Rattle.resolution.specs.Core as core
@@ -12,13 +12,13 @@ use Rattle.resolution.specs.Limits.{PARAMETER_LIMIT}
 use Rattle.resolution.specs.Scopes as scope
 use Rattle.resolution.specs.Scopes.{◌>>=◌, Scope, outside, number_at, the_decl, type_of, bound, entered}
 use Rattle.resolution.specs.Constants.{added, typed_arguments}
-use Rattle.resolution.specs.Resolution.{result_of, ahead_of, entry, core_local, core_locals, section_with, section_of, typed_section, call_of, copies, joined, one_call, typed_item, typed_items}
+use Rattle.resolution.specs.Resolution.{result_of, ahead_of, entry, core_locals, section_with, section_of, typed_section, call_of, copies, joined, one_call, typed_item, typed_items}
 use Rattle.resolution.specs.Statements.{typed_body, Body, after_all}
 use Rattle.resolution.specs.Where.{Has, first, further}
 use Rattle.resolution.specs.FaultLists.{one, one_if, type_faults, argument_faults, local_faults, stmts_faults, param_faults, result_faults, call_faults, item_faults, items_faults}
 use Rattle.resolution.proofs.TrueStatements.{entered_same}
 use Rattle.resolution.proofs.FaultlessExpressions.{NoneIn, none_left, none_right, not_one, Clean, Typing, type_is, AllTyped, Context}
-use Rattle.resolution.proofs.FaultlessStatements.{HasResult, typed_push, all_same, all_context, Bodied, body_is}
+use Rattle.resolution.proofs.FaultlessStatements.{HasResult, typed_push, all_context, body_is}
 use Rattle.resolution.proofs.FaultlessConstants.{arguments_are}
 
 -- ---- scopes

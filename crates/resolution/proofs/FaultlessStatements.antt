@@ -1,89 +1,87 @@
 -- Statements for which no fault is listed are resolved.
-use Rattle.std.proofs.Common.{◌≡◌, ℕ, zero, suc, ◌+◌, List, [], ◌∷◌, ◌++◌, length, Option, Some, None, Bool, true, false, ◌⊎◌, inl, inr, refl, sym, ap, ◌∙◌, subst, if◌then◌else◌, arith}
+use Rattle.std.proofs.Common.{◌≡◌, ℕ, zero, suc, List, [], ◌∷◌, ◌++◌, length, Option, Some, None, Bool, true, false, ◌⊎◌, inl, inr, refl, sym, ap, ◌∙◌, subst, if◌then◌else◌}
 use Rattle.std.specs.Prelude.{not, is_some, slice_get}
 use Rattle.source.specs.declared.span.Span.{Span}
 use Rattle.source.specs.declared.fault.Code.TheVariants.{UnknownName, WrongType, NotAssignable, LockAsValue}
-use Rattle.syntax.specs.Trees.{Ident, ValueType, Place, lone, element, path, Expr, Local, Stmt, let_local, var_local, assign, if_then, while, print, return_value, Stmts, no_stmts, stmt, Otherwise, no_else, else_do, Decl, lock, struct, global, array, pool, init, atomic, thread}
+use Rattle.syntax.specs.Trees.{Ident, Place, lone, element, path, Expr, Local, Stmt, let_local, var_local, assign, if_then, while, print, return_value, Stmts, no_stmts, stmt, Otherwise, no_else, else_do, Decl, lock, struct, global, array, pool, init, atomic, thread}
 use Rattle.syntax.specs.Returns.{IsReturn, is_return, HasReturn, this_returns, returns_inside, later_returns, HasReturnInside, in_then, in_else, in_while, HasStrayReturn, this_early, stray_inside, later_stray, EndsInReturn, last_returns, ends_later}
 use Rattle.core_lang.specs.declared.value.ValueType as core_type
 use Rattle.core_lang.specs.declared.value.ValueType.TheVariants.{Integer}
 use Rattle.core_lang.specs.declared.tree.LocalKind.{LocalKind}
 use Rattle.core_lang.specs.declared.tree.LocalKind.TheVariants as kind
-use Rattle.core_lang.specs.declared.tree.FieldStep.{FieldStep}
-use Rattle.resolution.specs.declared.wanted.Want.{Want}
-use Rattle.resolution.specs.declared.wanted.Want.TheVariants.{Anything, Condition, Value}
+use Rattle.resolution.specs.declared.wanted.Want.TheVariants.{Condition, Value}
 use Rattle.resolution.specs.Core as core
 use Rattle.resolution.specs.Scopes as scope
 use Rattle.resolution.specs.Scopes.{Scope, outside, Meaning, a_local, a_decl, nothing, meaning, number_at, has_type, type_of, bound, hidden, hidden_from, left}
-use Rattle.resolution.specs.Expressions.{want, fitting, as_value, number_in_sense, test_in_sense, typed, Walk, reached, walk_from, local_path, cell_of}
-use Rattle.resolution.specs.Statements.{Target, to_local, to_global, to_element, to_field, Aim, aim, is_var, aimed_at, aimed_at_element, Split, last_field, field_target, aimed_along, target_of, wanted_by, first_name, Part, does, gives, binds, set_to, assigns, prints, returns, repeats, chooses, chooses_between, Body, given_back, preceded, block_of, after, after_else, after_all, typed_stmt, typed_if, typed_body}
-use Rattle.resolution.specs.Where.{Has, of_global, of_array}
-use Rattle.resolution.specs.FaultLists.{one, one_if, unfit, type_faults, no_elements, path_faults, wanted_faults, local_faults, no_target, no_array, final_faults, target_faults, stmt_faults, else_faults, stmts_faults}
+use Rattle.resolution.specs.Expressions.{want, fitting, as_value, typed, Walk, reached, walk_from, local_path, cell_of}
+use Rattle.resolution.specs.Statements.{Target, to_local, to_global, to_element, to_field, Assignee, assignee, is_var, assignee_at, assignee_at_element, Split, last_field, field_target, assignee_along, target_of, wanted_by, first_name, Part, does, gives, binds, set_to, assigns, prints, returns, repeats, chooses_between, Body, preceded, block_of, after, after_else, after_all, typed_stmt, typed_if, typed_body}
+use Rattle.resolution.specs.Where.{of_global, of_array}
+use Rattle.resolution.specs.FaultLists.{one, type_faults, no_elements, path_faults, wanted_faults, local_faults, no_target, no_array, final_faults, target_faults, stmt_faults, else_faults, stmts_faults}
 use Rattle.resolution.proofs.TrueStatements.{after_same}
-use Rattle.resolution.proofs.FaultlessExpressions.{NoneIn, none_left, none_right, not_one, not_if, is_there, Clean, IsType, Typing, type_is, known, AllTyped, Context, IsKnown, meaning_known, decl_typed, unfit_not, Path, path_is}
-use Rattle.resolution.proofs.FaultlessSenses.{value_is, test_is}
+use Rattle.resolution.proofs.FaultlessExpressions.{NoneIn, none_left, none_right, not_one, not_if, is_there, Clean, Typing, type_is, known, AllTyped, Context, IsKnown, meaning_known, decl_typed, unfit_not, Path, path_is}
+use Rattle.resolution.proofs.FaultlessResolvedExprs.{value_is, test_is}
 
 -- ---- the left side of an assignment
 
-abbrev Aims : Option Aim → Type 0
-Aims o = (a : Aim) × (o ≡ Some a)
+abbrev Assignees : Option Assignee → Type 0
+Assignees o = (a : Assignee) × (o ≡ Some a)
 
-aim_is : (t : Target) (o : Option core_type.ValueType) (v : core_type.ValueType) → o ≡ Some v → Aims (aim (Some t) o)
-aim_is t o v is = (record { target = t; value_type = v }, ap (aim (Some t)) is)
+assignee_is : (t : Target) (o : Option core_type.ValueType) (v : core_type.ValueType) → o ≡ Some v → Assignees (assignee (Some t) o)
+assignee_is t o v is = (record { target = t; value_type = v }, ap (assignee (Some t)) is)
 
-var_if : (decls : List Decl) (p n : ℕ) (l : scope.Local) (b : Bool) → Typing decls l.value_type → NoneIn (if b then [] else one NotAssignable p) → Aims (if b then aim (Some (to_local n)) l.value_type else None)
-var_if decls p n l true t none = aim_is (to_local n) l.value_type t.value_type t.is
+var_if : (decls : List Decl) (p n : ℕ) (l : scope.Local) (b : Bool) → Typing decls l.value_type → NoneIn (if b then [] else one NotAssignable p) → Assignees (if b then assignee (Some (to_local n)) l.value_type else None)
+var_if decls p n l true t none = assignee_is (to_local n) l.value_type t.value_type t.is
 var_if decls p n l false t none = absurd (not_one NotAssignable p none)
 
-aimed_name : (decls : List Decl) → Clean decls → (p : ℕ) (x : Meaning) → IsKnown decls x → NoneIn (no_target decls p x) → Aims (aimed_at decls x)
-aimed_name decls clean p (a_local n l) k none = var_if decls p n l (is_var l.kind) k none
-aimed_name decls clean p (a_decl n (global v)) k none = let t = known decls clean (outside decls) v.value_type (of_global k) in aim_is (to_global (cell_of decls n)) (type_of (outside decls) v.value_type) t.value_type t.is
-aimed_name decls clean p (a_decl n (lock y)) k none = absurd (not_one LockAsValue p none)
-aimed_name decls clean p (a_decl n (struct s)) k none = absurd (unfit_not decls NotAssignable p (a_decl n (struct s)) refl none)
-aimed_name decls clean p (a_decl n (array a)) k none = absurd (unfit_not decls NotAssignable p (a_decl n (array a)) (decl_typed decls clean n (array a) k) none)
-aimed_name decls clean p (a_decl n (pool q)) k none = absurd (unfit_not decls NotAssignable p (a_decl n (pool q)) (decl_typed decls clean n (pool q) k) none)
-aimed_name decls clean p (a_decl n (init j)) k none = absurd (unfit_not decls NotAssignable p (a_decl n (init j)) refl none)
-aimed_name decls clean p (a_decl n (atomic s)) k none = absurd (unfit_not decls NotAssignable p (a_decl n (atomic s)) refl none)
-aimed_name decls clean p (a_decl n (thread t)) k none = absurd (unfit_not decls NotAssignable p (a_decl n (thread t)) refl none)
-aimed_name decls clean p nothing k none = absurd (not_one UnknownName p none)
+assignee_name : (decls : List Decl) → Clean decls → (p : ℕ) (x : Meaning) → IsKnown decls x → NoneIn (no_target decls p x) → Assignees (assignee_at decls x)
+assignee_name decls clean p (a_local n l) k none = var_if decls p n l (is_var l.kind) k none
+assignee_name decls clean p (a_decl n (global v)) k none = let t = known decls clean (outside decls) v.value_type (of_global k) in assignee_is (to_global (cell_of decls n)) (type_of (outside decls) v.value_type) t.value_type t.is
+assignee_name decls clean p (a_decl n (lock y)) k none = absurd (not_one LockAsValue p none)
+assignee_name decls clean p (a_decl n (struct s)) k none = absurd (unfit_not decls NotAssignable p (a_decl n (struct s)) refl none)
+assignee_name decls clean p (a_decl n (array a)) k none = absurd (unfit_not decls NotAssignable p (a_decl n (array a)) (decl_typed decls clean n (array a) k) none)
+assignee_name decls clean p (a_decl n (pool q)) k none = absurd (unfit_not decls NotAssignable p (a_decl n (pool q)) (decl_typed decls clean n (pool q) k) none)
+assignee_name decls clean p (a_decl n (init j)) k none = absurd (unfit_not decls NotAssignable p (a_decl n (init j)) refl none)
+assignee_name decls clean p (a_decl n (atomic s)) k none = absurd (unfit_not decls NotAssignable p (a_decl n (atomic s)) refl none)
+assignee_name decls clean p (a_decl n (thread t)) k none = absurd (unfit_not decls NotAssignable p (a_decl n (thread t)) refl none)
+assignee_name decls clean p nothing k none = absurd (not_one UnknownName p none)
 
-aimed_element : (decls : List Decl) → Clean decls → (p : ℕ) (x : Meaning) (index : core.Expr) → IsKnown decls x → NoneIn (no_elements decls p x) → NoneIn (no_array decls p x) → Aims (aimed_at_element decls x (Some index))
-aimed_element decls clean p (a_local n l) index k none other = let t : has_type decls (a_local n l) ≡ true = ap is_some k.is in absurd (unfit_not decls WrongType p (a_local n l) t none)
-aimed_element decls clean p (a_decl n (array a)) index k none other =
-    let t = known decls clean (outside decls) a.value_type (of_array k) in aim_is (to_element (number_at decls n (array a)) index) (type_of (outside decls) a.value_type) t.value_type t.is
-aimed_element decls clean p (a_decl n (pool q)) index k none other = absurd (unfit_not decls NotAssignable p (a_decl n (pool q)) (decl_typed decls clean n (pool q) k) other)
-aimed_element decls clean p (a_decl n (lock y)) index k none other = absurd (unfit_not decls WrongType p (a_decl n (lock y)) refl none)
-aimed_element decls clean p (a_decl n (struct s)) index k none other = absurd (unfit_not decls WrongType p (a_decl n (struct s)) refl none)
-aimed_element decls clean p (a_decl n (global v)) index k none other = absurd (unfit_not decls WrongType p (a_decl n (global v)) (decl_typed decls clean n (global v) k) none)
-aimed_element decls clean p (a_decl n (init j)) index k none other = absurd (unfit_not decls WrongType p (a_decl n (init j)) refl none)
-aimed_element decls clean p (a_decl n (atomic s)) index k none other = absurd (unfit_not decls WrongType p (a_decl n (atomic s)) refl none)
-aimed_element decls clean p (a_decl n (thread t)) index k none other = absurd (unfit_not decls WrongType p (a_decl n (thread t)) refl none)
-aimed_element decls clean p nothing index k none other = absurd (not_one UnknownName p none)
+assignee_element : (decls : List Decl) → Clean decls → (p : ℕ) (x : Meaning) (index : core.Expr) → IsKnown decls x → NoneIn (no_elements decls p x) → NoneIn (no_array decls p x) → Assignees (assignee_at_element decls x (Some index))
+assignee_element decls clean p (a_local n l) index k none other = let t : has_type decls (a_local n l) ≡ true = ap is_some k.is in absurd (unfit_not decls WrongType p (a_local n l) t none)
+assignee_element decls clean p (a_decl n (array a)) index k none other =
+    let t = known decls clean (outside decls) a.value_type (of_array k) in assignee_is (to_element (number_at decls n (array a)) index) (type_of (outside decls) a.value_type) t.value_type t.is
+assignee_element decls clean p (a_decl n (pool q)) index k none other = absurd (unfit_not decls NotAssignable p (a_decl n (pool q)) (decl_typed decls clean n (pool q) k) other)
+assignee_element decls clean p (a_decl n (lock y)) index k none other = absurd (unfit_not decls WrongType p (a_decl n (lock y)) refl none)
+assignee_element decls clean p (a_decl n (struct s)) index k none other = absurd (unfit_not decls WrongType p (a_decl n (struct s)) refl none)
+assignee_element decls clean p (a_decl n (global v)) index k none other = absurd (unfit_not decls WrongType p (a_decl n (global v)) (decl_typed decls clean n (global v) k) none)
+assignee_element decls clean p (a_decl n (init j)) index k none other = absurd (unfit_not decls WrongType p (a_decl n (init j)) refl none)
+assignee_element decls clean p (a_decl n (atomic s)) index k none other = absurd (unfit_not decls WrongType p (a_decl n (atomic s)) refl none)
+assignee_element decls clean p (a_decl n (thread t)) index k none other = absurd (unfit_not decls WrongType p (a_decl n (thread t)) refl none)
+assignee_element decls clean p nothing index k none other = absurd (not_one UnknownName p none)
 
-field_aim : (p n : ℕ) (o : Option Split) (s : Split) (t : core_type.ValueType) → o ≡ Some s → Aims (aim (field_target p n o) (Some t))
-field_aim p n o s t is = (record { target = to_field (local_path p n s.base) s.field; value_type = t }, ap (λ (x : Option Split). aim (field_target p n x) (Some t)) is)
+field_assignee : (p n : ℕ) (o : Option Split) (s : Split) (t : core_type.ValueType) → o ≡ Some s → Assignees (assignee (field_target p n o) (Some t))
+field_assignee p n o s t is = (record { target = to_field (local_path p n s.base) s.field; value_type = t }, ap (λ (x : Option Split). assignee (field_target p n x) (Some t)) is)
 
-aimed_path : (decls : List Decl) (p : ℕ) (x : Meaning) (fs : List Ident) → Path decls x fs → NoneIn (final_faults p (walk_from decls x fs)) → Aims (aimed_along p x (walk_from decls x fs))
-aimed_path decls p x fs r none =
+assignee_path : (decls : List Decl) (p : ℕ) (x : Meaning) (fs : List Ident) → Path decls x fs → NoneIn (final_faults p (walk_from decls x fs)) → Assignees (assignee_along p x (walk_from decls x fs))
+assignee_path decls p x fs r none =
     let steps = r.arrives.steps in
     let t = r.arrives.value_type in
     let last = is_there (last_field steps) (not_if (not (is_some (last_field steps))) NotAssignable p (subst (λ (w : Walk). NoneIn (final_faults p w)) r.arrives.is none)) in
-    let a = field_aim p r.number (last_field steps) last.0 t last.1 in
-    (a.0, ap (aimed_along p x) r.arrives.is ∙ ap (λ (y : Meaning). aimed_along p y (reached steps t)) r.is ∙ a.1)
+    let a = field_assignee p r.number (last_field steps) last.0 t last.1 in
+    (a.0, ap (assignee_along p x) r.arrives.is ∙ ap (λ (y : Meaning). assignee_along p y (reached steps t)) r.is ∙ a.1)
 
-target_is : (sc : Scope) → Context sc → (p : Place) → NoneIn (target_faults sc p) → Aims (target_of sc p)
-target_is sc c (lone x) none = aimed_name sc.decls c.clean x.span.start (meaning sc x.text) (meaning_known sc c x.text) none
+target_is : (sc : Scope) → Context sc → (p : Place) → NoneIn (target_faults sc p) → Assignees (target_of sc p)
+target_is sc c (lone x) none = assignee_name sc.decls c.clean x.span.start (meaning sc x.text) (meaning_known sc c x.text) none
 target_is sc c (element x e) none =
     let a = no_elements sc.decls x.span.start (meaning sc x.text) in
     let b = no_array sc.decls x.span.start (meaning sc x.text) in
     let n2 = none_left (a ++ b) (wanted_faults sc (Value Integer) e) none in
     let i = value_is sc c Integer e (none_right (a ++ b) (wanted_faults sc (Value Integer) e) none) in
-    let t = aimed_element sc.decls c.clean x.span.start (meaning sc x.text) i.0 (meaning_known sc c x.text) (none_left a b n2) (none_right a b n2) in
-    (t.0, ap (aimed_at_element sc.decls (meaning sc x.text)) i.1 ∙ t.1)
+    let t = assignee_element sc.decls c.clean x.span.start (meaning sc x.text) i.0 (meaning_known sc c x.text) (none_left a b n2) (none_right a b n2) in
+    (t.0, ap (assignee_at_element sc.decls (meaning sc x.text)) i.1 ∙ t.1)
 target_is sc c (path x fs) none =
     let a = path_faults sc.decls x.span.start (meaning sc x.text) fs in
     let b = final_faults x.span.start (walk_from sc.decls (meaning sc x.text) fs) in
-    aimed_path sc.decls x.span.start (meaning sc x.text) fs (path_is sc.decls c.clean x.span.start (meaning sc x.text) fs (meaning_known sc c x.text) (none_left a b none)) (none_right a b none)
+    assignee_path sc.decls x.span.start (meaning sc x.text) fs (path_is sc.decls c.clean x.span.start (meaning sc x.text) fs (meaning_known sc c x.text) (none_left a b none)) (none_right a b none)
 
 -- ---- scopes
 
@@ -195,9 +193,9 @@ local_acts sc c l none =
 assign_acts : (sc : Scope) → Context sc → (p : Place) (e : Expr) → NoneIn (target_faults sc p ++ wanted_faults sc (wanted_by (target_of sc p)) e) → (x : core.Stmt) × (typed_stmt sc (assign p e) ≡ Some (does x))
 assign_acts sc c p e none =
     let a = target_is sc c p (none_left (target_faults sc p) (wanted_faults sc (wanted_by (target_of sc p)) e) none) in
-    let v = value_is sc c a.0.value_type e (subst (λ (y : Option Aim). NoneIn (wanted_faults sc (wanted_by y) e)) a.1 (none_right (target_faults sc p) (wanted_faults sc (wanted_by (target_of sc p)) e) none)) in (
+    let v = value_is sc c a.0.value_type e (subst (λ (y : Option Assignee). NoneIn (wanted_faults sc (wanted_by y) e)) a.1 (none_right (target_faults sc p) (wanted_faults sc (wanted_by (target_of sc p)) e) none)) in (
       record { start = (first_name p).span.start; action = set_to a.0.target v.0 },
-      ap (λ (y : Option Aim). assigns (first_name p).span.start y (as_value (fitting (wanted_by y) (typed sc e)))) a.1 ∙ ap (assigns (first_name p).span.start (Some a.0)) v.1,
+      ap (λ (y : Option Assignee). assigns (first_name p).span.start y (as_value (fitting (wanted_by y) (typed sc e)))) a.1 ∙ ap (assigns (first_name p).span.start (Some a.0)) v.1,
     )
 
 block_is : (o : Option Body) (x : core.Stmts) → o ≡ Some (record { stmts = x; result = None }) → block_of o ≡ Some x

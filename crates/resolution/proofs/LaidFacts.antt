@@ -14,11 +14,11 @@ use Rattle.resolution.specs.Scopes.{◌>>=◌, outside, type_of, struct_named, c
 use Rattle.resolution.specs.Numbers.{total, classes_of, objects_of, cells_of, classes_ahead, cells_ahead, objects_ahead}
 use Rattle.resolution.specs.Expressions.{cell_of, member_number}
 use Rattle.resolution.specs.Constants.{opened}
-use Rattle.resolution.specs.Resolution.{Shaping, empty_struct, nothing_yet, array_added, pool_added, typed_section, resolved}
+use Rattle.resolution.specs.Resolution.{StructBuilder, empty_struct, nothing_yet, array_added, pool_added, typed_section, resolved}
 use Rattle.resolution.proofs.FaultlessExpressions.{struct_has, Clean}
 use Rattle.resolution.proofs.FaultlessMembers.{is_field, is_final, count_few}
 use Rattle.resolution.proofs.FaultlessPrograms.{struct_few}
-use Rattle.resolution.proofs.TypedSenses.{Sound}
+use Rattle.resolution.proofs.TypedResolvedExprs.{Sound}
 use Rattle.resolution.proofs.LaidLists.{Rows, rows_left, rows_right, rows_push, get_last, get_behind, get_pushed}
 use Rattle.resolution.proofs.LaidStages.{fields_in, finals_in, locks_in, field_numbered, final_numbered, Adds}
 use Rattle.resolution.proofs.LaidWalk.{LockRow, ClassRow, FinalRow, FieldRow, shaped, fields_counted, chain_leaves, elements_leave, Step, Landed, lands, walked_whole}
@@ -284,7 +284,7 @@ struct_landed : (decls : List Decl) (whole : core.Program) (before : List Decl) 
 struct_landed decls whole before x p q st =
     let a = st.adds in
     let k = length p.structs in
-    let s0 : Shaping = record { structure = empty_struct x.name.text; classes = p.classes } in
+    let s0 : StructBuilder = record { structure = empty_struct x.name.text; classes = p.classes } in
     let r = shaped decls k (length before) x.members 0 0 s0 x.members a.0 a.1 in
     let ahead : length p.classes ≡ classes_ahead decls (length before) = st.counts.classes ∙ ap (total classes_of) (sym st.ahead) in
     let number : number_at decls (length before) (struct x) ≡ k = ap (count (alike (struct x))) st.ahead ∙ sym (st.counts.structs x) in

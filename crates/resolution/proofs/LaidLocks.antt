@@ -3,15 +3,15 @@ use Rattle.std.proofs.Common.{◌≡◌, ℕ, zero, suc, ◌+◌, ◌<◌, ◌�
 use Rattle.std.specs.Prelude.{slice_get, ⊤, nat_le, ◌&&◌}
 use Rattle.std.proofs.lemmas.Option.{slice_get_within}
 use Rattle.source.specs.declared.fault.Code.TheVariants.{LimitExceeded}
-use Rattle.syntax.specs.Trees.{Ident, Protection, Member, lock_member, final_member, field_member, Final, Field, Struct, Array, Decl, lock, struct, global, array, pool, init, atomic, thread}
+use Rattle.syntax.specs.Trees.{Ident, Protection, Member, lock_member, final_member, field_member, Final, Field, Struct, Decl, lock, struct, global, array, pool, init, atomic, thread}
 use Rattle.resolution.specs.Core as core
 use Rattle.resolution.specs.Limits.{CLASS_LIMIT, MEMBER_LIMIT, STRUCT_LIMIT, FINAL_LIMIT}
 use Rattle.resolution.specs.Scopes.{outside, bears, the_decl, the_member, struct_named, count, alike, number_at, number_in}
 use Rattle.resolution.specs.Numbers.{total, is_lock, classes_of, classes_ahead}
 use Rattle.resolution.specs.Expressions.{member_number}
-use Rattle.resolution.specs.Annotations.{class_number, class_in, class_of, Standing, at_struct, through_member, stepped_on, ended_at, along, protection_by, standing_at, protection_of}
+use Rattle.resolution.specs.Annotations.{class_number, class_in, class_of, AnnotationCursor, at_struct, through_member, stepped_on, ended_at, along, protection_by, cursor_at, protection_of}
 use Rattle.resolution.specs.Where.{Has, first, further}
-use Rattle.resolution.specs.Resolution.{Shaping, empty_struct, nothing_yet, array_added, resolved}
+use Rattle.resolution.specs.Resolution.{StructBuilder, empty_struct, nothing_yet, array_added, resolved}
 use Rattle.resolution.specs.FaultLists as list
 use Rattle.resolution.specs.FaultLists.{one_if, member_counts, count_faults, total_faults, passed_faults, along_faults, annotation_faults, protection_faults, type_faults}
 use Rattle.resolution.proofs.Members.{in_right}
@@ -86,7 +86,7 @@ classes_next decls whole before (lock x) p q st h n c e =
 classes_next decls whole before (struct x) p q st h n c e =
     let a = st.adds in
     let k = length p.structs in
-    let s0 : Shaping = record { structure = empty_struct x.name.text; classes = p.classes } in
+    let s0 : StructBuilder = record { structure = empty_struct x.name.text; classes = p.classes } in
     let r = shaped decls k (length before) x.members 0 0 s0 x.members a.0 a.1 in
     let classes : q.classes ≡ p.classes ++ r.classes = ap (λ (z : core.Program). z.classes) (sym a.2) ∙ r.is_classes in
     let here : slice_get whole.structs k ≡ Some a.0.structure = st.ends.structs k a.0.structure (subst (λ (w : core.Program). slice_get w.structs k ≡ Some a.0.structure) a.2 (get_last p.structs a.0.structure [])) in
@@ -157,7 +157,7 @@ module _ (decls : List Decl) (clean : Clean decls) (whole : core.Program) (is : 
       let p = d.was in
       let a = d.step.adds in
       let k = length p.structs in
-      let s0 : Shaping = record { structure = empty_struct x.name.text; classes = p.classes } in
+      let s0 : StructBuilder = record { structure = empty_struct x.name.text; classes = p.classes } in
       let r = shaped decls k (length d.before) x.members 0 0 s0 x.members a.0 a.1 in
       let classes : d.is.classes ≡ p.classes ++ r.classes = ap (λ (w : core.Program). w.classes) (sym a.2) ∙ r.is_classes in
       let c = rows_left (ClassRow k) 0 (locks_in x.members) r.classes r.class_rows l z e in
@@ -246,7 +246,7 @@ module _ (decls : List Decl) (clean : Clean decls) (whole : core.Program) (is : 
   -- ---- annotations
 
   -- a walk from the struct of number s stands here
-  record Stood (s : ℕ) (st : Standing) : Type 0 where
+  record Stood (s : ℕ) (st : AnnotationCursor) : Type 0 where
     structure : Struct
     at : slice_get decls st.structure ≡ Some (struct structure)
     same : st.members ≡ structure.members
@@ -257,11 +257,11 @@ module _ (decls : List Decl) (clean : Clean decls) (whole : core.Program) (is : 
   none_along y [] = refl
   none_along y (z ∷ zs) = none_along z zs
 
-  along_there : (o : Option Standing) (y : Ident) (ys : List Ident) (p : core.Protection) → along decls o y ys ≡ Some p → (st : Standing) × (o ≡ Some st) × (along decls (Some st) y ys ≡ Some p)
+  along_there : (o : Option AnnotationCursor) (y : Ident) (ys : List Ident) (p : core.Protection) → along decls o y ys ≡ Some p → (st : AnnotationCursor) × (o ≡ Some st) × (along decls (Some st) y ys ≡ Some p)
   along_there (Some st) y ys p e = (st, refl, e)
   along_there None y ys p e = let s : None ≡ Some p = sym (none_along y ys) ∙ e in cc
 
-  at_end : (s : ℕ) (st : Standing) → Stood s st → (q : List ℕ) (o : Option (ℕ × Member)) → the_member st.members q ≡ o → (p : core.Protection) → ended_at decls st o ≡ Some p → ProtectsIn whole s p
+  at_end : (s : ℕ) (st : AnnotationCursor) → Stood s st → (q : List ℕ) (o : Option (ℕ × Member)) → the_member st.members q ≡ o → (p : core.Protection) → ended_at decls st o ≡ Some p → ProtectsIn whole s p
   at_end s st h q (Some (i, lock_member x)) m p e =
       let n = number_in st.members i (lock_member x) in
       let there : slice_get (locks_in h.structure.members) n ≡ Some x = subst (λ (ms : List Member). slice_get (locks_in ms) n ≡ Some x) h.same (lock_numbered st.members i x (member_is st.members q i (lock_member x) m).0) in
@@ -271,14 +271,14 @@ module _ (decls : List Decl) (clean : Clean decls) (whole : core.Program) (is : 
   at_end s st h q (Some (i, field_member f)) m p e = cc
   at_end s st h q None m p e = cc
 
-  over_final : (s : ℕ) (st : Standing) → Stood s st → (i : ℕ) (f : Final) → slice_get st.members i ≡ Some (final_member f) → length st.through < 3 → (o : Option (ℕ × Decl)) → the_decl decls f.target.text ≡ o → (to : Standing) → at_struct st.through (member_number st.members i (final_member f)) o ≡ Some to → Stood s to
+  over_final : (s : ℕ) (st : AnnotationCursor) → Stood s st → (i : ℕ) (f : Final) → slice_get st.members i ≡ Some (final_member f) → length st.through < 3 → (o : Option (ℕ × Decl)) → the_decl decls f.target.text ≡ o → (to : AnnotationCursor) → at_struct st.through (member_number st.members i (final_member f)) o ≡ Some to → Stood s to
   over_final s st h i f m less (Some (n, struct x)) d to e =
       let k = member_number st.members i (final_member f) in
       let here : slice_get h.structure.members i ≡ Some (final_member f) = ap (λ (ms : List Member). slice_get ms i) (sym h.same) ∙ m in
       let named : struct_named decls f.target ≡ Some (number_at decls n (struct x)) = rw d refl in
       let lead = (sound_of decls clean whole is).final (number_at decls st.structure (struct h.structure)) h.structure i f (number_at decls n (struct x)) (struct_at decls st.structure h.structure h.at) here named in
       let lead2 : final_in whole (number_at decls st.structure (struct h.structure)) k ≡ Some (number_at decls n (struct x)) = ap (λ (ms : List Member). final_in whole (number_at decls st.structure (struct h.structure)) (member_number ms i (final_member f))) h.same ∙ lead in
-      let next : Standing = record { structure = n; members = x.members; through = st.through ++ k ∷ [] } in
+      let next : AnnotationCursor = record { structure = n; members = x.members; through = st.through ++ k ∷ [] } in
       let same : next ≡ to = cc in
       subst (Stood s) same
       (record {
@@ -297,28 +297,28 @@ module _ (decls : List Decl) (clean : Clean decls) (whole : core.Program) (is : 
   over_final s st h i f m less (Some (n, thread x)) d to e = cc
   over_final s st h i f m less None d to e = cc
 
-  stepped : (s head here : ℕ) (st : Standing) → Stood s st → (q : List ℕ) (o : Option (ℕ × Member)) → the_member st.members q ≡ o → NoneIn (passed_faults head here (length st.through) o) → (to : Standing) → through_member decls st o ≡ Some to → Stood s to
+  stepped : (s head here : ℕ) (st : AnnotationCursor) → Stood s st → (q : List ℕ) (o : Option (ℕ × Member)) → the_member st.members q ≡ o → NoneIn (passed_faults head here (length st.through) o) → (to : AnnotationCursor) → through_member decls st o ≡ Some to → Stood s to
   stepped s head here st h q (Some (i, final_member f)) m none to e =
       over_final s st h i f (member_is st.members q i (final_member f) m).0 (le_false FINAL_LIMIT (length st.through) (not_if (nat_le FINAL_LIMIT (length st.through)) LimitExceeded head none)) (the_decl decls f.target.text) refl to e
   stepped s head here st h q (Some (i, lock_member x)) m none to e = cc
   stepped s head here st h q (Some (i, field_member x)) m none to e = cc
   stepped s head here st h q None m none to e = cc
 
-  along_ok : (s head : ℕ) (st : Standing) → Stood s st → (y : Ident) (ys : List Ident) → NoneIn (along_faults decls head (Some st) y ys) → (p : core.Protection) → along decls (Some st) y ys ≡ Some p → ProtectsIn whole s p
+  along_ok : (s head : ℕ) (st : AnnotationCursor) → Stood s st → (y : Ident) (ys : List Ident) → NoneIn (along_faults decls head (Some st) y ys) → (p : core.Protection) → along decls (Some st) y ys ≡ Some p → ProtectsIn whole s p
   along_ok s head st h y [] none p e = at_end s st h y.text (the_member st.members y.text) refl p e
   along_ok s head st h y (z ∷ zs) none p e =
       let o = stepped_on decls (Some st) y in
       let t = along_there o z zs p e in
       let a = list.passed head (Some st) y in
       let next = stepped s head y.span.start st h y.text (the_member st.members y.text) refl (none_left a (along_faults decls head o z zs) none) t.0 t.1 in
-      along_ok s head t.0 next z zs (subst (λ (x : Option Standing). NoneIn (along_faults decls head x z zs)) t.1 (none_right a (along_faults decls head o z zs) none)) p t.2
+      along_ok s head t.0 next z zs (subst (λ (x : Option AnnotationCursor). NoneIn (along_faults decls head x z zs)) t.1 (none_right a (along_faults decls head o z zs) none)) p t.2
 
   protection_ok : (s i : ℕ) (x : Struct) → slice_get decls i ≡ Some (struct x) → number_at decls i (struct x) ≡ s → (name : ℕ) (o : Option Protection) → NoneIn (protection_faults decls i x.members name o) → (p : core.Protection) → protection_of decls i x.members o ≡ Some p → ProtectsIn whole s p
   protection_ok s i x at number name None none p e = cc
   protection_ok s i x at number name (Some w) none p e = by_member (the_member x.members w.first.text) none e
     where
-      by_member : (o : Option (ℕ × Member)) → NoneIn (annotation_faults decls (standing_at i x.members) w o) → protection_by decls (standing_at i x.members) w o ≡ Some p → ProtectsIn whole s p
-      by_member (Some m) n h = along_ok s w.first.span.start (standing_at i x.members) (record { structure = x; at = at; same = refl; lead = sym number; short = omega arith }) w.first w.rest n p h
+      by_member : (o : Option (ℕ × Member)) → NoneIn (annotation_faults decls (cursor_at i x.members) w o) → protection_by decls (cursor_at i x.members) w o ≡ Some p → ProtectsIn whole s p
+      by_member (Some m) n h = along_ok s w.first.span.start (cursor_at i x.members) (record { structure = x; at = at; same = refl; lead = sym number; short = omega arith }) w.first w.rest n p h
       by_member None n h =
           let b = bind_got (class_in decls (the_decl decls w.first.text) w.rest) (λ c. Some (record { through = []; class = c })) p h in
           let g = class_in_is w.first.text (the_decl decls w.first.text) w.rest b.0 refl b.1 in

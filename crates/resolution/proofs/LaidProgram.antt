@@ -2,7 +2,7 @@
 use Rattle.std.proofs.Common.{◌≡◌, ℕ, suc, ◌+◌, ◌<◌, ◌≤◌, List, [], ◌∷◌, length, Option, Some, None, refl, sym, ap, ◌∙◌, subst}
 use Rattle.std.specs.Prelude.{slice_get, take, map}
 use Rattle.std.proofs.lemmas.Option.{slice_get_within}
-use Rattle.syntax.specs.Trees.{Decl, atomic, Struct, Section, Param, Field}
+use Rattle.syntax.specs.Trees.{Decl, atomic, Section, Param}
 use Rattle.core_lang.specs.declared.value.Value.{Value}
 use Rattle.core_lang.specs.declared.value.Value.TheVariants.{Int, Ref}
 use Rattle.core_lang.specs.declared.value.ValueType.{ValueType}
@@ -30,7 +30,7 @@ use Rattle.resolution.specs.Scopes.{◌>>=◌, outside, number_at, the_struct, t
 use Rattle.resolution.specs.Resolution.{resolved, typed_section}
 use Rattle.resolution.proofs.FaultlessExpressions.{Clean}
 use Rattle.resolution.proofs.Typed.{map_got, get_map, final_in, field_in, final_target_is, field_type_is}
-use Rattle.resolution.proofs.TypedSenses.{Sound}
+use Rattle.resolution.proofs.TypedResolvedExprs.{Sound}
 use Rattle.resolution.proofs.LaidLists.{Rows, rows_right, bind_got}
 use Rattle.resolution.proofs.LaidStages.{fields_in, finals_in}
 use Rattle.resolution.proofs.LaidWalk.{FinalRow, FieldRow}

@@ -13,7 +13,7 @@ use Rattle.resolution.specs.Limits.{OBJECT_LIMIT, CELL_LIMIT, object_at, cell_at
 use Rattle.resolution.specs.Scopes.{◌>>=◌, outside, type_of, struct_named, number_in}
 use Rattle.resolution.specs.Constants.{members_of, opened, default_of, referred}
 use Rattle.resolution.specs.Annotations.{class_of, protection_of}
-use Rattle.resolution.specs.Resolution.{few_calls, typed_calls, typed_items, typed_section, Shaping, lock_added, final_added, field_added, member_added, members_added, empty_struct, with_class, with_struct, with_cell, with_section, with_thread, global_added, with_global, opening_of, with_elements, array_added, with_array, Slot, slot_given, final_cell, field_cell, with_members, object_added, with_object, with_objects, pool_added, with_pool, extended}
+use Rattle.resolution.specs.Resolution.{few_calls, typed_calls, typed_items, typed_section, StructBuilder, lock_added, final_added, field_added, member_added, members_added, empty_struct, with_class, with_struct, with_cell, with_section, with_thread, global_added, with_global, opening_of, with_elements, array_added, with_array, Slot, slot_given, final_cell, field_cell, with_members, object_added, with_object, with_objects, pool_added, with_pool, extended}
 use Rattle.resolution.proofs.LaidLists.{Rows, Grows, grows_more, bind_got, up_got, append_nil}
 
 -- ---- members by kind
@@ -182,7 +182,7 @@ chain_got decls i number ms (suc n) p q e =
 
 abbrev pub Adds : List Decl → ℕ → core.Program → Decl → core.Program → Type 0
 Adds decls i p (lock x) q = with_class p (core.global_lock x.text) ≡ q
-Adds decls i p (struct s) q = (st : Shaping) × (members_added decls (length p.structs) i s.members (Some (record { structure = empty_struct s.name.text; classes = p.classes })) s.members ≡ Some st) × (record p { classes = st.classes; structs = p.structs ++ st.structure ∷ [] } ≡ q)
+Adds decls i p (struct s) q = (st : StructBuilder) × (members_added decls (length p.structs) i s.members (Some (record { structure = empty_struct s.name.text; classes = p.classes })) s.members ≡ Some st) × (record p { classes = st.classes; structs = p.structs ++ st.structure ∷ [] } ≡ q)
 Adds decls i p (global v) q = (c : ℕ) × (t : core_type.ValueType) × (w : Value) × (class_of decls v.protection ≡ Some c) × (type_of (outside decls) v.value_type ≡ Some t) × (opened decls t v.value ≡ Some w) × (length p.cells ≤ CELL_LIMIT) × (global_added p v.name.text (length p.cells) c t w ≡ q)
 Adds decls i p (array a) q = (c : ℕ) × (t : core_type.ValueType) × (class_of decls a.protection ≡ Some c) × (type_of (outside decls) a.value_type ≡ Some t) × (with_elements (array_added p a.name.text (length p.cells) a.length.value t c) (length p.arrays) t a.length.value ≡ q)
 Adds decls i p (pool x) q = (s : ℕ) × (ms : List Member) × (struct_named decls x.target ≡ Some s) × (members_of decls x.target ≡ Some ms) × Chain decls (length p.pools) ms x.length.value (pool_added p x.name.text (length p.objects) x.length.value s) q
@@ -190,7 +190,7 @@ Adds decls i p (init j) q = p ≡ q
 Adds decls i p (atomic s) q = (x : core.Section) × (typed_section decls s ≡ Some x) × (record p { sections = p.sections ++ x ∷ [] } ≡ q)
 Adds decls i p (thread t) q = (calls : List core.Call) × (typed_items decls t.items ≡ Some calls) × (record p { threads = p.threads ++ record { name = t.name.text; calls = calls } ∷ [] } ≡ q)
 
-struct_got : (p : core.Program) (o : Option Shaping) (q : core.Program) → with_struct p o ≡ Some q → (st : Shaping) × (o ≡ Some st) × (record p { classes = st.classes; structs = p.structs ++ st.structure ∷ [] } ≡ q)
+struct_got : (p : core.Program) (o : Option StructBuilder) (q : core.Program) → with_struct p o ≡ Some q → (st : StructBuilder) × (o ≡ Some st) × (record p { classes = st.classes; structs = p.structs ++ st.structure ∷ [] } ≡ q)
 struct_got p (Some st) q e = (st, refl, cc)
 struct_got p None q e = cc
 
@@ -308,19 +308,19 @@ pub begins_global : (p : core.Program) (name : List ℕ) (cell c : ℕ) (t : cor
 begins_global p name cell c t w = record { classes = λ k x e. e; structs = λ k x e. e; globals = grows_more p.globals (record { name = name; cell = cell; class = c } ∷ []); arrays = λ k x e. e; pools = λ k x e. e; objects = λ k x e. e; finals = λ k x e. e; cells = grows_more p.cells (record { owner = owner.Global (length p.globals); value_type = t; opening = w } ∷ []); sections = λ k x e. e; threads = λ k x e. e }
 
 -- a struct's classes
-shaped_classes : (decls : List Decl) (k i : ℕ) (all : List Member) (st : Shaping) (m : Member) (to : Shaping) → member_added decls k i all (Some st) m ≡ Some to → Grows st.classes to.classes
+shaped_classes : (decls : List Decl) (k i : ℕ) (all : List Member) (st : StructBuilder) (m : Member) (to : StructBuilder) → member_added decls k i all (Some st) m ≡ Some to → Grows st.classes to.classes
 shaped_classes decls k i all st (lock_member x) to e =
     let s : lock_added k st x.text ≡ to = cc in
-    subst (λ (y : Shaping). Grows st.classes y.classes) s (grows_more st.classes (core.lock_field k (length st.structure.locks) ∷ []))
+    subst (λ (y : StructBuilder). Grows st.classes y.classes) s (grows_more st.classes (core.lock_field k (length st.structure.locks) ∷ []))
 shaped_classes decls k i all st (final_member f) to e = by_target (struct_named decls f.target) e
   where
     by_target : (o : Option ℕ) → final_added st f.name.text o ≡ Some to → Grows st.classes to.classes
-    by_target (Some t) h = let s : record st { structure = record (st.structure) { finals = st.structure.finals ++ record { name = f.name.text; target = t } ∷ [] } } ≡ to = cc in subst (λ (y : Shaping). Grows st.classes y.classes) s (λ j x g. g)
+    by_target (Some t) h = let s : record st { structure = record (st.structure) { finals = st.structure.finals ++ record { name = f.name.text; target = t } ∷ [] } } ≡ to = cc in subst (λ (y : StructBuilder). Grows st.classes y.classes) s (λ j x g. g)
     by_target None h = cc
 shaped_classes decls k i all st (field_member f) to e = by_type (type_of (outside decls) f.value_type) (protection_of decls i all f.protection) e
   where
     by_type : (o : Option core_type.ValueType) (r : Option core.Protection) → field_added st f.name.text o r ≡ Some to → Grows st.classes to.classes
-    by_type (Some t) (Some p) h = let s : record st { structure = record (st.structure) { fields = st.structure.fields ++ record { name = f.name.text; value_type = t; protection = p } ∷ [] } } ≡ to = cc in subst (λ (y : Shaping). Grows st.classes y.classes) s (λ j x g. g)
+    by_type (Some t) (Some p) h = let s : record st { structure = record (st.structure) { fields = st.structure.fields ++ record { name = f.name.text; value_type = t; protection = p } ∷ [] } } ≡ to = cc in subst (λ (y : StructBuilder). Grows st.classes y.classes) s (λ j x g. g)
     by_type (Some t) None h = cc
     by_type None r h = cc
 
@@ -328,14 +328,14 @@ none_shaped : (decls : List Decl) (k i : ℕ) (all ms : List Member) → members
 none_shaped decls k i all [] = refl
 none_shaped decls k i all (m ∷ ms) = none_shaped decls k i all ms
 
-pub shaping_there : (decls : List Decl) (k i : ℕ) (all : List Member) (o : Option Shaping) (ms : List Member) (to : Shaping) → members_added decls k i all o ms ≡ Some to → (st : Shaping) × (o ≡ Some st) × (members_added decls k i all (Some st) ms ≡ Some to)
-shaping_there decls k i all (Some st) ms to e = (st, refl, e)
-shaping_there decls k i all None ms to e = let s : None ≡ Some to = sym (none_shaped decls k i all ms) ∙ e in cc
+pub builder_there : (decls : List Decl) (k i : ℕ) (all : List Member) (o : Option StructBuilder) (ms : List Member) (to : StructBuilder) → members_added decls k i all o ms ≡ Some to → (st : StructBuilder) × (o ≡ Some st) × (members_added decls k i all (Some st) ms ≡ Some to)
+builder_there decls k i all (Some st) ms to e = (st, refl, e)
+builder_there decls k i all None ms to e = let s : None ≡ Some to = sym (none_shaped decls k i all ms) ∙ e in cc
 
-all_classes : (decls : List Decl) (k i : ℕ) (all : List Member) (st : Shaping) (ms : List Member) (to : Shaping) → members_added decls k i all (Some st) ms ≡ Some to → Grows st.classes to.classes
-all_classes decls k i all st [] to e = let s : st ≡ to = cc in subst (λ (y : Shaping). Grows st.classes y.classes) s (λ j x g. g)
+all_classes : (decls : List Decl) (k i : ℕ) (all : List Member) (st : StructBuilder) (ms : List Member) (to : StructBuilder) → members_added decls k i all (Some st) ms ≡ Some to → Grows st.classes to.classes
+all_classes decls k i all st [] to e = let s : st ≡ to = cc in subst (λ (y : StructBuilder). Grows st.classes y.classes) s (λ j x g. g)
 all_classes decls k i all st (m ∷ ms) to e =
-    let r = shaping_there decls k i all (member_added decls k i all (Some st) m) ms to e in
+    let r = builder_there decls k i all (member_added decls k i all (Some st) m) ms to e in
     let a = shaped_classes decls k i all st m r.0 r.1 in
     let b = all_classes decls k i all r.0 ms to r.2 in
     λ j x g. b j x (a j x g)

@@ -11,7 +11,7 @@ use Rattle.resolution.specs.Scopes.{outside, bears, the_decl, type_of, struct_na
 use Rattle.resolution.specs.Numbers.{total, is_lock, classes_of, objects_of, cells_of, width}
 use Rattle.resolution.specs.Constants.{members_of, members_in, default_of}
 use Rattle.resolution.specs.Annotations.{protection_of}
-use Rattle.resolution.specs.Resolution.{Shaping, lock_added, final_added, field_added, members_added, empty_struct, nothing_yet, with_class, with_elements, array_added, pool_added, extended, resolved_from, resolved}
+use Rattle.resolution.specs.Resolution.{StructBuilder, lock_added, final_added, field_added, members_added, empty_struct, nothing_yet, with_class, with_elements, array_added, pool_added, extended, resolved_from, resolved}
 use Rattle.resolution.specs.FaultLists.{count_faults, total_faults}
 use Rattle.resolution.proofs.Named.{named_is}
 use Rattle.resolution.proofs.AllFaults.{of_totals}
@@ -20,7 +20,7 @@ use Rattle.resolution.proofs.FaultlessExpressions.{NoneIn, none_left, none_right
 use Rattle.resolution.proofs.FaultlessMembers.{is_field, fields_are}
 use Rattle.resolution.proofs.FaultlessPrograms.{total_push, objects_fit, struct_once}
 use Rattle.resolution.proofs.LaidLists.{Rows, rows_length, get_last, get_pushed, take_front, append_nil, as_one, count_push}
-use Rattle.resolution.proofs.LaidStages.{fields_in, finals_in, locks_in, Objected, Chain, Adds, adds, Begins, begins_same, begins_on, begins_adds, shaping_there}
+use Rattle.resolution.proofs.LaidStages.{fields_in, finals_in, locks_in, Objected, Chain, Adds, adds, Begins, begins_same, begins_on, begins_adds, builder_there}
 
 -- ---- a struct's parts
 
@@ -36,7 +36,7 @@ FinalRow decls j f y = struct_named decls f.target ≡ Some y.target
 abbrev pub FieldRow : List Decl → ℕ → List Member → ℕ → Field → core.Field → Type 0
 FieldRow decls i all j f y = (type_of (outside decls) f.value_type ≡ Some y.value_type) × (protection_of decls i all f.protection ≡ Some y.protection)
 
-pub record Shaped (decls : List Decl) (k i : ℕ) (all : List Member) (a b : ℕ) (ms : List Member) (st to : Shaping) : Type 0 where
+pub record Shaped (decls : List Decl) (k i : ℕ) (all : List Member) (a b : ℕ) (ms : List Member) (st to : StructBuilder) : Type 0 where
   pub classes : List core.LockClass
   pub locks : List core.LockField
   pub finals : List core.FinalField
@@ -50,17 +50,17 @@ pub record Shaped (decls : List Decl) (k i : ℕ) (all : List Member) (a b : ℕ
   pub final_rows : Rows (FinalRow decls) a (finals_in ms) finals
   pub field_rows : Rows (FieldRow decls i all) b (fields_in ms) fields
 
-final_step : (st : Shaping) (name : List ℕ) (o : Option ℕ) (to : Shaping) → final_added st name o ≡ Some to → (t : ℕ) × (o ≡ Some t) × (record st { structure = record (st.structure) { finals = st.structure.finals ++ record { name = name; target = t } ∷ [] } } ≡ to)
+final_step : (st : StructBuilder) (name : List ℕ) (o : Option ℕ) (to : StructBuilder) → final_added st name o ≡ Some to → (t : ℕ) × (o ≡ Some t) × (record st { structure = record (st.structure) { finals = st.structure.finals ++ record { name = name; target = t } ∷ [] } } ≡ to)
 final_step st name (Some t) to e = (t, refl, cc)
 final_step st name None to e = cc
 
-field_step : (st : Shaping) (name : List ℕ) (o : Option core_type.ValueType) (r : Option core.Protection) (to : Shaping) → field_added st name o r ≡ Some to →
+field_step : (st : StructBuilder) (name : List ℕ) (o : Option core_type.ValueType) (r : Option core.Protection) (to : StructBuilder) → field_added st name o r ≡ Some to →
     (t : core_type.ValueType) × (p : core.Protection) × (o ≡ Some t) × (r ≡ Some p) × (record st { structure = record (st.structure) { fields = st.structure.fields ++ record { name = name; value_type = t; protection = p } ∷ [] } } ≡ to)
 field_step st name (Some t) (Some p) to e = (t, p, refl, refl, cc)
 field_step st name (Some t) None to e = cc
 field_step st name None r to e = cc
 
-pub shaped : (decls : List Decl) (k i : ℕ) (all : List Member) (a b : ℕ) (st : Shaping) (ms : List Member) (to : Shaping) → members_added decls k i all (Some st) ms ≡ Some to → Shaped decls k i all a b ms st to
+pub shaped : (decls : List Decl) (k i : ℕ) (all : List Member) (a b : ℕ) (st : StructBuilder) (ms : List Member) (to : StructBuilder) → members_added decls k i all (Some st) ms ≡ Some to → Shaped decls k i all a b ms st to
 shaped decls k i all a b st [] to e =
     let s : st ≡ to = cc in
     record {
@@ -68,10 +68,10 @@ shaped decls k i all a b st [] to e =
       locks = [];
       finals = [];
       fields = [];
-      is_classes = ap (λ (y : Shaping). y.classes) (sym s) ∙ sym (append_nil st.classes);
-      is_locks = ap (λ (y : Shaping). y.structure.locks) (sym s) ∙ sym (append_nil st.structure.locks);
-      is_finals = ap (λ (y : Shaping). y.structure.finals) (sym s) ∙ sym (append_nil st.structure.finals);
-      is_fields = ap (λ (y : Shaping). y.structure.fields) (sym s) ∙ sym (append_nil st.structure.fields);
+      is_classes = ap (λ (y : StructBuilder). y.classes) (sym s) ∙ sym (append_nil st.classes);
+      is_locks = ap (λ (y : StructBuilder). y.structure.locks) (sym s) ∙ sym (append_nil st.structure.locks);
+      is_finals = ap (λ (y : StructBuilder). y.structure.finals) (sym s) ∙ sym (append_nil st.structure.finals);
+      is_fields = ap (λ (y : StructBuilder). y.structure.fields) (sym s) ∙ sym (append_nil st.structure.fields);
       class_rows = tt;
       lock_rows = tt;
       final_rows = tt;
@@ -97,11 +97,11 @@ shaped decls k i all a b st (lock_member x ∷ ms) to e =
       field_rows = r.field_rows;
     }
 shaped decls k i all a b st (final_member f ∷ ms) to e =
-    let s = shaping_there decls k i all (final_added st f.name.text (struct_named decls f.target)) ms to e in
+    let s = builder_there decls k i all (final_added st f.name.text (struct_named decls f.target)) ms to e in
     let g = final_step st f.name.text (struct_named decls f.target) s.0 s.1 in
     let y : core.FinalField = record { name = f.name.text; target = g.0 } in
-    let st1 : Shaping = record st { structure = record (st.structure) { finals = st.structure.finals ++ y ∷ [] } } in
-    let r = shaped decls k i all (suc a) b st1 ms to (ap (λ (z : Shaping). members_added decls k i all (Some z) ms) g.2 ∙ s.2) in
+    let st1 : StructBuilder = record st { structure = record (st.structure) { finals = st.structure.finals ++ y ∷ [] } } in
+    let r = shaped decls k i all (suc a) b st1 ms to (ap (λ (z : StructBuilder). members_added decls k i all (Some z) ms) g.2 ∙ s.2) in
     record {
       classes = r.classes;
       locks = r.locks;
@@ -117,11 +117,11 @@ shaped decls k i all a b st (final_member f ∷ ms) to e =
       field_rows = r.field_rows;
     }
 shaped decls k i all a b st (field_member f ∷ ms) to e =
-    let s = shaping_there decls k i all (field_added st f.name.text (type_of (outside decls) f.value_type) (protection_of decls i all f.protection)) ms to e in
+    let s = builder_there decls k i all (field_added st f.name.text (type_of (outside decls) f.value_type) (protection_of decls i all f.protection)) ms to e in
     let g = field_step st f.name.text (type_of (outside decls) f.value_type) (protection_of decls i all f.protection) s.0 s.1 in
     let y : core.Field = record { name = f.name.text; value_type = g.0; protection = g.1 } in
-    let st1 : Shaping = record st { structure = record (st.structure) { fields = st.structure.fields ++ y ∷ [] } } in
-    let r = shaped decls k i all a (suc b) st1 ms to (ap (λ (z : Shaping). members_added decls k i all (Some z) ms) g.4 ∙ s.2) in
+    let st1 : StructBuilder = record st { structure = record (st.structure) { fields = st.structure.fields ++ y ∷ [] } } in
+    let r = shaped decls k i all a (suc b) st1 ms to (ap (λ (z : StructBuilder). members_added decls k i all (Some z) ms) g.4 ∙ s.2) in
     record {
       classes = r.classes;
       locks = r.locks;
@@ -290,7 +290,7 @@ more_is p q r c s a x k o n m e = subst (λ (y : core.Program). More p y c s a x
 own : (decls : List Decl) → Clean decls → (i : ℕ) (p : core.Program) (d : Decl) (q : core.Program) → Adds decls i p d q → Own decls d p q
 own decls clean i p (lock y) q a = more_is p (with_class p (core.global_lock y.text)) q 1 0 0 0 0 0 0 (record { classes = length_push p.classes (core.global_lock y.text); structs = plain; arrays = plain; pools = plain; sections = plain; objects = plain; cells = plain }) a
 own decls clean i p (struct s) q a =
-    let st : Shaping = record { structure = empty_struct s.name.text; classes = p.classes } in
+    let st : StructBuilder = record { structure = empty_struct s.name.text; classes = p.classes } in
     let r = shaped decls (length p.structs) i s.members 0 0 st s.members a.0 a.1 in
     more_is p (record p { classes = a.0.classes; structs = p.structs ++ a.0.structure ∷ [] }) q (count is_lock s.members) 1 0 0 0 0 0
     (record {

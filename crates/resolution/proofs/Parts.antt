@@ -1,13 +1,11 @@
 -- What is listed for a part of a program is listed for the program.
-use Rattle.std.proofs.Common.{◌≡◌, ℕ, zero, suc, ◌+◌, List, [], ◌∷◌, ◌++◌, length, Option, Some, None, Bool, true, false, ◌⊎◌, inl, inr, refl, sym, ap, ◌∙◌, subst, if◌then◌else◌, append_assoc, arith}
+use Rattle.std.proofs.Common.{◌≡◌, ℕ, zero, suc, ◌+◌, List, [], ◌∷◌, ◌++◌, length, Option, Some, None, Bool, true, refl, sym, ap, ◌∙◌, subst, if◌then◌else◌, arith}
 use Rattle.std.specs.Prelude.{nat_le, ◌==◌, slice_get}
 use Rattle.std.proofs.lemmas.Bool.Decides.{nat_tests}
-use Rattle.source.specs.declared.span.Span.{Span}
 use Rattle.source.specs.declared.fault.Code.TheVariants.{WrongArgumentCount, LimitExceeded}
-use Rattle.source.specs.declared.token.Number.{Number}
 use Rattle.syntax.specs.declared.tree.Op.{Op}
 use Rattle.syntax.specs.declared.tree.Level.{Level}
-use Rattle.syntax.specs.Trees.{Ident, ValueType, ref_type, Const, Place, lone, element, path, Expr, int, null, place, paren, prefix, chain, compare, Links, no_links, link, Stmt, let_local, var_local, assign, if_then, while, print, return_value, Stmts, no_stmts, stmt, Otherwise, no_else, else_do, Member, lock_member, final_member, field_member, Field, Final, Struct, Variable, Array, Pool, Init, Param, Section, Call, Item, call, repeat, Items, no_items, item, Decl, lock, struct, global, array, pool, init, atomic, thread}
+use Rattle.syntax.specs.Trees.{Ident, ValueType, ref_type, Const, element, Expr, place, paren, prefix, chain, compare, Links, no_links, link, Stmt, let_local, var_local, assign, if_then, while, print, return_value, Stmts, no_stmts, stmt, else_do, Member, lock_member, final_member, field_member, Field, Final, Param, Section, Call, call, repeat, Items, no_items, item, Decl, struct, global, array, pool, init, atomic, thread}
 use Rattle.core_lang.specs.declared.value.ValueType.TheVariants.{Integer}
 use Rattle.core_lang.specs.declared.tree.LocalKind.TheVariants as kind
 use Rattle.resolution.specs.declared.mistake.Mistake.{Mistake}
@@ -15,17 +13,17 @@ use Rattle.resolution.specs.declared.wanted.Want.{Want}
 use Rattle.resolution.specs.declared.wanted.Want.TheVariants.{Anything, Condition, Value}
 use Rattle.resolution.specs.Limits.{PARAMETER_LIMIT}
 use Rattle.resolution.specs.Scopes.{Scope, outside, meaning, the_decl, type_of, bound, entered, left}
-use Rattle.resolution.specs.Expressions.{Sense, value, truth, want, typed, walk_from}
-use Rattle.resolution.specs.Statements.{target_of, wanted_by, after, after_all}
+use Rattle.resolution.specs.Expressions.{ResolvedExpr, value, truth, want, typed}
+use Rattle.resolution.specs.Statements.{after, after_all}
 use Rattle.resolution.specs.Constants.{want_of, members_of, pool_members, initialised, member_want}
 use Rattle.resolution.specs.Resolution.{ahead_of, entry}
 use Rattle.resolution.specs.Where as site
 use Rattle.resolution.specs.Where.{Has, first, further, HasLink, this_link, later_link, operand_want, prefix_want, side_want, Within, itself, in_parentheses, in_prefix, in_first, in_operand, in_left, in_right, in_index, Among, here, later, in_then, in_else, in_while, Asks, of_let, of_var, of_assign, of_index, of_while, of_print, of_return, HasStmt, in_section, HasExpr, in_stmt, Binds, parameter, a_let, a_var, HasType, of_global, of_array, of_pool, of_final, of_field, of_parameter, of_result, of_a_let, of_a_var, InItems, this_call, in_repeat, later_call, HasCall, in_thread, HasConst, opening, initial, argument}
 use Rattle.resolution.specs.Faults.{start_of}
-use Rattle.resolution.specs.FaultLists.{one, one_if, misfit, no_elements, no_array, operator_faults, side_faults, expr_faults, link_faults, wanted_faults, local_faults, type_faults, target_faults, stmt_faults, else_faults, stmts_faults, param_faults, result_faults, const_faults, argument_faults, lock_faults, protection_faults, members_faults, opening_faults, missing_faults, index_faults, named_faults, null_faults, init_faults, call_faults, item_faults, items_faults, decl_faults, each_faults, twice_faults, struct_faults, total_faults, repeated_faults, program_faults}
+use Rattle.resolution.specs.FaultLists.{one, one_if, misfit, no_elements, no_array, operator_faults, side_faults, expr_faults, link_faults, wanted_faults, local_faults, type_faults, target_faults, stmt_faults, stmts_faults, param_faults, result_faults, const_faults, argument_faults, lock_faults, protection_faults, members_faults, opening_faults, missing_faults, index_faults, named_faults, null_faults, call_faults, item_faults, items_faults, decl_faults, each_faults, twice_faults, struct_faults, total_faults, repeated_faults, program_faults}
 use Rattle.resolution.proofs.Members.{In}
 use Rattle.resolution.proofs.Members as m
-use Rattle.resolution.proofs.TrueStatements.{else_same, after_same, entered_same}
+use Rattle.resolution.proofs.TrueStatements.{after_same, entered_same}
 
 -- ---- joined lists
 
@@ -34,7 +32,7 @@ deepen f a x y i = m.both f x y (λ j. m.in_left f (a ++ x) y (m.in_right f a x 
 
 -- ---- expressions
 
-anything : (sc : Scope) (e : Expr) (s : Option Sense) → misfit Anything (start_of e) s ≡ []
+anything : (sc : Scope) (e : Expr) (s : Option ResolvedExpr) → misfit Anything (start_of e) s ≡ []
 anything sc e None = refl
 anything sc e (Some (value x s)) = refl
 anything sc e (Some (truth c)) = refl

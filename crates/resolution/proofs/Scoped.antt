@@ -1,6 +1,6 @@
 -- Where resolved statements name locals, as data; and that values which stand for them name them there.
-use Rattle.std.proofs.Common.{◌≡◌, ℕ, List, [], ◌∷◌, ◌++◌, Option, Some, None, refl, sym, ap, ◌∙◌, subst}
-use Rattle.std.specs.Prelude.{map, option_map, slice_get, ⊤}
+use Rattle.std.proofs.Common.{◌≡◌, ℕ, List, [], ◌∷◌, ◌++◌, Option, Some, None, refl, ap, ◌∙◌, subst}
+use Rattle.std.specs.Prelude.{⊤}
 use Rattle.std.specs.List.{Contains}
 use Rattle.core_lang.specs.declared.tree.Expr as e
 use Rattle.core_lang.specs.declared.tree.Expr.{Number, Null, Place, Global, Element', Member', Negate', Chain', Row_of-Operation, end_of-Operation, more_of-Operation}
@@ -12,7 +12,7 @@ use Rattle.core_lang.specs.declared.tree.Action.{Bind, SetLocal, SetGlobal, SetE
 use Rattle.core_lang.specs.declared.tree.Return as the_return
 use Rattle.core_lang.specs.Scopes.{NamesOnly, AllNameOnly, TestsOnly, AllTestOnly, scope_after, IsScoped, AreScoped, AllScoped, scope_after_all, bound_by, bound_in, bound_in_all, assigned_by, assigned_in, assigned_in_all, ResultNamesOnly}
 use Rattle.resolution.specs.Core as core
-use Rattle.resolution.specs.CoreViews.{core_expr, core_operations_row, core_condition, core_conditions_row, core_action, core_stmts_row, core_stmts, core_return}
+use Rattle.resolution.specs.CoreViews.{core_expr, core_operations_row, core_condition, core_conditions_row, core_action, core_stmts_row, core_stmts}
 
 -- ---- as data
 

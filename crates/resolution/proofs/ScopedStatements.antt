@@ -1,5 +1,5 @@
 -- Resolved statements name locals in scope alone, bind each once, and assign to no other than a `var`.
-use Rattle.std.proofs.Common.{◌≡◌, ◌≢◌, ℕ, zero, suc, ◌+◌, ◌<◌, ◌≤◌, List, [], ◌∷◌, ◌++◌, length, Option, Some, None, Bool, true, false, ◌⊎◌, inl, inr, if◌then◌else◌, refl, sym, ap, ◌∙◌, subst, append_assoc, arith}
+use Rattle.std.proofs.Common.{◌≡◌, ℕ, zero, suc, ◌+◌, ◌<◌, List, [], ◌∷◌, ◌++◌, length, Option, Some, None, Bool, true, false, ◌⊎◌, inl, inr, if◌then◌else◌, refl, sym, ap, ◌∙◌, subst, append_assoc, arith}
 use Rattle.std.specs.Prelude.{ℤ, slice_get, ⊤}
 use Rattle.std.specs.List.{Contains}
 use Rattle.std.proofs.lemmas.List.Elements.{Contains-append_cases}
@@ -7,7 +7,7 @@ use Rattle.syntax.specs.declared.tree.Level.TheVariants.{Term, Sum, Conjunction,
 use Rattle.syntax.specs.declared.tree.Prefix.TheVariants.{Negate, Not}
 use Rattle.syntax.specs.declared.tree.Comparison as written
 use Rattle.syntax.specs.declared.tree.Comparison.TheVariants as sign
-use Rattle.syntax.specs.Trees.{Ident, ValueType, Place, lone, element, path, Expr, int, null, place, paren, prefix, chain, compare, Links, no_links, link, Local, Stmt, let_local, var_local, assign, if_then, while, print, return_value, Stmts, no_stmts, stmt, Otherwise, no_else, else_do, Decl, lock, struct, global, array, pool, init, atomic, thread}
+use Rattle.syntax.specs.Trees.{Place, lone, element, path, Expr, int, null, place, paren, prefix, chain, compare, Links, no_links, link, Stmt, let_local, var_local, assign, if_then, while, print, return_value, Stmts, no_stmts, stmt, no_else, else_do, Decl, lock, struct, global, array, pool, init, atomic, thread}
 use Rattle.core_lang.specs.declared.value.ValueType as core_type
 use Rattle.core_lang.specs.declared.value.ValueType.TheVariants.{Integer}
 use Rattle.core_lang.specs.declared.tree.LocalKind.{LocalKind}
@@ -22,10 +22,10 @@ use Rattle.resolution.specs.declared.wanted.Want.TheVariants.{Value}
 use Rattle.resolution.specs.Core as core
 use Rattle.resolution.specs.Scopes as scopes
 use Rattle.resolution.specs.Scopes.{◌>>=◌, Scope, outside, Meaning, a_local, a_decl, nothing, meaning, number_at, type_of, struct_named, bound, hidden, hidden_from, left}
-use Rattle.resolution.specs.Expressions.{Sense, value, truth, fits, fits_type, alike_sorts, want, fitting, as_value, as_truth, number_in_sense, test_in_sense, number_value, literal, value_of, local_path, cell_of, named_value, member_value, element_value, Walk, reached, at_lock, lost, walk_from, path_value, operator_of, negated, not_so, parenthesised, chained, linked, Tests, one_test, tested, all_hold, one_holds, ordered, equated, compared, typed, typed_place, typed_links, typed_tests}
-use Rattle.resolution.specs.Statements.{Target, to_local, to_global, to_element, to_field, Aim, aim, is_var, aimed_at, aimed_at_element, Split, last_field, field_target, aimed_along, target_of, wanted_by, first_name, Part, does, gives, binds, set_to, assigns, prints, returns, repeats, chooses, chooses_between, Body, given_back, preceded, block_without, block_of, after, after_else, after_all, typed_stmt, typed_if, typed_body}
-use Rattle.resolution.proofs.TypedSenses.{IsLocal, meant_local}
-use Rattle.resolution.proofs.TypedStatements.{Kept, kept_push, kept_hidden, Front, front_left, after_front, else_front, all_front, last_local, slice_front}
+use Rattle.resolution.specs.Expressions.{ResolvedExpr, value, truth, fits, alike_sorts, want, fitting, as_value, number_resolved, test_resolved, number_value, literal, value_of, local_path, cell_of, named_value, member_value, element_value, Walk, reached, at_lock, lost, walk_from, path_value, operator_of, negated, not_so, parenthesised, chained, linked, Tests, one_test, tested, all_hold, one_holds, ordered, equated, compared, typed, typed_place, typed_links, typed_tests}
+use Rattle.resolution.specs.Statements.{Target, to_local, to_global, to_element, to_field, Assignee, assignee, is_var, assignee_at, assignee_at_element, Split, last_field, field_target, assignee_along, target_of, wanted_by, first_name, Part, does, gives, binds, set_to, assigns, prints, returns, repeats, chooses, chooses_between, Body, given_back, preceded, block_without, block_of, after, after_all, typed_stmt, typed_body}
+use Rattle.resolution.proofs.TypedResolvedExprs.{IsLocal, meant_local}
+use Rattle.resolution.proofs.TypedStatements.{Kept, kept_hidden, Front, all_front}
 use Rattle.resolution.proofs.Scoped.{Names, AllName, TestNames, AllTestName, behind, ActNames, StmtsName, behind_all, binding, all_binding, assigning, all_assigning}
 
 -- ---- expressions
@@ -35,13 +35,13 @@ abbrev pub Covers : List scopes.Local → List ℕ → Type 0
 Covers ls scope = (n : ℕ) (l : scopes.Local) → slice_get ls n ≡ Some l → l.is_visible ≡ true → Contains scope n
 
 module _ (sc : Scope) (scope : List ℕ) (covers : Covers sc.locals scope) where
-  abbrev SenseNames : Sense → Type 0
-  SenseNames (value x s) = Names scope x
-  SenseNames (truth c) = TestNames scope c
+  abbrev ResolvedExprNames : ResolvedExpr → Type 0
+  ResolvedExprNames (value x s) = Names scope x
+  ResolvedExprNames (truth c) = TestNames scope c
 
-  abbrev IfSense : Option Sense → Type 0
-  IfSense None = ⊤
-  IfSense (Some s) = SenseNames s
+  abbrev IfResolvedExpr : Option ResolvedExpr → Type 0
+  IfResolvedExpr None = ⊤
+  IfResolvedExpr (Some s) = ResolvedExprNames s
 
   abbrev pub IfValue : Option core.Expr → Type 0
   IfValue None = ⊤
@@ -59,21 +59,21 @@ module _ (sc : Scope) (scope : List ℕ) (covers : Covers sc.locals scope) where
   truth_value c true = tt
   truth_value c false = tt
 
-  fit_value : (w : Want) (o : Option Sense) → IfSense o → IfValue (as_value (fitting w o))
+  fit_value : (w : Want) (o : Option ResolvedExpr) → IfResolvedExpr o → IfValue (as_value (fitting w o))
   fit_value w None h = tt
   fit_value w (Some (value x s)) h = value_if x s (fits w (value x s)) h
   fit_value w (Some (truth c)) h = truth_value c (fits w (truth c))
 
-  fit_test : (o : Option Sense) → IfSense o → IfTest (test_in_sense o)
+  fit_test : (o : Option ResolvedExpr) → IfResolvedExpr o → IfTest (test_resolved o)
   fit_test None h = tt
   fit_test (Some (value x s)) h = tt
   fit_test (Some (truth c)) h = h
 
-  of_value : (x : core.Expr) (o : Option core_type.ValueType) → Names scope x → IfSense (value_of x o)
+  of_value : (x : core.Expr) (o : Option core_type.ValueType) → Names scope x → IfResolvedExpr (value_of x o)
   of_value x None h = tt
   of_value x (Some t) h = h
 
-  of_name : (start : ℕ) (m : Meaning) → IsLocal sc.locals m → IfSense (named_value sc.decls start m)
+  of_name : (start : ℕ) (m : Meaning) → IsLocal sc.locals m → IfResolvedExpr (named_value sc.decls start m)
   of_name start (a_local n l) loc = of_value (core.place (local_path start n [])) l.value_type (covers n l loc.0 loc.1)
   of_name start (a_decl n (global v)) loc = of_value (core.global start (cell_of sc.decls n)) (type_of (outside sc.decls) v.value_type) tt
   of_name start (a_decl n (lock x)) loc = tt
@@ -85,11 +85,11 @@ module _ (sc : Scope) (scope : List ℕ) (covers : Covers sc.locals scope) where
   of_name start (a_decl n (thread x)) loc = tt
   of_name start nothing loc = tt
 
-  of_member : (n : ℕ) (index : core.Expr) (o : Option ℕ) → Names scope index → IfSense (member_value n index o)
+  of_member : (n : ℕ) (index : core.Expr) (o : Option ℕ) → Names scope index → IfResolvedExpr (member_value n index o)
   of_member n index None h = tt
   of_member n index (Some s) h = h
 
-  of_element : (start : ℕ) (m : Meaning) (o : Option core.Expr) → IfValue o → IfSense (element_value sc.decls start m o)
+  of_element : (start : ℕ) (m : Meaning) (o : Option core.Expr) → IfValue o → IfResolvedExpr (element_value sc.decls start m o)
   of_element start m None h = tt
   of_element start (a_decl n (array a)) (Some index) h = of_value (core.element start (number_at sc.decls n (array a)) index) (type_of (outside sc.decls) a.value_type) h
   of_element start (a_decl n (pool q)) (Some index) h = of_member (number_at sc.decls n (pool q)) index (struct_named sc.decls q.target) h
@@ -102,14 +102,14 @@ module _ (sc : Scope) (scope : List ℕ) (covers : Covers sc.locals scope) where
   of_element start (a_local n l) (Some index) h = tt
   of_element start nothing (Some index) h = tt
 
-  of_path : (start : ℕ) (m : Meaning) (w : Walk) → IsLocal sc.locals m → IfSense (path_value start m w)
+  of_path : (start : ℕ) (m : Meaning) (w : Walk) → IsLocal sc.locals m → IfResolvedExpr (path_value start m w)
   of_path start (a_local n l) (reached steps t) loc = covers n l loc.0 loc.1
   of_path start (a_local n l) at_lock loc = tt
   of_path start (a_local n l) lost loc = tt
   of_path start (a_decl n d) w loc = tt
   of_path start nothing w loc = tt
 
-  of_paren : (o : Option Sense) → IfSense o → IfSense (parenthesised o)
+  of_paren : (o : Option ResolvedExpr) → IfResolvedExpr o → IfResolvedExpr (parenthesised o)
   of_paren None h = tt
   of_paren (Some (value (core.place q) s)) h = h
   of_paren (Some (value (core.number n) s)) h = h
@@ -121,11 +121,11 @@ module _ (sc : Scope) (scope : List ℕ) (covers : Covers sc.locals scope) where
   of_paren (Some (value (core.chain x rest) s)) h = h
   of_paren (Some (truth c)) h = h
 
-  of_negate : (o : Option core.Expr) → IfValue o → IfSense (negated o)
+  of_negate : (o : Option core.Expr) → IfValue o → IfResolvedExpr (negated o)
   of_negate None h = tt
   of_negate (Some x) h = h
 
-  of_not : (o : Option core.Condition) → IfTest o → IfSense (not_so o)
+  of_not : (o : Option core.Condition) → IfTest o → IfResolvedExpr (not_so o)
   of_not None h = tt
   of_not (Some c) h = h
 
@@ -133,7 +133,7 @@ module _ (sc : Scope) (scope : List ℕ) (covers : Covers sc.locals scope) where
   IfLinks None = ⊤
   IfLinks (Some rest) = AllName scope rest
 
-  of_chain : (o : Option core.Expr) (r : Option core.Operations) → IfValue o → IfLinks r → IfSense (chained o r)
+  of_chain : (o : Option core.Expr) (r : Option core.Operations) → IfValue o → IfLinks r → IfResolvedExpr (chained o r)
   of_chain None r h g = tt
   of_chain (Some x) None h g = tt
   of_chain (Some x) (Some rest) h g = (h, g)
@@ -157,73 +157,73 @@ module _ (sc : Scope) (scope : List ℕ) (covers : Covers sc.locals scope) where
   of_more (Some c) None h g = tt
   of_more (Some c) (Some ts) h g = ((h, g.0), g.1)
 
-  of_all : (o : Option Tests) → IfTests o → IfSense (all_hold o)
+  of_all : (o : Option Tests) → IfTests o → IfResolvedExpr (all_hold o)
   of_all None h = tt
   of_all (Some ts) h = h
 
-  of_any : (o : Option Tests) → IfTests o → IfSense (one_holds o)
+  of_any : (o : Option Tests) → IfTests o → IfResolvedExpr (one_holds o)
   of_any None h = tt
   of_any (Some ts) h = h
 
-  of_order : (c : Comparison) (o r : Option core.Expr) → IfValue o → IfValue r → IfSense (ordered c o r)
+  of_order : (c : Comparison) (o r : Option core.Expr) → IfValue o → IfValue r → IfResolvedExpr (ordered c o r)
   of_order c None r h g = tt
   of_order c (Some a) None h g = tt
   of_order c (Some a) (Some b) h g = (h, g)
 
-  equal_if : (c : Comparison) (a b : core.Expr) (x : Bool) → Names scope a → Names scope b → IfSense (if x then Some (truth (core.compare c a b)) else None)
+  equal_if : (c : Comparison) (a b : core.Expr) (x : Bool) → Names scope a → Names scope b → IfResolvedExpr (if x then Some (truth (core.compare c a b)) else None)
   equal_if c a b true h g = (h, g)
   equal_if c a b false h g = tt
 
-  of_equal : (c : Comparison) (o r : Option Sense) → IfSense o → IfSense r → IfSense (equated c o r)
+  of_equal : (c : Comparison) (o r : Option ResolvedExpr) → IfResolvedExpr o → IfResolvedExpr r → IfResolvedExpr (equated c o r)
   of_equal c None r h g = tt
   of_equal c (Some (value a s)) None h g = tt
   of_equal c (Some (value a s)) (Some (value b t)) h g = equal_if c a b (alike_sorts s t) h g
   of_equal c (Some (value a s)) (Some (truth d)) h g = tt
   of_equal c (Some (truth d)) r h g = tt
 
-  of_compare : (c : written.Comparison) (o r : Option Sense) → IfSense o → IfSense r → IfSense (compared c o r)
+  of_compare : (c : written.Comparison) (o r : Option ResolvedExpr) → IfResolvedExpr o → IfResolvedExpr r → IfResolvedExpr (compared c o r)
   of_compare sign.Equal o r h g = of_equal Equal o r h g
   of_compare sign.NotEqual o r h g = of_equal Unequal o r h g
-  of_compare sign.Less o r h g = of_order Less (number_in_sense o) (number_in_sense r) (fit_value (Value Integer) o h) (fit_value (Value Integer) r g)
-  of_compare sign.LessOrEqual o r h g = of_order LessEqual (number_in_sense o) (number_in_sense r) (fit_value (Value Integer) o h) (fit_value (Value Integer) r g)
-  of_compare sign.Greater o r h g = of_order Greater (number_in_sense o) (number_in_sense r) (fit_value (Value Integer) o h) (fit_value (Value Integer) r g)
-  of_compare sign.GreaterOrEqual o r h g = of_order GreaterEqual (number_in_sense o) (number_in_sense r) (fit_value (Value Integer) o h) (fit_value (Value Integer) r g)
+  of_compare sign.Less o r h g = of_order Less (number_resolved o) (number_resolved r) (fit_value (Value Integer) o h) (fit_value (Value Integer) r g)
+  of_compare sign.LessOrEqual o r h g = of_order LessEqual (number_resolved o) (number_resolved r) (fit_value (Value Integer) o h) (fit_value (Value Integer) r g)
+  of_compare sign.Greater o r h g = of_order Greater (number_resolved o) (number_resolved r) (fit_value (Value Integer) o h) (fit_value (Value Integer) r g)
+  of_compare sign.GreaterOrEqual o r h g = of_order GreaterEqual (number_resolved o) (number_resolved r) (fit_value (Value Integer) o h) (fit_value (Value Integer) r g)
 
-  of_literal : (o : Option ℤ) → IfSense (literal o)
+  of_literal : (o : Option ℤ) → IfResolvedExpr (literal o)
   of_literal None = tt
   of_literal (Some z) = tt
 
   mutual
-    expr_names : (e : Expr) → IfSense (typed sc e)
+    expr_names : (e : Expr) → IfResolvedExpr (typed sc e)
     expr_names (int n) = of_literal (number_value n)
     expr_names (null at) = tt
     expr_names (place q) = place_names q
     expr_names (paren at e) = of_paren (typed sc e) (expr_names e)
-    expr_names (prefix Negate at e) = of_negate (number_in_sense (typed sc e)) (fit_value (Value Integer) (typed sc e) (expr_names e))
-    expr_names (prefix Not at e) = of_not (test_in_sense (typed sc e)) (fit_test (typed sc e) (expr_names e))
-    expr_names (chain Term e links) = of_chain (number_in_sense (typed sc e)) (typed_links sc links) (fit_value (Value Integer) (typed sc e) (expr_names e)) (links_names links)
-    expr_names (chain Sum e links) = of_chain (number_in_sense (typed sc e)) (typed_links sc links) (fit_value (Value Integer) (typed sc e) (expr_names e)) (links_names links)
-    expr_names (chain Conjunction e links) = of_all (typed_tests sc (test_in_sense (typed sc e)) links) (tests_names (test_in_sense (typed sc e)) links (fit_test (typed sc e) (expr_names e)))
-    expr_names (chain Disjunction e links) = of_any (typed_tests sc (test_in_sense (typed sc e)) links) (tests_names (test_in_sense (typed sc e)) links (fit_test (typed sc e) (expr_names e)))
+    expr_names (prefix Negate at e) = of_negate (number_resolved (typed sc e)) (fit_value (Value Integer) (typed sc e) (expr_names e))
+    expr_names (prefix Not at e) = of_not (test_resolved (typed sc e)) (fit_test (typed sc e) (expr_names e))
+    expr_names (chain Term e links) = of_chain (number_resolved (typed sc e)) (typed_links sc links) (fit_value (Value Integer) (typed sc e) (expr_names e)) (links_names links)
+    expr_names (chain Sum e links) = of_chain (number_resolved (typed sc e)) (typed_links sc links) (fit_value (Value Integer) (typed sc e) (expr_names e)) (links_names links)
+    expr_names (chain Conjunction e links) = of_all (typed_tests sc (test_resolved (typed sc e)) links) (tests_names (test_resolved (typed sc e)) links (fit_test (typed sc e) (expr_names e)))
+    expr_names (chain Disjunction e links) = of_any (typed_tests sc (test_resolved (typed sc e)) links) (tests_names (test_resolved (typed sc e)) links (fit_test (typed sc e) (expr_names e)))
     expr_names (compare a c b) = of_compare c (typed sc a) (typed sc b) (expr_names a) (expr_names b)
 
-    place_names : (q : Place) → IfSense (typed_place sc q)
+    place_names : (q : Place) → IfResolvedExpr (typed_place sc q)
     place_names (lone x) = of_name x.span.start (meaning sc x.text) (meant_local sc x.text)
-    place_names (element x e) = of_element x.span.start (meaning sc x.text) (number_in_sense (typed sc e)) (fit_value (Value Integer) (typed sc e) (expr_names e))
+    place_names (element x e) = of_element x.span.start (meaning sc x.text) (number_resolved (typed sc e)) (fit_value (Value Integer) (typed sc e) (expr_names e))
     place_names (path x fs) = of_path x.span.start (meaning sc x.text) (walk_from sc.decls (meaning sc x.text) fs) (meant_local sc x.text)
 
     links_names : (links : Links) → IfLinks (typed_links sc links)
     links_names no_links = tt
-    links_names (link o e rest) = of_link (operator_of o) (number_in_sense (typed sc e)) (typed_links sc rest) (fit_value (Value Integer) (typed sc e) (expr_names e)) (links_names rest)
+    links_names (link o e rest) = of_link (operator_of o) (number_resolved (typed sc e)) (typed_links sc rest) (fit_value (Value Integer) (typed sc e) (expr_names e)) (links_names rest)
 
     tests_names : (o : Option core.Condition) (links : Links) → IfTest o → IfTests (typed_tests sc o links)
     tests_names o no_links h = of_one o h
-    tests_names o (link q e rest) h = of_more o (typed_tests sc (test_in_sense (typed sc e)) rest) h (tests_names (test_in_sense (typed sc e)) rest (fit_test (typed sc e) (expr_names e)))
+    tests_names o (link q e rest) h = of_more o (typed_tests sc (test_resolved (typed sc e)) rest) h (tests_names (test_resolved (typed sc e)) rest (fit_test (typed sc e) (expr_names e)))
 
   pub value_names : (w : Want) (e : Expr) → IfValue (as_value (fitting w (typed sc e)))
   value_names w e = fit_value w (typed sc e) (expr_names e)
 
-  pub test_names : (e : Expr) → IfTest (test_in_sense (typed sc e))
+  pub test_names : (e : Expr) → IfTest (test_resolved (typed sc e))
   test_names e = fit_test (typed sc e) (expr_names e)
 
 -- ---- numbers
@@ -417,21 +417,21 @@ module _ (finals : List core.Local) where
   TargetIn scope (to_element n index) = Names scope index
   TargetIn scope (to_field base f) = Contains scope base.local
 
-  abbrev AimIn : List ℕ → Option Aim → Type 0
-  AimIn scope None = ⊤
-  AimIn scope (Some a) = TargetIn scope a.target
+  abbrev AssigneeIn : List ℕ → Option Assignee → Type 0
+  AssigneeIn scope None = ⊤
+  AssigneeIn scope (Some a) = TargetIn scope a.target
 
-  aim_in : (scope : List ℕ) (g : Target) (o : Option core_type.ValueType) → TargetIn scope g → AimIn scope (aim (Some g) o)
-  aim_in scope g None h = tt
-  aim_in scope g (Some t) h = h
+  assignee_in : (scope : List ℕ) (g : Target) (o : Option core_type.ValueType) → TargetIn scope g → AssigneeIn scope (assignee (Some g) o)
+  assignee_in scope g None h = tt
+  assignee_in scope g (Some t) h = h
 
-  var_in : (scope : List ℕ) (n : ℕ) (l : scopes.Local) (b : Bool) → is_var l.kind ≡ b → Contains scope n → ((x : core.Local) × (slice_get finals n ≡ Some x) × (x.kind ≡ l.kind)) → AimIn scope (if b then aim (Some (to_local n)) l.value_type else None)
-  var_in scope n l true e c f = aim_in scope (to_local n) l.value_type (c, (f.0, f.1, f.2 ∙ is_var_kind l.kind e))
+  var_in : (scope : List ℕ) (n : ℕ) (l : scopes.Local) (b : Bool) → is_var l.kind ≡ b → Contains scope n → ((x : core.Local) × (slice_get finals n ≡ Some x) × (x.kind ≡ l.kind)) → AssigneeIn scope (if b then assignee (Some (to_local n)) l.value_type else None)
+  var_in scope n l true e c f = assignee_in scope (to_local n) l.value_type (c, (f.0, f.1, f.2 ∙ is_var_kind l.kind e))
   var_in scope n l false e c f = tt
 
-  name_in : (sc : Scope) (scope : List ℕ) → Covers sc.locals scope → Become sc.locals finals → (m : Meaning) → IsLocal sc.locals m → AimIn scope (aimed_at sc.decls m)
+  name_in : (sc : Scope) (scope : List ℕ) → Covers sc.locals scope → Become sc.locals finals → (m : Meaning) → IsLocal sc.locals m → AssigneeIn scope (assignee_at sc.decls m)
   name_in sc scope c b (a_local n l) loc = var_in scope n l (is_var l.kind) refl (c n l loc.0 loc.1) (b n l loc.0)
-  name_in sc scope c b (a_decl n (global v)) loc = aim_in scope (to_global (cell_of sc.decls n)) (type_of (outside sc.decls) v.value_type) tt
+  name_in sc scope c b (a_decl n (global v)) loc = assignee_in scope (to_global (cell_of sc.decls n)) (type_of (outside sc.decls) v.value_type) tt
   name_in sc scope c b (a_decl n (lock x)) loc = tt
   name_in sc scope c b (a_decl n (struct x)) loc = tt
   name_in sc scope c b (a_decl n (array x)) loc = tt
@@ -457,9 +457,9 @@ module _ (finals : List core.Local) where
   test_in sc scope c None h = tt
   test_in sc scope c (Some x) h = h
 
-  element_in : (decls : List Decl) (scope : List ℕ) (m : Meaning) (o : Option core.Expr) → IndexIn scope o → AimIn scope (aimed_at_element decls m o)
+  element_in : (decls : List Decl) (scope : List ℕ) (m : Meaning) (o : Option core.Expr) → IndexIn scope o → AssigneeIn scope (assignee_at_element decls m o)
   element_in decls scope m None h = tt
-  element_in decls scope (a_decl n (array a)) (Some index) h = aim_in scope (to_element (number_at decls n (array a)) index) (type_of (outside decls) a.value_type) h
+  element_in decls scope (a_decl n (array a)) (Some index) h = assignee_in scope (to_element (number_at decls n (array a)) index) (type_of (outside decls) a.value_type) h
   element_in decls scope (a_decl n (lock x)) (Some index) h = tt
   element_in decls scope (a_decl n (struct x)) (Some index) h = tt
   element_in decls scope (a_decl n (global x)) (Some index) h = tt
@@ -470,20 +470,20 @@ module _ (finals : List core.Local) where
   element_in decls scope (a_local n l) (Some index) h = tt
   element_in decls scope nothing (Some index) h = tt
 
-  field_in_scope : (start n : ℕ) (scope : List ℕ) (t : core_type.ValueType) (o : Option Split) → Contains scope n → AimIn scope (aim (field_target start n o) (Some t))
+  field_in_scope : (start n : ℕ) (scope : List ℕ) (t : core_type.ValueType) (o : Option Split) → Contains scope n → AssigneeIn scope (assignee (field_target start n o) (Some t))
   field_in_scope start n scope t None c = tt
   field_in_scope start n scope t (Some q) c = c
 
-  along_in : (start : ℕ) (sc : Scope) (scope : List ℕ) → Covers sc.locals scope → (m : Meaning) (w : Walk) → IsLocal sc.locals m → AimIn scope (aimed_along start m w)
+  along_in : (start : ℕ) (sc : Scope) (scope : List ℕ) → Covers sc.locals scope → (m : Meaning) (w : Walk) → IsLocal sc.locals m → AssigneeIn scope (assignee_along start m w)
   along_in start sc scope c (a_local n l) (reached steps t) loc = field_in_scope start n scope t (last_field steps) (c n l loc.0 loc.1)
   along_in start sc scope c (a_local n l) at_lock loc = tt
   along_in start sc scope c (a_local n l) lost loc = tt
   along_in start sc scope c (a_decl n d) w loc = tt
   along_in start sc scope c nothing w loc = tt
 
-  target_in : (sc : Scope) (scope : List ℕ) → Covers sc.locals scope → Become sc.locals finals → (q : Place) → AimIn scope (target_of sc q)
+  target_in : (sc : Scope) (scope : List ℕ) → Covers sc.locals scope → Become sc.locals finals → (q : Place) → AssigneeIn scope (target_of sc q)
   target_in sc scope c b (lone x) = name_in sc scope c b (meaning sc x.text) (meant_local sc x.text)
-  target_in sc scope c b (element x e) = element_in sc.decls scope (meaning sc x.text) (number_in_sense (typed sc e)) (index_in sc scope c (number_in_sense (typed sc e)) (value_names sc scope c (Value Integer) e))
+  target_in sc scope c b (element x e) = element_in sc.decls scope (meaning sc x.text) (number_resolved (typed sc e)) (index_in sc scope c (number_resolved (typed sc e)) (value_names sc scope c (Value Integer) e))
   target_in sc scope c b (path x fs) = along_in x.span.start sc scope c (meaning sc x.text) (walk_from sc.decls (meaning sc x.text) fs) (meant_local sc x.text)
 
   bind_done : (ls : List scopes.Local) (x : scopes.Local) (scope : List ℕ) (start : ℕ) (o : Option core_type.ValueType) (v : Option core.Expr) → Covers ls scope → IndexIn scope v → PartDone finals ls (ls ++ x ∷ []) scope (binds start (length ls) o v)
@@ -507,7 +507,7 @@ module _ (finals : List core.Local) where
   behind_set scope (to_element n index) e = refl
   behind_set scope (to_field base f) e = refl
 
-  assign_done : (ls : List scopes.Local) (scope : List ℕ) (start : ℕ) (o : Option Aim) (v : Option core.Expr) → Covers ls scope → AimIn scope o → IndexIn scope v → PartDone finals ls ls scope (assigns start o v)
+  assign_done : (ls : List scopes.Local) (scope : List ℕ) (start : ℕ) (o : Option Assignee) (v : Option core.Expr) → Covers ls scope → AssigneeIn scope o → IndexIn scope v → PartDone finals ls ls scope (assigns start o v)
   assign_done ls scope start None v c h i = tt
   assign_done ls scope start (Some a) None c h i = tt
   assign_done ls scope start (Some a) (Some e) c h i = (set_done ls scope a.target e h i, subst (Covers ls) (sym (behind_set scope a.target e)) c)
@@ -571,8 +571,8 @@ module _ (finals : List core.Local) where
     stmt_done sc (if_then start e body close no_else) scope c b =
         let end = (after_all sc body).locals in
         let inner = become_before end (hidden_from (length sc.locals) end) finals (kept_hidden (length sc.locals) end) b in
-        choose_done sc.locals end scope start.start (test_in_sense (typed sc e)) (block_of (typed_body sc body)) (covers_left sc.locals end scope (all_front sc body) c)
-        (test_in sc scope c (test_in_sense (typed sc e)) (test_names sc scope c e)) (block_done finals sc.locals end scope (typed_body sc body) (body_done sc body scope c inner))
+        choose_done sc.locals end scope start.start (test_resolved (typed sc e)) (block_of (typed_body sc body)) (covers_left sc.locals end scope (all_front sc body) c)
+        (test_in sc scope c (test_resolved (typed sc e)) (test_names sc scope c e)) (block_done finals sc.locals end scope (typed_body sc body) (body_done sc body scope c inner))
     stmt_done sc (if_then start e body close (else_do other close2)) scope c b =
         let end = (after_all sc body).locals in
         let mid = hidden_from (length sc.locals) end in
@@ -582,16 +582,16 @@ module _ (finals : List core.Local) where
         let inner2 = become_before end2 (hidden_from (length mid) end2) finals (kept_hidden (length mid) end2) b in
         let b2 = become_before mid end2 finals (front_kept mid end2 (all_front sc2 other)) inner2 in
         let inner = become_before end mid finals (kept_hidden (length sc.locals) end) b2 in
-        between_done sc.locals mid end2 scope start.start (test_in_sense (typed sc e)) (block_of (typed_body sc body)) (block_of (typed_body sc2 other)) (covers_left mid end2 scope (all_front sc2 other) c2)
-        (test_in sc scope c (test_in_sense (typed sc e)) (test_names sc scope c e))
+        between_done sc.locals mid end2 scope start.start (test_resolved (typed sc e)) (block_of (typed_body sc body)) (block_of (typed_body sc2 other)) (covers_left mid end2 scope (all_front sc2 other) c2)
+        (test_in sc scope c (test_resolved (typed sc e)) (test_names sc scope c e))
         (subst (λ (m : ℕ). BlockDone finals (length sc.locals) m scope (block_of (typed_body sc body))) (sym (hidden_length (length sc.locals) end)) (block_done finals sc.locals end scope (typed_body sc body) (body_done sc body scope c inner)))
         (block_done finals mid end2 scope (typed_body sc2 other) (body_done sc2 other scope c2 inner2))
     stmt_done sc (while start e body close) scope c b =
         let end = (after_all sc body).locals in
         let inner = become_before end (hidden_from (length sc.locals) end) finals (kept_hidden (length sc.locals) end) b in
-        while_done sc.locals end scope start.start (test_in_sense (typed sc e)) (block_of (typed_body sc body)) (covers_left sc.locals end scope (all_front sc body) c)
-        (test_in sc scope c (test_in_sense (typed sc e)) (test_names sc scope c e)) (block_done finals sc.locals end scope (typed_body sc body) (body_done sc body scope c inner))
-    stmt_done sc (print start e) scope c b = print_done sc.locals scope start.start (number_in_sense (typed sc e)) c (index_in sc scope c (number_in_sense (typed sc e)) (value_names sc scope c (Value Integer) e))
+        while_done sc.locals end scope start.start (test_resolved (typed sc e)) (block_of (typed_body sc body)) (covers_left sc.locals end scope (all_front sc body) c)
+        (test_in sc scope c (test_resolved (typed sc e)) (test_names sc scope c e)) (block_done finals sc.locals end scope (typed_body sc body) (body_done sc body scope c inner))
+    stmt_done sc (print start e) scope c b = print_done sc.locals scope start.start (number_resolved (typed sc e)) c (index_in sc scope c (number_resolved (typed sc e)) (value_names sc scope c (Value Integer) e))
     stmt_done sc (return_value start e) scope c b = return_done sc.locals scope start.start (as_value (fitting (want sc.result) (typed sc e))) (index_in sc scope c (as_value (fitting (want sc.result) (typed sc e))) (value_names sc scope c (want sc.result) e))
 
     pub body_done : (sc : Scope) (ss : Stmts) (scope : List ℕ) → Covers sc.locals scope → Become (after_all sc ss).locals finals → BodyDone finals sc.locals (after_all sc ss).locals scope (typed_body sc ss)

@@ -1,21 +1,17 @@
 -- Each fault that is listed for a declaration by itself is a true one.
-use Rattle.std.proofs.Common.{◌≡◌, ℕ, zero, suc, ◌+◌, ◌<◌, ◌≤◌, List, [], ◌∷◌, ◌++◌, length, Option, Some, None, Bool, true, false, refl, sym, ap, ◌∙◌, subst, if◌then◌else◌, arith}
+use Rattle.std.proofs.Common.{◌≡◌, ℕ, zero, suc, ◌+◌, ◌<◌, List, [], ◌∷◌, ◌++◌, length, Option, Some, None, Bool, true, false, refl, ap, ◌∙◌, subst, if◌then◌else◌, arith}
 use Rattle.std.specs.Prelude.{nat_le, not, is_some, ◌==◌, ◌&&◌, ◌||◌, slice_get}
 use Rattle.std.proofs.lemmas.Bool.{eqb-true}
 use Rattle.std.proofs.lemmas.Bool.Decides.{nat_tests}
-use Rattle.source.specs.declared.fault.Code.{Code}
 use Rattle.source.specs.declared.fault.Code.TheVariants.{UnknownName, WrongType, WrongArgumentCount, NeitherFinalNorProtected, ProtectedByNoLock, ProtectedByPassesNonFinal, LimitExceeded, FinalWithoutOpeningValue, InitOutOfRangeOrRepeated, LockAsValue}
-use Rattle.source.specs.declared.token.Number.{Number}
-use Rattle.syntax.specs.Trees.{Ident, ValueType, ref_type, Const, int_const, negative, null_const, member_const, Protection, Member, lock_member, final_member, field_member, Final, Field, Struct, Variable, Array, Pool, Init, Param, Section, Call, Item, call, repeat, Items, no_items, item, Decl, lock, struct, global, array, pool, init, atomic, thread}
+use Rattle.syntax.specs.Trees.{Ident, ref_type, Const, int_const, negative, null_const, member_const, Protection, Member, lock_member, final_member, field_member, Field, Struct, Variable, Array, Pool, Init, Section, Call, Item, call, repeat, Items, no_items, item, Decl, lock, struct, global, array, pool, init, atomic, thread}
 use Rattle.resolution.specs.declared.mistake.Mistake.{Mistake}
-use Rattle.resolution.specs.declared.wanted.Want.{Want}
 use Rattle.resolution.specs.Limits.{FINAL_LIMIT}
 use Rattle.resolution.specs.Scopes.{outside, a_decl, place_of, the_decl, member_bears, the_member, has_type, type_of, struct_named}
 use Rattle.resolution.specs.Expressions.{want}
-use Rattle.resolution.specs.Constants.{want_of, members_of, pool_members, initialised, member_want, given}
-use Rattle.resolution.specs.Annotations.{Standing, through_member, stepped_on, standing_at}
-use Rattle.resolution.specs.Resolution.{ahead_of, entry}
-use Rattle.resolution.specs.Where.{Has, first, further, InItems, this_call, in_repeat, later_call, HasCall, in_thread, HasConst, opening, initial, argument, HasLock, of_variable, of_elements, Annotates, annotates, HasType, of_global, of_array, of_pool, of_final, of_field}
+use Rattle.resolution.specs.Constants.{members_of, pool_members, initialised, member_want, given}
+use Rattle.resolution.specs.Annotations.{AnnotationCursor, through_member, stepped_on, cursor_at}
+use Rattle.resolution.specs.Where.{Has, first, further, InItems, this_call, in_repeat, later_call, HasCall, in_thread, opening, initial, argument, of_variable, of_elements, Annotates, annotates, of_global, of_array, of_pool, of_final, of_field}
 use Rattle.resolution.specs.Faults as fault
 use Rattle.resolution.specs.Faults.{Reaches, stays, goes_on, Walks, walks, NamesGlobal, unknown, wrong_type, miscounted, without_lock, ends_at_no_lock, passes_non_final, over_limit, final_missing, out_of_range, lock_as_value}
 use Rattle.resolution.specs.FaultLists as list
@@ -46,50 +42,50 @@ true_array_lock : (decls : List Decl) (a : Array) → Has decls (array a) → (o
 true_array_lock decls a h None e f i = of_one decls NeitherFinalNorProtected a.name.span.start f (without_lock (fault.bare_array h e)) i
 true_array_lock decls a h (Some p) e f i = true_global_lock decls p (fault.of_global (of_elements h e)) (the_decl decls p.first.text) refl p.rest refl f i
 
-pub reaches_on : (decls : List Decl) (from st next : Standing) (y x z : Ident) (ys zs : List Ident) → Reaches decls from y ys st x (z ∷ zs) → through_member decls st (the_member st.members x.text) ≡ Some next → Reaches decls from y ys next z zs
+pub reaches_on : (decls : List Decl) (from st next : AnnotationCursor) (y x z : Ident) (ys zs : List Ident) → Reaches decls from y ys st x (z ∷ zs) → through_member decls st (the_member st.members x.text) ≡ Some next → Reaches decls from y ys next z zs
 reaches_on decls from st next y x z ys zs stays e = goes_on e stays
 reaches_on decls from st next y x z (w ∷ ws) zs (goes_on {next = mid} a r) e = goes_on a (reaches_on decls mid st next w x z ws zs r e)
 
-walks_on : (decls : List Decl) (p : Protection) (st next : Standing) (x z : Ident) (zs : List Ident) → Walks decls p st x (z ∷ zs) → through_member decls st (the_member st.members x.text) ≡ Some next → Walks decls p next z zs
-walks_on decls p st next x z zs (walks {i = i} {ms = ms} h own r) e = walks h own (reaches_on decls (standing_at i ms) st next p.first x z p.rest zs r e)
+walks_on : (decls : List Decl) (p : Protection) (st next : AnnotationCursor) (x z : Ident) (zs : List Ident) → Walks decls p st x (z ∷ zs) → through_member decls st (the_member st.members x.text) ≡ Some next → Walks decls p next z zs
+walks_on decls p st next x z zs (walks {i = i} {ms = ms} h own r) e = walks h own (reaches_on decls (cursor_at i ms) st next p.first x z p.rest zs r e)
 
-true_passed : (decls : List Decl) (p : Protection) (st : Standing) (y z : Ident) (zs : List Ident) → Walks decls p st y (z ∷ zs) → (o : Option (ℕ × Member)) → the_member st.members y.text ≡ o →
+true_passed : (decls : List Decl) (p : Protection) (st : AnnotationCursor) (y z : Ident) (zs : List Ident) → Walks decls p st y (z ∷ zs) → (o : Option (ℕ × Member)) → the_member st.members y.text ≡ o →
     (f : Mistake) → In f (passed_faults p.first.span.start y.span.start (length st.through) o) → IsTrue_of decls f
 true_passed decls p st y z zs h None is f i = of_one decls UnknownName y.span.start f (unknown (fault.no_field_passed h is)) i
 true_passed decls p st y z zs h (Some (n, final_member g)) is f i = of_if decls (nat_le FINAL_LIMIT (length st.through)) LimitExceeded p.first.span.start f (λ e. over_limit (fault.too_many_finals h is (le_of FINAL_LIMIT (length st.through) e))) i
 true_passed decls p st y z zs h (Some (n, field_member g)) is f i = of_one decls ProtectedByPassesNonFinal y.span.start f (passes_non_final (fault.passes h is (λ q. q))) i
 true_passed decls p st y z zs h (Some (n, lock_member g)) is f i = of_one decls ProtectedByPassesNonFinal y.span.start f (passes_non_final (fault.passes h is (λ q. q))) i
 
-true_last : (decls : List Decl) (p : Protection) (st : Standing) (y : Ident) → Walks decls p st y [] → (o : Option (ℕ × Member)) → the_member st.members y.text ≡ o →
+true_last : (decls : List Decl) (p : Protection) (st : AnnotationCursor) (y : Ident) → Walks decls p st y [] → (o : Option (ℕ × Member)) → the_member st.members y.text ≡ o →
     (f : Mistake) → In f (last_faults p.first.span.start y.span.start o) → IsTrue_of decls f
 true_last decls p st y h None is f i = of_one decls UnknownName y.span.start f (unknown (fault.no_field_passed h is)) i
 true_last decls p st y h (Some (n, lock_member g)) is f i = absurd i
 true_last decls p st y h (Some (n, final_member g)) is f i = of_one decls ProtectedByNoLock p.first.span.start f (ends_at_no_lock (fault.ends_at_member h is (λ q. q))) i
 true_last decls p st y h (Some (n, field_member g)) is f i = of_one decls ProtectedByNoLock p.first.span.start f (ends_at_no_lock (fault.ends_at_member h is (λ q. q))) i
 
-next_walk : (decls : List Decl) (p : Protection) (o : Option Standing) (y z : Ident) (zs : List Ident) → ((st : Standing) → o ≡ Some st → Walks decls p st y (z ∷ zs)) → (next : Standing) → stepped_on decls o y ≡ Some next → Walks decls p next z zs
+next_walk : (decls : List Decl) (p : Protection) (o : Option AnnotationCursor) (y z : Ident) (zs : List Ident) → ((st : AnnotationCursor) → o ≡ Some st → Walks decls p st y (z ∷ zs)) → (next : AnnotationCursor) → stepped_on decls o y ≡ Some next → Walks decls p next z zs
 next_walk decls p None y z zs up next e = absurd cc
 next_walk decls p (Some st) y z zs up next e = walks_on decls p st next y z zs (up st refl) e
 
-passed_is : (decls : List Decl) (p : Protection) (o : Option Standing) (y z : Ident) (zs : List Ident) → ((st : Standing) → o ≡ Some st → Walks decls p st y (z ∷ zs)) → (f : Mistake) → In f (passed p.first.span.start o y) → IsTrue_of decls f
+passed_is : (decls : List Decl) (p : Protection) (o : Option AnnotationCursor) (y z : Ident) (zs : List Ident) → ((st : AnnotationCursor) → o ≡ Some st → Walks decls p st y (z ∷ zs)) → (f : Mistake) → In f (passed p.first.span.start o y) → IsTrue_of decls f
 passed_is decls p None y z zs up f i = absurd i
 passed_is decls p (Some st) y z zs up f i = true_passed decls p st y z zs (up st refl) (the_member st.members y.text) refl f i
 
-ended_is : (decls : List Decl) (p : Protection) (o : Option Standing) (y : Ident) → ((st : Standing) → o ≡ Some st → Walks decls p st y []) → (f : Mistake) → In f (list.ended p.first.span.start o y) → IsTrue_of decls f
+ended_is : (decls : List Decl) (p : Protection) (o : Option AnnotationCursor) (y : Ident) → ((st : AnnotationCursor) → o ≡ Some st → Walks decls p st y []) → (f : Mistake) → In f (list.ended p.first.span.start o y) → IsTrue_of decls f
 ended_is decls p None y up f i = absurd i
 ended_is decls p (Some st) y up f i = true_last decls p st y (up st refl) (the_member st.members y.text) refl f i
 
-true_along : (decls : List Decl) (p : Protection) (o : Option Standing) (y : Ident) (ys : List Ident) → ((st : Standing) → o ≡ Some st → Walks decls p st y ys) → (f : Mistake) → In f (along_faults decls p.first.span.start o y ys) → IsTrue_of decls f
+true_along : (decls : List Decl) (p : Protection) (o : Option AnnotationCursor) (y : Ident) (ys : List Ident) → ((st : AnnotationCursor) → o ≡ Some st → Walks decls p st y ys) → (f : Mistake) → In f (along_faults decls p.first.span.start o y ys) → IsTrue_of decls f
 true_along decls p o y [] up f i = ended_is decls p o y up f i
 true_along decls p o y (z ∷ zs) up f i =
     both f (passed p.first.span.start o y) (along_faults decls p.first.span.start (stepped_on decls o y) z zs)
     (passed_is decls p o y z zs up f) (true_along decls p (stepped_on decls o y) z zs (next_walk decls p o y z zs up) f) i
 
-first_walk : (decls : List Decl) (n : ℕ) (ms : List Member) (p : Protection) (own : ℕ × Member) → Annotates decls n ms p → the_member ms p.first.text ≡ Some own → (st : Standing) → Some (standing_at n ms) ≡ Some st → Walks decls p st p.first p.rest
-first_walk decls n ms p own h is st e = let same : standing_at n ms ≡ st = cc in subst (λ (s : Standing). Walks decls p s p.first p.rest) same (walks h is stays)
+first_walk : (decls : List Decl) (n : ℕ) (ms : List Member) (p : Protection) (own : ℕ × Member) → Annotates decls n ms p → the_member ms p.first.text ≡ Some own → (st : AnnotationCursor) → Some (cursor_at n ms) ≡ Some st → Walks decls p st p.first p.rest
+first_walk decls n ms p own h is st e = let same : cursor_at n ms ≡ st = cc in subst (λ (s : AnnotationCursor). Walks decls p s p.first p.rest) same (walks h is stays)
 
-true_annotation : (decls : List Decl) (n : ℕ) (ms : List Member) (p : Protection) → Annotates decls n ms p → (o : Option (ℕ × Member)) → the_member ms p.first.text ≡ o → (f : Mistake) → In f (annotation_faults decls (standing_at n ms) p o) → IsTrue_of decls f
-true_annotation decls n ms p h (Some m) is f i = true_along decls p (Some (standing_at n ms)) p.first p.rest (first_walk decls n ms p m h is) f i
+true_annotation : (decls : List Decl) (n : ℕ) (ms : List Member) (p : Protection) → Annotates decls n ms p → (o : Option (ℕ × Member)) → the_member ms p.first.text ≡ o → (f : Mistake) → In f (annotation_faults decls (cursor_at n ms) p o) → IsTrue_of decls f
+true_annotation decls n ms p h (Some m) is f i = true_along decls p (Some (cursor_at n ms)) p.first p.rest (first_walk decls n ms p m h is) f i
 true_annotation decls n ms p h None is f i = true_global_lock decls p (fault.no_member h is) (the_decl decls p.first.text) refl p.rest refl f i
 
 true_protection : (decls : List Decl) (n : ℕ) (s : Struct) (g : Field) → slice_get decls n ≡ Some (struct s) → Has decls (struct s) → Has s.members (field_member g) → (o : Option Protection) → g.protection ≡ o →

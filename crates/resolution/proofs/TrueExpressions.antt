@@ -1,11 +1,9 @@
 -- Each fault that is listed for an expression, a place or a constant is a true one.
-use Rattle.std.proofs.Common.{◌≡◌, ℕ, suc, ◌+◌, ◌<◌, ◌≤◌, List, [], ◌∷◌, ◌++◌, length, Option, Some, None, Bool, true, false, refl, sym, ap, ◌∙◌, subst, if◌then◌else◌, append_assoc, arith}
-use Rattle.std.specs.Prelude.{nat_le, nat_lt, not, is_some, ◌==◌, ◌&&◌, slice_get}
-use Rattle.std.proofs.lemmas.Bool.{eqb-true}
+use Rattle.std.proofs.Common.{◌≡◌, ℕ, suc, ◌<◌, ◌≤◌, List, [], ◌∷◌, ◌++◌, Option, Some, None, Bool, true, false, refl, sym, ap, ◌∙◌, subst, if◌then◌else◌, append_assoc, arith}
+use Rattle.std.specs.Prelude.{nat_le, nat_lt, not, is_some, ◌&&◌, slice_get}
 use Rattle.std.proofs.lemmas.Bool.Decides.{nat_tests}
 use Rattle.source.specs.Texts.{NUMBER_LIMIT}
-use Rattle.source.specs.declared.fault.Code.{Code}
-use Rattle.source.specs.declared.fault.Code.TheVariants.{NumberTooLarge, DeclaredTwice, UnknownName, WrongType, WrongArgumentCount, NotAssignable, NeitherFinalNorProtected, ProtectedByNoLock, LimitExceeded, InitOutOfRangeOrRepeated, LockAsValue}
+use Rattle.source.specs.declared.fault.Code.TheVariants.{NumberTooLarge, UnknownName, WrongType, InitOutOfRangeOrRepeated, LockAsValue}
 use Rattle.source.specs.declared.token.Number.{Number}
 use Rattle.syntax.specs.declared.tree.Op.{Op}
 use Rattle.syntax.specs.declared.tree.Level.{Level}
@@ -13,16 +11,14 @@ use Rattle.syntax.specs.declared.tree.Level.TheVariants.{Term, Sum, Conjunction,
 use Rattle.syntax.specs.declared.tree.Comparison as written
 use Rattle.syntax.specs.declared.tree.Comparison.TheVariants as sign
 use Rattle.syntax.specs.Trees.{Ident, ValueType, int_type, ref_type, Const, int_const, negative, null_const, member_const, Place, lone, element, path, Expr, int, null, place, paren, prefix, chain, compare, Links, no_links, link, Member, Struct, Param, Decl, lock, struct, global, array, pool, init, atomic, thread}
-use Rattle.core_lang.specs.declared.value.ValueType as core_type
 use Rattle.core_lang.specs.declared.value.ValueType.TheVariants.{Integer, Reference}
 use Rattle.core_lang.specs.declared.tree.FieldStep.{FieldStep}
 use Rattle.resolution.specs.declared.mistake.Mistake.{Mistake}
 use Rattle.resolution.specs.declared.wanted.Sort.{Sort}
 use Rattle.resolution.specs.declared.wanted.Want.{Want}
-use Rattle.resolution.specs.declared.wanted.Want.TheVariants.{Anything, Condition, Value}
-use Rattle.resolution.specs.Core as core
+use Rattle.resolution.specs.declared.wanted.Want.TheVariants.{Anything, Value}
 use Rattle.resolution.specs.Scopes.{Scope, Local, Meaning, a_local, a_decl, nothing, meaning, the_decl, the_struct, the_member, has_type}
-use Rattle.resolution.specs.Expressions.{Sense, value, truth, fits, fits_sort, alike_sorts, typed, operator_of, Walk, reached, at_lock, lost, stepped, walked, at_local, walk_from}
+use Rattle.resolution.specs.Expressions.{ResolvedExpr, value, truth, fits, fits_sort, alike_sorts, typed, operator_of, Walk, reached, at_lock, lost, stepped, walked, at_local, walk_from}
 use Rattle.resolution.specs.Statements.{first_name}
 use Rattle.resolution.specs.Constants.{const_sort, want_of}
 use Rattle.resolution.specs.Where.{operand_want, prefix_want, side_want, HasLink, this_link, later_link, Within, itself, in_parentheses, in_prefix, in_first, in_operand, in_left, in_right, in_index, HasExpr, HasPlace, is_read, HasType, HasConst}
@@ -196,11 +192,11 @@ true_path sc x fs h nothing is f i = true_unknown sc (path x fs) h is f i
 
 -- ---- expressions
 
-true_misfit : (sc : Scope) (w : Want) (e : Expr) → HasExpr sc.decls sc w e → (s : Option Sense) → typed sc e ≡ s → (f : Mistake) → In f (misfit w (start_of e) s) → IsTrue_of sc.decls f
+true_misfit : (sc : Scope) (w : Want) (e : Expr) → HasExpr sc.decls sc w e → (s : Option ResolvedExpr) → typed sc e ≡ s → (f : Mistake) → In f (misfit w (start_of e) s) → IsTrue_of sc.decls f
 true_misfit sc w e h None is f i = absurd i
 true_misfit sc w e h (Some s) is f i = misfit_if sc.decls (start_of e) (fits w s) (λ t. wrong_type (fault.unwanted h is t)) f i
 
-true_unlike : (sc : Scope) (w : Want) (a b : Expr) (c : written.Comparison) → HasExpr sc.decls sc w (compare a c b) → IsEquality c → (s t : Option Sense) → typed sc a ≡ s → typed sc b ≡ t → (f : Mistake) → In f (unlike (start_of a) (start_of b) s t) → IsTrue_of sc.decls f
+true_unlike : (sc : Scope) (w : Want) (a b : Expr) (c : written.Comparison) → HasExpr sc.decls sc w (compare a c b) → IsEquality c → (s t : Option ResolvedExpr) → typed sc a ≡ s → typed sc b ≡ t → (f : Mistake) → In f (unlike (start_of a) (start_of b) s t) → IsTrue_of sc.decls f
 true_unlike sc w a b c h so (Some (value x s)) (Some (value y t)) p q f i = misfit_if sc.decls (start_of b) (alike_sorts s t) (λ e. wrong_type (fault.unlike_sides h so p q e)) f i
 true_unlike sc w a b c h so (Some (value x s)) (Some (truth d)) p q f i = of_one sc.decls WrongType (start_of b) f (wrong_type (fault.unlike_sides h so p q tt)) i
 true_unlike sc w a b c h so (Some (truth d)) (Some (value y t)) p q f i = of_one sc.decls WrongType (start_of b) f (wrong_type (fault.unlike_sides h so p q tt)) i

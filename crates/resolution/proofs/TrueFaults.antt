@@ -1,18 +1,18 @@
 -- Each fault that is listed is a true one.
-use Rattle.std.proofs.Common.{◌≡◌, ℕ, suc, ◌+◌, ◌<◌, ◌≤◌, List, [], ◌∷◌, ◌++◌, length, Option, Some, None, Bool, true, false, refl, sym, ap, ◌∙◌, subst, append_assoc, arith}
+use Rattle.std.proofs.Common.{◌≡◌, ℕ, ◌+◌, ◌<◌, ◌≤◌, List, [], ◌∷◌, ◌++◌, length, Option, Some, None, true, refl, sym, ◌∙◌, subst, append_assoc, arith}
 use Rattle.std.specs.Prelude.{nat_le, nat_lt, ◌&&◌, slice_get}
 use Rattle.source.specs.declared.fault.Code.TheVariants.{DeclaredTwice, LimitExceeded, InitOutOfRangeOrRepeated}
 use Rattle.syntax.specs.Trees.{Ident, Member, lock_member, final_member, field_member, Struct, Init, Decl, lock, struct, global, array, pool, init, atomic, thread}
-use Rattle.resolution.specs.declared.gift.Gift.{Gift}
+use Rattle.resolution.specs.declared.init_target.InitTarget.{InitTarget}
 use Rattle.resolution.specs.declared.mistake.Mistake.{Mistake}
 use Rattle.resolution.specs.Limits.{STRUCT_LIMIT, MEMBER_LIMIT, CLASS_LIMIT, OBJECT_LIMIT, CELL_LIMIT, SECTION_LIMIT, THREAD_LIMIT, CALL_LIMIT}
 use Rattle.resolution.specs.Scopes.{place_of, count, declared, bears, alike, member_name, member_bears}
 use Rattle.resolution.specs.Numbers.{is_lock, total, classes_of, objects_of, cells_of, calls_of}
-use Rattle.resolution.specs.Constants.{gift_of, giver}
+use Rattle.resolution.specs.Constants.{init_target_of, giver}
 use Rattle.resolution.specs.Where.{Has, first, further}
 use Rattle.resolution.specs.Faults as fault
 use Rattle.resolution.specs.Faults.{IsFault, declared_twice, over_limit, out_of_range}
-use Rattle.resolution.specs.FaultLists.{one, one_if, again, twice, twice_faults, member_twice_faults, struct_faults, passes, lock_count, member_counts, count_faults, total_faults, given_before, gift_again, repeated, repeated_faults, each_faults, program_faults}
+use Rattle.resolution.specs.FaultLists.{one_if, again, twice, twice_faults, member_twice_faults, struct_faults, passes, lock_count, member_counts, count_faults, total_faults, given_before, init_target_again, repeated, repeated_faults, each_faults, program_faults}
 use Rattle.resolution.proofs.Members.{In, IsTrue_of, both, of_one, of_if}
 use Rattle.resolution.proofs.TrueExpressions.{lt_of, le_of, and_left, and_right}
 use Rattle.resolution.proofs.TrueStatements.{length_push}
@@ -123,16 +123,16 @@ true_totals decls before (d ∷ ds) parts up f i =
 
 -- ---- what is given again
 
-true_given : (decls before behind : List Decl) (j : Init) → decls ≡ before ++ init j ∷ behind → (g : Gift) → gift_of decls j ≡ Some g → (o : Option (ℕ × Decl)) → giver decls before g ≡ o → (f : Mistake) → In f (given_before j.start.start o) → IsTrue_of decls f
+true_given : (decls before behind : List Decl) (j : Init) → decls ≡ before ++ init j ∷ behind → (g : InitTarget) → init_target_of decls j ≡ Some g → (o : Option (ℕ × Decl)) → giver decls before g ≡ o → (f : Mistake) → In f (given_before j.start.start o) → IsTrue_of decls f
 true_given decls before behind j parts g is None e f i = absurd i
 true_given decls before behind j parts g is (Some d) e f i = of_one decls InitOutOfRangeOrRepeated j.start.start f (out_of_range (fault.given_again before behind j parts is e)) i
 
-true_gift : (decls before behind : List Decl) (j : Init) → decls ≡ before ++ init j ∷ behind → (o : Option Gift) → gift_of decls j ≡ o → (f : Mistake) → In f (gift_again decls before j.start.start o) → IsTrue_of decls f
-true_gift decls before behind j parts None e f i = absurd i
-true_gift decls before behind j parts (Some g) e f i = true_given decls before behind j parts g e (giver decls before g) refl f i
+true_init_target : (decls before behind : List Decl) (j : Init) → decls ≡ before ++ init j ∷ behind → (o : Option InitTarget) → init_target_of decls j ≡ o → (f : Mistake) → In f (init_target_again decls before j.start.start o) → IsTrue_of decls f
+true_init_target decls before behind j parts None e f i = absurd i
+true_init_target decls before behind j parts (Some g) e f i = true_given decls before behind j parts g e (giver decls before g) refl f i
 
 true_again : (decls before behind : List Decl) (d : Decl) → decls ≡ before ++ d ∷ behind → (f : Mistake) → In f (repeated decls before d) → IsTrue_of decls f
-true_again decls before behind (init j) parts f i = true_gift decls before behind j parts (gift_of decls j) refl f i
+true_again decls before behind (init j) parts f i = true_init_target decls before behind j parts (init_target_of decls j) refl f i
 true_again decls before behind (lock x) parts f i = absurd i
 true_again decls before behind (struct s) parts f i = absurd i
 true_again decls before behind (global v) parts f i = absurd i

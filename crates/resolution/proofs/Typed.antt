@@ -1,6 +1,6 @@
 -- Resolved expressions and statements that are well typed, as data; and that values which stand for them are.
-use Rattle.std.proofs.Common.{◌≡◌, ℕ, zero, suc, ◌+◌, List, [], ◌∷◌, ◌++◌, Option, Some, None, refl, sym, ap, ◌∙◌, subst}
-use Rattle.std.specs.Prelude.{ℤ, map, option_map, slice_get, ⊤}
+use Rattle.std.proofs.Common.{◌≡◌, ℕ, zero, suc, List, [], ◌∷◌, Option, Some, None, refl, sym, ap, ◌∙◌}
+use Rattle.std.specs.Prelude.{map, option_map, slice_get, ⊤}
 use Rattle.core_lang.specs.declared.value.ValueType.{ValueType}
 use Rattle.core_lang.specs.declared.value.ValueType.TheVariants.{Integer, Reference}
 use Rattle.core_lang.specs.declared.tree.Comparison.{Comparison}
@@ -15,17 +15,12 @@ use Rattle.core_lang.specs.declared.tree.Stmt as s
 use Rattle.core_lang.specs.declared.tree.Action as a
 use Rattle.core_lang.specs.declared.tree.Action.{Bind, SetLocal, SetGlobal, SetElement, SetField, Print, If', IfElse', While', Row_of-Stmt, end_of-Stmt, more_of-Stmt}
 use Rattle.core_lang.specs.declared.tree.Return as the_return
-use Rattle.core_lang.specs.declared.shape.Array as the_array
-use Rattle.core_lang.specs.declared.shape.Pool as the_pool
 use Rattle.core_lang.specs.declared.typed.Cell.{Cell}
-use Rattle.core_lang.specs.declared.typed.FinalField as the_final
-use Rattle.core_lang.specs.declared.typed.Field as the_field
 use Rattle.core_lang.specs.declared.typed.Struct as the_struct
 use Rattle.core_lang.specs.declared.typed.Typed.{Typed}
-use Rattle.core_lang.specs.Typing as the_typing
-use Rattle.core_lang.specs.Typing.{if_global, global_type, array_type, pool_struct, final_target, field_type, LeadsTo, IsPathTo, IsOf, AreIntegers, CanCompare, IsTest, AreTests, IsWellTyped, AreWellTyped, AllWellTyped, IsResult}
+use Rattle.core_lang.specs.Typing.{if_global, global_type, array_type, pool_struct, final_target, field_type, LeadsTo, IsOf, AreIntegers, CanCompare, IsTest, AreTests, IsWellTyped, AreWellTyped, AllWellTyped, IsResult}
 use Rattle.resolution.specs.Core as core
-use Rattle.resolution.specs.CoreViews.{core_path, core_expr, core_operations_row, core_condition, core_conditions_row, core_action, core_stmts_row, core_stmts, core_return, core_struct, core_final, core_field, core_array, core_pool, core_of}
+use Rattle.resolution.specs.CoreViews.{core_expr, core_operations_row, core_condition, core_conditions_row, core_action, core_stmts_row, core_stmts, core_return, core_struct, core_final, core_field, core_array, core_pool, core_of}
 use Rattle.resolution.specs.Scopes.{◌>>=◌}
 
 -- ---- lists seen by a view

@@ -1,7 +1,7 @@
 -- Resolved statements and sections are well typed.
-use Rattle.std.proofs.Common.{◌≡◌, ℕ, zero, suc, ◌+◌, ◌<◌, ◌≤◌, List, [], ◌∷◌, ◌++◌, length, Option, Some, None, Bool, true, false, if◌then◌else◌, refl, sym, ap, ◌∙◌, subst, arith}
+use Rattle.std.proofs.Common.{◌≡◌, ℕ, zero, suc, List, [], ◌∷◌, ◌++◌, length, Option, Some, None, Bool, true, false, if◌then◌else◌, refl, sym, ap, ◌∙◌, subst}
 use Rattle.std.specs.Prelude.{slice_get, map, ⊤}
-use Rattle.syntax.specs.Trees.{Ident, ValueType, Place, lone, element, path, Expr, Local, Stmt, let_local, var_local, assign, if_then, while, print, return_value, Stmts, no_stmts, stmt, Otherwise, no_else, else_do, Param, Section, Decl, lock, struct, global, array, pool, init, atomic, thread}
+use Rattle.syntax.specs.Trees.{Ident, ValueType, Place, lone, element, path, Expr, Local, Stmt, let_local, var_local, assign, if_then, while, print, return_value, Stmts, no_stmts, stmt, Otherwise, no_else, else_do, Section, Decl, lock, struct, global, array, pool, init, atomic, thread}
 use Rattle.core_lang.specs.declared.value.ValueType as core_type
 use Rattle.core_lang.specs.declared.value.ValueType.TheVariants.{Integer, Reference}
 use Rattle.core_lang.specs.declared.tree.LocalKind.{LocalKind}
@@ -12,17 +12,16 @@ use Rattle.resolution.specs.declared.wanted.Want.TheVariants.{Value}
 use Rattle.resolution.specs.Core as core
 use Rattle.resolution.specs.Scopes as scope
 use Rattle.resolution.specs.Scopes.{◌>>=◌, Scope, outside, Meaning, a_local, a_decl, nothing, meaning, number_at, type_of, bound, hidden, hidden_from, left, entered}
-use Rattle.resolution.specs.Expressions.{want, fitting, as_value, number_in_sense, test_in_sense, typed, Walk, reached, at_lock, lost, walked, at_local, walk_from, local_path, cell_of}
-use Rattle.resolution.specs.Statements.{Target, to_local, to_global, to_element, to_field, Aim, aim, is_var, aimed_at, aimed_at_element, Split, behind, last_field, field_target, aimed_along, target_of, wanted_by, first_name, Part, does, gives, binds, set_to, assigns, prints, returns, repeats, chooses, chooses_between, Body, given_back, preceded, block_without, block_of, after, after_else, after_all, typed_stmt, typed_if, typed_body}
+use Rattle.resolution.specs.Expressions.{want, fitting, as_value, number_resolved, test_resolved, typed, Walk, reached, at_lock, lost, walked, at_local, walk_from, cell_of}
+use Rattle.resolution.specs.Statements.{Target, to_local, to_global, to_element, to_field, Assignee, assignee, is_var, assignee_at, assignee_at_element, Split, behind, last_field, field_target, assignee_along, target_of, wanted_by, first_name, Part, does, gives, binds, set_to, assigns, prints, returns, repeats, chooses, chooses_between, Body, given_back, preceded, block_without, block_of, after, after_else, after_all, typed_stmt, typed_if, typed_body}
 use Rattle.resolution.specs.Constants.{added}
 use Rattle.resolution.specs.Resolution.{result_of, ahead_of, entry, core_local, core_locals, section_with, section_of, typed_section}
-use Rattle.resolution.proofs.TrueStatements.{else_same, after_same, entered_same}
+use Rattle.resolution.proofs.TrueStatements.{after_same, entered_same}
 use Rattle.resolution.proofs.FaultlessExpressions.{IsMeant, meant}
-use Rattle.resolution.proofs.FaultlessStatements.{all_same}
 use Rattle.resolution.proofs.FaultlessSections.{entered_result}
 use Rattle.resolution.proofs.Typed as well
 use Rattle.resolution.proofs.Typed.{global_in, array_in, pool_in, final_in, field_in, Leads, IsPath, Is, Gives, Acts, AllAct, Returns, get_map}
-use Rattle.resolution.proofs.TypedSenses.{Sound, Have, IsLocal, meant_local, GoodValue, GoodTest, GoodPath, local_walk, value_good_of, test_good_of}
+use Rattle.resolution.proofs.TypedResolvedExprs.{Sound, Have, IsLocal, meant_local, GoodValue, GoodTest, GoodPath, local_walk, value_good_of, test_good_of}
 
 -- ---- locals stay
 
@@ -101,48 +100,48 @@ module _ (decls : List Decl) (p : core.Program) (types : List core_type.ValueTyp
   sound_at sc same = subst (λ (ds : List Decl). Sound ds p) (sym same) sound
 
   -- what can be assigned to has its type
-  abbrev AimsAt : Target → core_type.ValueType → Type 0
-  AimsAt (to_local n) t = slice_get types n ≡ Some t
-  AimsAt (to_global cell) t = global_in p cell ≡ Some t
-  AimsAt (to_element n index) t = (array_in p n ≡ Some t) × Is p types index Integer
-  AimsAt (to_field base f) t = (s : ℕ) × IsPath p types base (Reference s) × (field_in p s f ≡ Some t)
+  abbrev AssigneesAt : Target → core_type.ValueType → Type 0
+  AssigneesAt (to_local n) t = slice_get types n ≡ Some t
+  AssigneesAt (to_global cell) t = global_in p cell ≡ Some t
+  AssigneesAt (to_element n index) t = (array_in p n ≡ Some t) × Is p types index Integer
+  AssigneesAt (to_field base f) t = (s : ℕ) × IsPath p types base (Reference s) × (field_in p s f ≡ Some t)
 
-  abbrev GoodAim : Option Aim → Type 0
+  abbrev GoodAim : Option Assignee → Type 0
   GoodAim None = ⊤
-  GoodAim (Some a) = AimsAt a.target a.value_type
+  GoodAim (Some a) = AssigneesAt a.target a.value_type
 
-  aim_good : (g : Target) (o : Option core_type.ValueType) → ((t : core_type.ValueType) → o ≡ Some t → AimsAt g t) → GoodAim (aim (Some g) o)
-  aim_good g None h = tt
-  aim_good g (Some t) h = h t refl
+  assignee_good : (g : Target) (o : Option core_type.ValueType) → ((t : core_type.ValueType) → o ≡ Some t → AssigneesAt g t) → GoodAim (assignee (Some g) o)
+  assignee_good g None h = tt
+  assignee_good g (Some t) h = h t refl
 
-  var_good : (n : ℕ) (l : scope.Local) (b : Bool) → ((t : core_type.ValueType) → l.value_type ≡ Some t → slice_get types n ≡ Some t) → GoodAim (if b then aim (Some (to_local n)) l.value_type else None)
-  var_good n l true h = aim_good (to_local n) l.value_type h
+  var_good : (n : ℕ) (l : scope.Local) (b : Bool) → ((t : core_type.ValueType) → l.value_type ≡ Some t → slice_get types n ≡ Some t) → GoodAim (if b then assignee (Some (to_local n)) l.value_type else None)
+  var_good n l true h = assignee_good (to_local n) l.value_type h
   var_good n l false h = tt
 
-  name_aim : (sc : Scope) → Sound sc.decls p → Have sc.locals types → (m : Meaning) → IsMeant sc.decls m → IsLocal sc.locals m → GoodAim (aimed_at sc.decls m)
-  name_aim sc so have (a_local n l) at loc = var_good n l (is_var l.kind) (λ t e. have n l t loc.0 e)
-  name_aim sc so have (a_decl n (global v)) at loc = aim_good (to_global (cell_of sc.decls n)) (type_of (outside sc.decls) v.value_type) (λ t e. so.cell n v t at e)
-  name_aim sc so have (a_decl n (lock x)) at loc = tt
-  name_aim sc so have (a_decl n (struct x)) at loc = tt
-  name_aim sc so have (a_decl n (array x)) at loc = tt
-  name_aim sc so have (a_decl n (pool x)) at loc = tt
-  name_aim sc so have (a_decl n (init x)) at loc = tt
-  name_aim sc so have (a_decl n (atomic x)) at loc = tt
-  name_aim sc so have (a_decl n (thread x)) at loc = tt
-  name_aim sc so have nothing at loc = tt
+  name_assignee : (sc : Scope) → Sound sc.decls p → Have sc.locals types → (m : Meaning) → IsMeant sc.decls m → IsLocal sc.locals m → GoodAim (assignee_at sc.decls m)
+  name_assignee sc so have (a_local n l) at loc = var_good n l (is_var l.kind) (λ t e. have n l t loc.0 e)
+  name_assignee sc so have (a_decl n (global v)) at loc = assignee_good (to_global (cell_of sc.decls n)) (type_of (outside sc.decls) v.value_type) (λ t e. so.cell n v t at e)
+  name_assignee sc so have (a_decl n (lock x)) at loc = tt
+  name_assignee sc so have (a_decl n (struct x)) at loc = tt
+  name_assignee sc so have (a_decl n (array x)) at loc = tt
+  name_assignee sc so have (a_decl n (pool x)) at loc = tt
+  name_assignee sc so have (a_decl n (init x)) at loc = tt
+  name_assignee sc so have (a_decl n (atomic x)) at loc = tt
+  name_assignee sc so have (a_decl n (thread x)) at loc = tt
+  name_assignee sc so have nothing at loc = tt
 
-  element_aim : (sc : Scope) → Sound sc.decls p → (m : Meaning) (o : Option core.Expr) → IsMeant sc.decls m → ((x : core.Expr) → o ≡ Some x → Is p types x Integer) → GoodAim (aimed_at_element sc.decls m o)
-  element_aim sc so m None at i = tt
-  element_aim sc so (a_decl n (array a)) (Some index) at i = aim_good (to_element (number_at sc.decls n (array a)) index) (type_of (outside sc.decls) a.value_type) (λ t e. (so.array n a t at e, i index refl))
-  element_aim sc so (a_decl n (lock x)) (Some index) at i = tt
-  element_aim sc so (a_decl n (struct x)) (Some index) at i = tt
-  element_aim sc so (a_decl n (global x)) (Some index) at i = tt
-  element_aim sc so (a_decl n (pool x)) (Some index) at i = tt
-  element_aim sc so (a_decl n (init x)) (Some index) at i = tt
-  element_aim sc so (a_decl n (atomic x)) (Some index) at i = tt
-  element_aim sc so (a_decl n (thread x)) (Some index) at i = tt
-  element_aim sc so (a_local n l) (Some index) at i = tt
-  element_aim sc so nothing (Some index) at i = tt
+  element_assignee : (sc : Scope) → Sound sc.decls p → (m : Meaning) (o : Option core.Expr) → IsMeant sc.decls m → ((x : core.Expr) → o ≡ Some x → Is p types x Integer) → GoodAim (assignee_at_element sc.decls m o)
+  element_assignee sc so m None at i = tt
+  element_assignee sc so (a_decl n (array a)) (Some index) at i = assignee_good (to_element (number_at sc.decls n (array a)) index) (type_of (outside sc.decls) a.value_type) (λ t e. (so.array n a t at e, i index refl))
+  element_assignee sc so (a_decl n (lock x)) (Some index) at i = tt
+  element_assignee sc so (a_decl n (struct x)) (Some index) at i = tt
+  element_assignee sc so (a_decl n (global x)) (Some index) at i = tt
+  element_assignee sc so (a_decl n (pool x)) (Some index) at i = tt
+  element_assignee sc so (a_decl n (init x)) (Some index) at i = tt
+  element_assignee sc so (a_decl n (atomic x)) (Some index) at i = tt
+  element_assignee sc so (a_decl n (thread x)) (Some index) at i = tt
+  element_assignee sc so (a_local n l) (Some index) at i = tt
+  element_assignee sc so nothing (Some index) at i = tt
 
   -- the last step goes over a field of where those ahead of it lead
   splits : (from : core_type.ValueType) (steps : List FieldStep) (t : core_type.ValueType) (q : Split) → Leads p types from steps t → last_field steps ≡ Some q → (s : ℕ) × Leads p types from q.base (Reference s) × (field_in p s q.field ≡ Some t)
@@ -172,29 +171,29 @@ module _ (decls : List Decl) (p : core.Program) (types : List core_type.ValueTyp
           let x = rec w is in
           (x.0, subst (λ (z : Split). Leads p types (Reference s) z.base (Reference x.0)) same (h.0, h.1, x.1), subst (λ (z : Split). field_in p x.0 z.field ≡ Some t) same x.2)
 
-  field_aim : (start n : ℕ) (steps : List FieldStep) (t : core_type.ValueType) → (from : core_type.ValueType) → slice_get types n ≡ Some from → Leads p types from steps t → (o : Option Split) → last_field steps ≡ o → GoodAim (aim (field_target start n o) (Some t))
-  field_aim start n steps t from at h None e = tt
-  field_aim start n steps t from at h (Some q) e = let x = splits from steps t q h e in (x.0, (from, at, x.1), x.2)
+  field_assignee : (start n : ℕ) (steps : List FieldStep) (t : core_type.ValueType) → (from : core_type.ValueType) → slice_get types n ≡ Some from → Leads p types from steps t → (o : Option Split) → last_field steps ≡ o → GoodAim (assignee (field_target start n o) (Some t))
+  field_assignee start n steps t from at h None e = tt
+  field_assignee start n steps t from at h (Some q) e = let x = splits from steps t q h e in (x.0, (from, at, x.1), x.2)
 
-  along_aim : (sc : Scope) (so : Sound sc.decls p) (have : Have sc.locals types) (start n : ℕ) (l : scope.Local) (w : Walk) → GoodPath sc p types so have n w → GoodAim (aimed_along start (a_local n l) w)
-  along_aim sc so have start n l (reached steps t) h = field_aim start n steps t h.0 h.1 h.2 (last_field steps) refl
-  along_aim sc so have start n l at_lock h = tt
-  along_aim sc so have start n l lost h = tt
+  along_assignee : (sc : Scope) (so : Sound sc.decls p) (have : Have sc.locals types) (start n : ℕ) (l : scope.Local) (w : Walk) → GoodPath sc p types so have n w → GoodAim (assignee_along start (a_local n l) w)
+  along_assignee sc so have start n l (reached steps t) h = field_assignee start n steps t h.0 h.1 h.2 (last_field steps) refl
+  along_assignee sc so have start n l at_lock h = tt
+  along_assignee sc so have start n l lost h = tt
 
-  path_aim : (sc : Scope) → Sound sc.decls p → Have sc.locals types → (start : ℕ) (m : Meaning) (fs : List Ident) → IsLocal sc.locals m → GoodAim (aimed_along start m (walk_from sc.decls m fs))
-  path_aim sc so have start (a_local n l) fs loc = along_aim sc so have start n l (walked sc.decls (at_local l.value_type) fs) (local_walk sc p types so have n l fs loc.0 l.value_type refl)
-  path_aim sc so have start (a_decl n d) fs loc = tt
-  path_aim sc so have start nothing fs loc = tt
+  path_assignee : (sc : Scope) → Sound sc.decls p → Have sc.locals types → (start : ℕ) (m : Meaning) (fs : List Ident) → IsLocal sc.locals m → GoodAim (assignee_along start m (walk_from sc.decls m fs))
+  path_assignee sc so have start (a_local n l) fs loc = along_assignee sc so have start n l (walked sc.decls (at_local l.value_type) fs) (local_walk sc p types so have n l fs loc.0 l.value_type refl)
+  path_assignee sc so have start (a_decl n d) fs loc = tt
+  path_assignee sc so have start nothing fs loc = tt
 
   -- a number, where there is one
-  index_good : (sc : Scope) (so : Sound sc.decls p) (have : Have sc.locals types) (e : Expr) (o : Option core.Expr) → number_in_sense (typed sc e) ≡ o → GoodValue sc p types so have Integer o → (x : core.Expr) → o ≡ Some x → Is p types x Integer
+  index_good : (sc : Scope) (so : Sound sc.decls p) (have : Have sc.locals types) (e : Expr) (o : Option core.Expr) → number_resolved (typed sc e) ≡ o → GoodValue sc p types so have Integer o → (x : core.Expr) → o ≡ Some x → Is p types x Integer
   index_good sc so have e None is h x eq = cc
   index_good sc so have e (Some y) is h x eq = let same : y ≡ x = cc in subst (λ (z : core.Expr). Is p types z Integer) same h
 
   target_good : (sc : Scope) → Sound sc.decls p → Have sc.locals types → (q : Place) → GoodAim (target_of sc q)
-  target_good sc so have (lone x) = name_aim sc so have (meaning sc x.text) (meant sc x.text) (meant_local sc x.text)
-  target_good sc so have (element x e) = element_aim sc so (meaning sc x.text) (number_in_sense (typed sc e)) (meant sc x.text) (index_good sc so have e (number_in_sense (typed sc e)) refl (value_good_of sc p types so have Integer e))
-  target_good sc so have (path x fs) = path_aim sc so have x.span.start (meaning sc x.text) fs (meant_local sc x.text)
+  target_good sc so have (lone x) = name_assignee sc so have (meaning sc x.text) (meant sc x.text) (meant_local sc x.text)
+  target_good sc so have (element x e) = element_assignee sc so (meaning sc x.text) (number_resolved (typed sc e)) (meant sc x.text) (index_good sc so have e (number_resolved (typed sc e)) refl (value_good_of sc p types so have Integer e))
+  target_good sc so have (path x fs) = path_assignee sc so have x.span.start (meaning sc x.text) fs (meant_local sc x.text)
 
   -- ---- parts
 
@@ -260,13 +259,13 @@ module _ (decls : List Decl) (p : core.Program) (types : List core_type.ValueTyp
   bind_good result start n (Some t) None h = tt
   bind_good result start n (Some t) (Some x) h = let r = h t refl in (t, r.0, r.1)
 
-  set_good : (g : Target) (t : core_type.ValueType) (x : core.Expr) → AimsAt g t → Is p types x t → Acts p types (set_to g x)
+  set_good : (g : Target) (t : core_type.ValueType) (x : core.Expr) → AssigneesAt g t → Is p types x t → Acts p types (set_to g x)
   set_good (to_local n) t x h i = (t, h, i)
   set_good (to_global cell) t x h i = (t, h, i)
   set_good (to_element n index) t x h i = (t, h.0, h.1, i)
   set_good (to_field base f) t x h i = (h.0, h.1, (t, h.2, i))
 
-  assign_good : (result : Option core_type.ValueType) (start : ℕ) (o : Option Aim) (v : Option core.Expr) → GoodAim o → ((a : Aim) → o ≡ Some a → IfValue a.value_type v) → GoodPart result (assigns start o v)
+  assign_good : (result : Option core_type.ValueType) (start : ℕ) (o : Option Assignee) (v : Option core.Expr) → GoodAim o → ((a : Assignee) → o ≡ Some a → IfValue a.value_type v) → GoodPart result (assigns start o v)
   assign_good result start None v h g = tt
   assign_good result start (Some a) None h g = tt
   assign_good result start (Some a) (Some x) h g = set_good a.target a.value_type x h (g a refl)
@@ -306,8 +305,8 @@ module _ (decls : List Decl) (p : core.Program) (types : List core_type.ValueTyp
       bind_good sc.result l.start.start (length sc.locals) (type_of sc l.value_type) (as_value (fitting (want (type_of sc l.value_type)) (typed sc l.value)))
       (λ t e. (have (length sc.locals) x t (last_local sc.locals x) e, wanted_good sc so before (type_of sc l.value_type) l.value t e))
 
-  assigned_good : (sc : Scope) (so : Sound sc.decls p) (have : Have sc.locals types) (q : Place) (e : Expr) (a : Aim) → target_of sc q ≡ Some a → IfValue a.value_type (as_value (fitting (wanted_by (target_of sc q)) (typed sc e)))
-  assigned_good sc so have q e a is = subst (λ (o : Option Aim). IfValue a.value_type (as_value (fitting (wanted_by o) (typed sc e)))) (sym is) (if_value sc so have a.value_type (as_value (fitting (Value a.value_type) (typed sc e))) (value_good_of sc p types so have a.value_type e))
+  assigned_good : (sc : Scope) (so : Sound sc.decls p) (have : Have sc.locals types) (q : Place) (e : Expr) (a : Assignee) → target_of sc q ≡ Some a → IfValue a.value_type (as_value (fitting (wanted_by (target_of sc q)) (typed sc e)))
+  assigned_good sc so have q e a is = subst (λ (o : Option Assignee). IfValue a.value_type (as_value (fitting (wanted_by o) (typed sc e)))) (sym is) (if_value sc so have a.value_type (as_value (fitting (Value a.value_type) (typed sc e))) (value_good_of sc p types so have a.value_type e))
 
   after_result : (sc : Scope) (s : Stmt) → (after sc s).result ≡ sc.result
   after_result sc (let_local l) = refl
@@ -332,16 +331,16 @@ module _ (decls : List Decl) (p : core.Program) (types : List core_type.ValueTyp
         let inner = have_front (left sc (after_all sc body)).locals (after_else (left sc (after_all sc body)) other).locals types (else_front (left sc (after_all sc body)) other) have in
         let end = left_before sc.locals (after_all sc body).locals (length sc.locals) inner in
         let before = have_front sc.locals (after_all sc body).locals types (all_front sc body) end in
-        if_good (left sc (after_all sc body)) same start.start (test_in_sense (typed sc e)) (block_of (typed_body sc body)) other
-        (if_test sc (sound_at sc same) before (test_in_sense (typed sc e)) (test_good_of sc p types (sound_at sc same) before e))
+        if_good (left sc (after_all sc body)) same start.start (test_resolved (typed sc e)) (block_of (typed_body sc body)) other
+        (if_test sc (sound_at sc same) before (test_resolved (typed sc e)) (test_good_of sc p types (sound_at sc same) before e))
         (block_good sc.result (typed_body sc body) (body_good sc same body end)) have
     stmt_good sc same (while start e body close) have =
         let end = left_before sc.locals (after_all sc body).locals (length sc.locals) have in
         let before = have_front sc.locals (after_all sc body).locals types (all_front sc body) end in
-        while_good sc.result start.start (test_in_sense (typed sc e)) (block_of (typed_body sc body))
-        (if_test sc (sound_at sc same) before (test_in_sense (typed sc e)) (test_good_of sc p types (sound_at sc same) before e))
+        while_good sc.result start.start (test_resolved (typed sc e)) (block_of (typed_body sc body))
+        (if_test sc (sound_at sc same) before (test_resolved (typed sc e)) (test_good_of sc p types (sound_at sc same) before e))
         (block_good sc.result (typed_body sc body) (body_good sc same body end))
-    stmt_good sc same (print start e) have = print_good sc.result start.start (number_in_sense (typed sc e)) (if_value sc (sound_at sc same) have Integer (number_in_sense (typed sc e)) (value_good_of sc p types (sound_at sc same) have Integer e))
+    stmt_good sc same (print start e) have = print_good sc.result start.start (number_resolved (typed sc e)) (if_value sc (sound_at sc same) have Integer (number_resolved (typed sc e)) (value_good_of sc p types (sound_at sc same) have Integer e))
     stmt_good sc same (return_value start e) have = return_good sc.result start.start (as_value (fitting (want sc.result) (typed sc e))) (λ t is. wanted_good sc (sound_at sc same) have sc.result e t is)
 
     if_good : (sc : Scope) → sc.decls ≡ decls → (start : ℕ) (t : Option core.Condition) (b : Option core.Stmts) (o : Otherwise) → IfTest t → GoodBlock b → Have (after_else sc o).locals types → GoodPart sc.result (typed_if sc start t b o)

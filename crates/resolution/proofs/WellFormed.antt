@@ -1,11 +1,10 @@
 -- A program with no fault is resolved to a well-formed one.
-use Rattle.std.proofs.Common.{◌≡◌, ℕ, List, Some, refl, sym, ap, ◌∙◌, subst}
+use Rattle.std.proofs.Common.{◌≡◌, ℕ, List, Some}
 use Rattle.std.specs.Prelude.{slice_get}
 use Rattle.syntax.specs.Trees.{Section, Decl}
 use Rattle.core_lang.specs.declared.tree.Section as the_section
 use Rattle.core_lang.specs.declared.typed.Typed.{Typed}
 use Rattle.core_lang.specs.WellFormed.{IsWellFormed}
-use Rattle.resolution.specs.Core as core
 use Rattle.resolution.specs.CoreViews.{core_section, core_of}
 use Rattle.resolution.specs.Resolution.{resolved, typed_section}
 use Rattle.resolution.proofs.Typed.{get_map}

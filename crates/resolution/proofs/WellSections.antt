@@ -1,29 +1,27 @@
 -- Resolved sections are well typed and well scoped.
-use Rattle.std.proofs.Common.{◌≡◌, ◌≢◌, ℕ, zero, suc, ◌+◌, ◌<◌, ◌≤◌, List, [], ◌∷◌, ◌++◌, length, Option, Some, None, true, ◌⊎◌, inl, inr, refl, sym, ap, ◌∙◌, subst, arith}
-use Rattle.std.specs.Prelude.{slice_get, map, option_map, ⊤}
+use Rattle.std.proofs.Common.{◌≡◌, ◌≢◌, ℕ, zero, suc, ◌+◌, ◌<◌, ◌≤◌, List, [], ◌∷◌, ◌++◌, length, Option, Some, None, true, refl, sym, ap, ◌∙◌, subst, arith}
+use Rattle.std.specs.Prelude.{slice_get, option_map, ⊤}
 use Rattle.std.specs.List.{Contains}
 use Rattle.syntax.specs.Trees.{ValueType, Stmt, let_local, var_local, assign, if_then, while, print, return_value, Stmts, no_stmts, stmt, Otherwise, no_else, else_do, Param, Section, Decl}
 use Rattle.core_lang.specs.declared.value.ValueType as core_type
-use Rattle.core_lang.specs.declared.tree.LocalKind.{LocalKind}
 use Rattle.core_lang.specs.declared.tree.LocalKind.TheVariants as kind
 use Rattle.core_lang.specs.declared.tree.Local as the_local
-use Rattle.core_lang.specs.declared.tree.Return as the_return
 use Rattle.core_lang.specs.declared.tree.Section as the_section
 use Rattle.core_lang.specs.declared.typed.Typed.{Typed}
-use Rattle.core_lang.specs.Typing.{local_types, AllWellTyped, IsResult, IsWellTypedSection}
-use Rattle.core_lang.specs.Scopes.{numbers_from, bound_in_all, assigned_in_all, scope_after_all, ResultNamesOnly, IsWellScoped}
+use Rattle.core_lang.specs.Typing.{local_types, IsWellTypedSection}
+use Rattle.core_lang.specs.Scopes.{numbers_from, scope_after_all, IsWellScoped}
 use Rattle.resolution.specs.Core as core
 use Rattle.resolution.specs.CoreViews.{core_expr, core_stmts, core_return, core_local, core_locals as locals_view, core_section, core_of}
 use Rattle.resolution.specs.Scopes as scopes
 use Rattle.resolution.specs.Scopes.{◌>>=◌, Scope, outside, type_of, bound, hidden, hidden_from, left, entered}
 use Rattle.resolution.specs.Statements.{Body, typed_body, after, after_else, after_all}
 use Rattle.resolution.specs.Constants.{added}
-use Rattle.resolution.specs.Resolution.{result_of, ahead_of, entry, core_local as local_of, core_locals, section_with, section_of, typed_section}
-use Rattle.resolution.proofs.Typed.{AllAct, Returns, get_map, map_got, body_typed, result_typed}
-use Rattle.resolution.proofs.TypedSenses.{Sound}
-use Rattle.resolution.proofs.TypedStatements.{Front, all_front, types_of, Resolved_at, locals_got, SectionOk, section_typed}
+use Rattle.resolution.specs.Resolution.{ahead_of, entry, core_local as local_of, core_locals, section_with, section_of, typed_section}
+use Rattle.resolution.proofs.Typed.{AllAct, Returns, get_map, body_typed, result_typed}
+use Rattle.resolution.proofs.TypedResolvedExprs.{Sound}
+use Rattle.resolution.proofs.TypedStatements.{all_front, types_of, locals_got, section_typed}
 use Rattle.resolution.proofs.Scoped.{Names, StmtsName, behind_all, all_binding, all_assigning, body_scoped, body_behind, body_binding, body_assigning, result_scoped}
-use Rattle.resolution.proofs.ScopedStatements.{Covers, IsVarAt, Become, Done, BodyDone, ReturnDone, numbers_cover, body_done}
+use Rattle.resolution.proofs.ScopedStatements.{IsVarAt, Become, BodyDone, ReturnDone, numbers_cover, body_done}
 
 -- ---- well typed
 

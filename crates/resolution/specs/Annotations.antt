@@ -30,12 +30,12 @@ class_of decls (Some p) = class_in decls (the_decl decls p.first.text) p.rest
 class_of decls None = None
 
 -- where a walk along an annotation stands: a struct's place and members, and the final references on the way to it
-pub record Standing : Type 0 where
+pub record AnnotationCursor : Type 0 where
   pub structure : ℕ
   pub members : List Member
   pub through : List ℕ
 
-abbrev pub at_struct : List ℕ → ℕ → Option (ℕ × Decl) → Option Standing
+abbrev pub at_struct : List ℕ → ℕ → Option (ℕ × Decl) → Option AnnotationCursor
 at_struct through n (Some (i, struct s)) = Some (record { structure = i; members = s.members; through = through ++ n ∷ [] })
 at_struct through n (Some (i, lock x)) = None
 at_struct through n (Some (i, global v)) = None
@@ -47,42 +47,42 @@ at_struct through n (Some (i, thread t)) = None
 at_struct through n None = None
 
 -- over a final reference to its struct; nothing else leads on
-abbrev pub through_member : List Decl → Standing → Option (ℕ × Member) → Option Standing
+abbrev pub through_member : List Decl → AnnotationCursor → Option (ℕ × Member) → Option AnnotationCursor
 through_member decls st (Some (i, final_member f)) = at_struct st.through (member_number st.members i (final_member f)) (the_decl decls f.target.text)
 through_member decls st (Some (i, lock_member x)) = None
 through_member decls st (Some (i, field_member f)) = None
 through_member decls st None = None
 
-abbrev pub stepped_on : List Decl → Option Standing → Ident → Option Standing
+abbrev pub stepped_on : List Decl → Option AnnotationCursor → Ident → Option AnnotationCursor
 stepped_on decls (Some st) y = through_member decls st (the_member st.members y.text)
 stepped_on decls None y = None
 
 -- the walk's end: a lock field
-abbrev pub ended_at : List Decl → Standing → Option (ℕ × Member) → Option core.Protection
+abbrev pub ended_at : List Decl → AnnotationCursor → Option (ℕ × Member) → Option core.Protection
 ended_at decls st (Some (i, lock_member x)) = Some (record { through = st.through; class = class_number decls st.structure (number_in st.members i (lock_member x)) })
 ended_at decls st (Some (i, final_member f)) = None
 ended_at decls st (Some (i, field_member f)) = None
 ended_at decls st None = None
 
-abbrev pub ended : List Decl → Option Standing → Ident → Option core.Protection
+abbrev pub ended : List Decl → Option AnnotationCursor → Ident → Option core.Protection
 ended decls (Some st) y = ended_at decls st (the_member st.members y.text)
 ended decls None y = None
 
 -- along names, the last of which is the lock's
-abbrev pub along : List Decl → Option Standing → Ident → List Ident → Option core.Protection
+abbrev pub along : List Decl → Option AnnotationCursor → Ident → List Ident → Option core.Protection
 along decls st y [] = ended decls st y
 along decls st y (z ∷ zs) = along decls (stepped_on decls st y) z zs
 
 -- a struct's own member is walked from; else a global lock is named
-abbrev pub protection_by : List Decl → Standing → Protection → Option (ℕ × Member) → Option core.Protection
+abbrev pub protection_by : List Decl → AnnotationCursor → Protection → Option (ℕ × Member) → Option core.Protection
 protection_by decls own p (Some m) = along decls (Some own) p.first p.rest
 protection_by decls own p None = class_in decls (the_decl decls p.first.text) p.rest >>= λ c. Some (record { through = []; class = c })
 
 -- the struct at this place, before a walk
-abbrev pub standing_at : ℕ → List Member → Standing
-standing_at i ms = record { structure = i; members = ms; through = [] }
+abbrev pub cursor_at : ℕ → List Member → AnnotationCursor
+cursor_at i ms = record { structure = i; members = ms; through = [] }
 
 -- what protects a field of the struct at this place
 abbrev pub protection_of : List Decl → ℕ → List Member → Option Protection → Option core.Protection
-protection_of decls i ms (Some p) = protection_by decls (standing_at i ms) p (the_member ms p.first.text)
+protection_of decls i ms (Some p) = protection_by decls (cursor_at i ms) p (the_member ms p.first.text)
 protection_of decls i ms None = None

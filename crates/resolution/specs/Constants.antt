@@ -1,12 +1,11 @@
 -- Constants, and what the declarations give the members of pools.
 use Rattle.std.specs.Prelude.{ℕ, ◌+◌, ℤ, pos, neg_ℤ, nat_lt, min, ◌==◌, ◌&&◌, Bool, false, List, [], ◌∷◌, Option, Some, None, if◌then◌else◌}
-use Rattle.source.specs.declared.token.Number.{Number}
 use Rattle.syntax.specs.Trees.{Ident, ref_type, Const, int_const, negative, null_const, member_const, Decl, lock, struct, global, array, pool, init, atomic, thread, Member, lock_member, final_member, field_member, Init, Param}
 use Rattle.core_lang.specs.declared.value.Value.{Value}
 use Rattle.core_lang.specs.declared.value.Value.TheVariants.{Int, Ref}
 use Rattle.core_lang.specs.declared.value.ValueType as core_type
 use Rattle.core_lang.specs.declared.value.ValueType.TheVariants.{Integer, Reference}
-use Rattle.resolution.specs.declared.gift.Gift.{Gift}
+use Rattle.resolution.specs.declared.init_target.InitTarget.{InitTarget}
 use Rattle.resolution.specs.declared.wanted.Sort.{Sort}
 use Rattle.resolution.specs.declared.wanted.Sort.TheVariants as sort
 use Rattle.resolution.specs.declared.wanted.Want.{Want}
@@ -134,41 +133,41 @@ member_want decls (Some (m, lock_member x)) = wanted.Anything
 member_want decls None = wanted.Anything
 
 -- a field or a final reference of a pool's member
-abbrev pub gift_at : ℕ → ℕ → Option (ℕ × Member) → Option Gift
-gift_at p index (Some (m, final_member f)) = Some (record { pool = p; index = index; member = m })
-gift_at p index (Some (m, field_member f)) = Some (record { pool = p; index = index; member = m })
-gift_at p index (Some (m, lock_member x)) = None
-gift_at p index None = None
+abbrev pub init_target_at : ℕ → ℕ → Option (ℕ × Member) → Option InitTarget
+init_target_at p index (Some (m, final_member f)) = Some (record { pool = p; index = index; member = m })
+init_target_at p index (Some (m, field_member f)) = Some (record { pool = p; index = index; member = m })
+init_target_at p index (Some (m, lock_member x)) = None
+init_target_at p index None = None
 
-abbrev pub gift_in : ℕ → ℕ → Option (List Member) → List ℕ → Option Gift
-gift_in p index (Some ms) q = gift_at p index (the_member ms q)
-gift_in p index None q = None
+abbrev pub init_target_in : ℕ → ℕ → Option (List Member) → List ℕ → Option InitTarget
+init_target_in p index (Some ms) q = init_target_at p index (the_member ms q)
+init_target_in p index None q = None
 
-abbrev pub gift_to : List Decl → Option (ℕ × Decl) → ℕ → List ℕ → Option Gift
-gift_to decls (Some (i, pool p)) index q = if nat_lt index p.length.value then gift_in i index (members_of decls p.target) q else None
-gift_to decls (Some (i, lock x)) index q = None
-gift_to decls (Some (i, struct s)) index q = None
-gift_to decls (Some (i, global v)) index q = None
-gift_to decls (Some (i, array a)) index q = None
-gift_to decls (Some (i, init j)) index q = None
-gift_to decls (Some (i, atomic s)) index q = None
-gift_to decls (Some (i, thread t)) index q = None
-gift_to decls None index q = None
+abbrev pub init_target_to : List Decl → Option (ℕ × Decl) → ℕ → List ℕ → Option InitTarget
+init_target_to decls (Some (i, pool p)) index q = if nat_lt index p.length.value then init_target_in i index (members_of decls p.target) q else None
+init_target_to decls (Some (i, lock x)) index q = None
+init_target_to decls (Some (i, struct s)) index q = None
+init_target_to decls (Some (i, global v)) index q = None
+init_target_to decls (Some (i, array a)) index q = None
+init_target_to decls (Some (i, init j)) index q = None
+init_target_to decls (Some (i, atomic s)) index q = None
+init_target_to decls (Some (i, thread t)) index q = None
+init_target_to decls None index q = None
 
 -- what an `init` gives a value to, if there is such a thing
-abbrev pub gift_of : List Decl → Init → Option Gift
-gift_of decls i = gift_to decls (the_decl decls i.pool.text) i.index.value i.field.text
+abbrev pub init_target_of : List Decl → Init → Option InitTarget
+init_target_of decls i = init_target_to decls (the_decl decls i.pool.text) i.index.value i.field.text
 
-abbrev pub same_gift : Gift → Gift → Bool
-same_gift g h = (g.pool == h.pool) && (g.index == h.index) && (g.member == h.member)
+abbrev pub same_init_target : InitTarget → InitTarget → Bool
+same_init_target g h = (g.pool == h.pool) && (g.index == h.index) && (g.member == h.member)
 
-abbrev pub is_gift : Option Gift → Gift → Bool
-is_gift (Some h) g = same_gift h g
-is_gift None g = false
+abbrev pub is_init_target : Option InitTarget → InitTarget → Bool
+is_init_target (Some h) g = same_init_target h g
+is_init_target None g = false
 
 -- whether a declaration gives it a value
-abbrev pub gives : List Decl → Decl → Gift → Bool
-gives decls (init i) g = is_gift (gift_of decls i) g
+abbrev pub gives : List Decl → Decl → InitTarget → Bool
+gives decls (init i) g = is_init_target (init_target_of decls i) g
 gives decls (lock x) g = false
 gives decls (struct s) g = false
 gives decls (global v) g = false
@@ -178,7 +177,7 @@ gives decls (atomic s) g = false
 gives decls (thread t) g = false
 
 -- the first of these declarations that gives it a value, and its place
-abbrev pub giver : List Decl → List Decl → Gift → Option (ℕ × Decl)
+abbrev pub giver : List Decl → List Decl → InitTarget → Option (ℕ × Decl)
 giver decls ds g = named (gives decls) ds g
 
 abbrev pub value_in : Option (ℕ × Decl) → Option Const
@@ -193,7 +192,7 @@ value_in (Some (i, thread t)) = None
 value_in None = None
 
 -- the constant that it is given
-abbrev pub given : List Decl → Gift → Option Const
+abbrev pub given : List Decl → InitTarget → Option Const
 given decls g = value_in (giver decls decls g)
 
 -- ---- opening values

@@ -1,5 +1,5 @@
 -- The faults of a program as one list, in the order in which they are looked for. Only proofs read it: what a fault is, says Faults.
-use Rattle.std.specs.Prelude.{ℕ, zero, suc, ◌+◌, List, [], ◌∷◌, ◌++◌, length, nat_le, nat_lt, nat_eq, not, is_some, ◌==◌, ◌&&◌, ◌||◌, Bool, true, false, if◌then◌else◌, Option, Some, None}
+use Rattle.std.specs.Prelude.{ℕ, zero, suc, ◌+◌, List, [], ◌∷◌, ◌++◌, length, nat_le, nat_lt, not, is_some, ◌==◌, ◌&&◌, ◌||◌, Bool, true, false, if◌then◌else◌, Option, Some, None}
 use Rattle.source.specs.declared.fault.Code.{Code}
 use Rattle.source.specs.declared.fault.Code.TheVariants.{NumberTooLarge, DeclaredTwice, UnknownName, WrongType, WrongArgumentCount, NotAssignable, NeitherFinalNorProtected, ProtectedByNoLock, ProtectedByPassesNonFinal, LimitExceeded, FinalWithoutOpeningValue, InitOutOfRangeOrRepeated, LockAsValue}
 use Rattle.source.specs.Texts.{NUMBER_LIMIT}
@@ -9,23 +9,21 @@ use Rattle.syntax.specs.declared.tree.Level.{Level}
 use Rattle.syntax.specs.declared.tree.Level.TheVariants.{Term, Sum, Conjunction, Disjunction}
 use Rattle.syntax.specs.declared.tree.Comparison as written
 use Rattle.syntax.specs.declared.tree.Comparison.TheVariants as sign
-use Rattle.syntax.specs.Trees.{Ident, ValueType, int_type, ref_type, Const, int_const, negative, null_const, member_const, Place, lone, element, path, Expr, int, null, place, paren, prefix, chain, compare, Links, no_links, link, Stmt, let_local, var_local, assign, if_then, while, print, return_value, Stmts, no_stmts, stmt, Otherwise, no_else, else_do, Protection, Member, lock_member, final_member, field_member, Struct, Pool, Init, Param, Section, Call, Item, call, repeat, Items, no_items, item, Decl, lock, struct, global, array, pool, init, atomic, thread}
-use Rattle.core_lang.specs.declared.value.ValueType as core_type
+use Rattle.syntax.specs.Trees.{Ident, ValueType, int_type, ref_type, Const, int_const, negative, null_const, member_const, Place, lone, element, path, Expr, int, null, place, paren, prefix, chain, compare, Links, no_links, link, Stmt, let_local, var_local, assign, if_then, while, print, return_value, Stmts, no_stmts, stmt, Otherwise, no_else, else_do, Protection, Member, lock_member, final_member, field_member, Struct, Pool, Init, Param, Item, call, repeat, Items, no_items, item, Decl, lock, struct, global, array, pool, init, atomic, thread}
 use Rattle.core_lang.specs.declared.value.ValueType.TheVariants.{Integer, Reference}
 use Rattle.core_lang.specs.declared.tree.LocalKind.TheVariants.{Parameter}
-use Rattle.core_lang.specs.declared.tree.FieldStep.{FieldStep}
-use Rattle.resolution.specs.declared.gift.Gift.{Gift}
+use Rattle.resolution.specs.declared.init_target.InitTarget.{InitTarget}
 use Rattle.resolution.specs.declared.mistake.Mistake.{Mistake}
 use Rattle.resolution.specs.declared.wanted.Sort.{Sort}
 use Rattle.resolution.specs.declared.wanted.Want.{Want}
-use Rattle.resolution.specs.declared.wanted.Want.TheVariants.{Anything, Condition, Value}
+use Rattle.resolution.specs.declared.wanted.Want.TheVariants.{Condition, Value}
 use Rattle.resolution.specs.Limits.{STRUCT_LIMIT, MEMBER_LIMIT, FINAL_LIMIT, CLASS_LIMIT, OBJECT_LIMIT, CELL_LIMIT, SECTION_LIMIT, THREAD_LIMIT, PARAMETER_LIMIT, LOCAL_LIMIT, CALL_LIMIT}
-use Rattle.resolution.specs.Scopes.{Scope, Local, outside, Meaning, a_local, a_decl, nothing, meaning, place_of, count, declared, bears, the_decl, alike, the_struct, member_name, member_bears, the_member, the_local, type_of, has_type, struct_named, bound, entered, left}
+use Rattle.resolution.specs.Scopes.{Scope, Local, outside, Meaning, a_local, a_decl, nothing, meaning, place_of, count, declared, bears, the_decl, alike, the_struct, member_name, member_bears, the_member, the_local, type_of, has_type, struct_named, bound, left}
 use Rattle.resolution.specs.Numbers.{is_lock, classes_of, objects_of, cells_of, calls_of, total}
-use Rattle.resolution.specs.Expressions.{Sense, value, truth, fits, fits_sort, alike_sorts, want, typed, operator_of, Walk, reached, at_lock, lost, stepped, at_local, walk_from}
-use Rattle.resolution.specs.Statements.{is_var, last_field, first_name, target_of, wanted_by, after, after_all}
-use Rattle.resolution.specs.Constants.{const_sort, want_of, members_of, pool_members, member_want, initialised, gift_of, giver, given}
-use Rattle.resolution.specs.Annotations.{Standing, stepped_on, standing_at}
+use Rattle.resolution.specs.Expressions.{ResolvedExpr, value, truth, fits, fits_sort, alike_sorts, want, typed, operator_of, Walk, reached, at_lock, lost, stepped, at_local, walk_from}
+use Rattle.resolution.specs.Statements.{is_var, last_field, target_of, wanted_by, after, after_all}
+use Rattle.resolution.specs.Constants.{const_sort, want_of, members_of, pool_members, member_want, initialised, init_target_of, giver, given}
+use Rattle.resolution.specs.Annotations.{AnnotationCursor, stepped_on, cursor_at}
 use Rattle.resolution.specs.Resolution.{ahead_of, entry}
 use Rattle.resolution.specs.Order.{lesser}
 use Rattle.resolution.specs.Where.{operand_want, prefix_want, side_want}
@@ -163,12 +161,12 @@ path_faults decls start nothing fs = one UnknownName start
 -- ---- expressions
 
 -- what isn't wanted
-abbrev pub misfit : Want → ℕ → Option Sense → List Mistake
+abbrev pub misfit : Want → ℕ → Option ResolvedExpr → List Mistake
 misfit w start (Some s) = if fits w s then [] else one WrongType start
 misfit w start None = []
 
 -- sides that `==` doesn't take
-abbrev pub unlike : ℕ → ℕ → Option Sense → Option Sense → List Mistake
+abbrev pub unlike : ℕ → ℕ → Option ResolvedExpr → Option ResolvedExpr → List Mistake
 unlike a b (Some (value e s)) (Some (value f t)) = if alike_sorts s t then [] else one WrongType b
 unlike a b (Some (value e s)) (Some (truth d)) = one WrongType b
 unlike a b (Some (truth c)) (Some (value f t)) = one WrongType b
@@ -176,7 +174,7 @@ unlike a b (Some (truth c)) (Some (truth d)) = one WrongType a
 unlike a b (Some s) None = []
 unlike a b None t = []
 
-abbrev pub side_faults : written.Comparison → ℕ → ℕ → Option Sense → Option Sense → List Mistake
+abbrev pub side_faults : written.Comparison → ℕ → ℕ → Option ResolvedExpr → Option ResolvedExpr → List Mistake
 side_faults sign.Equal a b s t = unlike a b s t
 side_faults sign.NotEqual a b s t = unlike a b s t
 side_faults sign.Less a b s t = []
@@ -331,27 +329,27 @@ last_faults first here (Some (i, lock_member x)) = []
 last_faults first here (Some (i, final_member f)) = one ProtectedByNoLock first
 last_faults first here (Some (i, field_member f)) = one ProtectedByNoLock first
 
-abbrev pub passed : ℕ → Option Standing → Ident → List Mistake
+abbrev pub passed : ℕ → Option AnnotationCursor → Ident → List Mistake
 passed first (Some st) y = passed_faults first y.span.start (length st.through) (the_member st.members y.text)
 passed first None y = []
 
-abbrev pub ended : ℕ → Option Standing → Ident → List Mistake
+abbrev pub ended : ℕ → Option AnnotationCursor → Ident → List Mistake
 ended first (Some st) y = last_faults first y.span.start (the_member st.members y.text)
 ended first None y = []
 
 -- a walk along names, the first of all of which starts there
-abbrev pub along_faults : List Decl → ℕ → Option Standing → Ident → List Ident → List Mistake
+abbrev pub along_faults : List Decl → ℕ → Option AnnotationCursor → Ident → List Ident → List Mistake
 along_faults decls first st y [] = ended first st y
 along_faults decls first st y (z ∷ zs) = passed first st y ++ along_faults decls first (stepped_on decls st y) z zs
 
-abbrev pub annotation_faults : List Decl → Standing → Protection → Option (ℕ × Member) → List Mistake
+abbrev pub annotation_faults : List Decl → AnnotationCursor → Protection → Option (ℕ × Member) → List Mistake
 annotation_faults decls own p (Some m) = along_faults decls p.first.span.start (Some own) p.first p.rest
 annotation_faults decls own p None = global_lock_faults p.first.span.start (the_decl decls p.first.text) p.rest
 
 -- a field's of this name, of the struct at this place
 abbrev pub protection_faults : List Decl → ℕ → List Member → ℕ → Option Protection → List Mistake
 protection_faults decls i ms name None = one NeitherFinalNorProtected name
-protection_faults decls i ms name (Some p) = annotation_faults decls (standing_at i ms) p (the_member ms p.first.text)
+protection_faults decls i ms name (Some p) = annotation_faults decls (cursor_at i ms) p (the_member ms p.first.text)
 
 -- ---- declarations
 
@@ -527,12 +525,12 @@ abbrev pub given_before : ℕ → Option (ℕ × Decl) → List Mistake
 given_before start None = []
 given_before start (Some d) = one InitOutOfRangeOrRepeated start
 
-abbrev pub gift_again : List Decl → List Decl → ℕ → Option Gift → List Mistake
-gift_again decls before start (Some g) = given_before start (giver decls before g)
-gift_again decls before start None = []
+abbrev pub init_target_again : List Decl → List Decl → ℕ → Option InitTarget → List Mistake
+init_target_again decls before start (Some g) = given_before start (giver decls before g)
+init_target_again decls before start None = []
 
 abbrev pub repeated : List Decl → List Decl → Decl → List Mistake
-repeated decls before (init j) = gift_again decls before j.start.start (gift_of decls j)
+repeated decls before (init j) = init_target_again decls before j.start.start (init_target_of decls j)
 repeated decls before (lock x) = []
 repeated decls before (struct s) = []
 repeated decls before (global v) = []

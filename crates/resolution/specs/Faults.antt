@@ -9,24 +9,24 @@ use Rattle.source.specs.declared.fault.Refusal.TheVariants as refusal
 use Rattle.source.specs.declared.token.Number.{Number}
 use Rattle.syntax.specs.declared.tree.Op.{Op}
 use Rattle.syntax.specs.declared.tree.Level.{Level}
-use Rattle.syntax.specs.declared.tree.Level.TheVariants.{Term, Sum, Conjunction, Disjunction}
+use Rattle.syntax.specs.declared.tree.Level.TheVariants.{Term, Sum}
 use Rattle.syntax.specs.declared.tree.Comparison as written
 use Rattle.syntax.specs.declared.tree.Comparison.TheVariants as sign
-use Rattle.syntax.specs.Trees.{Ident, ValueType, ref_type, Const, int_const, negative, null_const, member_const, Place, lone, element, path, Expr, int, null, place, paren, prefix, chain, compare, Links, Stmt, assign, Protection, Member, lock_member, final_member, field_member, Struct, Field, Final, Variable, Array, Pool, Init, Param, Section, Call, Decl, lock, struct, global, array, pool, init, atomic, thread}
+use Rattle.syntax.specs.Trees.{Ident, ref_type, Const, int_const, negative, null_const, member_const, Place, lone, element, path, Expr, int, null, place, paren, prefix, chain, compare, Links, assign, Protection, Member, lock_member, final_member, field_member, Struct, Field, Final, Variable, Array, Pool, Init, Param, Section, Call, Decl, lock, struct, global, array, pool, init, atomic, thread}
 use Rattle.core_lang.specs.declared.value.ValueType as core_type
 use Rattle.core_lang.specs.declared.value.ValueType.TheVariants.{Integer, Reference}
 use Rattle.core_lang.specs.declared.tree.FieldStep.{FieldStep}
-use Rattle.resolution.specs.declared.gift.Gift.{Gift}
+use Rattle.resolution.specs.declared.init_target.InitTarget.{InitTarget}
 use Rattle.resolution.specs.declared.wanted.Sort.{Sort}
 use Rattle.resolution.specs.declared.wanted.Want.{Want}
 use Rattle.resolution.specs.Core as core
 use Rattle.resolution.specs.Limits.{STRUCT_LIMIT, MEMBER_LIMIT, FINAL_LIMIT, CLASS_LIMIT, OBJECT_LIMIT, CELL_LIMIT, SECTION_LIMIT, THREAD_LIMIT, PARAMETER_LIMIT, LOCAL_LIMIT, CALL_LIMIT}
-use Rattle.resolution.specs.Scopes.{Scope, Local, outside, Meaning, a_local, a_decl, nothing, meaning, place_of, count, declared, bears, the_decl, alike, the_struct, member_name, member_bears, the_member, the_local, has_type, struct_named}
+use Rattle.resolution.specs.Scopes.{Scope, Local, Meaning, a_local, a_decl, nothing, meaning, place_of, count, declared, bears, the_decl, alike, the_struct, member_name, member_bears, the_member, the_local, has_type, struct_named}
 use Rattle.resolution.specs.Numbers.{is_lock, total, classes_of, objects_of, cells_of, calls_of}
-use Rattle.resolution.specs.Expressions.{Sense, value, truth, fits, fits_sort, alike_sorts, typed, operator_of, Walk, reached, at_lock, lost, walk_from}
+use Rattle.resolution.specs.Expressions.{ResolvedExpr, value, truth, fits, fits_sort, alike_sorts, typed, operator_of, Walk, reached, at_lock, walk_from}
 use Rattle.resolution.specs.Statements.{is_var, last_field, first_name}
-use Rattle.resolution.specs.Constants.{const_sort, members_of, pool_members, initialised, gift_of, giver, given}
-use Rattle.resolution.specs.Annotations.{Standing, through_member, standing_at}
+use Rattle.resolution.specs.Constants.{const_sort, members_of, pool_members, initialised, init_target_of, giver, given}
+use Rattle.resolution.specs.Annotations.{AnnotationCursor, through_member, cursor_at}
 use Rattle.resolution.specs.Where.{Has, HasLink, HasStmt, HasExpr, HasPlace, Binds, HasType, HasCall, HasConst, HasLock, Annotates}
 
 -- ---- where expressions and constants start
@@ -64,14 +64,14 @@ pub data IsDeclaredTwice (decls : List Decl) : ℕ → Type 0 where
 -- ---- annotations
 
 -- a walk along an annotation comes from where it stands, with a name and those behind it left, to where it stands with others left
-pub data Reaches (decls : List Decl) : Standing → Ident → List Ident → Standing → Ident → List Ident → Type 0 where
-  stays : {st : Standing} {y : Ident} {ys : List Ident} → Reaches decls st y ys st y ys
-  goes_on : {st next to : Standing} {y z x : Ident} {zs xs : List Ident} → through_member decls st (the_member st.members y.text) ≡ Some next → Reaches decls next z zs to x xs → Reaches decls st y (z ∷ zs) to x xs
+pub data Reaches (decls : List Decl) : AnnotationCursor → Ident → List Ident → AnnotationCursor → Ident → List Ident → Type 0 where
+  stays : {st : AnnotationCursor} {y : Ident} {ys : List Ident} → Reaches decls st y ys st y ys
+  goes_on : {st next to : AnnotationCursor} {y z x : Ident} {zs xs : List Ident} → through_member decls st (the_member st.members y.text) ≡ Some next → Reaches decls next z zs to x xs → Reaches decls st y (z ∷ zs) to x xs
 
 -- the annotation, with its first name p, begins at an own member of the field's struct, and its walk comes there
-pub data Walks (decls : List Decl) : Protection → Standing → Ident → List Ident → Type 0 where
-  walks : {i : ℕ} {ms : List Member} {p : Protection} {own : ℕ × Member} {st : Standing} {y : Ident} {ys : List Ident} →
-      Annotates decls i ms p → the_member ms p.first.text ≡ Some own → Reaches decls (standing_at i ms) p.first p.rest st y ys → Walks decls p st y ys
+pub data Walks (decls : List Decl) : Protection → AnnotationCursor → Ident → List Ident → Type 0 where
+  walks : {i : ℕ} {ms : List Member} {p : Protection} {own : ℕ × Member} {st : AnnotationCursor} {y : Ident} {ys : List Ident} →
+      Annotates decls i ms p → the_member ms p.first.text ≡ Some own → Reaches decls (cursor_at i ms) p.first p.rest st y ys → Walks decls p st y ys
 
 -- the annotation is to name a global lock: a global's, or that of a field whose struct has no member of the first name
 pub data NamesGlobal (decls : List Decl) : Protection → Type 0 where
@@ -102,12 +102,12 @@ pub data IsUnknown (decls : List Decl) : ℕ → Type 0 where
   no_field : {sc : Scope} {x : Ident} {fs : List Ident} (before behind : List Ident) (f : Ident) (steps : List FieldStep) (k : ℕ) {s : Struct} → HasPlace decls sc (path x fs) → fs ≡ before ++ f ∷ behind →
       walk_from decls (meaning sc x.text) before ≡ reached steps (Reference k) → the_struct decls k ≡ Some s → the_member s.members f.text ≡ None → IsUnknown decls f.span.start
   no_lock : {p : Protection} → NamesGlobal decls p → the_decl decls p.first.text ≡ None → IsUnknown decls p.first.span.start
-  no_field_passed : {p : Protection} {st : Standing} {y : Ident} {ys : List Ident} → Walks decls p st y ys → the_member st.members y.text ≡ None → IsUnknown decls y.span.start
+  no_field_passed : {p : Protection} {st : AnnotationCursor} {y : Ident} {ys : List Ident} → Walks decls p st y ys → the_member st.members y.text ≡ None → IsUnknown decls y.span.start
 
 -- ---- E07
 
 -- sides of which `==` blames the right one
-abbrev pub AreUnlike : Sense → Sense → Type 0
+abbrev pub AreUnlike : ResolvedExpr → ResolvedExpr → Type 0
 AreUnlike (value a s) (value b t) = alike_sorts s t ≡ false
 AreUnlike (value a s) (truth d) = Unit {0}
 AreUnlike (truth c) (value b t) = Unit {0}
@@ -158,9 +158,9 @@ IsPool _ = ⊥
 
 -- an expression or a constant that isn't what is wanted, sides of `==` that are unlike, a name of the wrong kind
 pub data IsWrongType (decls : List Decl) : ℕ → Type 0 where
-  unwanted : {sc : Scope} {w : Want} {e : Expr} {s : Sense} → HasExpr decls sc w e → typed sc e ≡ Some s → fits w s ≡ false → IsWrongType decls (start_of e)
+  unwanted : {sc : Scope} {w : Want} {e : Expr} {s : ResolvedExpr} → HasExpr decls sc w e → typed sc e ≡ Some s → fits w s ≡ false → IsWrongType decls (start_of e)
   unwanted_constant : {w : Want} {c : Const} {s : Sort} → HasConst decls w c → const_sort decls c ≡ Some s → fits_sort w s ≡ false → IsWrongType decls (const_start c)
-  unlike_sides : {sc : Scope} {w : Want} {a b : Expr} {c : written.Comparison} {s t : Sense} → HasExpr decls sc w (compare a c b) → IsEquality c → typed sc a ≡ Some s → typed sc b ≡ Some t → AreUnlike s t → IsWrongType decls (start_of b)
+  unlike_sides : {sc : Scope} {w : Want} {a b : Expr} {c : written.Comparison} {s t : ResolvedExpr} → HasExpr decls sc w (compare a c b) → IsEquality c → typed sc a ≡ Some s → typed sc b ≡ Some t → AreUnlike s t → IsWrongType decls (start_of b)
   truths_compared : {sc : Scope} {w : Want} {a b : Expr} {c : written.Comparison} {x y : core.Condition} → HasExpr decls sc w (compare a c b) → IsEquality c → typed sc a ≡ Some (truth x) → typed sc b ≡ Some (truth y) → IsWrongType decls (start_of a)
   no_value : {sc : Scope} {w : Want} {x : Ident} {i : ℕ} {d : Decl} → HasExpr decls sc w (place (lone x)) → meaning sc x.text ≡ a_decl i d → IsNoValue d → has_type decls (a_decl i d) ≡ true → IsWrongType decls x.span.start
   no_elements : {sc : Scope} {x : Ident} {e : Expr} → HasPlace decls sc (element x e) → HasNoElements (meaning sc x.text) → has_type decls (meaning sc x.text) ≡ true → IsWrongType decls x.span.start
@@ -195,12 +195,12 @@ pub data IsUnprotected (decls : List Decl) : ℕ → Type 0 where
 
 -- at its end stands a field that is no lock; or it names something else than a global lock, and that alone
 pub data EndsAtNoLock (decls : List Decl) : ℕ → Type 0 where
-  ends_at_member : {p : Protection} {st : Standing} {y : Ident} {i : ℕ} {m : Member} → Walks decls p st y [] → the_member st.members y.text ≡ Some (i, m) → (IsLockMember m → ⊥) → EndsAtNoLock decls p.first.span.start
+  ends_at_member : {p : Protection} {st : AnnotationCursor} {y : Ident} {i : ℕ} {m : Member} → Walks decls p st y [] → the_member st.members y.text ≡ Some (i, m) → (IsLockMember m → ⊥) → EndsAtNoLock decls p.first.span.start
   names_no_lock : {p : Protection} {i : ℕ} {d : Decl} → NamesGlobal decls p → the_decl decls p.first.text ≡ Some (i, d) → ((IsLockDecl d × (p.rest ≡ [])) → ⊥) → EndsAtNoLock decls p.first.span.start
 
 -- a name that isn't the last is a field, and no final reference
 pub data PassesNonFinal (decls : List Decl) : ℕ → Type 0 where
-  passes : {p : Protection} {st : Standing} {y z : Ident} {zs : List Ident} {i : ℕ} {m : Member} → Walks decls p st y (z ∷ zs) → the_member st.members y.text ≡ Some (i, m) → (IsFinalMember m → ⊥) → PassesNonFinal decls y.span.start
+  passes : {p : Protection} {st : AnnotationCursor} {y z : Ident} {zs : List Ident} {i : ℕ} {m : Member} → Walks decls p st y (z ∷ zs) → the_member st.members y.text ≡ Some (i, m) → (IsFinalMember m → ⊥) → PassesNonFinal decls y.span.start
 
 -- ---- E15
 
@@ -226,7 +226,7 @@ pub data IsOverLimit (decls : List Decl) : ℕ → Type 0 where
   too_many_calls : (before behind : List Decl) (d : Decl) {x : Ident} → decls ≡ before ++ d ∷ behind → declared d ≡ Some x → total calls_of before ≤ CALL_LIMIT → CALL_LIMIT < total calls_of before + calls_of d → IsOverLimit decls x.span.start
   too_many_parameters : {x : Section} (p : Param) (before behind : List Param) → Has decls (atomic x) → x.params ≡ before ++ p ∷ behind → PARAMETER_LIMIT ≤ length before → IsOverLimit decls p.name.span.start
   too_many_locals : {sc : Scope} {x : Ident} → Binds decls sc x → LOCAL_LIMIT ≤ length sc.locals → IsOverLimit decls x.span.start
-  too_many_finals : {p : Protection} {st : Standing} {y z : Ident} {zs : List Ident} {i : ℕ} {f : Final} → Walks decls p st y (z ∷ zs) → the_member st.members y.text ≡ Some (i, final_member f) → FINAL_LIMIT ≤ length st.through → IsOverLimit decls p.first.span.start
+  too_many_finals : {p : Protection} {st : AnnotationCursor} {y z : Ident} {zs : List Ident} {i : ℕ} {f : Final} → Walks decls p st y (z ∷ zs) → the_member st.members y.text ≡ Some (i, final_member f) → FINAL_LIMIT ≤ length st.through → IsOverLimit decls p.first.span.start
 
 -- ---- E16: a final reference of a pool's member that no `init` gives a value, or that one gives null
 
@@ -240,7 +240,7 @@ pub data IsFinalMissing (decls : List Decl) : ℕ → Type 0 where
 pub data IsOutOfRange (decls : List Decl) : ℕ → Type 0 where
   constant_beyond : {w : Want} {x : Ident} {n : Number} {i : ℕ} {p : Pool} → HasConst decls w (member_const x n) → the_decl decls x.text ≡ Some (i, pool p) → has_type decls (a_decl i (pool p)) ≡ true → p.length.value ≤ n.value → IsOutOfRange decls n.span.start
   init_beyond : {j : Init} {i : ℕ} {p : Pool} → Has decls (init j) → the_decl decls j.pool.text ≡ Some (i, pool p) → has_type decls (a_decl i (pool p)) ≡ true → p.length.value ≤ j.index.value → IsOutOfRange decls j.index.span.start
-  given_again : (before behind : List Decl) (j : Init) {g : Gift} {e : ℕ × Decl} → decls ≡ before ++ init j ∷ behind → gift_of decls j ≡ Some g → giver decls before g ≡ Some e → IsOutOfRange decls j.start.start
+  given_again : (before behind : List Decl) (j : Init) {g : InitTarget} {e : ℕ × Decl} → decls ≡ before ++ init j ∷ behind → init_target_of decls j ≡ Some g → giver decls before g ≡ Some e → IsOutOfRange decls j.start.start
 
 -- ---- E19: a lock as a value, on the left, or in an `init`
 

@@ -1,6 +1,6 @@
 -- Where declarations have their lock classes, objects and cells.
 use Rattle.std.specs.Prelude.{ℕ, ◌+◌, ◌*◌, List, [], ◌∷◌, ◌++◌, take, Option, Some, None, Bool, true, false}
-use Rattle.syntax.specs.Trees.{Ident, Decl, lock, struct, global, array, pool, init, atomic, thread, Member, lock_member, final_member, field_member, Item, call, repeat, Items, no_items, item}
+use Rattle.syntax.specs.Trees.{Decl, lock, struct, global, array, pool, init, atomic, thread, Member, lock_member, final_member, field_member, Item, call, repeat, Items, no_items, item}
 use Rattle.resolution.specs.Scopes.{place_of, count, the_decl, member_name, member_bears}
 
 abbrev pub is_lock : Member → Bool

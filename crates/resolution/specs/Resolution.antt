@@ -1,12 +1,10 @@
 -- The program that a tree stands for.
-use Rattle.std.specs.Prelude.{ℕ, zero, suc, ◌+◌, nat_le, Bool, true, false, List, [], ◌∷◌, ◌++◌, length, ◌==◌, Option, Some, None, if◌then◌else◌}
-use Rattle.syntax.specs.Trees.{Ident, ValueType, Const, Stmts, Param, Section, Call, Item, call, repeat, Items, no_items, item, Member, lock_member, final_member, field_member, Struct, Variable, Array, Pool, Decl, lock, struct, global, array, pool, init, atomic, thread}
+use Rattle.std.specs.Prelude.{ℕ, zero, suc, ◌+◌, nat_le, Bool, List, [], ◌∷◌, ◌++◌, length, Option, Some, None, if◌then◌else◌}
+use Rattle.syntax.specs.Trees.{ValueType, Const, Section, Item, call, repeat, Items, no_items, item, Member, lock_member, final_member, field_member, Decl, lock, struct, global, array, pool, init, atomic, thread}
 use Rattle.core_lang.specs.declared.value.Value.{Value}
 use Rattle.core_lang.specs.declared.value.ValueType as core_type
-use Rattle.core_lang.specs.declared.typed.Cell.{Cell}
 use Rattle.core_lang.specs.declared.typed.Owner.{Owner}
 use Rattle.core_lang.specs.declared.typed.Owner.TheVariants as owner
-use Rattle.core_lang.specs.declared.shape.Object.{Object}
 use Rattle.resolution.specs.Core as core
 use Rattle.resolution.specs.Limits.{CALL_LIMIT, object_at, cell_at, final_at}
 use Rattle.resolution.specs.Scopes.{◌>>=◌, Scope, Local, outside, the_decl, number_at, type_of, struct_named, entered}
@@ -104,35 +102,35 @@ typed_calls decls is = if few_calls decls then typed_items decls is else None
 -- ---- structs
 
 -- a struct with some of its members, and the lock classes so far
-pub record Shaping : Type 0 where
+pub record StructBuilder : Type 0 where
   pub structure : core.Struct
   pub classes : List core.LockClass
 
 -- a lock field has the next class; the struct has number k
-abbrev pub lock_added : ℕ → Shaping → List ℕ → Shaping
+abbrev pub lock_added : ℕ → StructBuilder → List ℕ → StructBuilder
 lock_added k st name = record {
   structure = record (st.structure) { locks = st.structure.locks ++ record { name = name; class = length st.classes } ∷ [] };
   classes = st.classes ++ core.lock_field k (length st.structure.locks) ∷ [];
 }
 
-abbrev pub final_added : Shaping → List ℕ → Option ℕ → Option Shaping
+abbrev pub final_added : StructBuilder → List ℕ → Option ℕ → Option StructBuilder
 final_added st name (Some target) = Some (record st { structure = record (st.structure) { finals = st.structure.finals ++ record { name = name; target = target } ∷ [] } })
 final_added st name None = None
 
-abbrev pub field_added : Shaping → List ℕ → Option core_type.ValueType → Option core.Protection → Option Shaping
+abbrev pub field_added : StructBuilder → List ℕ → Option core_type.ValueType → Option core.Protection → Option StructBuilder
 field_added st name (Some t) (Some p) = Some (record st { structure = record (st.structure) { fields = st.structure.fields ++ record { name = name; value_type = t; protection = p } ∷ [] } })
 field_added st name (Some t) None = None
 field_added st name None p = None
 
 -- one more member of the struct that has number k, this place and these members
-abbrev pub member_added : List Decl → ℕ → ℕ → List Member → Option Shaping → Member → Option Shaping
+abbrev pub member_added : List Decl → ℕ → ℕ → List Member → Option StructBuilder → Member → Option StructBuilder
 member_added decls k i ms (Some st) (lock_member x) = Some (lock_added k st x.text)
 member_added decls k i ms (Some st) (final_member f) = final_added st f.name.text (struct_named decls f.target)
 member_added decls k i ms (Some st) (field_member f) = field_added st f.name.text (type_of (outside decls) f.value_type) (protection_of decls i ms f.protection)
 member_added decls k i ms None m = None
 
 -- members, one after another
-abbrev pub members_added : List Decl → ℕ → ℕ → List Member → Option Shaping → List Member → Option Shaping
+abbrev pub members_added : List Decl → ℕ → ℕ → List Member → Option StructBuilder → List Member → Option StructBuilder
 members_added decls k i all st [] = st
 members_added decls k i all st (m ∷ ms) = members_added decls k i all (member_added decls k i all st m) ms
 
@@ -147,7 +145,7 @@ nothing_yet = record { classes = []; structs = []; globals = []; arrays = []; po
 abbrev pub with_class : core.Program → core.LockClass → core.Program
 with_class p c = record p { classes = p.classes ++ c ∷ [] }
 
-abbrev pub with_struct : core.Program → Option Shaping → Option core.Program
+abbrev pub with_struct : core.Program → Option StructBuilder → Option core.Program
 with_struct p (Some st) = Some (record p { classes = st.classes; structs = p.structs ++ st.structure ∷ [] })
 with_struct p None = None
 

@@ -1,17 +1,16 @@
 -- Statements with each name replaced by the number of what it means, where everything in them has a type.
 use Rattle.std.specs.Prelude.{ℕ, Bool, true, false, List, [], ◌∷◌, length, Option, Some, None, if◌then◌else◌}
-use Rattle.syntax.specs.Trees.{Ident, Place, lone, element, path, Expr, Stmt, let_local, var_local, assign, if_then, while, print, return_value, Stmts, no_stmts, stmt, Otherwise, no_else, else_do, Decl, lock, struct, global, array, pool, init, atomic, thread}
+use Rattle.syntax.specs.Trees.{Ident, Place, lone, element, path, Stmt, let_local, var_local, assign, if_then, while, print, return_value, Stmts, no_stmts, stmt, Otherwise, no_else, else_do, Decl, lock, struct, global, array, pool, init, atomic, thread}
 use Rattle.core_lang.specs.declared.value.ValueType as core_type
-use Rattle.core_lang.specs.declared.value.ValueType.TheVariants.{Integer}
 use Rattle.core_lang.specs.declared.tree.FieldStep.{FieldStep}
 use Rattle.core_lang.specs.declared.tree.FieldStep.TheVariants as step
 use Rattle.core_lang.specs.declared.tree.LocalKind.{LocalKind}
 use Rattle.core_lang.specs.declared.tree.LocalKind.TheVariants.{Parameter, Let, Var}
 use Rattle.resolution.specs.declared.wanted.Want.{Want}
-use Rattle.resolution.specs.declared.wanted.Want.TheVariants.{Anything, Condition, Value}
+use Rattle.resolution.specs.declared.wanted.Want.TheVariants.{Anything, Value}
 use Rattle.resolution.specs.Core as core
 use Rattle.resolution.specs.Scopes.{◌>>=◌, Scope, outside, Meaning, a_local, a_decl, nothing, meaning, number_at, type_of, bound, left}
-use Rattle.resolution.specs.Expressions.{want, fitting, as_value, as_truth, number_in_sense, test_in_sense, typed, Walk, reached, at_lock, lost, walk_from, local_path, cell_of}
+use Rattle.resolution.specs.Expressions.{want, fitting, as_value, number_resolved, test_resolved, typed, Walk, reached, at_lock, lost, walk_from, local_path, cell_of}
 
 -- ---- the left side of an assignment
 
@@ -23,14 +22,14 @@ pub data Target : Type 0 where
   to_field : (base : core.Path) → (field : ℕ) → Target
 
 -- what is assigned to, and its type
-pub record Aim : Type 0 where
+pub record Assignee : Type 0 where
   pub target : Target
   pub value_type : core_type.ValueType
 
-abbrev pub aim : Option Target → Option core_type.ValueType → Option Aim
-aim (Some t) (Some v) = Some (record { target = t; value_type = v })
-aim (Some t) None = None
-aim None v = None
+abbrev pub assignee : Option Target → Option core_type.ValueType → Option Assignee
+assignee (Some t) (Some v) = Some (record { target = t; value_type = v })
+assignee (Some t) None = None
+assignee None v = None
 
 abbrev pub is_var : LocalKind → Bool
 is_var Var = true
@@ -38,31 +37,31 @@ is_var Let = false
 is_var Parameter = false
 
 -- a name
-abbrev pub aimed_at : List Decl → Meaning → Option Aim
-aimed_at decls (a_local i l) = if is_var l.kind then aim (Some (to_local i)) l.value_type else None
-aimed_at decls (a_decl i (global v)) = aim (Some (to_global (cell_of decls i))) (type_of (outside decls) v.value_type)
-aimed_at decls (a_decl i (lock x)) = None
-aimed_at decls (a_decl i (struct s)) = None
-aimed_at decls (a_decl i (array a)) = None
-aimed_at decls (a_decl i (pool p)) = None
-aimed_at decls (a_decl i (init j)) = None
-aimed_at decls (a_decl i (atomic s)) = None
-aimed_at decls (a_decl i (thread t)) = None
-aimed_at decls nothing = None
+abbrev pub assignee_at : List Decl → Meaning → Option Assignee
+assignee_at decls (a_local i l) = if is_var l.kind then assignee (Some (to_local i)) l.value_type else None
+assignee_at decls (a_decl i (global v)) = assignee (Some (to_global (cell_of decls i))) (type_of (outside decls) v.value_type)
+assignee_at decls (a_decl i (lock x)) = None
+assignee_at decls (a_decl i (struct s)) = None
+assignee_at decls (a_decl i (array a)) = None
+assignee_at decls (a_decl i (pool p)) = None
+assignee_at decls (a_decl i (init j)) = None
+assignee_at decls (a_decl i (atomic s)) = None
+assignee_at decls (a_decl i (thread t)) = None
+assignee_at decls nothing = None
 
 -- a name with an index
-abbrev pub aimed_at_element : List Decl → Meaning → Option core.Expr → Option Aim
-aimed_at_element decls (a_decl i (array a)) (Some index) = aim (Some (to_element (number_at decls i (array a)) index)) (type_of (outside decls) a.value_type)
-aimed_at_element decls (a_decl i (lock x)) (Some index) = None
-aimed_at_element decls (a_decl i (struct s)) (Some index) = None
-aimed_at_element decls (a_decl i (global v)) (Some index) = None
-aimed_at_element decls (a_decl i (pool p)) (Some index) = None
-aimed_at_element decls (a_decl i (init j)) (Some index) = None
-aimed_at_element decls (a_decl i (atomic s)) (Some index) = None
-aimed_at_element decls (a_decl i (thread t)) (Some index) = None
-aimed_at_element decls (a_local i l) (Some index) = None
-aimed_at_element decls nothing (Some index) = None
-aimed_at_element decls m None = None
+abbrev pub assignee_at_element : List Decl → Meaning → Option core.Expr → Option Assignee
+assignee_at_element decls (a_decl i (array a)) (Some index) = assignee (Some (to_element (number_at decls i (array a)) index)) (type_of (outside decls) a.value_type)
+assignee_at_element decls (a_decl i (lock x)) (Some index) = None
+assignee_at_element decls (a_decl i (struct s)) (Some index) = None
+assignee_at_element decls (a_decl i (global v)) (Some index) = None
+assignee_at_element decls (a_decl i (pool p)) (Some index) = None
+assignee_at_element decls (a_decl i (init j)) (Some index) = None
+assignee_at_element decls (a_decl i (atomic s)) (Some index) = None
+assignee_at_element decls (a_decl i (thread t)) (Some index) = None
+assignee_at_element decls (a_local i l) (Some index) = None
+assignee_at_element decls nothing (Some index) = None
+assignee_at_element decls m None = None
 
 -- the steps ahead of the last, and the last one's number, if it goes over a field that isn't final
 pub record Split : Type 0 where
@@ -83,21 +82,21 @@ field_target start i (Some p) = Some (to_field (local_path start i p.base) p.fie
 field_target start i None = None
 
 -- a local and fields
-abbrev pub aimed_along : ℕ → Meaning → Walk → Option Aim
-aimed_along start (a_local i l) (reached steps t) = aim (field_target start i (last_field steps)) (Some t)
-aimed_along start (a_local i l) at_lock = None
-aimed_along start (a_local i l) lost = None
-aimed_along start (a_decl i d) w = None
-aimed_along start nothing w = None
+abbrev pub assignee_along : ℕ → Meaning → Walk → Option Assignee
+assignee_along start (a_local i l) (reached steps t) = assignee (field_target start i (last_field steps)) (Some t)
+assignee_along start (a_local i l) at_lock = None
+assignee_along start (a_local i l) lost = None
+assignee_along start (a_decl i d) w = None
+assignee_along start nothing w = None
 
 -- the left side of an assignment, if it is one
-abbrev pub target_of : Scope → Place → Option Aim
-target_of sc (lone x) = aimed_at sc.decls (meaning sc x.text)
-target_of sc (element x e) = aimed_at_element sc.decls (meaning sc x.text) (number_in_sense (typed sc e))
-target_of sc (path x fs) = aimed_along x.span.start (meaning sc x.text) (walk_from sc.decls (meaning sc x.text) fs)
+abbrev pub target_of : Scope → Place → Option Assignee
+target_of sc (lone x) = assignee_at sc.decls (meaning sc x.text)
+target_of sc (element x e) = assignee_at_element sc.decls (meaning sc x.text) (number_resolved (typed sc e))
+target_of sc (path x fs) = assignee_along x.span.start (meaning sc x.text) (walk_from sc.decls (meaning sc x.text) fs)
 
 -- what is wanted to be assigned
-abbrev pub wanted_by : Option Aim → Want
+abbrev pub wanted_by : Option Assignee → Want
 wanted_by (Some a) = Value a.value_type
 wanted_by None = Anything
 
@@ -128,7 +127,7 @@ set_to (to_global cell) e = core.set_global cell e
 set_to (to_element number index) e = core.set_element number index e
 set_to (to_field base field) e = core.set_field base field e
 
-abbrev pub assigns : ℕ → Option Aim → Option core.Expr → Option Part
+abbrev pub assigns : ℕ → Option Assignee → Option core.Expr → Option Part
 assigns start (Some a) (Some e) = acts start (set_to a.target e)
 assigns start (Some a) None = None
 assigns start None e = None
@@ -209,9 +208,9 @@ abbrev mutual
   typed_stmt sc (let_local l) = binds l.start.start (length sc.locals) (type_of sc l.value_type) (as_value (fitting (want (type_of sc l.value_type)) (typed sc l.value)))
   typed_stmt sc (var_local l) = binds l.start.start (length sc.locals) (type_of sc l.value_type) (as_value (fitting (want (type_of sc l.value_type)) (typed sc l.value)))
   typed_stmt sc (assign p e) = assigns (first_name p).span.start (target_of sc p) (as_value (fitting (wanted_by (target_of sc p)) (typed sc e)))
-  typed_stmt sc (if_then start e body close other) = typed_if (left sc (after_all sc body)) start.start (test_in_sense (typed sc e)) (block_of (typed_body sc body)) other
-  typed_stmt sc (while start e body close) = repeats start.start (test_in_sense (typed sc e)) (block_of (typed_body sc body))
-  typed_stmt sc (print start e) = prints start.start (number_in_sense (typed sc e))
+  typed_stmt sc (if_then start e body close other) = typed_if (left sc (after_all sc body)) start.start (test_resolved (typed sc e)) (block_of (typed_body sc body)) other
+  typed_stmt sc (while start e body close) = repeats start.start (test_resolved (typed sc e)) (block_of (typed_body sc body))
+  typed_stmt sc (print start e) = prints start.start (number_resolved (typed sc e))
   typed_stmt sc (return_value start e) = returns start.start (as_value (fitting (want sc.result) (typed sc e)))
 
   -- an `if` by its condition and its block, and the scope behind that

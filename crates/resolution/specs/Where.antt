@@ -1,5 +1,5 @@
 -- Where expressions, names, types and constants stand in a program.
-use Rattle.std.specs.Prelude.{◌≡◌, ℕ, List, ◌∷◌, ◌++◌, length, slice_get, Option, Some, None}
+use Rattle.std.specs.Prelude.{◌≡◌, ℕ, List, ◌∷◌, ◌++◌, length, slice_get, Some}
 use Rattle.source.specs.declared.span.Span.{Span}
 use Rattle.source.specs.declared.token.Number.{Number}
 use Rattle.syntax.specs.declared.tree.Op.{Op}
@@ -9,14 +9,12 @@ use Rattle.syntax.specs.declared.tree.Prefix.{Prefix}
 use Rattle.syntax.specs.declared.tree.Prefix.TheVariants.{Negate, Not}
 use Rattle.syntax.specs.declared.tree.Comparison as written
 use Rattle.syntax.specs.declared.tree.Comparison.TheVariants as sign
-use Rattle.syntax.specs.Trees.{Ident, ValueType, ref_type, Const, Place, lone, element, path, Expr, int, null, place, paren, prefix, chain, compare, Links, no_links, link, Local, Stmt, let_local, var_local, assign, if_then, while, print, return_value, Stmts, no_stmts, stmt, Otherwise, no_else, else_do, Protection, Final, Field, Member, final_member, field_member, Struct, Variable, Array, Pool, Init, Param, Section, Call, Item, call, repeat, Items, no_items, item, Thread, Decl, lock, struct, global, array, pool, init, atomic, thread}
+use Rattle.syntax.specs.Trees.{Ident, ValueType, ref_type, Const, Place, element, Expr, place, paren, prefix, chain, compare, Links, link, Local, Stmt, let_local, var_local, assign, if_then, while, print, return_value, Stmts, stmt, Otherwise, else_do, Protection, Final, Field, Member, final_member, field_member, Struct, Variable, Array, Pool, Init, Param, Section, Call, Item, call, repeat, Items, item, Thread, Decl, struct, global, array, pool, init, atomic, thread}
 use Rattle.core_lang.specs.declared.value.ValueType.TheVariants.{Integer}
-use Rattle.core_lang.specs.declared.tree.LocalKind.{LocalKind}
-use Rattle.core_lang.specs.declared.tree.LocalKind.TheVariants as kind
 use Rattle.resolution.specs.declared.wanted.Want.{Want}
 use Rattle.resolution.specs.declared.wanted.Want.TheVariants.{Anything, Condition, Value}
-use Rattle.resolution.specs.Scopes.{Scope, outside, meaning, the_decl, type_of, entered, left}
-use Rattle.resolution.specs.Expressions.{want, typed}
+use Rattle.resolution.specs.Scopes.{Scope, outside, the_decl, type_of, entered, left}
+use Rattle.resolution.specs.Expressions.{want}
 use Rattle.resolution.specs.Statements.{target_of, wanted_by, after, after_all}
 use Rattle.resolution.specs.Constants.{want_of, initialised, member_want}
 use Rattle.resolution.specs.Resolution.{ahead_of, entry}

@@ -2,7 +2,7 @@
 //! the faults of trees that stand for none.
 #![tactic(auto)]
 
-pub mod gift;
+pub mod init_target;
 pub mod laws;
 pub mod mistake;
 pub mod wanted;

@@ -22,7 +22,7 @@ use Rattle.sections.specs.declared.stmt.Body as the_body
 use Rattle.sections.specs.Targets.{Row, row_of, body_of, pushed_to, body_pushed}
 use Rattle.resolution.specs.Limits.{PARAMETER_LIMIT}
 use Rattle.resolution.specs.Scopes.{Local, Scope, hidden_from, bound, entered, outside, type_of, left}
-use Rattle.resolution.specs.Expressions.{typed, test_in_sense}
+use Rattle.resolution.specs.Expressions.{typed, test_resolved}
 use Rattle.resolution.specs.Statements.{Part, does, gives, Body, given_back, preceded, typed_body, typed_stmt, typed_if, after, after_else, after_all, block_of, repeats}
 use Rattle.resolution.specs.FaultLists.{least_of, one_if, local_faults, type_faults, param_faults, stmt_faults, stmts_faults, wanted_faults, else_faults}
 use Rattle.symbols.proofs.Steps.{step, noted_one, noted_two, noted_three}
@@ -175,10 +175,10 @@ left_is ds old inner new r0 r1 r2 place ss here within made same =
 -- ---- loops and choices
 
 pub while_value : (sc : Scope) (s : tree_stmt.Stmt) (at : Span) (test : tree.Expr) (body : tree_block.Block) (items : List tree_stmt.Stmt) (cond : Option core.Condition) (block : Option core.Stmts) (inner : Option Body) (made : Option Part) →
-    s ≡ While at test body → items ≡ body.stmts.items → cond ≡ test_in_sense (typed sc (expr_of test)) → block ≡ block_of inner → inner ≡ typed_body sc (stmts_of items) → made ≡ repeats at.start cond block → made ≡ typed_stmt sc (stmt_of s)
+    s ≡ While at test body → items ≡ body.stmts.items → cond ≡ test_resolved (typed sc (expr_of test)) → block ≡ block_of inner → inner ≡ typed_body sc (stmts_of items) → made ≡ repeats at.start cond block → made ≡ typed_stmt sc (stmt_of s)
 while_value sc s at test body items cond block inner made is all hc hb hi hm =
     hm ∙ ap (λ c. repeats at.start c block) hc
-    ∙ ap (repeats at.start (test_in_sense (typed sc (expr_of test)))) (hb ∙ ap block_of (hi ∙ ap (λ ss. typed_body sc (stmts_of ss)) all))
+    ∙ ap (repeats at.start (test_resolved (typed sc (expr_of test)))) (hb ∙ ap block_of (hi ∙ ap (λ ss. typed_body sc (stmts_of ss)) all))
     ∙ ap (typed_stmt sc) (sym (ap stmt_of is ∙ stmt_of_While at test body))
 
 pub while_faults : (sc : Scope) (s : tree_stmt.Stmt) (at : Span) (test : tree.Expr) (body : tree_block.Block) (items : List tree_stmt.Stmt) (f g h : Option Mistake) →
@@ -193,12 +193,12 @@ pub while_scope : (sc sc2 : Scope) (s : tree_stmt.Stmt) (at : Span) (test : tree
 while_scope sc sc2 s at test body items is all behind = behind ∙ ap (λ ss. left sc (after_all sc (stmts_of ss))) all ∙ ap (after sc) (sym (ap stmt_of is ∙ stmt_of_While at test body))
 
 pub if_value : (sc sc2 : Scope) (s : tree_stmt.Stmt) (at : Span) (test : tree.Expr) (body : tree_block.Block) (other : Option tree_block.Block) (items : List tree_stmt.Stmt) (cond : Option core.Condition) (block : Option core.Stmts) (inner : Option Body) →
-    s ≡ If at test body other → items ≡ body.stmts.items → sc2 ≡ left sc (after_all sc (stmts_of items)) → cond ≡ test_in_sense (typed sc (expr_of test)) → block ≡ block_of inner → inner ≡ typed_body sc (stmts_of items) →
+    s ≡ If at test body other → items ≡ body.stmts.items → sc2 ≡ left sc (after_all sc (stmts_of items)) → cond ≡ test_resolved (typed sc (expr_of test)) → block ≡ block_of inner → inner ≡ typed_body sc (stmts_of items) →
     typed_if sc2 at.start cond block (else_of other) ≡ typed_stmt sc (stmt_of s)
 if_value sc sc2 s at test body other items cond block inner is all behind hc hb hi =
     ap (λ z. typed_if z at.start cond block (else_of other)) (behind ∙ ap (λ ss. left sc (after_all sc (stmts_of ss))) all)
     ∙ ap (λ c. typed_if (left sc (after_all sc (stmts_of body.stmts.items))) at.start c block (else_of other)) hc
-    ∙ ap (λ b. typed_if (left sc (after_all sc (stmts_of body.stmts.items))) at.start (test_in_sense (typed sc (expr_of test))) b (else_of other)) (hb ∙ ap block_of (hi ∙ ap (λ ss. typed_body sc (stmts_of ss)) all))
+    ∙ ap (λ b. typed_if (left sc (after_all sc (stmts_of body.stmts.items))) at.start (test_resolved (typed sc (expr_of test))) b (else_of other)) (hb ∙ ap block_of (hi ∙ ap (λ ss. typed_body sc (stmts_of ss)) all))
     ∙ ap (typed_stmt sc) (sym (ap stmt_of is ∙ stmt_of_If at test body other))
 
 pub if_faults : (sc sc2 : Scope) (s : tree_stmt.Stmt) (at : Span) (test : tree.Expr) (body : tree_block.Block) (other : Option tree_block.Block) (items : List tree_stmt.Stmt) (f g h k : Option Mistake) →

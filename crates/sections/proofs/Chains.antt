@@ -19,13 +19,13 @@ use Rattle.syntax.proofs.Rows.{joined_of-Chain}
 use Rattle.resolution.specs.Core as core
 use Rattle.resolution.specs.CoreViews.{core_expr, core_condition, core_operations, core_conditions}
 use Rattle.resolution.specs.Scopes.{Scope}
-use Rattle.resolution.specs.Expressions.{Sense, Tests, tested, typed, typed_links, typed_tests, chained, linked, operator_of, number_in_sense, test_in_sense, all_hold, one_holds}
+use Rattle.resolution.specs.Expressions.{ResolvedExpr, Tests, tested, typed, typed_links, typed_tests, chained, linked, operator_of, number_resolved, test_resolved, all_hold, one_holds}
 use Rattle.resolution.specs.Faults.{start_of}
 use Rattle.resolution.specs.Where.{operand_want}
 use Rattle.resolution.specs.FaultLists.{least_of, expr_faults, link_faults, operator_faults, misfit}
 use Rattle.sections.specs.Parts.{pushed, link_with, operation_with, SoFar, so_far, tests_with, first_test}
-use Rattle.sections.specs.Senses.{tests_of, holds}
-use Rattle.sections.specs.declared.sense.Tests as the_tests
+use Rattle.sections.specs.ResolvedExprs.{tests_of, holds}
+use Rattle.sections.specs.declared.resolved_expr.Tests as the_tests
 use Rattle.resolution.specs.declared.wanted.Want.{Want}
 use Rattle.symbols.proofs.Steps.{step, noted_two, noted_three}
 
@@ -89,7 +89,7 @@ put_push : (xs : List rc.Condition) (x : rc.Condition) (ts : Option Tests) → p
 put_push xs x None = refl
 put_push xs x (Some ts) = ap (λ (cs : core.Conditions). Some (record { before = cs; last = ts.last })) (before_push xs x ts.before)
 
-pub tests_more : (sc : Scope) (before : Option SoFar) (p : Op) (e : Expr) (x : Option rc.Condition) (rest : Links) → option_map core_condition x ≡ test_in_sense (typed sc e) → tests_joined sc (tests_with before x) rest ≡ tests_joined sc before (link p e rest)
+pub tests_more : (sc : Scope) (before : Option SoFar) (p : Op) (e : Expr) (x : Option rc.Condition) (rest : Links) → option_map core_condition x ≡ test_resolved (typed sc e) → tests_joined sc (tests_with before x) rest ≡ tests_joined sc before (link p e rest)
 tests_more sc None p e x rest is = refl
 tests_more sc (Some t) p e None rest is =
     sym (ap (λ (c : Option core.Condition). put_before t.before (tested (Some (core_condition t.last)) (typed_tests sc c rest))) (sym is) ∙ ap (λ (ts : Option Tests). put_before t.before (tested (Some (core_condition t.last)) ts)) (tests_none sc rest))
@@ -118,7 +118,7 @@ tests_end sc (Some t) = ap (λ (cs : core.Conditions). Some (record { before = c
 pub chain_seen : (e : joined.Joined) (k : Level) (first : tree.Expr) (links : Vec tree_link.Link Global) → e ≡ Chain k first links → joined_of e ≡ chain k (expr_of first) (links_of links.items)
 chain_seen e k first links is = ap joined_of is ∙ joined_of-Chain k first links
 
-numbers_chain : (sc : Scope) (k : Level) (e : Expr) (ls : Links) → (k ≡ Term) ⊎ (k ≡ Sum) → chained (number_in_sense (typed sc e)) (typed_links sc ls) ≡ typed sc (chain k e ls)
+numbers_chain : (sc : Scope) (k : Level) (e : Expr) (ls : Links) → (k ≡ Term) ⊎ (k ≡ Sum) → chained (number_resolved (typed sc e)) (typed_links sc ls) ≡ typed sc (chain k e ls)
 numbers_chain sc Term e ls h = refl
 numbers_chain sc Sum e ls h = refl
 numbers_chain sc Conjunction e ls (inl h) = absurd (cc)
@@ -126,7 +126,7 @@ numbers_chain sc Conjunction e ls (inr h) = absurd (cc)
 numbers_chain sc Disjunction e ls (inl h) = absurd (cc)
 numbers_chain sc Disjunction e ls (inr h) = absurd (cc)
 
-holds_some : (k : Level) (ts : Option Tests) → (k ≡ Conjunction) ⊎ (k ≡ Disjunction) → (sc : Scope) (e : Expr) (ls : Links) → ts ≡ typed_tests sc (test_in_sense (typed sc e)) ls → holds k ts ≡ typed sc (chain k e ls)
+holds_some : (k : Level) (ts : Option Tests) → (k ≡ Conjunction) ⊎ (k ≡ Disjunction) → (sc : Scope) (e : Expr) (ls : Links) → ts ≡ typed_tests sc (test_resolved (typed sc e)) ls → holds k ts ≡ typed sc (chain k e ls)
 holds_some Term ts (inl h) sc e ls is = absurd (cc)
 holds_some Term ts (inr h) sc e ls is = absurd (cc)
 holds_some Sum ts (inl h) sc e ls is = absurd (cc)
@@ -136,22 +136,22 @@ holds_some Conjunction (Some ts) h sc e ls is = ap all_hold is
 holds_some Disjunction None h sc e ls is = ap one_holds is
 holds_some Disjunction (Some ts) h sc e ls is = ap one_holds is
 
-pub numbers_value : (sc : Scope) (e : joined.Joined) (k : Level) (first : tree.Expr) (links : Vec tree_link.Link Global) (items : List tree_link.Link) (s : Option Sense) (a : Option core.Expr) (b : Option core.Operations) →
-    e ≡ Chain k first links → (k ≡ Term) ⊎ (k ≡ Sum) → items ≡ links.items → a ≡ number_in_sense s → s ≡ typed sc (expr_of first) → b ≡ typed_links sc (links_of items) → chained a b ≡ typed sc (joined_of e)
+pub numbers_value : (sc : Scope) (e : joined.Joined) (k : Level) (first : tree.Expr) (links : Vec tree_link.Link Global) (items : List tree_link.Link) (s : Option ResolvedExpr) (a : Option core.Expr) (b : Option core.Operations) →
+    e ≡ Chain k first links → (k ≡ Term) ⊎ (k ≡ Sum) → items ≡ links.items → a ≡ number_resolved s → s ≡ typed sc (expr_of first) → b ≡ typed_links sc (links_of items) → chained a b ≡ typed sc (joined_of e)
 numbers_value sc e k first links items s a b is kind links_is ha hs hb =
-    ap (λ x. chained x b) (ha ∙ ap number_in_sense hs)
-    ∙ ap (chained (number_in_sense (typed sc (expr_of first)))) (hb ∙ ap (λ x. typed_links sc (links_of x)) links_is)
+    ap (λ x. chained x b) (ha ∙ ap number_resolved hs)
+    ∙ ap (chained (number_resolved (typed sc (expr_of first)))) (hb ∙ ap (λ x. typed_links sc (links_of x)) links_is)
     ∙ numbers_chain sc k (expr_of first) (links_of links.items) kind
     ∙ ap (typed sc) (sym (chain_seen e k first links is))
 
-pub tests_value : (sc : Scope) (e : joined.Joined) (k : Level) (first : tree.Expr) (links : Vec tree_link.Link Global) (items : List tree_link.Link) (s : Option Sense) (a : Option core.Condition) (b : Option Tests) →
-    e ≡ Chain k first links → (k ≡ Conjunction) ⊎ (k ≡ Disjunction) → items ≡ links.items → a ≡ test_in_sense s → s ≡ typed sc (expr_of first) → b ≡ typed_tests sc a (links_of items) → holds k b ≡ typed sc (joined_of e)
+pub tests_value : (sc : Scope) (e : joined.Joined) (k : Level) (first : tree.Expr) (links : Vec tree_link.Link Global) (items : List tree_link.Link) (s : Option ResolvedExpr) (a : Option core.Condition) (b : Option Tests) →
+    e ≡ Chain k first links → (k ≡ Conjunction) ⊎ (k ≡ Disjunction) → items ≡ links.items → a ≡ test_resolved s → s ≡ typed sc (expr_of first) → b ≡ typed_tests sc a (links_of items) → holds k b ≡ typed sc (joined_of e)
 tests_value sc e k first links items s a b is kind links_is ha hs hb =
     holds_some k b kind sc (expr_of first) (links_of links.items)
-    (hb ∙ ap (λ x. typed_tests sc a (links_of x)) links_is ∙ ap (λ x. typed_tests sc x (links_of links.items)) (ha ∙ ap test_in_sense hs))
+    (hb ∙ ap (λ x. typed_tests sc a (links_of x)) links_is ∙ ap (λ x. typed_tests sc x (links_of links.items)) (ha ∙ ap test_resolved hs))
     ∙ ap (typed sc) (sym (chain_seen e k first links is))
 
-pub chain_faults : (sc : Scope) (e : joined.Joined) (k : Level) (first : tree.Expr) (links : Vec tree_link.Link Global) (items : List tree_link.Link) (s : Option Sense) (w : Want) (start : ℕ) (f g h m : Option Mistake) →
+pub chain_faults : (sc : Scope) (e : joined.Joined) (k : Level) (first : tree.Expr) (links : Vec tree_link.Link Global) (items : List tree_link.Link) (s : Option ResolvedExpr) (w : Want) (start : ℕ) (f g h m : Option Mistake) →
     e ≡ Chain k first links → items ≡ links.items → s ≡ typed sc (expr_of first) → w ≡ operand_want k → start ≡ start_of (expr_of first) →
     g ≡ least_of f (expr_faults sc (expr_of first)) → h ≡ least_of g (misfit w start s) → m ≡ least_of h (link_faults sc k (links_of items)) → m ≡ least_of f (expr_faults sc (joined_of e))
 chain_faults sc e k first links items s w start f g h m is links_is hs hw hstart hg hh hm =
@@ -163,27 +163,27 @@ chain_faults sc e k first links items s w start f g h m is links_is hs hw hstart
 
 -- ---- one link more
 
-pub link_step : (sc : Scope) (items : List tree_link.Link) (i : ℕ) (item : tree_link.Link) (before new : Option (List o.Operation)) (s : Option Sense) (x : Option r.Expr) (whole : Option core.Operations) →
-    i < length items → item ≡ get_or items i item → new ≡ pushed before (link_with item.op x) → option_map core_expr x ≡ number_in_sense s → s ≡ typed sc (expr_of item.operand) →
+pub link_step : (sc : Scope) (items : List tree_link.Link) (i : ℕ) (item : tree_link.Link) (before new : Option (List o.Operation)) (s : Option ResolvedExpr) (x : Option r.Expr) (whole : Option core.Operations) →
+    i < length items → item ≡ get_or items i item → new ≡ pushed before (link_with item.op x) → option_map core_expr x ≡ number_resolved s → s ≡ typed sc (expr_of item.operand) →
     operations_joined before (typed_links sc (links_of (drop i items))) ≡ whole → operations_joined new (typed_links sc (links_of (drop (i + 1) items))) ≡ whole
 link_step sc items i item before new s x whole lt is made hx hs inv =
     let rest = typed_links sc (links_of (drop (i + 1) items)) in
     step (λ ls. operations_joined before (typed_links sc (links_of ls))) (λ ls. operations_joined new (typed_links sc (links_of ls))) items i item whole lt is
     (ap (λ (n : Option (List o.Operation)). operations_joined n rest) made
     ∙ operations_more before item.op x rest
-    ∙ ap (λ (y : Option core.Expr). operations_joined before (linked (operator_of item.op) y rest)) (hx ∙ ap number_in_sense hs))
+    ∙ ap (λ (y : Option core.Expr). operations_joined before (linked (operator_of item.op) y rest)) (hx ∙ ap number_resolved hs))
     inv
 
-pub test_step : (sc : Scope) (items : List tree_link.Link) (i : ℕ) (item : tree_link.Link) (before new : Option SoFar) (s : Option Sense) (x : Option rc.Condition) (whole : Option Tests) →
-    i < length items → item ≡ get_or items i item → new ≡ tests_with before x → option_map core_condition x ≡ test_in_sense s → s ≡ typed sc (expr_of item.operand) →
+pub test_step : (sc : Scope) (items : List tree_link.Link) (i : ℕ) (item : tree_link.Link) (before new : Option SoFar) (s : Option ResolvedExpr) (x : Option rc.Condition) (whole : Option Tests) →
+    i < length items → item ≡ get_or items i item → new ≡ tests_with before x → option_map core_condition x ≡ test_resolved s → s ≡ typed sc (expr_of item.operand) →
     tests_joined sc before (links_of (drop i items)) ≡ whole → tests_joined sc new (links_of (drop (i + 1) items)) ≡ whole
 test_step sc items i item before new s x whole lt is made hx hs inv =
     let rest = links_of (drop (i + 1) items) in
     step (λ ls. tests_joined sc before (links_of ls)) (λ ls. tests_joined sc new (links_of ls)) items i item whole lt is
-    (ap (λ (n : Option SoFar). tests_joined sc n rest) made ∙ tests_more sc before item.op (expr_of item.operand) x rest (hx ∙ ap test_in_sense hs))
+    (ap (λ (n : Option SoFar). tests_joined sc n rest) made ∙ tests_more sc before item.op (expr_of item.operand) x rest (hx ∙ ap test_resolved hs))
     inv
 
-pub link_fault_step : (sc : Scope) (level : Level) (items : List tree_link.Link) (i : ℕ) (item : tree_link.Link) (start : ℕ) (w : Want) (s : Option Sense) (f g h m : Option Mistake) {whole : Option Mistake} →
+pub link_fault_step : (sc : Scope) (level : Level) (items : List tree_link.Link) (i : ℕ) (item : tree_link.Link) (start : ℕ) (w : Want) (s : Option ResolvedExpr) (f g h m : Option Mistake) {whole : Option Mistake} →
     i < length items → item ≡ get_or items i item → start ≡ start_of (expr_of item.operand) → w ≡ operand_want level → s ≡ typed sc (expr_of item.operand) →
     g ≡ least_of f (operator_faults level start item.op) → h ≡ least_of g (expr_faults sc (expr_of item.operand)) → m ≡ least_of h (misfit w start s) →
     least_of f (link_faults sc level (links_of (drop i items))) ≡ whole → least_of m (link_faults sc level (links_of (drop (i + 1) items))) ≡ whole
@@ -192,5 +192,5 @@ link_fault_step sc level items i item start w s f g h m {whole} lt is hstart hw 
     step (λ ls. least_of f (link_faults sc level (links_of ls))) (λ ls. least_of m (link_faults sc level (links_of ls))) items i item whole lt is
     (noted_three f g h m (operator_faults level (start_of x) item.op) (expr_faults sc x) (misfit (operand_want level) (start_of x) (typed sc x)) (link_faults sc level (links_of (drop (i + 1) items)))
     (hg ∙ ap (λ (n : ℕ). least_of f (operator_faults level n item.op)) hstart) hh
-    (hm ∙ ap (λ (n : ℕ). least_of h (misfit w n s)) hstart ∙ ap (λ (v : Want). least_of h (misfit v (start_of x) s)) hw ∙ ap (λ (y : Option Sense). least_of h (misfit (operand_want level) (start_of x) y)) hs))
+    (hm ∙ ap (λ (n : ℕ). least_of h (misfit w n s)) hstart ∙ ap (λ (v : Want). least_of h (misfit v (start_of x) s)) hw ∙ ap (λ (y : Option ResolvedExpr). least_of h (misfit (operand_want level) (start_of x) y)) hs))
     inv

@@ -1,3 +1,3 @@
-pub mod Senses
+pub mod ResolvedExprs
 pub mod Parts
 pub mod Targets

@@ -6,7 +6,7 @@ use Rattle.core_lang.specs.declared.tree.Operation as the_operation
 use Rattle.core_lang.specs.declared.tree.Expr as the_expr
 use Rattle.core_lang.specs.declared.tree.Condition as the_condition
 use Rattle.resolution.specs.Expressions.{operator_of}
-use Rattle.sections.specs.declared.sense.Tests.{Tests}
+use Rattle.sections.specs.declared.resolved_expr.Tests.{Tests}
 
 -- one more
 abbrev pub pushed : {A : Type 0} → Option (List A) → Option A → Option (List A)

@@ -9,10 +9,10 @@ use Rattle.resolution.specs.FaultLists.{local_faults, type_faults, wanted_faults
 use Rattle.core_lang.specs.declared.tree.FieldStep.{FieldStep}
 use Rattle.resolution.specs.Core as core
 use Rattle.resolution.specs.CoreViews.{core_expr, core_path, core_stmt, core_stmts, core_return}
-use Rattle.resolution.specs.Statements.{Target, to_local, to_global, to_element, to_field, Aim, last_field, Split, Part, does, gives, Body, binds}
+use Rattle.resolution.specs.Statements.{Target, to_local, to_global, to_element, to_field, Assignee, last_field, Split, Part, does, gives, Body, binds}
 use Rattle.sections.specs.declared.target.Target as t
 use Rattle.sections.specs.declared.target.Target.TheVariants as v
-use Rattle.sections.specs.declared.target.Aim as the_aim
+use Rattle.sections.specs.declared.target.Assignee as the_assignee
 use Rattle.sections.specs.declared.stmt.Part as the_part
 use Rattle.sections.specs.declared.stmt.Part.TheVariants as part
 use Rattle.sections.specs.declared.stmt.Body as the_body
@@ -23,8 +23,8 @@ target_seen (v.Global cell) = to_global cell
 target_seen (v.Element number index) = to_element number (core_expr index)
 target_seen (v.Field base field) = to_field (core_path base) field
 
-abbrev pub aim_of : the_aim.Aim → Aim
-aim_of a = record { target = target_seen a.target; value_type = a.value_type }
+abbrev pub assignee_of : the_assignee.Assignee → Assignee
+assignee_of a = record { target = target_seen a.target; value_type = a.value_type }
 
 abbrev pub number_behind : Option Split → Option ℕ
 number_behind (Some p) = Some p.field

@@ -7,20 +7,20 @@ ghost use Rattle.core_lang.specs.declared.value.ValueType.TheVariants.{Integer};
 ghost use Rattle.resolution.specs.declared.wanted.Want.TheVariants as wanted;
 ghost use Rattle.resolution.specs.CoreViews.{core_expr, core_condition, core_operations};
 ghost use Rattle.resolution.specs.Statements.{first_name};
-ghost use Rattle.resolution.specs.Expressions.{typed, typed_place, typed_links, typed_tests, fitting, as_value, number_in_sense, test_in_sense};
+ghost use Rattle.resolution.specs.Expressions.{typed, typed_place, typed_links, typed_tests, fitting, as_value, number_resolved, test_resolved};
 ghost use Rattle.resolution.specs.Faults.{start_of};
 ghost use Rattle.resolution.specs.FaultLists.{least_of, expr_faults, place_faults, link_faults, wanted_faults};
 ghost use Rattle.symbols.specs.Programs.{program_of, IsProgram};
 ghost use Rattle.symbols.specs.Scoped.{scope_of, AreLocals};
-ghost use Rattle.sections.specs.Senses.{sense_of, tests_of};
+ghost use Rattle.sections.specs.ResolvedExprs.{resolved_expr_of, tests_of};
 
 use crate::place::{
     element_value, named_value, note_no_elements, note_no_value, path_value, walk_from,
 };
-use crate::sense::{
-    Sense, Tests, chained, compared, literal, note_misfit, note_operator, note_sides, number_in,
-    one_test, operand_want, parenthesised, prefix_want, prefixed, side_want, test_in, tested,
-    value_in, with_operation, with_test,
+use crate::resolved_expr::{
+    ResolvedExpr, Tests, chained, compared, literal, note_misfit, note_operator, note_sides,
+    number_in, one_test, operand_want, parenthesised, prefix_want, prefixed, side_want, test_in,
+    tested, value_in, with_operation, with_test,
 };
 use crate::wanted::{note_number, number};
 use core_lang::tree::{Condition, Expr, Operation};
@@ -72,10 +72,10 @@ fn judge(
     locals: &Locals,
     e: &tree::Expr,
     least: &mut Option<Mistake>,
-) -> Result<Option<Sense>, AllocError>
+) -> Result<Option<ResolvedExpr>, AllocError>
     requires program { IsProgram program.now }
     requires locals { AreLocals locals.now }
-    ensures value { IfOk result (λ r. option_map sense_of r ≡ typed (scope_of (program_of program.now) locals.now) (expr_of e.now)) }
+    ensures value { IfOk result (λ r. option_map resolved_expr_of r ≡ typed (scope_of (program_of program.now) locals.now) (expr_of e.now)) }
     ensures faults { OnOk result (least.new ≡ least_of least.old (expr_faults (scope_of (program_of program.now) locals.now) (expr_of e.now))) }
 {
     match e {
@@ -83,7 +83,7 @@ fn judge(
             note_number(*n, least);
             Ok(literal(number(*n)))
         }
-        tree::Expr::Null(_) => Ok(Some(Sense::Value(Expr::Null, Sort::Null))),
+        tree::Expr::Null(_) => Ok(Some(ResolvedExpr::Value(Expr::Null, Sort::Null))),
         tree::Expr::Name(name) => Ok(judge_name(alloc, program, locals, name, least)),
         tree::Expr::Element(element) => judge_element(alloc, program, locals, element, least),
         tree::Expr::Path(path) => judge_path(alloc, program, locals, path, least),
@@ -109,10 +109,10 @@ fn judge_joined(
     locals: &Locals,
     e: &Joined,
     least: &mut Option<Mistake>,
-) -> Result<Option<Sense>, AllocError>
+) -> Result<Option<ResolvedExpr>, AllocError>
     requires program { IsProgram program.now }
     requires locals { AreLocals locals.now }
-    ensures value { IfOk result (λ r. option_map sense_of r ≡ typed (scope_of (program_of program.now) locals.now) (joined_of e.now)) }
+    ensures value { IfOk result (λ r. option_map resolved_expr_of r ≡ typed (scope_of (program_of program.now) locals.now) (joined_of e.now)) }
     ensures faults { OnOk result (least.new ≡ least_of least.old (expr_faults (scope_of (program_of program.now) locals.now) (joined_of e.now))) }
 {
     match e {
@@ -150,10 +150,10 @@ fn judge_name(
     locals: &Locals,
     name: &Name,
     least: &mut Option<Mistake>,
-) -> Option<Sense>
+) -> Option<ResolvedExpr>
     requires program { IsProgram program.now }
     requires locals { AreLocals locals.now }
-    ensures value { option_map sense_of result ≡ typed_place (scope_of (program_of program.now) locals.now) (lone (ident name.now)) }
+    ensures value { option_map resolved_expr_of result ≡ typed_place (scope_of (program_of program.now) locals.now) (lone (ident name.now)) }
     ensures faults { least.new ≡ least_of least.old (place_faults (scope_of (program_of program.now) locals.now) (lone (ident name.now))) }
 {
     let start = name.start as usize;
@@ -171,10 +171,10 @@ fn judge_element(
     locals: &Locals,
     element: &Element,
     least: &mut Option<Mistake>,
-) -> Result<Option<Sense>, AllocError>
+) -> Result<Option<ResolvedExpr>, AllocError>
     requires program { IsProgram program.now }
     requires locals { AreLocals locals.now }
-    ensures value { IfOk result (λ r. option_map sense_of r ≡ typed_place (scope_of (program_of program.now) locals.now) (element_of element.now)) }
+    ensures value { IfOk result (λ r. option_map resolved_expr_of r ≡ typed_place (scope_of (program_of program.now) locals.now) (element_of element.now)) }
     ensures faults { OnOk result (least.new ≡ least_of least.old (place_faults (scope_of (program_of program.now) locals.now) (element_of element.now))) }
 {
     let start = element.name.start as usize;
@@ -198,10 +198,10 @@ fn judge_path(
     locals: &Locals,
     path: &Path,
     least: &mut Option<Mistake>,
-) -> Result<Option<Sense>, AllocError>
+) -> Result<Option<ResolvedExpr>, AllocError>
     requires program { IsProgram program.now }
     requires locals { AreLocals locals.now }
-    ensures value { IfOk result (λ r. option_map sense_of r ≡ typed_place (scope_of (program_of program.now) locals.now) (path_of path.now)) }
+    ensures value { IfOk result (λ r. option_map resolved_expr_of r ≡ typed_place (scope_of (program_of program.now) locals.now) (path_of path.now)) }
     ensures faults { OnOk result (least.new ≡ least_of least.old (place_faults (scope_of (program_of program.now) locals.now) (path_of path.now))) }
 {
     let start = path.first.start as usize;
@@ -274,15 +274,15 @@ fn wanted(
     w: Want,
     e: &tree::Expr,
     least: &mut Option<Mistake>,
-) -> Result<Option<Sense>, AllocError>
+) -> Result<Option<ResolvedExpr>, AllocError>
     requires program { IsProgram program.now }
     requires locals { AreLocals locals.now }
-    ensures value { IfOk result (λ r. option_map sense_of r ≡ typed (scope_of (program_of program.now) locals.now) (expr_of e.now)) }
+    ensures value { IfOk result (λ r. option_map resolved_expr_of r ≡ typed (scope_of (program_of program.now) locals.now) (expr_of e.now)) }
     ensures faults { OnOk result (least.new ≡ least_of least.old (wanted_faults (scope_of (program_of program.now) locals.now) w (expr_of e.now))) }
 {
-    let sense = judge(alloc, program, locals, e, least)?;
-    note_misfit(w, start_of(e), &sense, least);
-    Ok(sense)
+    let resolved_expr = judge(alloc, program, locals, e, least)?;
+    note_misfit(w, start_of(e), &resolved_expr, least);
+    Ok(resolved_expr)
 }
 
 /// A value of which something is wanted.
@@ -299,8 +299,8 @@ pub fn judge_value(
     ensures value { IfOk result (λ r. option_map core_expr r ≡ as_value (fitting w (typed (scope_of (program_of program.now) locals.now) (expr_of e.now)))) }
     ensures faults { OnOk result (least.new ≡ least_of least.old (wanted_faults (scope_of (program_of program.now) locals.now) w (expr_of e.now))) }
 {
-    let sense = wanted(alloc, program, locals, w, e, least)?;
-    Ok(value_in(w, sense))
+    let resolved_expr = wanted(alloc, program, locals, w, e, least)?;
+    Ok(value_in(w, resolved_expr))
 }
 
 /// A number.
@@ -313,12 +313,12 @@ pub fn judge_number(
 ) -> Result<Option<Expr>, AllocError>
     requires program { IsProgram program.now }
     requires locals { AreLocals locals.now }
-    ensures value { IfOk result (λ r. option_map core_expr r ≡ number_in_sense (typed (scope_of (program_of program.now) locals.now) (expr_of e.now))) }
+    ensures value { IfOk result (λ r. option_map core_expr r ≡ number_resolved (typed (scope_of (program_of program.now) locals.now) (expr_of e.now))) }
     ensures faults { OnOk result (least.new ≡ least_of least.old (wanted_faults (scope_of (program_of program.now) locals.now) (wanted.Value Integer) (expr_of e.now))) }
 {
     let w = Want::Value(ValueType::Integer);
-    let sense = wanted(alloc, program, locals, w, e, least)?;
-    Ok(number_in(sense))
+    let resolved_expr = wanted(alloc, program, locals, w, e, least)?;
+    Ok(number_in(resolved_expr))
 }
 
 /// A condition.
@@ -331,9 +331,9 @@ pub fn judge_test(
 ) -> Result<Option<Condition>, AllocError>
     requires program { IsProgram program.now }
     requires locals { AreLocals locals.now }
-    ensures value { IfOk result (λ r. option_map core_condition r ≡ test_in_sense (typed (scope_of (program_of program.now) locals.now) (expr_of e.now))) }
+    ensures value { IfOk result (λ r. option_map core_condition r ≡ test_resolved (typed (scope_of (program_of program.now) locals.now) (expr_of e.now))) }
     ensures faults { OnOk result (least.new ≡ least_of least.old (wanted_faults (scope_of (program_of program.now) locals.now) wanted.Condition (expr_of e.now))) }
 {
-    let sense = wanted(alloc, program, locals, Want::Condition, e, least)?;
-    Ok(test_in(sense))
+    let resolved_expr = wanted(alloc, program, locals, Want::Condition, e, least)?;
+    Ok(test_in(resolved_expr))
 }

@@ -11,9 +11,9 @@ ghost use Rattle.resolution.specs.FaultLists.{least_of, no_value, no_elements, n
 ghost use Rattle.symbols.specs.Views.{declared_by, AreDeclarations};
 ghost use Rattle.symbols.specs.Programs.{program_of, IsProgram};
 ghost use Rattle.symbols.specs.Scoped.{meaning_of};
-ghost use Rattle.sections.specs.Senses.{sense_of, walk_of, over_step};
+ghost use Rattle.sections.specs.ResolvedExprs.{resolved_expr_of, walk_of, over_step};
 
-use crate::sense::{Sense, value_of};
+use crate::resolved_expr::{ResolvedExpr, value_of};
 use core_lang::tree::{Expr, FieldStep, Path};
 use core_lang::value::ValueType;
 use resolution::mistake::Mistake;
@@ -50,9 +50,14 @@ pub fn local_path(start: usize, local: usize, fields: Vec<FieldStep>) -> Path
 }
 
 /// A name as a value.
-pub fn named_value(alloc: Global, program: &Program, start: usize, m: Meaning) -> Option<Sense>
+pub fn named_value(
+    alloc: Global,
+    program: &Program,
+    start: usize,
+    m: Meaning,
+) -> Option<ResolvedExpr>
     requires { IsProgram program.now }
-    ensures { option_map sense_of result ≡ named_value (program_of program.now) start (meaning_of m.entry) }
+    ensures { option_map resolved_expr_of result ≡ named_value (program_of program.now) start (meaning_of m.entry) }
 {
     match m {
         Meaning::Local(i, local) => {
@@ -97,9 +102,9 @@ pub fn element_value(
     start: usize,
     m: Meaning,
     index: Option<Expr>,
-) -> Result<Option<Sense>, AllocError>
+) -> Result<Option<ResolvedExpr>, AllocError>
     requires { AreDeclarations decls.now }
-    ensures { IfOk result (λ r. option_map sense_of r ≡ element_value (declared_by decls.now) start (meaning_of m.entry) (option_map core_expr index)) }
+    ensures { IfOk result (λ r. option_map resolved_expr_of r ≡ element_value (declared_by decls.now) start (meaning_of m.entry) (option_map core_expr index)) }
 {
     let Some(index) = index else {
         return Ok(None);
@@ -124,7 +129,7 @@ pub fn element_value(
             let pool = decls.number(place, d);
             let index = Box::new(alloc, index)?;
             match struct_named(decls, &p.target) {
-                Some(number) => Ok(Some(Sense::Value(
+                Some(number) => Ok(Some(ResolvedExpr::Value(
                     Expr::Member { pool, index },
                     Sort::Of(ValueType::Reference(number)),
                 ))),
@@ -307,11 +312,11 @@ pub fn walk_from(
 }
 
 /// A path as a value.
-pub fn path_value(start: usize, m: Meaning, w: Walk) -> Option<Sense>
-    ensures { option_map sense_of result ≡ path_value start (meaning_of m.entry) (walk_of w) }
+pub fn path_value(start: usize, m: Meaning, w: Walk) -> Option<ResolvedExpr>
+    ensures { option_map resolved_expr_of result ≡ path_value start (meaning_of m.entry) (walk_of w) }
 {
     match (m, w) {
-        (Meaning::Local(i, _), Walk::Reached(steps, t)) => Some(Sense::Value(
+        (Meaning::Local(i, _), Walk::Reached(steps, t)) => Some(ResolvedExpr::Value(
             Expr::Place(local_path(start, i, steps)),
             Sort::Of(t),
         )),

@@ -8,10 +8,10 @@ ghost use Rattle.resolution.specs.Statements.{acts, binds, assigns, prints, retu
 ghost use Rattle.resolution.specs.FaultLists.{least_of, taken, local_faults, stmt_faults, else_faults, stmts_faults};
 ghost use Rattle.symbols.specs.Programs.{program_of, IsProgram};
 ghost use Rattle.symbols.specs.Scoped.{scope_of, locals_seen, AreLocals};
-ghost use Rattle.sections.specs.Targets.{aim_of, part_of, body_of, row_of, body_pushed, local_bound, binding_faults};
+ghost use Rattle.sections.specs.Targets.{assignee_of, part_of, body_of, row_of, body_pushed, local_bound, binding_faults};
 
 use crate::expr::{first_name, judge_number, judge_test, judge_value};
-use crate::target::{Aim, Target, judge_target, wanted_by};
+use crate::target::{Assignee, Target, judge_target, wanted_by};
 use crate::wanted::want;
 use core_lang::tree::{Action, Condition, Expr, LocalKind, Return, Stmt};
 use core_lang::value::ValueType;
@@ -39,7 +39,9 @@ pub enum Part {
 /// Statements, and the `return` at their end, if there is one.
 #[derive(Drop)]
 pub struct Body {
+    /// The statements, in their order.
     pub stmts: Vec<Stmt>,
+    /// The `return`.
     pub result: Option<Return>,
 }
 
@@ -76,6 +78,7 @@ pub fn note_name(program: &Program, locals: &Locals, name: &Name, least: &mut Op
     );
 }
 
+/// A statement that does something.
 fn act(start: usize, action: Action) -> Option<Part>
     ensures { option_map part_of result ≡ acts start (core_action action) }
 {
@@ -93,16 +96,16 @@ fn bind(start: usize, local: usize, t: Option<ValueType>, value: Option<Expr>) -
 }
 
 /// An assignment.
-fn assign(start: usize, aim: Option<Aim>, value: Option<Expr>) -> Option<Part>
-    ensures { option_map part_of result ≡ assigns start (option_map aim_of aim) (option_map core_expr value) }
+fn assign(start: usize, assignee: Option<Assignee>, value: Option<Expr>) -> Option<Part>
+    ensures { option_map part_of result ≡ assigns start (option_map assignee_of assignee) (option_map core_expr value) }
 {
-    let Some(aim) = aim else {
+    let Some(assignee) = assignee else {
         return None;
     };
     let Some(value) = value else {
         return None;
     };
-    match aim.target {
+    match assignee.target {
         Target::Local(local) => act(start, Action::SetLocal { local, value }),
         Target::Global(cell) => act(start, Action::SetGlobal { cell, value }),
         Target::Element(array, index) => act(
@@ -117,6 +120,7 @@ fn assign(start: usize, aim: Option<Aim>, value: Option<Expr>) -> Option<Part>
     }
 }
 
+/// A `print`. `None` where its value has a fault.
 fn print(start: usize, value: Option<Expr>) -> Option<Part>
     ensures { option_map part_of result ≡ prints start (option_map core_expr value) }
 {
@@ -126,6 +130,7 @@ fn print(start: usize, value: Option<Expr>) -> Option<Part>
     }
 }
 
+/// A `return`. `None` where its value has a fault.
 fn give(start: usize, value: Option<Expr>) -> Option<Part>
     ensures { option_map part_of result ≡ returns start (option_map core_expr value) }
 {
@@ -237,9 +242,9 @@ fn judge_stmt(
         tree::Stmt::Let(local) => judge_local(alloc, program, locals, LocalKind::Let, local, least),
         tree::Stmt::Var(local) => judge_local(alloc, program, locals, LocalKind::Var, local, least),
         tree::Stmt::Assign(place, value) => {
-            let aim = judge_target(alloc, program, locals, place, least)?;
-            let value = judge_value(alloc, program, locals, wanted_by(&aim), value, least)?;
-            Ok(assign(first_name(place).start as usize, aim, value))
+            let assignee = judge_target(alloc, program, locals, place, least)?;
+            let value = judge_value(alloc, program, locals, wanted_by(&assignee), value, least)?;
+            Ok(assign(first_name(place).start as usize, assignee, value))
         }
         tree::Stmt::If(start, test, block, other) => {
             let condition = judge_test(alloc, program, locals, test, least)?;

@@ -3,13 +3,13 @@
 ghost use Rattle.std.specs.Prelude.{◌≡◌, OnOk, IfOk, option_map, Some};
 ghost use Rattle.syntax.specs.Views.{place_of};
 ghost use Rattle.resolution.specs.CoreViews.{core_expr};
-ghost use Rattle.resolution.specs.Statements.{aim, aimed_at, aimed_at_element, aimed_along, target_of, wanted_by};
+ghost use Rattle.resolution.specs.Statements.{assignee, assignee_at, assignee_at_element, assignee_along, target_of, wanted_by};
 ghost use Rattle.resolution.specs.FaultLists.{least_of, no_target, no_array, final_faults, target_faults};
 ghost use Rattle.symbols.specs.Views.{declared_by, AreDeclarations};
 ghost use Rattle.symbols.specs.Programs.{program_of, IsProgram};
 ghost use Rattle.symbols.specs.Scoped.{scope_of, AreLocals, meaning_of};
-ghost use Rattle.sections.specs.Senses.{walk_of};
-ghost use Rattle.sections.specs.Targets.{target_seen, aim_of, field_behind};
+ghost use Rattle.sections.specs.ResolvedExprs.{walk_of};
+ghost use Rattle.sections.specs.Targets.{target_seen, assignee_of, field_behind};
 
 use crate::expr::judge_number;
 use crate::place::{Walk, local_path, note_no_elements, walk_from};
@@ -40,34 +40,36 @@ pub enum Target {
 
 /// What is assigned to, and its type.
 #[derive(Drop)]
-pub struct Aim {
+pub struct Assignee {
+    /// What is assigned to.
     pub target: Target,
+    /// Which values it takes.
     pub value_type: ValueType,
 }
 
 /// What is assigned to, if its type has no fault.
-fn aiming(target: Target, t: Option<ValueType>) -> Option<Aim>
-    ensures { option_map aim_of result ≡ aim (Some (target_seen target)) t }
+fn assignee_of_type(target: Target, t: Option<ValueType>) -> Option<Assignee>
+    ensures { option_map assignee_of result ≡ assignee (Some (target_seen target)) t }
 {
     match t {
-        Some(value_type) => Some(Aim { target, value_type }),
+        Some(value_type) => Some(Assignee { target, value_type }),
         None => None,
     }
 }
 
 /// A name on the left.
-fn aimed_at(program: &Program, m: Meaning) -> Option<Aim>
+fn assignee_at(program: &Program, m: Meaning) -> Option<Assignee>
     requires { IsProgram program.now }
-    ensures { option_map aim_of result ≡ aimed_at (program_of program.now) (meaning_of m.entry) }
+    ensures { option_map assignee_of result ≡ assignee_at (program_of program.now) (meaning_of m.entry) }
 {
     match m {
         Meaning::Local(i, local) => match local.kind {
-            LocalKind::Var => aiming(Target::Local(i), local.value_type),
+            LocalKind::Var => assignee_of_type(Target::Local(i), local.value_type),
             LocalKind::Let | LocalKind::Parameter => None,
         },
         Meaning::Decl(place, Decl::Global(v)) => {
             let cell = program.cell(place);
-            aiming(
+            assignee_of_type(
                 Target::Global(cell),
                 type_outside(&program.decls, &v.value_type),
             )
@@ -101,9 +103,9 @@ fn note_no_target(decls: &Declarations, start: usize, m: Meaning, least: &mut Op
 }
 
 /// A name with an index on the left.
-fn aimed_at_element(decls: &Declarations, m: Meaning, index: Option<Expr>) -> Option<Aim>
+fn assignee_at_element(decls: &Declarations, m: Meaning, index: Option<Expr>) -> Option<Assignee>
     requires { AreDeclarations decls.now }
-    ensures { option_map aim_of result ≡ aimed_at_element (declared_by decls.now) (meaning_of m.entry) (option_map core_expr index) }
+    ensures { option_map assignee_of result ≡ assignee_at_element (declared_by decls.now) (meaning_of m.entry) (option_map core_expr index) }
 {
     let index = index?;
     let Meaning::Decl(place, d) = m else {
@@ -112,7 +114,7 @@ fn aimed_at_element(decls: &Declarations, m: Meaning, index: Option<Expr>) -> Op
     match d {
         Decl::Array(a) => {
             let number = decls.number(place, d);
-            aiming(
+            assignee_of_type(
                 Target::Element(number, index),
                 type_outside(decls, &a.value_type),
             )
@@ -149,8 +151,8 @@ fn field_behind(steps: &Vec<FieldStep>) -> Option<u32>
 }
 
 /// A local and fields on the left.
-fn aimed_along(start: usize, m: Meaning, w: Walk) -> Option<Aim>
-    ensures { option_map aim_of result ≡ aimed_along start (meaning_of m.entry) (walk_of w) }
+fn assignee_along(start: usize, m: Meaning, w: Walk) -> Option<Assignee>
+    ensures { option_map assignee_of result ≡ assignee_along start (meaning_of m.entry) (walk_of w) }
 {
     let Meaning::Local(i, _) = m else {
         return None;
@@ -160,7 +162,7 @@ fn aimed_along(start: usize, m: Meaning, w: Walk) -> Option<Aim>
     };
     match steps.pop() {
         Some(FieldStep::Field(field)) => {
-            aiming(Target::Field(local_path(start, i, steps), field), Some(t))
+            assignee_of_type(Target::Field(local_path(start, i, steps), field), Some(t))
         }
         Some(FieldStep::Final(number)) => {
             let _number = number;
@@ -195,10 +197,10 @@ pub fn judge_target(
     locals: &Locals,
     p: &Place,
     least: &mut Option<Mistake>,
-) -> Result<Option<Aim>, AllocError>
+) -> Result<Option<Assignee>, AllocError>
     requires program { IsProgram program.now }
     requires locals { AreLocals locals.now }
-    ensures value { IfOk result (λ r. option_map aim_of r ≡ target_of (scope_of (program_of program.now) locals.now) (place_of p.now)) }
+    ensures value { IfOk result (λ r. option_map assignee_of r ≡ target_of (scope_of (program_of program.now) locals.now) (place_of p.now)) }
     ensures faults { OnOk result (least.new ≡ least_of least.old (target_faults (scope_of (program_of program.now) locals.now) (place_of p.now))) }
 {
     let decls = &program.decls;
@@ -206,7 +208,7 @@ pub fn judge_target(
         Place::Name(name) => {
             let m = meaning_at(decls, locals, name);
             note_no_target(decls, name.start as usize, m, least);
-            Ok(aimed_at(program, m))
+            Ok(assignee_at(program, m))
         }
         Place::Element(element) => {
             let name = &element.name;
@@ -214,21 +216,21 @@ pub fn judge_target(
             note_no_elements(decls, name.start as usize, m, least);
             note_no_array(decls, name.start as usize, m, least);
             let index = judge_number(alloc, program, locals, &element.index, least)?;
-            Ok(aimed_at_element(decls, m, index))
+            Ok(assignee_at_element(decls, m, index))
         }
         Place::Path(path) => {
             let start = path.first.start as usize;
             let m = meaning_at(decls, locals, &path.first);
             let w = walk_from(alloc, decls, start, m, &path.fields, least)?;
             note_final(start, &w, least);
-            Ok(aimed_along(start, m, w))
+            Ok(assignee_along(start, m, w))
         }
     }
 }
 
 /// What is wanted to be assigned.
-pub fn wanted_by(a: &Option<Aim>) -> Want
-    ensures { result ≡ wanted_by (option_map aim_of a.now) }
+pub fn wanted_by(a: &Option<Assignee>) -> Want
+    ensures { result ≡ wanted_by (option_map assignee_of a.now) }
 {
     match a {
         Some(a) => Want::Value(a.value_type),

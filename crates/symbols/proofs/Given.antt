@@ -4,10 +4,10 @@ use Rattle.std.specs.Prelude.{◌==◌, ◌&&◌, cond}
 use Rattle.std.specs.Option.{option_or}
 use Rattle.std.specs.Map.{lookup}
 use Rattle.std.proofs.lemmas.Bool.Decides.{nat_tests}
-use Rattle.resolution.specs.declared.gift.Gift.{Gift}
-use Rattle.resolution.specs.Constants.{same_gift}
+use Rattle.resolution.specs.declared.init_target.InitTarget.{InitTarget}
+use Rattle.resolution.specs.Constants.{same_init_target}
 
-same_parts : (g h : Gift) (a b d : Bool) → (g.pool == h.pool) ≡ a → (g.index == h.index) ≡ b → (g.member == h.member) ≡ d → (a && b && d) ≡ true → g ≡ h
+same_parts : (g h : InitTarget) (a b d : Bool) → (g.pool == h.pool) ≡ a → (g.index == h.index) ≡ b → (g.member == h.member) ≡ d → (a && b && d) ≡ true → g ≡ h
 same_parts g h true true true ea eb ed e =
     let p : g.pool ≡ h.pool = grind (arith, nat_tests) in
     let q : g.index ≡ h.index = grind (arith, nat_tests) in
@@ -17,27 +17,27 @@ same_parts g h true true false ea eb ed e = absurd (cc)
 same_parts g h true false d ea eb ed e = absurd (cc)
 same_parts g h false b d ea eb ed e = absurd (cc)
 
-same_is : (g h : Gift) → same_gift g h ≡ true → g ≡ h
+same_is : (g h : InitTarget) → same_init_target g h ≡ true → g ≡ h
 same_is g h e = same_parts g h (g.pool == h.pool) (g.index == h.index) (g.member == h.member) refl refl refl e
 
 pub and_is : (a b d : Bool) → (a && (b && d)) ≡ (a && b && d)
 and_is true b d = refl
 and_is false b d = refl
 
-pub add_is : (f : Gift → Option ℕ) (gift : Gift) (place : ℕ) (g : Gift) → f gift ≡ None → cond (same_gift gift g) (Some place) (f g) ≡ option_or (f g) (if same_gift gift g then Some place else None)
-add_is f gift place g none = decide (same_gift gift g) refl
+pub add_is : (f : InitTarget → Option ℕ) (init_target : InitTarget) (place : ℕ) (g : InitTarget) → f init_target ≡ None → cond (same_init_target init_target g) (Some place) (f g) ≡ option_or (f g) (if same_init_target init_target g then Some place else None)
+add_is f init_target place g none = decide (same_init_target init_target g) refl
   where
     or_none : (o : Option ℕ) → o ≡ option_or o None
     or_none None = refl
     or_none (Some k) = refl
 
-    decide : (b : Bool) → same_gift gift g ≡ b → cond b (Some place) (f g) ≡ option_or (f g) (if b then Some place else None)
-    decide true e = let h : f g ≡ None = sym (ap f (same_is gift g e)) ∙ none in sym (ap (λ (o : Option ℕ). option_or o (Some place)) h)
+    decide : (b : Bool) → same_init_target init_target g ≡ b → cond b (Some place) (f g) ≡ option_or (f g) (if b then Some place else None)
+    decide true e = let h : f g ≡ None = sym (ap f (same_is init_target g e)) ∙ none in sym (ap (λ (o : Option ℕ). option_or o (Some place)) h)
     decide false e = or_none (f g)
 
-pub add_test : (f : Gift → Option ℕ) (gift : Gift) (place : ℕ) (g : Gift) (t : Bool) → t ≡ same_gift gift g → f gift ≡ None → cond t (Some place) (f g) ≡ option_or (f g) (if same_gift gift g then Some place else None)
-add_test f gift place g t is none = ap (λ (b : Bool). cond b (Some place) (f g)) is ∙ add_is f gift place g none
+pub add_test : (f : InitTarget → Option ℕ) (init_target : InitTarget) (place : ℕ) (g : InitTarget) (t : Bool) → t ≡ same_init_target init_target g → f init_target ≡ None → cond t (Some place) (f g) ≡ option_or (f g) (if same_init_target init_target g then Some place else None)
+add_test f init_target place g t is none = ap (λ (b : Bool). cond b (Some place) (f g)) is ∙ add_is f init_target place g none
 
-pub get_same : (test other : Gift → Bool) → ((h : Gift) → test h ≡ other h) → (es : List (Gift × ℕ)) → lookup test es ≡ lookup other es
+pub get_same : (test other : InitTarget → Bool) → ((h : InitTarget) → test h ≡ other h) → (es : List (InitTarget × ℕ)) → lookup test es ≡ lookup other es
 get_same test other same [] = refl
 get_same test other same (e ∷ es) = ap (λ (b : Bool). cond b (Some e.1) (lookup test es)) (same e.0) ∙ ap (cond (other e.0) (Some e.1)) (get_same test other same es)

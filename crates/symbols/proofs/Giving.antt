@@ -2,19 +2,19 @@
 use Rattle.std.proofs.Common.{◌≡◌, ℕ, suc, ◌+◌, List, [], ◌∷◌, ◌++◌, Option, Some, None, Bool, true, false, length, refl, sym, ap, ◌∙◌, arith, if◌then◌else◌}
 use Rattle.std.specs.Prelude.{slice_get, is_some}
 use Rattle.std.specs.Option.{option_or}
-use Rattle.resolution.specs.declared.gift.Gift.{Gift}
+use Rattle.resolution.specs.declared.init_target.InitTarget.{InitTarget}
 use Rattle.syntax.specs.Trees.{Decl, lock, struct, global, array, pool, init, atomic, thread}
 use Rattle.resolution.specs.Scopes.{◌>>=◌, place_of, place_from}
-use Rattle.resolution.specs.Constants.{gift_of, gives}
-use Rattle.resolution.specs.FaultLists.{given_before, gift_again, repeated}
-use Rattle.symbols.specs.declared.gifts.Gifts.{Gifts}
-use Rattle.symbols.specs.Given.{gift_found, IsGiftTable, found_again, again_given, repeated_in}
+use Rattle.resolution.specs.Constants.{init_target_of, gives}
+use Rattle.resolution.specs.FaultLists.{given_before, init_target_again, repeated}
+use Rattle.symbols.specs.declared.first_inits.FirstInits.{FirstInits}
+use Rattle.symbols.specs.Given.{init_target_found, IsInitTargetTable, found_again, again_given, repeated_in}
 use Rattle.symbols.proofs.Tables.{place-more}
 
-pub gifts_more : (decls ds : List Decl) (d : Decl) (place : ℕ) (old new : Gifts) → place ≡ length ds → IsGiftTable decls ds old →
-    ((g : Gift) → gift_found new g ≡ option_or (gift_found old g) (if gives decls d g then Some place else None)) → IsGiftTable decls (ds ++ d ∷ []) new
-gifts_more decls ds d place old new at table adds = λ g.
-    adds g ∙ ap (λ (k : ℕ). option_or (gift_found old g) (if gives decls d g then Some k else None)) at
+pub init_targets_more : (decls ds : List Decl) (d : Decl) (place : ℕ) (old new : FirstInits) → place ≡ length ds → IsInitTargetTable decls ds old →
+    ((g : InitTarget) → init_target_found new g ≡ option_or (init_target_found old g) (if gives decls d g then Some place else None)) → IsInitTargetTable decls (ds ++ d ∷ []) new
+init_targets_more decls ds d place old new at table adds = λ g.
+    adds g ∙ ap (λ (k : ℕ). option_or (init_target_found old g) (if gives decls d g then Some k else None)) at
     ∙ ap (λ (o : Option ℕ). option_or o (if gives decls d g then Some (length ds) else None)) (table g)
     ∙ sym (place-more (λ y. gives decls y g) ds d 0 (length ds) (omega arith))
 
@@ -41,12 +41,12 @@ again_place start xs p (Some i) is =
     let same : r.0 ≡ i = omega (arith, r.1) in
     again_some start (slice_get xs) i (slice_get xs i) refl (sym (ap (λ (k : ℕ). is_some (slice_get xs k)) same) ∙ r.2)
 
-again_is : (decls ds : List Decl) (t : Gifts) (start : ℕ) (o : Option Gift) → IsGiftTable decls ds t → again_given t start o ≡ gift_again decls ds start o
+again_is : (decls ds : List Decl) (t : FirstInits) (start : ℕ) (o : Option InitTarget) → IsInitTargetTable decls ds t → again_given t start o ≡ init_target_again decls ds start o
 again_is decls ds t start None table = refl
 again_is decls ds t start (Some g) table = ap (found_again start) (table g) ∙ again_place start ds (λ y. gives decls y g) (place_of (gives decls) ds g) refl
 
-pub repeated_is : (decls ds : List Decl) (t : Gifts) (d : Decl) → IsGiftTable decls ds t → repeated_in t decls d ≡ repeated decls ds d
-repeated_is decls ds t (init j) table = again_is decls ds t j.start.start (gift_of decls j) table
+pub repeated_is : (decls ds : List Decl) (t : FirstInits) (d : Decl) → IsInitTargetTable decls ds t → repeated_in t decls d ≡ repeated decls ds d
+repeated_is decls ds t (init j) table = again_is decls ds t j.start.start (init_target_of decls j) table
 repeated_is decls ds t (lock x) table = refl
 repeated_is decls ds t (struct s) table = refl
 repeated_is decls ds t (global v) table = refl

@@ -5,4 +5,4 @@ pub mod Capped
 pub mod Given
 pub mod Programs
 pub mod Scoped
-pub mod Standings
+pub mod AnnotationCursors

@@ -3,7 +3,7 @@ use Rattle.std.specs.Prelude.{List}
 use Rattle.syntax.specs.Trees.{Decl}
 use Rattle.symbols.specs.Found.{AreAhead}
 use Rattle.symbols.specs.Capped.{totals_of}
-use Rattle.symbols.specs.Given.{IsGiftTable}
+use Rattle.symbols.specs.Given.{IsInitTargetTable}
 use Rattle.symbols.specs.Views.{declared_by, AreDeclarations}
 use Rattle.symbols.specs.declared.table.Program.{Program}
 
@@ -15,4 +15,4 @@ abbrev pub IsProgram : Program → Type 0
 IsProgram p =
     AreDeclarations p.decls
     × AreAhead (totals_of (program_of p)) (program_of p) p.ahead.items p.all
-    × IsGiftTable (program_of p) (program_of p) p.gifts
+    × IsInitTargetTable (program_of p) (program_of p) p.first_inits

@@ -8,7 +8,7 @@ ghost use Rattle.resolution.specs.Annotations.{class_in, class_of, at_struct, st
 ghost use Rattle.resolution.specs.FaultLists.{least_of, global_lock_faults, lock_faults, passed_faults, last_faults, passed, ended as end_faults, along_faults, protection_faults};
 ghost use Rattle.symbols.specs.Views.{declared_by, structure_of, members_seen, IsStructure, AreDeclarations};
 ghost use Rattle.symbols.specs.Programs.{program_of, IsProgram};
-ghost use Rattle.symbols.specs.Standings.{standing_of, IsStanding};
+ghost use Rattle.symbols.specs.AnnotationCursors.{cursor_of, IsAnnotationCursor};
 
 use crate::declarations::Declarations;
 use crate::members::Structure;
@@ -26,7 +26,7 @@ const FINAL_LIMIT: usize = 3;
 
 /// Where a walk along an annotation stands: a struct with its place, and the final references on the way to it.
 #[derive(Drop)]
-pub(crate) struct Standing<'a, 't> {
+pub(crate) struct AnnotationCursor<'a, 't> {
     /// The struct's place among the declarations.
     pub place: usize,
     /// The struct, with its tables.
@@ -110,17 +110,17 @@ fn at_struct<'a, 't>(
     through: Vec<u32>,
     number: u32,
     target: &Name,
-) -> Result<Option<Standing<'a, 't>>, AllocError>
+) -> Result<Option<AnnotationCursor<'a, 't>>, AllocError>
     requires { AreDeclarations decls.now }
-    ensures standing { IfOk result (λ r. option_map standing_of r ≡ at_struct through.items number (the_decl (declared_by decls.now) (ident target.now).text)) }
-    ensures tables { IfOk result IsStanding }
+    ensures cursor { IfOk result (λ r. option_map cursor_of r ≡ at_struct through.items number (the_decl (declared_by decls.now) (ident target.now).text)) }
+    ensures tables { IfOk result IsAnnotationCursor }
 {
     let Some((place, structure)) = decls.struct_of(target) else {
         return Ok(None);
     };
     let mut through = through;
     through.push(number)?;
-    Ok(Some(Standing {
+    Ok(Some(AnnotationCursor {
         place,
         structure,
         through,
@@ -130,40 +130,40 @@ fn at_struct<'a, 't>(
 /// Over a final reference to its struct; nothing else leads on.
 fn stepped_on<'a, 't>(
     decls: &'a Declarations<'t>,
-    standing: Option<Standing<'a, 't>>,
+    cursor: Option<AnnotationCursor<'a, 't>>,
     y: &Name,
-) -> Result<Option<Standing<'a, 't>>, AllocError>
+) -> Result<Option<AnnotationCursor<'a, 't>>, AllocError>
     requires decls { AreDeclarations decls.now }
-    requires standing { IsStanding standing }
-    ensures standing { IfOk result (λ r. option_map standing_of r ≡ stepped_on (declared_by decls.now) (option_map standing_of standing.entry) (ident y.now)) }
-    ensures tables { IfOk result IsStanding }
+    requires cursor { IsAnnotationCursor cursor }
+    ensures cursor { IfOk result (λ r. option_map cursor_of r ≡ stepped_on (declared_by decls.now) (option_map cursor_of cursor.entry) (ident y.now)) }
+    ensures tables { IfOk result IsAnnotationCursor }
 {
-    let Some(standing) = standing else {
+    let Some(cursor) = cursor else {
         return Ok(None);
     };
-    let Some((place, m)) = standing.structure.find(y.text.as_str()) else {
+    let Some((place, m)) = cursor.structure.find(y.text.as_str()) else {
         return Ok(None);
     };
-    let number = standing.structure.step(place, m);
+    let number = cursor.structure.step(place, m);
     match m {
-        Member::Final(reference) => at_struct(decls, standing.through, number, &reference.target),
+        Member::Final(reference) => at_struct(decls, cursor.through, number, &reference.target),
         Member::Lock(_) | Member::Field(_) => Ok(None),
     }
 }
 
 /// The walk's end: a lock field.
-fn ended(program: &Program, standing: Option<Standing>, y: &Name) -> Option<Protection>
+fn ended(program: &Program, cursor: Option<AnnotationCursor>, y: &Name) -> Option<Protection>
     requires program { IsProgram program.now }
-    requires standing { IsStanding standing }
-    ensures { option_map core_protection result ≡ ended (program_of program.now) (option_map standing_of standing.entry) (ident y.now) }
+    requires cursor { IsAnnotationCursor cursor }
+    ensures { option_map core_protection result ≡ ended (program_of program.now) (option_map cursor_of cursor.entry) (ident y.now) }
 {
-    let standing = standing?;
-    let (place, m) = standing.structure.find(y.text.as_str())?;
-    let number = standing.structure.number(place, m);
+    let cursor = cursor?;
+    let (place, m) = cursor.structure.find(y.text.as_str())?;
+    let number = cursor.structure.number(place, m);
     match m {
         Member::Lock(_) => Some(Protection {
-            through: standing.through,
-            class: program.class(standing.place, number),
+            through: cursor.through,
+            class: program.class(cursor.place, number),
         }),
         Member::Final(_) | Member::Field(_) => None,
     }
@@ -172,21 +172,21 @@ fn ended(program: &Program, standing: Option<Standing>, y: &Name) -> Option<Prot
 /// Along names, the last of which is the lock's.
 fn along<'a, 't>(
     program: &'a Program<'t>,
-    standing: Option<Standing<'a, 't>>,
+    cursor: Option<AnnotationCursor<'a, 't>>,
     first: &Name,
     rest: &[Name],
 ) -> Result<Option<Protection>, AllocError>
     requires program { IsProgram program.now }
-    requires standing { IsStanding standing }
-    ensures { IfOk result (λ r. option_map core_protection r ≡ along (program_of program.now) (option_map standing_of standing.entry) (ident first.now) (map ident rest.now)) }
+    requires cursor { IsAnnotationCursor cursor }
+    ensures { IfOk result (λ r. option_map core_protection r ≡ along (program_of program.now) (option_map cursor_of cursor.entry) (ident first.now) (map ident rest.now)) }
 {
-    let mut standing = standing;
+    let mut cursor = cursor;
     let mut y = first;
     for z in rest {
-        standing = stepped_on(&program.decls, standing, y)?;
+        cursor = stepped_on(&program.decls, cursor, y)?;
         y = z;
     }
-    Ok(ended(program, standing, y))
+    Ok(ended(program, cursor, y))
 }
 
 /// What protects a field of the struct at a place: a lock field of the struct itself or of one that final references
@@ -207,12 +207,12 @@ pub fn protection_of<'a, 't>(
         return Ok(None);
     };
     if structure.find(p.first.text.as_str()).is_some() {
-        let standing = Some(Standing {
+        let cursor = Some(AnnotationCursor {
             place,
             structure,
             through: Vec::new(alloc),
         });
-        return along(program, standing, &p.first, &p.rest);
+        return along(program, cursor, &p.first, &p.rest);
     }
     match class_in(program, &p.first, &p.rest) {
         Some(class) => Ok(Some(Protection {
@@ -224,17 +224,22 @@ pub fn protection_of<'a, 't>(
 }
 
 /// Notes what is wrong with a name that others follow.
-fn note_passed(start: usize, standing: &Option<Standing>, y: &Name, least: &mut Option<Mistake>)
-    requires { IsStanding standing.now }
-    ensures { least.new ≡ least_of least.old (passed start (option_map standing_of standing.now) (ident y.now)) }
+fn note_passed(
+    start: usize,
+    cursor: &Option<AnnotationCursor>,
+    y: &Name,
+    least: &mut Option<Mistake>,
+)
+    requires { IsAnnotationCursor cursor.now }
+    ensures { least.new ≡ least_of least.old (passed start (option_map cursor_of cursor.now) (ident y.now)) }
 {
-    let Some(standing) = standing else {
+    let Some(cursor) = cursor else {
         return;
     };
-    match standing.structure.find(y.text.as_str()) {
+    match cursor.structure.find(y.text.as_str()) {
         None => note(least, Code::UnknownName, y.start as usize),
         Some((_, Member::Final(_))) => {
-            let is_over = FINAL_LIMIT <= standing.through.len();
+            let is_over = FINAL_LIMIT <= cursor.through.len();
             note_if(is_over, Code::LimitExceeded, start, least);
         }
         Some((_, Member::Field(_))) | Some((_, Member::Lock(_))) => {
@@ -244,14 +249,14 @@ fn note_passed(start: usize, standing: &Option<Standing>, y: &Name, least: &mut 
 }
 
 /// Notes what is wrong with the last name.
-fn note_last(start: usize, standing: &Option<Standing>, y: &Name, least: &mut Option<Mistake>)
-    requires { IsStanding standing.now }
-    ensures { least.new ≡ least_of least.old (end_faults start (option_map standing_of standing.now) (ident y.now)) }
+fn note_last(start: usize, cursor: &Option<AnnotationCursor>, y: &Name, least: &mut Option<Mistake>)
+    requires { IsAnnotationCursor cursor.now }
+    ensures { least.new ≡ least_of least.old (end_faults start (option_map cursor_of cursor.now) (ident y.now)) }
 {
-    let Some(standing) = standing else {
+    let Some(cursor) = cursor else {
         return;
     };
-    match standing.structure.find(y.text.as_str()) {
+    match cursor.structure.find(y.text.as_str()) {
         None => note(least, Code::UnknownName, y.start as usize),
         Some((_, Member::Lock(_))) => {}
         Some((_, Member::Final(_))) | Some((_, Member::Field(_))) => {
@@ -265,23 +270,23 @@ fn note_last(start: usize, standing: &Option<Standing>, y: &Name, least: &mut Op
 fn note_along<'a, 't>(
     decls: &'a Declarations<'t>,
     start: usize,
-    standing: Option<Standing<'a, 't>>,
+    cursor: Option<AnnotationCursor<'a, 't>>,
     first: &Name,
     rest: &[Name],
     least: &mut Option<Mistake>,
 ) -> Result<(), AllocError>
     requires decls { AreDeclarations decls.now }
-    requires standing { IsStanding standing }
-    ensures { OnOk result (least.new ≡ least_of least.old (along_faults (declared_by decls.now) start (option_map standing_of standing.entry) (ident first.now) (map ident rest.now))) }
+    requires cursor { IsAnnotationCursor cursor }
+    ensures { OnOk result (least.new ≡ least_of least.old (along_faults (declared_by decls.now) start (option_map cursor_of cursor.entry) (ident first.now) (map ident rest.now))) }
 {
-    let mut standing = standing;
+    let mut cursor = cursor;
     let mut y = first;
     for z in rest {
-        note_passed(start, &standing, y, least);
-        standing = stepped_on(decls, standing, y)?;
+        note_passed(start, &cursor, y, least);
+        cursor = stepped_on(decls, cursor, y)?;
         y = z;
     }
-    note_last(start, &standing, y, least);
+    note_last(start, &cursor, y, least);
     Ok(())
 }
 
@@ -305,7 +310,7 @@ pub fn note_protection<'a, 't>(
         return Ok(());
     };
     if structure.find(p.first.text.as_str()).is_some() {
-        let standing = Some(Standing {
+        let cursor = Some(AnnotationCursor {
             place,
             structure,
             through: Vec::new(alloc),
@@ -313,7 +318,7 @@ pub fn note_protection<'a, 't>(
         return note_along(
             decls,
             p.first.start as usize,
-            standing,
+            cursor,
             &p.first,
             &p.rest,
             least,

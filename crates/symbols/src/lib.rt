@@ -4,20 +4,20 @@
 //!
 //! - [`table::Program`]: the declarations with all their tables, and the faults that these show: names declared twice,
 //!   too many of something, a repeated `init`.
-//! - [`declarations::Declarations`], [`members::Structure`], [`gifts::Gifts`], [`totals::Totals`], [`names::Names`]:
+//! - [`declarations::Declarations`], [`members::Structure`], [`first_inits::FirstInits`], [`totals::Totals`], [`names::Names`]:
 //!   the tables.
 //! - [`scope`]: what a name means, in a section or outside of sections, and the types that are written.
 //! - [`annotation`]: which lock protects a global, an array or a field.
 //! - [`note::note`]: keeps the least of the faults.
 //!
 //! Which data a value of the tables is stands in `specs/Views.antt`, `Found.antt`, `Programs.antt`, `Scoped.antt` and
-//! `Standings.antt`; how sums past a limit are capped in `Capped.antt`. What names mean and where faults stand is
+//! `AnnotationCursors.antt`; how sums past a limit are capped in `Capped.antt`. What names mean and where faults stand is
 //! defined in `resolution`.
 #![tactic(auto)]
 
 pub mod annotation;
 pub mod declarations;
-pub mod gifts;
+pub mod first_inits;
 pub mod members;
 pub mod names;
 pub mod note;

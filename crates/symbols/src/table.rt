@@ -12,9 +12,9 @@ ghost use Rattle.symbols.specs.Views.{decls_of};
 ghost use Rattle.symbols.specs.Programs.{program_of, IsProgram};
 
 use crate::declarations::Declarations;
-use crate::gifts::{Gifts, judge_gifts};
+use crate::first_inits::{FirstInits, judge_first_inits};
 use crate::totals::{CALL_LIMIT, CELL_LIMIT, CLASS_LIMIT, OBJECT_LIMIT, Totals, judge_totals};
-use resolution::gift::Gift;
+use resolution::init_target::InitTarget;
 use resolution::mistake::Mistake;
 use std::alloc::{AllocError, Global};
 use syntax::tree::{Const, Decl};
@@ -29,7 +29,7 @@ pub struct Program<'t> {
     /// How much there is in all.
     pub all: Totals,
     /// What `init`s give.
-    pub gifts: Gifts,
+    pub first_inits: FirstInits,
 }
 
 impl<'t> Program<'t> {
@@ -47,12 +47,12 @@ impl<'t> Program<'t> {
     {
         let decls = Declarations::new(alloc, items, least)?;
         let (ahead, all) = judge_totals(alloc, &decls, least)?;
-        let gifts = judge_gifts(alloc, &decls, least)?;
+        let first_inits = judge_first_inits(alloc, &decls, least)?;
         Ok(Program {
             decls,
             ahead,
             all,
-            gifts,
+            first_inits,
         })
     }
 
@@ -105,11 +105,11 @@ impl<'t> Program<'t> {
     }
 
     /// The constant that a field of a pool's member is given by the first `init` that names it. `None` where none does.
-    pub fn given(&self, gift: Gift) -> Option<&'t Const>
+    pub fn given(&self, init_target: InitTarget) -> Option<&'t Const>
         requires { IsProgram self.now }
-        ensures { option_map (λ c. const_of c.now) result ≡ given (program_of self.now) gift }
+        ensures { option_map (λ c. const_of c.now) result ≡ given (program_of self.now) init_target }
     {
-        let place = self.gifts.find(gift)?;
+        let place = self.first_inits.find(init_target)?;
         match self.decls.items.get(place)? {
             Decl::Init(i) => Some(&i.value),
             Decl::Lock(_)

@@ -13,13 +13,15 @@ use Rattle.syntax.specs.Returns.{ReturnsRight, IsFirstReturnFault}
 abbrev pub HasRightTree : List Tok → List Decl → Type 0
 HasRightTree ts ds = HasTree ts ds × ReturnsRight ds
 
--- E03: with this token no program begins, whatever the nesting
+-- E03: with the tokens ahead of this one some program begins, whatever the nesting, and with it none; no opening sign ahead is too deep
 pub record IsUnexpected (ts : List Tok) (start : ℕ) : Type 0 where
   pub before : List Tok
   pub token : Tok
   pub after : List Tok
   pub parts : ts ≡ before ++ token ∷ after
   pub place : token.span.start ≡ start
+  pub begun : (ds : List Decl) × (other : List Tok) × Spells ds (before ++ other)
+  pub shallow : IsShallow before
   pub no_program : (ds : List Decl) (other : List Tok) → Spells ds (before ++ token ∷ other) → ⊥
 
 -- E04: the first opening sign whose nesting is the limit, with which some program begins, whatever the nesting

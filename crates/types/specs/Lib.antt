@@ -1,4 +1,4 @@
-pub mod Shapings
+pub mod StructBuilders
 pub mod Slots
 pub mod Calls
 pub mod Whole

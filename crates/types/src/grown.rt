@@ -12,7 +12,7 @@ ghost use Rattle.types.specs.Whole.{global_with, array_with};
 
 use crate::constant::{default_of, opened};
 use crate::pool::{cell_at, with_cell};
-use crate::shaping::{Shaping, with_members};
+use crate::struct_builder::{StructBuilder, with_members};
 use core_lang::tree::Section;
 use core_lang::typed::{Call, GlobalVariable, LockClass, Owner, Thread, Typed};
 use core_lang::value::ValueType;
@@ -68,7 +68,7 @@ pub fn with_struct<'a, 't>(
         sections,
         threads,
     } = typed;
-    let shaping = Shaping {
+    let builder = StructBuilder {
         structure: empty_struct(alloc, &structure.item.name)?,
         classes,
     };
@@ -79,15 +79,15 @@ pub fn with_struct<'a, 't>(
         number,
         place,
         structure,
-        Some(shaping),
+        Some(builder),
         members,
     )?;
-    let Some(shaping) = shaped else {
+    let Some(builder) = shaped else {
         return Ok(None);
     };
-    structs.push(shaping.structure)?;
+    structs.push(builder.structure)?;
     Ok(Some(Typed {
-        classes: shaping.classes,
+        classes: builder.classes,
         structs,
         globals,
         shape,

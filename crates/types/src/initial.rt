@@ -14,7 +14,7 @@ use resolution::wanted::Want;
 use sections::wanted::want;
 use source::fault::Code;
 use symbols::declarations::Declarations;
-use symbols::gifts::{initialised, structure_given};
+use symbols::first_inits::{initialised, structure_given};
 use symbols::note::{note, note_if};
 use symbols::scope::{struct_named, type_outside};
 use syntax::tree::{Const, Init, Member};

@@ -13,5 +13,5 @@ mod grown;
 mod initial;
 mod pool;
 pub mod program;
-mod shaping;
+mod struct_builder;
 mod thread;

@@ -18,7 +18,7 @@ use core_lang::shape;
 use core_lang::shape::Object;
 use core_lang::typed::{Cell, Owner, Typed};
 use core_lang::value::{Value, ValueType};
-use resolution::gift::Gift;
+use resolution::init_target::InitTarget;
 use resolution::mistake::Mistake;
 use resolution::wanted::Want;
 use source::fault::Code;
@@ -36,8 +36,11 @@ const FINAL_PLACES: usize = 2097152;
 /// A member of the pool at a place, and the object that it is.
 #[derive(Clone, Copy, Debug, PartialEq, Eq)]
 pub struct Slot {
+    /// The pool's place among the declarations.
     pub pool: usize,
+    /// Which member of the pool, from 0.
     pub index: usize,
+    /// The object's number, from 0 over all pools.
     pub object: usize,
 }
 
@@ -93,7 +96,7 @@ fn slot_given<'t>(program: &Program<'t>, slot: Slot, member: usize) -> Option<&'
     requires { IsProgram program.now }
     ensures { option_map (λ c. const_of c.now) result ≡ slot_given (program_of program.now) (slot_of slot) member }
 {
-    program.given(Gift {
+    program.given(InitTarget {
         pool: slot.pool,
         index: slot.index as u64,
         member,
@@ -300,12 +303,12 @@ fn some_lacks(program: &Program, pool: usize, member: usize, count: u64) -> bool
     ensures { result ≡ some_lacks (program_of program.now) pool member count }
 {
     for index in 0..count {
-        let gift = Gift {
+        let init_target = InitTarget {
             pool,
             index,
             member,
         };
-        if program.given(gift).is_none() {
+        if program.given(init_target).is_none() {
             return true;
         }
     }
@@ -327,6 +330,7 @@ fn is_due(program: &Program, structure: &Structure, place: usize, m: &Member) ->
     }
 }
 
+/// Whether it was found, and at this place.
 fn is_at(place: usize, found: Option<usize>) -> bool
     ensures { result ≡ is_at place found }
 {

@@ -19,7 +19,7 @@ use crate::constant::note_opening;
 use crate::grown::{with_array, with_global, with_lock, with_section, with_struct, with_thread};
 use crate::initial::note_init;
 use crate::pool::{note_missing, with_pool};
-use crate::shaping::note_members;
+use crate::struct_builder::note_members;
 use crate::thread::{note_items, typed_calls};
 use core_lang::shape::Shape;
 use core_lang::typed::Typed;

@@ -1,7 +1,7 @@
 //! From words to a line.
 
-ghost use Rattle.std.specs.Prelude.{◌≡◌, ◌≢◌, IfOk, IfErr, IfSome, None, codes, map};
-ghost use Rattle.clap.specs.Words.{found_of, rows_of, subcommand_of};
+ghost use Rattle.std.specs.Prelude.{◌≡◌, ◌≢◌, IfOk, IfErr, IfSome, OnOk, None, [], codes, map};
+ghost use Rattle.clap.specs.Words.{fault_of, found_of, rows_of, subcommand_of};
 ghost use Rattle.words.specs.Commands.{autolock};
 ghost use Rattle.words.specs.Lines.{name_in, IsTurns, IsLine, IsLineOf, IsRefused};
 
@@ -43,6 +43,7 @@ fn line<'a>(command: &str, matches: &ArgMatches<'a>) -> Option<Line<'a>>
 /// are no line; its text is what a user is to see.
 pub fn words<'a>(alloc: Global, words: &'a [&'a str]) -> Result<Line<'a>, Error>
     ensures line { IfOk result (IsLineOf (subcommand_of autolock (map (λ word. word.now) words.entry.now))) }
+    ensures accepted { OnOk result (fault_of autolock (map (λ word. word.now) words.entry.now) ≡ []) }
     ensures refused { IfErr result (IsRefused (map (λ word. word.now) words.entry.now)) }
 {
     let mut command = command(alloc)?;

@@ -9,6 +9,9 @@ invariant-chain-loop-operation l = operations (drop l.operation-index l.operatio
 abbrev pub decreases-chain : goal.decreases-chain
 decreases-chain l = 4 * goal.size-chain l
 
+abbrev pub decreases-term : goal.decreases-term
+decreases-term l = 4 * goal.size-term l + 2
+
 abbrev pub decreases-known : goal.decreases-known
 decreases-known l = 4 * goal.size-known l + 3
 

@@ -7,14 +7,14 @@ use Rattle.resolution.specs.Expressions.{typed_links}
 use Rattle.sections.specs.Parts.{so_far}
 use Rattle.symbols.specs.Programs.{program_of}
 use Rattle.symbols.specs.Scoped.{scope_of}
-use Rattle.sections.specs.Senses.{sense_of}
+use Rattle.sections.specs.ResolvedExprs.{resolved_expr_of}
 use Rattle.symbols.proofs.Least.{on_ok}
 use Rattle.sections.proofs.Chains.{operations_joined, operations_end, tests_joined, tests_first, tests_end, link_step, link_fault_step, test_step, numbers_value, tests_value, chain_faults}
 use Rattle.sections.proofs.expr.+judge.Goals as goal
 
 pub judge_joined-returns-in_ok-rest-in-Term-clause-value : goal.judge_joined-returns-in_ok-rest-in-Term-clause-value
 judge_joined-returns-in_ok-rest-in-Term-clause-value t c =
-    subst (λ s. IfOk c.chained.result (λ r. option_map sense_of r ≡ s))
+    subst (λ s. IfOk c.chained.result (λ r. option_map resolved_expr_of r ≡ s))
     (numbers_value (scope_of (program_of c.args.program.now) c.args.locals.now) c.args.e.now c.in-Chain.level c.in-Chain.first c.in-Chain.links _ _ _ _ c.in-Chain.is c.in-Term.is c.deref-in-Term.ensures.value c.number_in.ensures c.in_ok-operand-in-Chain.ensures.value c.in_ok-rest-in-Term.ensures.value)
     c.chained.ensures
 
@@ -24,7 +24,7 @@ judge_joined-returns-in_ok-rest-in-Term-clause-faults t c =
 
 pub judge_joined-returns-in_ok-tests-in-Conjunction-clause-value : goal.judge_joined-returns-in_ok-tests-in-Conjunction-clause-value
 judge_joined-returns-in_ok-tests-in-Conjunction-clause-value t c =
-    subst (λ s. IfOk c.tested.result (λ r. option_map sense_of r ≡ s))
+    subst (λ s. IfOk c.tested.result (λ r. option_map resolved_expr_of r ≡ s))
     (tests_value (scope_of (program_of c.args.program.now) c.args.locals.now) c.args.e.now c.in-Chain.level c.in-Chain.first c.in-Chain.links _ _ _ _ c.in-Chain.is c.in-Conjunction.is c.deref.ensures.value c.test_in-first.ensures c.in_ok-operand-in-Chain.ensures.value c.in_ok-tests-in-Conjunction.ensures.value)
     c.tested.ensures
 

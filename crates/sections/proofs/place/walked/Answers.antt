@@ -6,7 +6,7 @@ use Rattle.syntax.specs.Views.{ident}
 use Rattle.resolution.specs.Expressions.{walked}
 use Rattle.resolution.specs.FaultLists.{least_of, step_faults, walk_faults}
 use Rattle.symbols.specs.Views.{declared_by}
-use Rattle.sections.specs.Senses.{walk_of}
+use Rattle.sections.specs.ResolvedExprs.{walk_of}
 use Rattle.symbols.proofs.Steps.{step, noted_one}
 use Rattle.sections.proofs.place.walked.Goals as goal
 

@@ -4,7 +4,7 @@ use Rattle.syntax.specs.Views.{ident}
 use Rattle.resolution.specs.Expressions.{walked}
 use Rattle.resolution.specs.FaultLists.{least_of, walk_faults}
 use Rattle.symbols.specs.Views.{declared_by}
-use Rattle.sections.specs.Senses.{walk_of}
+use Rattle.sections.specs.ResolvedExprs.{walk_of}
 use Rattle.sections.proofs.place.walked.Given as goal
 
 abbrev pub invariant-loop-f : goal.invariant-loop-f

@@ -3,11 +3,11 @@ use Rattle.std.specs.Prelude.{map, option_map}
 use Rattle.syntax.specs.Views.{ident}
 use Rattle.resolution.specs.FaultLists.{least_of, along_faults}
 use Rattle.symbols.specs.Views.{declared_by}
-use Rattle.symbols.specs.Standings.{standing_of, IsStanding}
+use Rattle.symbols.specs.AnnotationCursors.{cursor_of, IsAnnotationCursor}
 use Rattle.symbols.proofs.annotation.note_along.Given as goal
 
 abbrev pub invariant-loop-z : goal.invariant-loop-z
 invariant-loop-z l = record {
-  faults : least_of l.least (along_faults (declared_by l.decls) l.start (option_map standing_of l.standing) (ident l.y) (map ident (drop l.z-index l.rest))) ≡ least_of l.fn.least (along_faults (declared_by l.decls) l.start (option_map standing_of l.fn.standing) (ident l.fn.first) (map ident l.rest));
-  table : IsStanding l.standing;
+  faults : least_of l.least (along_faults (declared_by l.decls) l.start (option_map cursor_of l.cursor) (ident l.y) (map ident (drop l.z-index l.rest))) ≡ least_of l.fn.least (along_faults (declared_by l.decls) l.start (option_map cursor_of l.fn.cursor) (ident l.fn.first) (map ident l.rest));
+  table : IsAnnotationCursor l.cursor;
 }

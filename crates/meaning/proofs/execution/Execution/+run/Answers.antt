@@ -1,20 +1,23 @@
-use Rattle.std.proofs.Common.{◌∙◌, subst, refl}
+use Rattle.std.proofs.Common.{◌∙◌, subst}
 use Rattle.meaning.specs.Answer.{Follows}
 use Rattle.meaning.specs.Execution.{state_of}
-use Rattle.meaning.proofs.Blocks.{if_true, if_else_true, if_else_false, while_starts, while_turns}
+use Rattle.meaning.proofs.Blocks.{if_true, if_else_true, if_else_false, while_is, while_turns}
 use Rattle.meaning.proofs.execution.Execution.+run.Goals as goal
 
-pub run-loop-left-init : goal.run-loop-left-init
-run-loop-left-init t c = record { same = while_starts _ _ _ _ _ _ c.in-While.is; keeps = refl }
-
-pub run-loop-left-preserved : goal.run-loop-left-preserved
-run-loop-left-preserved t c = record {
+pub repeat-loop-left-preserved : goal.repeat-loop-left-preserved
+repeat-loop-left-preserved t c = record {
   same =
-      while_turns c.in-While.condition c.deref-in-loop-left-2.result.now c.in-While.body c.args.shape.now c.args.turns c.loop-left.left (state_of c.loop-left.self) (state_of c.run_all-in-loop-left.new.self) _ _ _ c.if-left-eq0.false c.deref-in-loop-left.ensures.value c.cells-in-loop-left.ensures c.in_ok-is_true-in-While.ensures c.if-branch-3.true
-      c.deref-in-loop-left-2.ensures.value c.in_ok-run_all-in-While.ensures.follows
+      while_turns c.args.condition.now c.args.body.now c.args.shape.now c.args.most c.loop-left.left (state_of c.loop-left.self) (state_of c.steps.new.self) _ _ _ c.if-left-eq0.false c.deref.ensures.value c.cells.ensures c.in_ok-is_true.ensures c.if-branch.true
+      c.in_ok-steps.ensures.follows
       ∙ c.loop-left.invariant.same;
-  keeps = c.in_ok-run_all-in-While.ensures.keeps ∙ c.loop-left.invariant.keeps;
+  keeps = c.in_ok-steps.ensures.keeps ∙ c.loop-left.invariant.keeps;
 }
+
+pub run-returns-in-While-clause-follows : goal.run-returns-in-While-clause-follows
+run-returns-in-While-clause-follows t c =
+    subst (Follows c.repeat.result (state_of c.repeat.new.self))
+    (while_is _ _ _ _ _ _ _ c.in-While.is c.deref-in-While.ensures.value)
+    c.repeat.ensures.follows
 
 pub run-returns-then-branch-clause-follows : goal.run-returns-then-branch-clause-follows
 run-returns-then-branch-clause-follows t c =

@@ -1,0 +1,45 @@
+-- What expressions and places that the checker's values stand for are.
+use Rattle.std.specs.Prelude.{List, [], ◌∷◌, ◌++◌, Option, Some, None}
+use Rattle.core_lang.specs.declared.value.ValueType as core_type
+use Rattle.core_lang.specs.declared.tree.FieldStep.{FieldStep}
+use Rattle.syntax.specs.declared.tree.Level.{Level}
+use Rattle.syntax.specs.declared.tree.Level.TheVariants.{Term, Sum, Conjunction, Disjunction}
+use Rattle.syntax.specs.declared.tree.Prefix.{Prefix}
+use Rattle.syntax.specs.declared.tree.Prefix.TheVariants.{Negate, Not}
+use Rattle.resolution.specs.CoreViews.{core_expr, core_condition, core_conditions}
+use Rattle.resolution.specs.Expressions.{ResolvedExpr, value, truth, Tests, Walk, reached, at_lock, lost, negated, not_so, number_resolved, test_resolved, all_hold, one_holds}
+use Rattle.sections.specs.declared.resolved_expr.ResolvedExpr as s
+use Rattle.sections.specs.declared.resolved_expr.ResolvedExpr.TheVariants as v
+use Rattle.sections.specs.declared.resolved_expr.Tests as the_tests
+use Rattle.sections.specs.declared.place.Walk as w
+use Rattle.sections.specs.declared.place.Walk.TheVariants as u
+
+abbrev pub resolved_expr_of : s.ResolvedExpr → ResolvedExpr
+resolved_expr_of (v.Value e sort) = value (core_expr e) sort
+resolved_expr_of (v.Truth c) = truth (core_condition c)
+
+abbrev pub tests_of : the_tests.Tests → Tests
+tests_of t = record { before = core_conditions t.before.items; last = core_condition t.last }
+
+abbrev pub walk_of : w.Walk → Walk
+walk_of (u.Reached steps t) = reached steps.items t
+walk_of u.AtLock = at_lock
+walk_of u.Lost = lost
+
+-- what a prefix sign makes of its operand
+abbrev pub prefixed : Prefix → Option ResolvedExpr → Option ResolvedExpr
+prefixed Negate s = negated (number_resolved s)
+prefixed Not s = not_so (test_resolved s)
+
+-- what a chain of conditions is
+abbrev pub holds : Level → Option Tests → Option ResolvedExpr
+holds level None = None
+holds Term (Some ts) = None
+holds Sum (Some ts) = None
+holds Conjunction (Some ts) = all_hold (Some ts)
+holds Disjunction (Some ts) = one_holds (Some ts)
+
+-- over a step that leads to a value, if its type has no fault
+abbrev pub over_step : List FieldStep → FieldStep → Option core_type.ValueType → Walk
+over_step steps x (Some t) = reached (steps ++ x ∷ []) t
+over_step steps x None = lost

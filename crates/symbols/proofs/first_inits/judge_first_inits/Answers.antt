@@ -1,0 +1,31 @@
+use Rattle.std.proofs.Common.{◌+◌, ◌∷◌, ◌++◌, [], ap, sym, subst, ◌∙◌, List, take, drop}
+use Rattle.syntax.specs.Trees.{Decl}
+use Rattle.syntax.specs.Views.{decl_of}
+use Rattle.resolution.specs.FaultLists.{least_of, repeated, repeated_faults}
+use Rattle.symbols.specs.Given.{IsInitTargetTable}
+use Rattle.symbols.specs.Views.{decls_of, declared_by}
+use Rattle.symbols.proofs.Declared.{take-here, taken_length}
+use Rattle.symbols.proofs.Giving.{init_targets_more, repeated_is}
+use Rattle.symbols.proofs.Steps.{step, noted_one}
+use Rattle.symbols.proofs.first_inits.judge_first_inits.Goals as goal
+
+pub loop-place-preserved : goal.loop-place-preserved
+loop-place-preserved c =
+    let items = c.args.decls.now.items.now in
+    let all = declared_by c.args.decls.now in
+    let i = c.loop-place.place in
+    let x = c.d-item.result in
+    let d = decl_of x in
+    let lt = c.loop-place-test.true in
+    let is = c.d-item.is in
+    let ds = decls_of (take i items) in
+    let more = take-here decl_of items i x lt is in
+    record {
+      table = subst (λ (es : List Decl). IsInitTargetTable all es c.judge_decl.new.first_inits) (sym more)
+          (init_targets_more all ds d i c.loop-place.first_inits c.judge_decl.new.first_inits (taken_length decl_of items i lt) c.loop-place.invariant.table c.in_ok-judge_decl.ensures.first_inits);
+      faults = step (λ xs. least_of c.loop-place.least (repeated_faults all ds (decls_of xs))) (λ xs. least_of c.judge_decl.new.least (repeated_faults all (decls_of (take (i + 1) items)) (decls_of xs))) items i x _ lt is
+          (ap (λ (es : List Decl). least_of c.judge_decl.new.least (repeated_faults all es (decls_of (drop (i + 1) items)))) more
+          ∙ noted_one c.loop-place.least c.judge_decl.new.least (repeated all ds d) (repeated_faults all (ds ++ d ∷ []) (decls_of (drop (i + 1) items)))
+          (c.in_ok-judge_decl.ensures.faults ∙ ap (least_of c.loop-place.least) (repeated_is all ds c.loop-place.first_inits d c.loop-place.invariant.table)))
+          c.loop-place.invariant.faults;
+    }
