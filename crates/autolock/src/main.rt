@@ -6,10 +6,12 @@
 //! 7 where a call is not settled by the given turns; `--help` exits with 0.
 #![tactic(auto)]
 
-ghost use Rattle.std.specs.Prelude.{◌≡◌, ◌≢◌, ◌⊎◌, false, IfOk, map, string_bytes};
+ghost use Rattle.std.specs.Prelude.{◌≡◌, ◌≢◌, ◌⊎◌, ℕ, List, false, IfOk, IfSome, map, string_bytes};
 ghost use Rattle.std.specs.Io.KnownBytes.{Appends};
+ghost use Rattle.autolock.specs.Asked.{file_of, turns_of};
 ghost use Rattle.clap.specs.Values.{kind_of};
 ghost use Rattle.driver.specs.Messages.{cannot_write, no_memory};
+ghost use Rattle.driver.specs.Serial.{SerialAnswers};
 ghost use Rattle.driver.specs.Streams.{writer_of, writing_failed};
 
 use clap::Error;
@@ -18,24 +20,68 @@ use driver::{
     Sink, SourceText, Status, serial, tell_cannot_read, tell_cannot_write, tell_no_memory,
 };
 use std::alloc::{AllocError, Global};
-use std::io::Write;
+use std::io::{Read, Write};
 use std::process::ExitCode;
 use std::{env, fs, io};
 use words::{Line, words};
 
-/// Runs the engine of a line.
-fn run_line<E: Write>(rt: &HostRuntime, line: Line<'_>, err: &mut Sink<E>) -> Status {
+/// The name of the file whose program the line asks to run.
+fn file_name<'a>(line: Line<'a>) -> &'a str
+    ensures { result.now ≡ file_of line.entry }
+{
     match line {
-        Line::Serial(file, turns) => {
-            let Ok(opened) = fs::open(rt, file) else {
-                tell_cannot_read(err, file);
-                return Status::Failed;
-            };
-            let mut source = SourceText::new(opened);
-            let mut out = Sink::new(rt.stdout());
-            serial(rt.alloc(), &mut source, file, turns, &mut out, err)
-        }
+        Line::Serial(file, _) => file,
     }
+}
+
+/// The most turns that the line allows each execution of a loop.
+fn most_turns(line: Line<'_>) -> u64
+    ensures { result ≡ turns_of line.entry }
+{
+    match line {
+        Line::Serial(_, turns) => turns,
+    }
+}
+
+/// Runs the engine of a line over its file, which is open.
+fn run_opened<S: Read + Drop, O: Write, E: Write>(
+    alloc: Global,
+    line: Line<'_>,
+    opened: S,
+    out: &mut Sink<O>,
+    err: &mut Sink<E>,
+) -> Status
+    requires { writing_failed out.old ≡ false }
+
+    // What is asked for is what the line says: its file's program, with its turns.
+    ensures answers { result ≢ Status.Failed → result ≢ Status.OutOfMemory →
+        (text : List ℕ) × (wrote : List ℕ) × (told : List ℕ)
+        × IfSome (S.remaining opened) (λ bytes. text ≡ bytes)
+        × SerialAnswers (turns_of line.entry) (file_of line.entry) text result wrote told
+        × Appends (O.contents (writer_of out.old)) (O.contents (writer_of out.new)) wrote
+        × (writing_failed err.new ≡ false → Appends (E.contents (writer_of err.old)) (E.contents (writer_of err.new)) told) }
+    ensures words { result ≢ Status.BadWords }
+{
+    serial(
+        alloc,
+        &mut SourceText::new(opened),
+        file_name(line),
+        most_turns(line),
+        out,
+        err,
+    )
+}
+
+/// Opens the file of a line, and runs its engine.
+fn run_line<E: Write>(rt: &HostRuntime, line: Line<'_>, err: &mut Sink<E>) -> Status
+    ensures words { result ≢ Status.BadWords }
+{
+    let Ok(opened) = fs::open(rt, file_name(line)) else {
+        tell_cannot_read(err, file_name(line));
+        return Status::Failed;
+    };
+    let mut out = Sink::new(rt.stdout());
+    run_opened(rt.alloc(), line, opened, &mut out, err)
 }
 
 /// Prints what `clap` says of the words: help on standard output, anything else on standard error. `err` gets no more

@@ -13,16 +13,12 @@
 
 mod answer;
 mod engine;
-#[cfg(test)]
-mod histories;
 mod program;
 mod running;
 mod schedule;
 mod sink;
 mod source_text;
 mod status;
-#[cfg(test)]
-mod tests;
 
 pub use engine::{serial, tell_cannot_read, tell_cannot_write, tell_no_memory};
 pub use sink::Sink;

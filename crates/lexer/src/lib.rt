@@ -12,6 +12,3 @@ mod whole;
 mod words;
 
 pub use whole::{lex, one_list};
-
-#[cfg(test)]
-mod tests;

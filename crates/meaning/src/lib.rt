@@ -14,5 +14,3 @@ pub mod heap;
 mod operators;
 pub mod run;
 mod short;
-#[cfg(test)]
-mod tests;

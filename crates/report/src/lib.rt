@@ -10,8 +10,6 @@
 mod history;
 mod pieces;
 mod record;
-#[cfg(test)]
-mod tests;
 
 pub use history::{history_text, unsettled_text};
 pub use record::Record;

@@ -10,7 +10,7 @@ use Rattle.syntax.specs.declared.tree.Stmt.{While, If}
 use Rattle.syntax.specs.declared.tree.Block as tree_block
 use Rattle.syntax.specs.declared.tree.Param as tree_param
 use Rattle.syntax.specs.Views.{expr_of, stmt_of, stmts_of, else_of, param_of}
-use Rattle.syntax.specs.Trees.{Decl, Stmt, let_local, var_local, assign, if_then, while, print, return_value, Stmts, no_stmts, stmt, Otherwise, no_else, else_do}
+use Rattle.syntax.specs.Trees.{Decl, Expr, Stmt, let_local, var_local, assign, if_then, while, print, return_value, Stmts, no_stmts, stmt, Otherwise, no_else, else_do}
 use Rattle.core_lang.specs.declared.value.ValueType as core_type
 use Rattle.syntax.proofs.Rows.{stmt_of_While, stmt_of_If}
 use Rattle.core_lang.specs.declared.tree.LocalKind.TheVariants.{Parameter}
@@ -23,7 +23,7 @@ use Rattle.sections.specs.Targets.{Row, row_of, body_of, pushed_to, body_pushed}
 use Rattle.resolution.specs.Limits.{PARAMETER_LIMIT}
 use Rattle.resolution.specs.Scopes.{Local, Scope, hidden_from, bound, entered, outside, type_of, left}
 use Rattle.resolution.specs.Expressions.{typed, test_resolved}
-use Rattle.resolution.specs.Statements.{Part, does, gives, Body, given_back, preceded, typed_body, typed_stmt, typed_if, after, after_else, after_all, block_of, repeats}
+use Rattle.resolution.specs.Statements.{Part, does, gives, Body, given_back, preceded, typed_body, typed_stmt, typed_if, after, after_else, after_all, block_of}
 use Rattle.resolution.specs.FaultLists.{least_of, one_if, local_faults, type_faults, param_faults, stmt_faults, stmts_faults, wanted_faults, else_faults}
 use Rattle.symbols.proofs.Steps.{step, noted_one, noted_two, noted_three}
 
@@ -174,42 +174,25 @@ left_is ds old inner new r0 r1 r2 place ss here within made same =
 
 -- ---- loops and choices
 
-pub while_value : (sc : Scope) (s : tree_stmt.Stmt) (at : Span) (test : tree.Expr) (body : tree_block.Block) (items : List tree_stmt.Stmt) (cond : Option core.Condition) (block : Option core.Stmts) (inner : Option Body) (made : Option Part) →
-    s ≡ While at test body → items ≡ body.stmts.items → cond ≡ test_resolved (typed sc (expr_of test)) → block ≡ block_of inner → inner ≡ typed_body sc (stmts_of items) → made ≡ repeats at.start cond block → made ≡ typed_stmt sc (stmt_of s)
-while_value sc s at test body items cond block inner made is all hc hb hi hm =
-    hm ∙ ap (λ c. repeats at.start c block) hc
-    ∙ ap (repeats at.start (test_resolved (typed sc (expr_of test)))) (hb ∙ ap block_of (hi ∙ ap (λ ss. typed_body sc (stmts_of ss)) all))
-    ∙ ap (typed_stmt sc) (sym (ap stmt_of is ∙ stmt_of_While at test body))
+pub while_is : (s : tree_stmt.Stmt) (at : Span) (test : tree.Expr) (body : tree_block.Block) → s ≡ While at test body → while at (expr_of test) (stmts_of body.stmts.items) body.close ≡ stmt_of s
+while_is s at test body is = sym (ap stmt_of is ∙ stmt_of_While at test body)
 
-pub while_faults : (sc : Scope) (s : tree_stmt.Stmt) (at : Span) (test : tree.Expr) (body : tree_block.Block) (items : List tree_stmt.Stmt) (f g h : Option Mistake) →
-    s ≡ While at test body → items ≡ body.stmts.items → g ≡ least_of f (wanted_faults sc Condition (expr_of test)) → h ≡ least_of g (stmts_faults sc (stmts_of items)) → h ≡ least_of f (stmt_faults sc (stmt_of s))
-while_faults sc s at test body items f g h is all hg hh =
-    hh ∙ ap (λ ss. least_of g (stmts_faults sc (stmts_of ss))) all
-    ∙ noted_one f g (wanted_faults sc Condition (expr_of test)) (stmts_faults sc (stmts_of body.stmts.items)) hg
-    ∙ ap (λ x. least_of f (stmt_faults sc x)) (sym (ap stmt_of is ∙ stmt_of_While at test body))
+pub if_is : (s : tree_stmt.Stmt) (at : Span) (test : tree.Expr) (body : tree_block.Block) (other : Option tree_block.Block) → s ≡ If at test body other → if_then at (expr_of test) (stmts_of body.stmts.items) body.close (else_of other) ≡ stmt_of s
+if_is s at test body other is = sym (ap stmt_of is ∙ stmt_of_If at test body other)
 
-pub while_scope : (sc sc2 : Scope) (s : tree_stmt.Stmt) (at : Span) (test : tree.Expr) (body : tree_block.Block) (items : List tree_stmt.Stmt) →
-    s ≡ While at test body → items ≡ body.stmts.items → sc2 ≡ left sc (after_all sc (stmts_of items)) → sc2 ≡ after sc (stmt_of s)
-while_scope sc sc2 s at test body items is all behind = behind ∙ ap (λ ss. left sc (after_all sc (stmts_of ss))) all ∙ ap (after sc) (sym (ap stmt_of is ∙ stmt_of_While at test body))
+module _ (sc sc2 : Scope) (at close : Span) (test : Expr) (body : Stmts) (other : Otherwise) (behind : sc2 ≡ left sc (after_all sc body)) where
+  pub if_value : (cond : Option core.Condition) (block : Option core.Stmts) → cond ≡ test_resolved (typed sc test) → block ≡ block_of (typed_body sc body) →
+      typed_if sc2 at.start cond block other ≡ typed_stmt sc (if_then at test body close other)
+  if_value cond block hc hb =
+      ap (λ z. typed_if z at.start cond block other) behind
+      ∙ ap (λ c. typed_if (left sc (after_all sc body)) at.start c block other) hc
+      ∙ ap (λ b. typed_if (left sc (after_all sc body)) at.start (test_resolved (typed sc test)) b other) hb
 
-pub if_value : (sc sc2 : Scope) (s : tree_stmt.Stmt) (at : Span) (test : tree.Expr) (body : tree_block.Block) (other : Option tree_block.Block) (items : List tree_stmt.Stmt) (cond : Option core.Condition) (block : Option core.Stmts) (inner : Option Body) →
-    s ≡ If at test body other → items ≡ body.stmts.items → sc2 ≡ left sc (after_all sc (stmts_of items)) → cond ≡ test_resolved (typed sc (expr_of test)) → block ≡ block_of inner → inner ≡ typed_body sc (stmts_of items) →
-    typed_if sc2 at.start cond block (else_of other) ≡ typed_stmt sc (stmt_of s)
-if_value sc sc2 s at test body other items cond block inner is all behind hc hb hi =
-    ap (λ z. typed_if z at.start cond block (else_of other)) (behind ∙ ap (λ ss. left sc (after_all sc (stmts_of ss))) all)
-    ∙ ap (λ c. typed_if (left sc (after_all sc (stmts_of body.stmts.items))) at.start c block (else_of other)) hc
-    ∙ ap (λ b. typed_if (left sc (after_all sc (stmts_of body.stmts.items))) at.start (test_resolved (typed sc (expr_of test))) b (else_of other)) (hb ∙ ap block_of (hi ∙ ap (λ ss. typed_body sc (stmts_of ss)) all))
-    ∙ ap (typed_stmt sc) (sym (ap stmt_of is ∙ stmt_of_If at test body other))
+  pub if_faults : (f g h k : Option Mistake) → g ≡ least_of f (wanted_faults sc Condition test) → h ≡ least_of g (stmts_faults sc body) → k ≡ least_of h (else_faults sc2 other) →
+      k ≡ least_of f (stmt_faults sc (if_then at test body close other))
+  if_faults f g h k hg hh hk =
+      hk ∙ ap (λ z. least_of h (else_faults z other)) behind
+      ∙ noted_two f g h (wanted_faults sc Condition test) (stmts_faults sc body) (else_faults (left sc (after_all sc body)) other) hg hh
 
-pub if_faults : (sc sc2 : Scope) (s : tree_stmt.Stmt) (at : Span) (test : tree.Expr) (body : tree_block.Block) (other : Option tree_block.Block) (items : List tree_stmt.Stmt) (f g h k : Option Mistake) →
-    s ≡ If at test body other → items ≡ body.stmts.items → sc2 ≡ left sc (after_all sc (stmts_of items)) → g ≡ least_of f (wanted_faults sc Condition (expr_of test)) → h ≡ least_of g (stmts_faults sc (stmts_of items)) → k ≡ least_of h (else_faults sc2 (else_of other)) →
-    k ≡ least_of f (stmt_faults sc (stmt_of s))
-if_faults sc sc2 s at test body other items f g h k is all behind hg hh hk =
-    hk ∙ ap (λ z. least_of h (else_faults z (else_of other))) (behind ∙ ap (λ ss. left sc (after_all sc (stmts_of ss))) all)
-    ∙ noted_two f g h (wanted_faults sc Condition (expr_of test)) (stmts_faults sc (stmts_of body.stmts.items)) (else_faults (left sc (after_all sc (stmts_of body.stmts.items))) (else_of other)) hg (hh ∙ ap (λ ss. least_of g (stmts_faults sc (stmts_of ss))) all)
-    ∙ ap (λ x. least_of f (stmt_faults sc x)) (sym (ap stmt_of is ∙ stmt_of_If at test body other))
-
-pub if_scope : (sc sc2 sc3 : Scope) (s : tree_stmt.Stmt) (at : Span) (test : tree.Expr) (body : tree_block.Block) (other : Option tree_block.Block) (items : List tree_stmt.Stmt) →
-    s ≡ If at test body other → items ≡ body.stmts.items → sc2 ≡ left sc (after_all sc (stmts_of items)) → sc3 ≡ after_else sc2 (else_of other) → sc3 ≡ after sc (stmt_of s)
-if_scope sc sc2 sc3 s at test body other items is all behind made =
-    made ∙ ap (λ z. after_else z (else_of other)) (behind ∙ ap (λ ss. left sc (after_all sc (stmts_of ss))) all) ∙ ap (after sc) (sym (ap stmt_of is ∙ stmt_of_If at test body other))
+  pub if_scope : (sc3 : Scope) → sc3 ≡ after_else sc2 other → sc3 ≡ after sc (if_then at test body close other)
+  if_scope sc3 made = made ∙ ap (λ z. after_else z other) behind

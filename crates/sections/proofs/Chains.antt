@@ -22,12 +22,12 @@ use Rattle.resolution.specs.Scopes.{Scope}
 use Rattle.resolution.specs.Expressions.{ResolvedExpr, Tests, tested, typed, typed_links, typed_tests, chained, linked, operator_of, number_resolved, test_resolved, all_hold, one_holds}
 use Rattle.resolution.specs.Faults.{start_of}
 use Rattle.resolution.specs.Where.{operand_want}
-use Rattle.resolution.specs.FaultLists.{least_of, expr_faults, link_faults, operator_faults, misfit}
+use Rattle.resolution.specs.FaultLists.{least_of, expr_faults, link_faults, operator_faults, misfit, wanted_faults}
 use Rattle.sections.specs.Parts.{pushed, link_with, operation_with, SoFar, so_far, tests_with, first_test}
 use Rattle.sections.specs.ResolvedExprs.{tests_of, holds}
 use Rattle.sections.specs.declared.resolved_expr.Tests as the_tests
 use Rattle.resolution.specs.declared.wanted.Want.{Want}
-use Rattle.symbols.proofs.Steps.{step, noted_two, noted_three}
+use Rattle.symbols.proofs.Steps.{step, noted_one, noted_three}
 
 -- ---- operations
 
@@ -151,15 +151,13 @@ tests_value sc e k first links items s a b is kind links_is ha hs hb =
     (hb ∙ ap (λ x. typed_tests sc a (links_of x)) links_is ∙ ap (λ x. typed_tests sc x (links_of links.items)) (ha ∙ ap test_resolved hs))
     ∙ ap (typed sc) (sym (chain_seen e k first links is))
 
-pub chain_faults : (sc : Scope) (e : joined.Joined) (k : Level) (first : tree.Expr) (links : Vec tree_link.Link Global) (items : List tree_link.Link) (s : Option ResolvedExpr) (w : Want) (start : ℕ) (f g h m : Option Mistake) →
-    e ≡ Chain k first links → items ≡ links.items → s ≡ typed sc (expr_of first) → w ≡ operand_want k → start ≡ start_of (expr_of first) →
-    g ≡ least_of f (expr_faults sc (expr_of first)) → h ≡ least_of g (misfit w start s) → m ≡ least_of h (link_faults sc k (links_of items)) → m ≡ least_of f (expr_faults sc (joined_of e))
-chain_faults sc e k first links items s w start f g h m is links_is hs hw hstart hg hh hm =
-    hm ∙ ap (λ x. least_of h (link_faults sc k (links_of x))) links_is
-    ∙ noted_two f g h (expr_faults sc (expr_of first)) (misfit (operand_want k) (start_of (expr_of first)) (typed sc (expr_of first))) (link_faults sc k (links_of links.items))
-    hg
-    (hh ∙ ap (λ v. least_of g (misfit v start s)) hw ∙ ap (λ n. least_of g (misfit (operand_want k) n s)) hstart ∙ ap (λ x. least_of g (misfit (operand_want k) (start_of (expr_of first)) x)) hs)
-    ∙ ap (λ x. least_of f (expr_faults sc x)) (sym (chain_seen e k first links is))
+pub chain_faults : (sc : Scope) (e : joined.Joined) (k : Level) (first : tree.Expr) (links : Vec tree_link.Link Global) (items : List tree_link.Link) (w : Want) (f g m : Option Mistake) →
+    e ≡ Chain k first links → items ≡ links.items → w ≡ operand_want k → g ≡ least_of f (wanted_faults sc w (expr_of first)) → m ≡ least_of g (link_faults sc k (links_of items)) → m ≡ least_of f (expr_faults sc (joined_of e))
+chain_faults sc e k first links items w f g m is links_is hw hg hm =
+    let x = expr_of first in
+    hm ∙ ap (λ y. least_of g (link_faults sc k (links_of y))) links_is
+    ∙ noted_one f g (wanted_faults sc (operand_want k) x) (link_faults sc k (links_of links.items)) (hg ∙ ap (λ v. least_of f (wanted_faults sc v x)) hw)
+    ∙ ap (λ y. least_of f (expr_faults sc y)) (sym (chain_seen e k first links is))
 
 -- ---- one link more
 

@@ -92,12 +92,32 @@ fn judge(
             Ok(parenthesised(inner))
         }
         tree::Expr::Prefix(o, _, e) => {
-            let inner = judge(alloc, program, locals, e, least)?;
-            note_misfit(prefix_want(*o), start_of(e), &inner, least);
+            let inner = wanted(alloc, program, locals, prefix_want(*o), e, least)?;
             prefixed(alloc, *o, inner)
         }
         tree::Expr::Joined(joined) => judge_joined(alloc, program, locals, joined, least),
     }
+}
+
+/// An expression of which something is wanted.
+#[cycle(judge)]
+#[tactic(auto, using(symbols::proofs::Least::least_append))]
+fn wanted(
+    alloc: Global,
+    program: &Program,
+    locals: &Locals,
+    w: Want,
+    e: &tree::Expr,
+    least: &mut Option<Mistake>,
+) -> Result<Option<ResolvedExpr>, AllocError>
+    requires program { IsProgram program.now }
+    requires locals { AreLocals locals.now }
+    ensures value { IfOk result (λ r. option_map resolved_expr_of r ≡ typed (scope_of (program_of program.now) locals.now) (expr_of e.now)) }
+    ensures faults { OnOk result (least.new ≡ least_of least.old (wanted_faults (scope_of (program_of program.now) locals.now) w (expr_of e.now))) }
+{
+    let resolved_expr = judge(alloc, program, locals, e, least)?;
+    note_misfit(w, start_of(e), &resolved_expr, least);
+    Ok(resolved_expr)
 }
 
 /// Operands with operators between them, resolved, if they have a type.
@@ -117,8 +137,7 @@ fn judge_joined(
 {
     match e {
         Joined::Chain(level, first, links) => {
-            let operand = judge(alloc, program, locals, first, least)?;
-            note_misfit(operand_want(*level), start_of(first), &operand, least);
+            let operand = wanted(alloc, program, locals, operand_want(*level), first, least)?;
             match level {
                 Level::Term | Level::Sum => {
                     let rest = judge_links(alloc, program, locals, *level, links, least)?;
@@ -132,10 +151,8 @@ fn judge_joined(
             }
         }
         Joined::Compare(c, left, right) => {
-            let a = judge(alloc, program, locals, left, least)?;
-            note_misfit(side_want(*c), start_of(left), &a, least);
-            let b = judge(alloc, program, locals, right, least)?;
-            note_misfit(side_want(*c), start_of(right), &b, least);
+            let a = wanted(alloc, program, locals, side_want(*c), left, least)?;
+            let b = wanted(alloc, program, locals, side_want(*c), right, least)?;
             note_sides(*c, start_of(left), start_of(right), &a, &b, least);
             Ok(compared(*c, a, b))
         }
@@ -180,13 +197,8 @@ fn judge_element(
     let start = element.name.start as usize;
     let m = meaning_at(&program.decls, locals, &element.name);
     note_no_elements(&program.decls, start, m, least);
-    let index = judge(alloc, program, locals, &element.index, least)?;
-    note_misfit(
-        Want::Value(ValueType::Integer),
-        start_of(&element.index),
-        &index,
-        least,
-    );
+    let w = Want::Value(ValueType::Integer);
+    let index = wanted(alloc, program, locals, w, &element.index, least)?;
     element_value(alloc, &program.decls, start, m, number_in(index))
 }
 
@@ -263,26 +275,6 @@ fn judge_tests(
         tests = with_test(tests, test_in(operand))?;
     }
     Ok(tests)
-}
-
-/// An expression of which something is wanted.
-#[tactic(auto, using(symbols::proofs::Least::least_append))]
-fn wanted(
-    alloc: Global,
-    program: &Program,
-    locals: &Locals,
-    w: Want,
-    e: &tree::Expr,
-    least: &mut Option<Mistake>,
-) -> Result<Option<ResolvedExpr>, AllocError>
-    requires program { IsProgram program.now }
-    requires locals { AreLocals locals.now }
-    ensures value { IfOk result (λ r. option_map resolved_expr_of r ≡ typed (scope_of (program_of program.now) locals.now) (expr_of e.now)) }
-    ensures faults { OnOk result (least.new ≡ least_of least.old (wanted_faults (scope_of (program_of program.now) locals.now) w (expr_of e.now))) }
-{
-    let resolved_expr = judge(alloc, program, locals, e, least)?;
-    note_misfit(w, start_of(e), &resolved_expr, least);
-    Ok(resolved_expr)
 }
 
 /// A value of which something is wanted.

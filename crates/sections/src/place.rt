@@ -110,6 +110,7 @@ pub fn element_value(
         return Ok(None);
     };
     let Meaning::Decl(place, d) = m else {
+        drop(index);
         return Ok(None);
     };
     match d {
@@ -133,10 +134,16 @@ pub fn element_value(
                     Expr::Member { pool, index },
                     Sort::Of(ValueType::Reference(number)),
                 ))),
-                None => Ok(None),
+                None => {
+                    drop(index);
+                    Ok(None)
+                }
             }
         }
-        _ => Ok(None),
+        _ => {
+            drop(index);
+            Ok(None)
+        }
     }
 }
 

@@ -66,7 +66,14 @@ pub fn value_in(w: Want, s: Option<ResolvedExpr>) -> Option<Expr>
     ensures { option_map core_expr result ≡ as_value (fitting w (option_map resolved_expr_of s)) }
 {
     match s {
-        Some(ResolvedExpr::Value(e, sort)) => { if fits_sort(w, sort) { Some(e) } else { None } }
+        Some(ResolvedExpr::Value(e, sort)) => {
+            if fits_sort(w, sort) {
+                Some(e)
+            } else {
+                drop(e);
+                None
+            }
+        }
         _ => None,
     }
 }
@@ -272,14 +279,17 @@ pub fn one_test(alloc: Global, c: Option<Condition>) -> Option<Tests>
 pub fn with_test(tests: Option<Tests>, c: Option<Condition>) -> Result<Option<Tests>, AllocError>
     ensures { IfOk result (λ r. option_map so_far r ≡ tests_with (option_map so_far tests) c) }
 {
-    match (tests, c) {
-        (Some(tests), Some(c)) => {
-            let Tests { mut before, last } = tests;
-            before.push(last)?;
-            Ok(Some(Tests { before, last: c }))
-        }
-        _ => Ok(None),
-    }
+    let Some(tests) = tests else {
+        drop(c);
+        return Ok(None);
+    };
+    let Some(c) = c else {
+        drop(tests);
+        return Ok(None);
+    };
+    let Tests { mut before, last } = tests;
+    before.push(last)?;
+    Ok(Some(Tests { before, last: c }))
 }
 
 /// A chain of conditions.
@@ -375,15 +385,20 @@ fn ordered(c: Comparison, a: Option<Expr>, b: Option<Expr>) -> Option<ResolvedEx
 fn equated(c: Comparison, a: Option<ResolvedExpr>, b: Option<ResolvedExpr>) -> Option<ResolvedExpr>
     ensures { option_map resolved_expr_of result ≡ equated c (option_map resolved_expr_of a) (option_map resolved_expr_of b) }
 {
-    match (a, b) {
-        (Some(ResolvedExpr::Value(a, s)), Some(ResolvedExpr::Value(b, t))) => {
-            if are_alike(s, t) {
-                Some(ResolvedExpr::Truth(Condition::Compare(c, a, b)))
-            } else {
-                None
-            }
-        }
-        _ => None,
+    let Some(ResolvedExpr::Value(a, s)) = a else {
+        drop(b);
+        return None;
+    };
+    let Some(ResolvedExpr::Value(b, t)) = b else {
+        drop(a);
+        return None;
+    };
+    if are_alike(s, t) {
+        Some(ResolvedExpr::Truth(Condition::Compare(c, a, b)))
+    } else {
+        drop(a);
+        drop(b);
+        None
     }
 }
 

@@ -1,14 +1,15 @@
 //! Statements.
 
-ghost use Rattle.std.specs.Prelude.{◌≡◌, OnOk, IfOk, option_map};
-ghost use Rattle.syntax.specs.Views.{ident, stmt_of, stmts_of, local_of, else_of};
-ghost use Rattle.resolution.specs.CoreViews.{core_expr, core_condition, core_stmts, core_action};
-ghost use Rattle.resolution.specs.Scopes.{the_local, the_decl, bound, type_of};
-ghost use Rattle.resolution.specs.Statements.{acts, binds, assigns, prints, returns, repeats, chooses, chooses_between, block_of, after, after_else, after_all, typed_stmt, typed_if, typed_body};
+ghost use Rattle.std.specs.Prelude.{◌≡◌, OnOk, IfOk, Some, None, map, option_map};
+ghost use Rattle.syntax.specs.Trees.{assign, while, print, return_value};
+ghost use Rattle.syntax.specs.Views.{ident, expr_of, place_of, stmt_of, stmts_of, local_of, else_of};
+ghost use Rattle.resolution.specs.CoreViews.{core_expr, core_condition, core_stmt, core_stmts, core_action};
+ghost use Rattle.resolution.specs.Scopes.{the_local, the_decl, bound, left, type_of};
+ghost use Rattle.resolution.specs.Statements.{does, acts, binds, assigns, prints, returns, repeats, chooses, chooses_between, block_of, after, after_else, after_all, typed_stmt, typed_if, typed_body};
 ghost use Rattle.resolution.specs.FaultLists.{least_of, taken, local_faults, stmt_faults, else_faults, stmts_faults};
 ghost use Rattle.symbols.specs.Programs.{program_of, IsProgram};
 ghost use Rattle.symbols.specs.Scoped.{scope_of, locals_seen, AreLocals};
-ghost use Rattle.sections.specs.Targets.{assignee_of, part_of, body_of, row_of, body_pushed, local_bound, binding_faults};
+ghost use Rattle.sections.specs.Targets.{assignee_of, part_of, body_of, row_of, pushed_to, body_pushed, local_bound, binding_faults};
 
 use crate::expr::{first_name, judge_number, judge_test, judge_value};
 use crate::target::{Assignee, Target, judge_target, wanted_by};
@@ -17,12 +18,13 @@ use core_lang::tree::{Action, Condition, Expr, LocalKind, Return, Stmt};
 use core_lang::value::ValueType;
 use resolution::mistake::Mistake;
 use source::fault::Code;
+use source::span::Span;
 use std::alloc::{AllocError, Global};
 use symbols::note::{note, note_if};
 use symbols::scope::{Locals, note_local_type, type_at};
 use symbols::table::Program;
 use syntax::tree;
-use syntax::tree::Name;
+use syntax::tree::{Name, Place};
 
 /// How many locals a section may have.
 const LOCAL_LIMIT: usize = 64;
@@ -103,6 +105,7 @@ fn assign(start: usize, assignee: Option<Assignee>, value: Option<Expr>) -> Opti
         return None;
     };
     let Some(value) = value else {
+        drop(assignee);
         return None;
     };
     match assignee.target {
@@ -221,9 +224,64 @@ fn judge_local(
     Ok(bind(local.start.start as usize, number, t, value))
 }
 
+/// An assignment, resolved, if its place and its value have types that fit.
+#[tactic(auto, using(symbols::proofs::Least::least_append))]
+fn judge_assign(
+    alloc: Global,
+    program: &Program,
+    locals: &Locals,
+    place: &Place,
+    e: &tree::Expr,
+    least: &mut Option<Mistake>,
+) -> Result<Option<Part>, AllocError>
+    requires program { IsProgram program.now }
+    requires locals { AreLocals locals.now }
+    ensures value { IfOk result (λ r. option_map part_of r ≡ typed_stmt (scope_of (program_of program.now) locals.now) (assign (place_of place.now) (expr_of e.now))) }
+    ensures faults { OnOk result (least.new ≡ least_of least.old (stmt_faults (scope_of (program_of program.now) locals.now) (assign (place_of place.now) (expr_of e.now)))) }
+{
+    let assignee = judge_target(alloc, program, locals, place, least)?;
+    let value = judge_value(alloc, program, locals, wanted_by(&assignee), e, least)?;
+    Ok(assign(first_name(place).start as usize, assignee, value))
+}
+
+/// A `print`, resolved, if its value is a number.
+fn judge_print(
+    alloc: Global,
+    program: &Program,
+    locals: &Locals,
+    start: Span,
+    e: &tree::Expr,
+    least: &mut Option<Mistake>,
+) -> Result<Option<Part>, AllocError>
+    requires program { IsProgram program.now }
+    requires locals { AreLocals locals.now }
+    ensures value { IfOk result (λ r. option_map part_of r ≡ typed_stmt (scope_of (program_of program.now) locals.now) (print start (expr_of e.now))) }
+    ensures faults { OnOk result (least.new ≡ least_of least.old (stmt_faults (scope_of (program_of program.now) locals.now) (print start (expr_of e.now)))) }
+{
+    let value = judge_number(alloc, program, locals, e, least)?;
+    Ok(print(start.start as usize, value))
+}
+
+/// A `return`, resolved, if its value is of the section's type.
+fn judge_return(
+    alloc: Global,
+    program: &Program,
+    locals: &Locals,
+    start: Span,
+    e: &tree::Expr,
+    least: &mut Option<Mistake>,
+) -> Result<Option<Part>, AllocError>
+    requires program { IsProgram program.now }
+    requires locals { AreLocals locals.now }
+    ensures value { IfOk result (λ r. option_map part_of r ≡ typed_stmt (scope_of (program_of program.now) locals.now) (return_value start (expr_of e.now))) }
+    ensures faults { OnOk result (least.new ≡ least_of least.old (stmt_faults (scope_of (program_of program.now) locals.now) (return_value start (expr_of e.now)))) }
+{
+    let value = judge_value(alloc, program, locals, want(locals.result), e, least)?;
+    Ok(give(start.start as usize, value))
+}
+
 /// A statement, resolved, if everything in it has a type.
 #[cycle(judge)]
-#[tactic(auto, using(symbols::proofs::Least::least_append))]
 fn judge_stmt(
     alloc: Global,
     program: &Program,
@@ -241,17 +299,10 @@ fn judge_stmt(
     match s {
         tree::Stmt::Let(local) => judge_local(alloc, program, locals, LocalKind::Let, local, least),
         tree::Stmt::Var(local) => judge_local(alloc, program, locals, LocalKind::Var, local, least),
-        tree::Stmt::Assign(place, value) => {
-            let assignee = judge_target(alloc, program, locals, place, least)?;
-            let value = judge_value(alloc, program, locals, wanted_by(&assignee), value, least)?;
-            Ok(assign(first_name(place).start as usize, assignee, value))
-        }
+        tree::Stmt::Assign(place, e) => judge_assign(alloc, program, locals, place, e, least),
         tree::Stmt::If(start, test, block, other) => {
             let condition = judge_test(alloc, program, locals, test, least)?;
-            let ahead = locals.items.len();
-            let body = judge_then(alloc, program, locals, block, least)?;
-            locals.hide_from(ahead);
-            let block = block_of(body);
+            let block = judge_block(alloc, program, locals, block, least)?;
             judge_else(
                 alloc,
                 program,
@@ -264,22 +315,36 @@ fn judge_stmt(
             )
         }
         tree::Stmt::While(start, test, block) => {
-            let condition = judge_test(alloc, program, locals, test, least)?;
-            let ahead = locals.items.len();
-            let body = judge_body(alloc, program, locals, &block.stmts, least)?;
-            locals.hide_from(ahead);
-            Ok(repeat(start.start as usize, condition, block_of(body)))
+            judge_while(alloc, program, locals, *start, block, test, least)
         }
-        tree::Stmt::Print(start, value) => {
-            let value = judge_number(alloc, program, locals, value, least)?;
-            Ok(print(start.start as usize, value))
-        }
-        tree::Stmt::Return(start, value) => {
-            let wanted = want(locals.result);
-            let value = judge_value(alloc, program, locals, wanted, value, least)?;
-            Ok(give(start.start as usize, value))
-        }
+        tree::Stmt::Print(start, e) => judge_print(alloc, program, locals, *start, e, least),
+        tree::Stmt::Return(start, e) => judge_return(alloc, program, locals, *start, e, least),
     }
+}
+
+/// A loop, resolved, if its condition and everything in its block have types. The block comes ahead
+/// of the condition, since the recursion goes down the first tree that is passed.
+#[cycle(judge)]
+#[tactic(auto, using(symbols::proofs::Least::least_append))]
+fn judge_while(
+    alloc: Global,
+    program: &Program,
+    locals: &mut Locals,
+    start: Span,
+    block: &tree::Block,
+    test: &tree::Expr,
+    least: &mut Option<Mistake>,
+) -> Result<Option<Part>, AllocError>
+    requires program { IsProgram program.now }
+    requires locals { AreLocals locals.old }
+    ensures value { IfOk result (λ r. option_map part_of r ≡ typed_stmt (scope_of (program_of program.now) locals.old) (while start (expr_of test.now) (stmts_of block.now.stmts.items) block.now.close)) }
+    ensures faults { OnOk result (least.new ≡ least_of least.old (stmt_faults (scope_of (program_of program.now) locals.old) (while start (expr_of test.now) (stmts_of block.now.stmts.items) block.now.close))) }
+    ensures scope { OnOk result (scope_of (program_of program.now) locals.new ≡ after (scope_of (program_of program.now) locals.old) (while start (expr_of test.now) (stmts_of block.now.stmts.items) block.now.close)) }
+    ensures locals { OnOk result (AreLocals locals.new) }
+{
+    let condition = judge_test(alloc, program, locals, test, least)?;
+    let body = judge_block(alloc, program, locals, block, least)?;
+    Ok(repeat(start.start as usize, condition, body))
 }
 
 /// A choice, by its condition, its block and what stands behind `else`.
@@ -305,47 +370,77 @@ fn judge_else(
     let Some(other) = other else {
         return Ok(choose(start, condition, block));
     };
-    let ahead = locals.items.len();
-    let body = judge_body(alloc, program, locals, &other.stmts, least)?;
-    locals.hide_from(ahead);
-    let otherwise = block_of(body);
+    let otherwise = judge_block(alloc, program, locals, other, least)?;
     Ok(choose_between(start, condition, block, otherwise))
+}
+
+/// A block, resolved, if everything in it has a type and no `return` stands in it. Its locals are
+/// out of scope behind it.
+#[cycle(judge)]
+fn judge_block(
+    alloc: Global,
+    program: &Program,
+    locals: &mut Locals,
+    block: &tree::Block,
+    least: &mut Option<Mistake>,
+) -> Result<Option<Vec<Stmt>>, AllocError>
+    requires program { IsProgram program.now }
+    requires locals { AreLocals locals.old }
+    ensures value { IfOk result (λ r. option_map (λ b. core_stmts b.items) r ≡ block_of (typed_body (scope_of (program_of program.now) locals.old) (stmts_of block.now.stmts.items))) }
+    ensures faults { OnOk result (least.new ≡ least_of least.old (stmts_faults (scope_of (program_of program.now) locals.old) (stmts_of block.now.stmts.items))) }
+    ensures scope { OnOk result (scope_of (program_of program.now) locals.new ≡ left (scope_of (program_of program.now) locals.old) (after_all (scope_of (program_of program.now) locals.old) (stmts_of block.now.stmts.items))) }
+    ensures locals { OnOk result (AreLocals locals.new) }
+{
+    let ahead = locals.items.len();
+    let body = judge_body(alloc, program, locals, &block.stmts, least)?;
+    locals.hide_from(ahead);
+    Ok(block_of(body))
+}
+
+/// A body without a `return`, of these statements and one more.
+fn one_longer(stmts: Vec<Stmt>, stmt: Stmt) -> Result<Option<Body>, AllocError>
+    ensures { IfOk result (λ r. option_map row_of r ≡ pushed_to (map core_stmt stmts.items) None (does (core_stmt stmt))) }
+{
+    let mut stmts = stmts;
+    stmts.push(stmt)?;
+    Ok(Some(Body {
+        stmts,
+        result: None,
+    }))
+}
+
+/// A body and one more part, if no `return` stands ahead of it. (What is left over is handed to `drop`, here and below:
+/// a value that goes out of scope is taken apart in line, which makes the proof long.)
+fn followed_by(body: Body, part: Part) -> Result<Option<Body>, AllocError>
+    ensures { IfOk result (λ r. option_map row_of r ≡ body_pushed (Some (row_of body)) (Some (part_of part))) }
+{
+    if body.result.is_some() {
+        drop(body);
+        drop(part);
+        return Ok(None);
+    }
+    match part {
+        Part::Does(stmt) => one_longer(body.stmts, stmt),
+        Part::Gives(result) => Ok(Some(Body {
+            stmts: body.stmts,
+            result: Some(result),
+        })),
+    }
 }
 
 /// A body and one more part, if nothing is missing and no `return` stands ahead of it.
 fn with_part(body: Option<Body>, part: Option<Part>) -> Result<Option<Body>, AllocError>
     ensures { IfOk result (λ r. option_map row_of r ≡ body_pushed (option_map row_of body) (option_map part_of part)) }
 {
-    let (Some(mut body), Some(part)) = (body, part) else {
+    let Some(part) = part else {
+        drop(body);
         return Ok(None);
     };
-    if body.result.is_some() {
+    let Some(body) = body else {
+        drop(part);
         return Ok(None);
-    }
-    match part {
-        Part::Does(stmt) => body.stmts.push(stmt)?,
-        Part::Gives(result) => body.result = Some(result),
-    }
-    Ok(Some(body))
-}
-
-/// A block's statements.
-#[cycle(judge)]
-fn judge_then(
-    alloc: Global,
-    program: &Program,
-    locals: &mut Locals,
-    block: &tree::Block,
-    least: &mut Option<Mistake>,
-) -> Result<Option<Body>, AllocError>
-    requires program { IsProgram program.now }
-    requires locals { AreLocals locals.old }
-    ensures value { IfOk result (λ r. option_map body_of r ≡ typed_body (scope_of (program_of program.now) locals.old) (stmts_of block.now.stmts.items)) }
-    ensures faults { OnOk result (least.new ≡ least_of least.old (stmts_faults (scope_of (program_of program.now) locals.old) (stmts_of block.now.stmts.items))) }
-    ensures scope { OnOk result (scope_of (program_of program.now) locals.new ≡ after_all (scope_of (program_of program.now) locals.old) (stmts_of block.now.stmts.items)) }
-    ensures locals { OnOk result (AreLocals locals.new) }
-{
-    judge_body(alloc, program, locals, &block.stmts, least)
+    };
+    followed_by(body, part)
 }
 
 /// Statements, one after another.

@@ -109,6 +109,7 @@ fn assignee_at_element(decls: &Declarations, m: Meaning, index: Option<Expr>) ->
 {
     let index = index?;
     let Meaning::Decl(place, d) = m else {
+        drop(index);
         return None;
     };
     match d {
@@ -119,7 +120,10 @@ fn assignee_at_element(decls: &Declarations, m: Meaning, index: Option<Expr>) ->
                 type_outside(decls, &a.value_type),
             )
         }
-        _ => None,
+        _ => {
+            drop(index);
+            None
+        }
     }
 }
 

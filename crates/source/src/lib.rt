@@ -14,6 +14,4 @@ pub mod fault;
 pub mod line;
 pub mod memory;
 pub mod span;
-#[cfg(test)]
-mod tests;
 pub mod token;

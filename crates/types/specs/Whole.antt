@@ -1,12 +1,12 @@
 -- What the passes over declarations give, by parts.
 use Rattle.std.specs.Prelude.{ℕ, List, ◌++◌, Option, Some, None}
-use Rattle.syntax.specs.Trees.{Decl, Variable, Array, Init}
+use Rattle.syntax.specs.Trees.{Decl, Variable, Array, Init, Section, Thread}
 use Rattle.resolution.specs.declared.mistake.Mistake.{Mistake}
 use Rattle.resolution.specs.Core as core
 use Rattle.resolution.specs.Scopes.{◌>>=◌, outside, the_decl, type_of}
 use Rattle.resolution.specs.Constants.{pool_members}
 use Rattle.resolution.specs.Annotations.{class_of}
-use Rattle.resolution.specs.Resolution.{nothing_yet, extended, with_global, with_array, opening_of}
+use Rattle.resolution.specs.Resolution.{nothing_yet, extended, with_global, with_array, with_section, with_thread, typed_section, typed_calls, opening_of}
 use Rattle.resolution.specs.Expressions.{want}
 use Rattle.resolution.specs.FaultLists.{named_faults, type_faults, lock_faults, opening_faults}
 
@@ -32,6 +32,14 @@ array_with decls p a = with_array p a.name.text (class_of decls a.protection) (t
 -- a program, if there is one, with an array more
 abbrev pub array_if : List Decl → Option core.Program → Array → Option core.Program
 array_if decls p a = p >>= λ q. array_with decls q a
+
+-- a program, if there is one, with a section more
+abbrev pub section_if : List Decl → Option core.Program → Section → Option core.Program
+section_if decls p s = p >>= λ q. with_section q (typed_section decls s)
+
+-- a program, if there is one, with a thread more
+abbrev pub thread_if : List Decl → Option core.Program → Thread → Option core.Program
+thread_if decls p t = p >>= λ q. with_thread q t.name.text (typed_calls decls t.items)
 
 -- the faults of a global
 abbrev pub global_faults : List Decl → Variable → List Mistake

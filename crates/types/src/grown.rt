@@ -18,6 +18,7 @@ use core_lang::typed::{Call, GlobalVariable, LockClass, Owner, Thread, Typed};
 use core_lang::value::ValueType;
 use core_lang::{shape, typed};
 use std::alloc::{AllocError, Global};
+use std::mem;
 use symbols::annotation::class_of;
 use symbols::members::Structure;
 use symbols::scope::type_outside;
@@ -59,18 +60,10 @@ pub fn with_struct<'a, 't>(
     ensures { IfOk result (λ r. option_map core_of r ≡ extended (program_of program.now) place (core_of typed) (struct (structure_of structure.now))) }
 {
     let number = typed.structs.len();
-    let Typed {
-        classes,
-        mut structs,
-        globals,
-        shape,
-        cells,
-        sections,
-        threads,
-    } = typed;
+    let mut typed = typed;
     let builder = StructBuilder {
         structure: empty_struct(alloc, &structure.item.name)?,
-        classes,
+        classes: mem::replace(&mut typed.classes, Vec::new(alloc)),
     };
     let members = &structure.item.members;
     let shaped = with_members(
@@ -83,18 +76,13 @@ pub fn with_struct<'a, 't>(
         members,
     )?;
     let Some(builder) = shaped else {
+        drop(typed);
         return Ok(None);
     };
-    structs.push(builder.structure)?;
-    Ok(Some(Typed {
-        classes: builder.classes,
-        structs,
-        globals,
-        shape,
-        cells,
-        sections,
-        threads,
-    }))
+    let StructBuilder { structure, classes } = builder;
+    typed.classes = classes;
+    typed.structs.push(structure)?;
+    Ok(Some(typed))
 }
 
 /// The program with a global more.
@@ -108,15 +96,19 @@ pub fn with_global(
     ensures { IfOk result (λ r. option_map core_of r ≡ global_with (program_of program.now) (core_of typed) (variable_of v.now)) }
 {
     let Some(class) = class_of(program, &v.protection) else {
+        drop(typed);
         return Ok(None);
     };
     let Some(t) = type_outside(&program.decls, &v.value_type) else {
+        drop(typed);
         return Ok(None);
     };
     let Some(value) = opened(program, t, v.value.as_ref()) else {
+        drop(typed);
         return Ok(None);
     };
     let Some(cell) = cell_at(typed.cells.len()) else {
+        drop(typed);
         return Ok(None);
     };
     let number = typed.globals.len();
@@ -155,15 +147,19 @@ pub fn with_array(
     ensures { IfOk result (λ r. option_map core_of r ≡ array_with (program_of program.now) (core_of typed) (array_of a.now)) }
 {
     let Some(class) = class_of(program, &a.protection) else {
+        drop(typed);
         return Ok(None);
     };
     let Some(element) = type_outside(&program.decls, &a.value_type) else {
+        drop(typed);
         return Ok(None);
     };
     let Some(first) = cell_at(typed.cells.len()) else {
+        drop(typed);
         return Ok(None);
     };
     let Some(length) = cell_at(a.length.value as usize) else {
+        drop(typed);
         return Ok(None);
     };
     let number = typed.shape.arrays.len();
@@ -183,6 +179,7 @@ pub fn with_section(typed: Typed, section: Option<Section>) -> Result<Option<Typ
     ensures { IfOk result (λ r. option_map core_of r ≡ with_section (core_of typed) (option_map core_section section)) }
 {
     let Some(section) = section else {
+        drop(typed);
         return Ok(None);
     };
     let mut typed = typed;
@@ -200,6 +197,7 @@ pub fn with_thread(
     ensures { IfOk result (λ r. option_map core_of r ≡ with_thread (core_of typed) (ident name.now).text (option_map (λ cs. map core_call cs.items) calls)) }
 {
     let Some(calls) = calls else {
+        drop(typed);
         return Ok(None);
     };
     let mut typed = typed;

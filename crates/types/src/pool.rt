@@ -121,7 +121,11 @@ fn referred(program: &Program, target: Option<usize>, c: Option<&Const>) -> Opti
 fn with_final(typed: Option<Typed>, object: Option<u32>) -> Result<Option<Typed>, AllocError>
     ensures { IfOk result (λ r. option_map core_of r ≡ then_final (option_map core_of typed) object) }
 {
-    let (Some(mut typed), Some(object)) = (typed, object) else {
+    let Some(mut typed) = typed else {
+        return Ok(None);
+    };
+    let Some(object) = object else {
+        drop(typed);
         return Ok(None);
     };
     typed.shape.finals.push(object)?;
@@ -139,13 +143,18 @@ fn with_field(
     requires { IsProgram program.now }
     ensures { IfOk result (λ r. option_map core_of r ≡ then_field (option_map core_of typed) owner t (opening_of (program_of program.now) t (option_map (λ x. const_of x.now) c.entry))) }
 {
-    let (Some(typed), Some(t)) = (typed, t) else {
+    let Some(typed) = typed else {
         return Ok(None);
     };
-    match opened(program, t, c) {
-        Some(value) => Ok(Some(with_cell(typed, owner, t, value)?)),
-        None => Ok(None),
-    }
+    let Some(t) = t else {
+        drop(typed);
+        return Ok(None);
+    };
+    let Some(value) = opened(program, t, c) else {
+        drop(typed);
+        return Ok(None);
+    };
+    Ok(Some(with_cell(typed, owner, t, value)?))
 }
 
 /// The program with one more member of an object, where so many fields stand ahead of it.
@@ -225,6 +234,7 @@ fn with_object(
         cell_at(typed.cells.len()),
         final_at(typed.shape.finals.len()),
     ) else {
+        drop(typed);
         return Ok(None);
     };
     let slot = Slot {
@@ -275,15 +285,19 @@ pub fn with_pool(
     ensures { IfOk result (λ r. option_map core_of r ≡ with_pool (program_of program.now) place (core_of typed) (pool_of p.now).name.text (struct_named (program_of program.now) (pool_of p.now).target) (members_of (program_of program.now) (pool_of p.now).target) (pool_of p.now).length.value) }
 {
     let Some(structure) = struct_named(&program.decls, &p.target) else {
+        drop(typed);
         return Ok(None);
     };
     let Some((_, table)) = program.decls.struct_of(&p.target) else {
+        drop(typed);
         return Ok(None);
     };
     let Some(first) = object_at(typed.shape.objects.len()) else {
+        drop(typed);
         return Ok(None);
     };
     let Some(length) = object_at(p.length.value as usize) else {
+        drop(typed);
         return Ok(None);
     };
     let number = typed.shape.pools.len();

@@ -1,19 +1,20 @@
 //! Programs.
 
 ghost use Rattle.std.specs.Prelude.{◌≡◌, OnOk, IfOk, IfErr, option_map, slice_get, Some};
-ghost use Rattle.syntax.specs.Trees.{struct};
-ghost use Rattle.syntax.specs.Views.{array_of, decl_of, tree_of, variable_of};
+ghost use Rattle.syntax.specs.Trees.{pool, struct};
+ghost use Rattle.syntax.specs.Views.{array_of, decl_of, items_of, pool_of, section_of, thread_of, tree_of, variable_of};
 ghost use Rattle.syntax.specs.Returns.{ReturnsRight};
 ghost use Rattle.core_lang.specs.WellFormed.{IsWellFormed};
 ghost use Rattle.resolution.specs.CoreViews.{core_of};
 ghost use Rattle.resolution.specs.Resolution.{resolved_from, nothing_yet};
 ghost use Rattle.resolution.specs.Resolved.{Resolves};
 ghost use Rattle.resolution.specs.Faults.{IsRefusal, HasNoFault};
-ghost use Rattle.resolution.specs.FaultLists.{least_of, decl_faults, each_faults};
+ghost use Rattle.resolution.specs.FaultLists.{least_of, decl_faults, each_faults, items_faults};
+ghost use Rattle.sections.specs.Targets.{section_faults};
 ghost use Rattle.resolution.specs.Leasts.{IsLeast};
 ghost use Rattle.symbols.specs.Programs.{program_of, IsProgram};
 ghost use Rattle.symbols.specs.Views.{structure_of, IsStructure};
-ghost use Rattle.types.specs.Whole.{unless, extended_if, global_if, array_if, global_faults, array_faults};
+ghost use Rattle.types.specs.Whole.{unless, extended_if, global_if, array_if, section_if, thread_if, global_faults, array_faults};
 
 use crate::constant::note_opening;
 use crate::grown::{with_array, with_global, with_lock, with_section, with_struct, with_thread};
@@ -34,7 +35,7 @@ use symbols::annotation::note_lock;
 use symbols::members::Structure;
 use symbols::scope::{note_target, note_type, type_outside};
 use symbols::table::Program;
-use syntax::tree::{Array, Decl, Tree, Variable};
+use syntax::tree::{Array, Decl, Pool, Section, Thread, Tree, Variable};
 
 /// The program with a struct more, which has this place, if everything in it is right.
 #[tactic(auto, using(symbols::proofs::Least::least_append))]
@@ -105,6 +106,67 @@ fn judge_array(
     }
 }
 
+/// The program with a pool more, which has this place, if everything in it is right.
+#[tactic(auto, using(symbols::proofs::Least::least_append))]
+fn judge_pool(
+    alloc: Global,
+    program: &Program,
+    place: usize,
+    typed: Option<Typed>,
+    p: &Pool,
+    least: &mut Option<Mistake>,
+) -> Result<Option<Typed>, AllocError>
+    requires { IsProgram program.now }
+    ensures value { IfOk result (λ r. option_map core_of r ≡ extended_if (program_of program.now) place (option_map core_of typed) (pool (pool_of p.now))) }
+    ensures faults { OnOk result (least.new ≡ least_of least.old (decl_faults (program_of program.now) place (pool (pool_of p.now)))) }
+{
+    note_target(&program.decls, &p.target, least);
+    note_missing(program, place, p, least);
+    match typed {
+        Some(typed) => with_pool(alloc, program, place, typed, p),
+        None => Ok(None),
+    }
+}
+
+/// The program with a section more, if everything in it is right.
+fn judge_atomic(
+    alloc: Global,
+    program: &Program,
+    typed: Option<Typed>,
+    s: &Section,
+    least: &mut Option<Mistake>,
+) -> Result<Option<Typed>, AllocError>
+    requires { IsProgram program.now }
+    ensures value { IfOk result (λ r. option_map core_of r ≡ section_if (program_of program.now) (option_map core_of typed) (section_of s.now)) }
+    ensures faults { OnOk result (least.new ≡ least_of least.old (section_faults (program_of program.now) (section_of s.now))) }
+{
+    let section = judge_section(alloc, program, s, least)?;
+    match typed {
+        Some(typed) => with_section(typed, section),
+        None => Ok(None),
+    }
+}
+
+/// The program with a thread more, if everything in it is right.
+fn judge_thread(
+    alloc: Global,
+    program: &Program,
+    typed: Option<Typed>,
+    t: &Thread,
+    least: &mut Option<Mistake>,
+) -> Result<Option<Typed>, AllocError>
+    requires { IsProgram program.now }
+    ensures value { IfOk result (λ r. option_map core_of r ≡ thread_if (program_of program.now) (option_map core_of typed) (thread_of t.now)) }
+    ensures faults { OnOk result (least.new ≡ least_of least.old (items_faults (program_of program.now) (items_of t.now.items.items))) }
+{
+    note_items(&program.decls, &t.items, least);
+    let Some(typed) = typed else {
+        return Ok(None);
+    };
+    let calls = typed_calls(alloc, program, &t.items)?;
+    with_thread(alloc, typed, &t.name, calls)
+}
+
 /// The program with one more declaration, which has this place, if everything in it is right.
 #[tactic(auto, using(symbols::proofs::Least::least_append))]
 fn judge_decl(
@@ -134,35 +196,13 @@ fn judge_decl(
         }
         Decl::Global(v) => judge_global(alloc, program, typed, v, least),
         Decl::Array(a) => judge_array(alloc, program, typed, a, least),
-        Decl::Pool(p) => {
-            note_target(decls, &p.target, least);
-            note_missing(program, place, p, least);
-            match typed {
-                Some(typed) => with_pool(alloc, program, place, typed, p),
-                None => Ok(None),
-            }
-        }
+        Decl::Pool(p) => judge_pool(alloc, program, place, typed, p, least),
         Decl::Init(i) => {
             note_init(decls, i, least);
             Ok(typed)
         }
-        Decl::Atomic(s) => {
-            let section = judge_section(alloc, program, s, least)?;
-            match typed {
-                Some(typed) => with_section(typed, section),
-                None => Ok(None),
-            }
-        }
-        Decl::Thread(t) => {
-            note_items(decls, &t.items, least);
-            match typed {
-                Some(typed) => {
-                    let calls = typed_calls(alloc, program, &t.items)?;
-                    with_thread(alloc, typed, &t.name, calls)
-                }
-                None => Ok(None),
-            }
-        }
+        Decl::Atomic(s) => judge_atomic(alloc, program, typed, s, least),
+        Decl::Thread(t) => judge_thread(alloc, program, typed, t, least),
     }
 }
 
@@ -240,7 +280,9 @@ pub fn check(alloc: Global, tree: &Tree) -> Result<Typed, Refusal>
     let program = Program::new(alloc, &tree.decls, &mut least)?;
     let start = unless(alloc, &least);
     let typed = judge_decls(alloc, &program, start, &mut least)?;
+    drop(program);
     if let Some(fault) = least {
+        drop(typed);
         return Err(Refusal::Fault(Fault::at(alloc, fault.code, fault.start)));
     }
     match typed {

@@ -8,8 +8,6 @@
 mod command;
 mod line;
 mod reading;
-#[cfg(test)]
-mod tests;
 
 pub use line::{DEFAULT_TURNS, Line};
 pub use reading::words;

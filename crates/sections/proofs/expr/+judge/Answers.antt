@@ -20,7 +20,7 @@ judge_joined-returns-in_ok-rest-in-Term-clause-value t c =
 
 pub judge_joined-returns-in_ok-rest-in-Term-clause-faults : goal.judge_joined-returns-in_ok-rest-in-Term-clause-faults
 judge_joined-returns-in_ok-rest-in-Term-clause-faults t c =
-    on_ok c.chained.result (chain_faults (scope_of (program_of c.args.program.now) c.args.locals.now) c.args.e.now c.in-Chain.level c.in-Chain.first c.in-Chain.links _ _ _ _ _ _ _ _ c.in-Chain.is c.deref-in-Term.ensures.value c.in_ok-operand-in-Chain.ensures.value c.operand_want.ensures c.start_of.ensures c.in_ok-operand-in-Chain.ensures.faults c.note_misfit.ensures c.in_ok-rest-in-Term.ensures.faults)
+    on_ok c.chained.result (chain_faults (scope_of (program_of c.args.program.now) c.args.locals.now) c.args.e.now c.in-Chain.level c.in-Chain.first c.in-Chain.links _ _ _ _ _ c.in-Chain.is c.deref-in-Term.ensures.value c.operand_want.ensures c.in_ok-operand-in-Chain.ensures.faults c.in_ok-rest-in-Term.ensures.faults)
 
 pub judge_joined-returns-in_ok-tests-in-Conjunction-clause-value : goal.judge_joined-returns-in_ok-tests-in-Conjunction-clause-value
 judge_joined-returns-in_ok-tests-in-Conjunction-clause-value t c =
@@ -30,7 +30,7 @@ judge_joined-returns-in_ok-tests-in-Conjunction-clause-value t c =
 
 pub judge_joined-returns-in_ok-tests-in-Conjunction-clause-faults : goal.judge_joined-returns-in_ok-tests-in-Conjunction-clause-faults
 judge_joined-returns-in_ok-tests-in-Conjunction-clause-faults t c =
-    on_ok c.tested.result (chain_faults (scope_of (program_of c.args.program.now) c.args.locals.now) c.args.e.now c.in-Chain.level c.in-Chain.first c.in-Chain.links _ _ _ _ _ _ _ _ c.in-Chain.is c.deref.ensures.value c.in_ok-operand-in-Chain.ensures.value c.operand_want.ensures c.start_of.ensures c.in_ok-operand-in-Chain.ensures.faults c.note_misfit.ensures c.in_ok-tests-in-Conjunction.ensures.faults)
+    on_ok c.tested.result (chain_faults (scope_of (program_of c.args.program.now) c.args.locals.now) c.args.e.now c.in-Chain.level c.in-Chain.first c.in-Chain.links _ _ _ _ _ c.in-Chain.is c.deref.ensures.value c.operand_want.ensures c.in_ok-operand-in-Chain.ensures.faults c.in_ok-tests-in-Conjunction.ensures.faults)
 
 pub judge_links-loop-link-preserved : goal.judge_links-loop-link-preserved
 judge_links-loop-link-preserved t c =

@@ -1,0 +1,49 @@
+//! The paragraphs of a file of cases.
+
+ghost use Rattle.std.specs.Prelude.{◌≡◌, ◌∷◌, List, ℕ, None, codes};
+
+use crate::asked::Asked;
+
+/// What a paragraph is.
+#[derive(Clone, Copy)]
+pub enum Paragraph<'a> {
+    /// A heading or a note.
+    Note,
+    /// What is asked of the texts below.
+    Ask(Asked),
+    /// What stands ahead of the texts below, its last line feed apart; nothing, where there is none.
+    Head(Option<&'a str>),
+    /// A text, and what must be said of it.
+    Case(&'a str, &'a str),
+    /// None of these.
+    Unreadable,
+}
+
+/// What this paragraph is.
+pub fn read_paragraph(paragraph: &str) -> Paragraph<'_>
+    ensures note { (rest : List ℕ) → paragraph.now ≡ 35 ∷ rest → result ≡ Paragraph.Note }
+    ensures headless { paragraph.now ≡ codes "@head" → result ≡ Paragraph.Head None }
+{
+    if paragraph.starts_with('#') {
+        return Paragraph::Note;
+    }
+    if let Some(word) = paragraph.strip_prefix("@ask ") {
+        return match Asked::named(word) {
+            Some(asked) => Paragraph::Ask(asked),
+            None => Paragraph::Unreadable,
+        };
+    }
+    if paragraph == "@head" {
+        return Paragraph::Head(None);
+    }
+    if let Some(head) = paragraph.strip_prefix("@head\n") {
+        return Paragraph::Head(Some(head));
+    }
+    if let Some(want) = paragraph.strip_prefix("=> ") {
+        return Paragraph::Case("", want);
+    }
+    match paragraph.split_once("\n=> ") {
+        Some((text, want)) => Paragraph::Case(text, want),
+        None => Paragraph::Unreadable,
+    }
+}

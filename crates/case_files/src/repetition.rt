@@ -1,0 +1,51 @@
+//! What stands in texts of cases for something longer, or for what can't be seen: `<<N|PIECE>>` and `<<N>>`.
+
+use std::alloc::{AllocError, Global};
+
+/// Appends so many copies of the piece, each `#` in it replaced by the number of the copy, from 0.
+fn push_copies(whole: &mut String, times: u64, piece: &str) -> Result<(), AllocError> {
+    for number in 0..times {
+        for letter in piece.chars() {
+            if letter == '#' {
+                write!(whole, "{number}")?;
+            } else {
+                whole.push(letter)?;
+            }
+        }
+    }
+    Ok(())
+}
+
+/// Appends what `<<INSIDE>>` stands for, and tells whether it stands for anything.
+fn push_inside(whole: &mut String, inside: &str) -> Result<bool, AllocError> {
+    match inside.split_once('|') {
+        Some((times, piece)) => match times.parse::<u64>() {
+            Ok(times) => push_copies(whole, times, piece)?,
+            Err(_) => return Ok(false),
+        },
+        None => match inside.parse::<u32>().ok().and_then(char::from_u32) {
+            Some(letter) => whole.push(letter)?,
+            None => return Ok(false),
+        },
+    }
+    Ok(true)
+}
+
+/// The text with all that stands between `<<` and `>>` written out; nothing, where one of these can't be read.
+pub fn written_out(alloc: Global, text: &str) -> Result<Option<String>, AllocError> {
+    let mut whole = String::new(alloc);
+    let mut pieces = text.split("<<");
+    if let Some(first) = pieces.next() {
+        whole.push_str(first)?;
+    }
+    for piece in pieces {
+        let Some((inside, behind)) = piece.split_once(">>") else {
+            return Ok(None);
+        };
+        if !push_inside(&mut whole, inside)? {
+            return Ok(None);
+        }
+        whole.push_str(behind)?;
+    }
+    Ok(Some(whole))
+}

@@ -1,0 +1,54 @@
+//! The cases of a file.
+
+use crate::saying::said_of;
+use case_files::asked::Asked;
+use case_files::paragraph::{Paragraph, read_paragraph};
+use case_files::repetition::written_out;
+use case_files::tally::Tally;
+use source::memory::NoMemory;
+use std::alloc::Global;
+
+/// What is said of a case's text, with what stands ahead of it.
+fn said_behind(
+    alloc: Global,
+    asked: Asked,
+    head: Option<&str>,
+    text: &str,
+) -> Result<String, NoMemory> {
+    let mut whole = String::new(alloc);
+    if let Some(head) = head {
+        whole.push_str(head)?;
+        whole.push_str("\n")?;
+    }
+    whole.push_str(text)?;
+    match written_out(alloc, whole.as_str())? {
+        Some(whole) => said_of(alloc, asked, whole.as_str()),
+        None => Ok(String::from_str(
+            alloc,
+            "nothing, since what stands between << and >> can't be read",
+        )?),
+    }
+}
+
+/// Judges the cases of the text of the file of this name.
+pub fn judge_text(alloc: Global, file: &str, text: &str) -> Result<Tally, NoMemory> {
+    let mut tally = Tally::new(alloc);
+    let mut asked = Asked::Check;
+    let mut head = None;
+    for paragraph in text.trim().split("\n\n") {
+        match read_paragraph(paragraph) {
+            Paragraph::Note => {}
+            Paragraph::Ask(other) => asked = other,
+            Paragraph::Head(other) => head = other,
+            Paragraph::Case(text, want) => {
+                let said = said_behind(alloc, asked, head, text)?;
+                tally.count(file, text, said.as_str(), want)?;
+            }
+            Paragraph::Unreadable => {
+                tally.count(file, paragraph, "nothing, since this is no case", "a case")?;
+            }
+        }
+    }
+    tally.close(file)?;
+    Ok(tally)
+}

@@ -1,0 +1,21 @@
+//! Tests of the crates each by itself, of what no clause says, against values from outside.
+//!
+//! They stand here and not in the crates that they test, since a crate with tests is proved twice.
+#![tactic(auto)]
+
+#[cfg(test)]
+mod command_lines;
+#[cfg(test)]
+mod engine;
+#[cfg(test)]
+mod fault_lines;
+#[cfg(test)]
+mod histories;
+#[cfg(test)]
+mod history_texts;
+#[cfg(test)]
+mod judging;
+#[cfg(test)]
+mod section_runs;
+#[cfg(test)]
+mod tokens;
