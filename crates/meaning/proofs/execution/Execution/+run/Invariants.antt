@@ -1,5 +1,5 @@
 use Rattle.std.proofs.Common.{◌≡◌, ◌+◌, ◌*◌, drop}
-use Rattle.core_lang.specs.Meaning.{truth_of, turns, effect_of, sequence}
+use Rattle.core_lang.specs.Meaning.{truth_of, turns, sequence}
 use Rattle.meaning.specs.Execution.{state_of, Keeps}
 use Rattle.meaning.proofs.execution.Execution.+run.Given as goal
 
