@@ -1,6 +1,7 @@
 //! What is said of a text.
 
-ghost use Rattle.std.specs.Prelude.{IfOk};
+ghost use Rattle.std.specs.Prelude.{◌≡◌, IfOk, codes, string_bytes};
+ghost use Rattle.source.specs.Faults.{fault_text};
 ghost use Rattle.syntax.specs.Returns.{ReturnsRight};
 ghost use Rattle.syntax.specs.Views.{tree_of};
 
@@ -8,7 +9,7 @@ use crate::rereading::difference;
 use case_files::asked::Asked;
 use lexer::lex;
 use parser::parse;
-use source::fault::Refusal;
+use source::fault::{Fault, Refusal};
 use source::line::fault_line;
 use source::memory::NoMemory;
 use std::alloc::Global;
@@ -16,8 +17,10 @@ use syntax::print_tree;
 use syntax::tree::Tree;
 use types::program::check;
 
-/// The line of the fault for which a pass refuses the text.
-fn line_of(alloc: Global, text: &str, refusal: &Refusal) -> Result<String, NoMemory> {
+/// The line of the fault for which a pass refuses the text, in a file called `F`.
+fn line_of(alloc: Global, text: &str, refusal: &Refusal) -> Result<String, NoMemory>
+    ensures { (fault : Fault) → refusal.now ≡ Refusal.Fault fault → IfOk result (λ line. string_bytes line ≡ fault_text (codes "F") text.now fault) }
+{
     match refusal {
         Refusal::Fault(fault) => fault_line(alloc, "F", text.as_bytes(), fault),
         Refusal::NoMemory => Err(NoMemory),
