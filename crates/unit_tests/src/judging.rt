@@ -1,5 +1,6 @@
 //! What is said of a case against what is wanted of it, and programs of texts.
 
+use crate::verdict::is_wanted;
 use core_lang::typed::Typed;
 use lexer::lex;
 use parser::parse;
@@ -10,7 +11,7 @@ use types::program::check;
 
 /// Fails where what is said is not what is wanted.
 pub fn compare(alloc: Global, said: &str, want: &str) -> Result<(), Fail> {
-    if said == want {
+    if is_wanted(said, want) {
         return Ok(());
     }
     Err(Fail::new(format!(in alloc; "{said}, and not {want}")?))

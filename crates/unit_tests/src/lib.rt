@@ -19,3 +19,4 @@ mod judging;
 mod section_runs;
 #[cfg(test)]
 mod tokens;
+pub mod verdict;
