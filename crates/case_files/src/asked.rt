@@ -1,6 +1,6 @@
 //! What is asked of a text.
 
-ghost use Rattle.std.specs.Prelude.{◌≡◌, Some, codes};
+ghost use Rattle.std.specs.Prelude.{◌≡◌, ◌↔◌, Some, codes};
 
 /// What is asked of a text.
 #[derive(Clone, Copy)]
@@ -18,13 +18,13 @@ pub enum Asked {
 }
 
 impl Asked {
-    /// What this word asks, if anything.
+    /// What this word asks: nothing, unless it is one of the five.
     pub fn named(word: &str) -> Option<Asked>
-        ensures check { word.now ≡ codes "check" → result ≡ Some Asked.Check }
-        ensures tree { word.now ≡ codes "tree" → result ≡ Some Asked.Tree }
-        ensures print { word.now ≡ codes "print" → result ≡ Some Asked.Print }
-        ensures again { word.now ≡ codes "again" → result ≡ Some Asked.Again }
-        ensures shape { word.now ≡ codes "shape" → result ≡ Some Asked.Shape }
+        ensures check { (result ≡ Some Asked.Check) ↔ (word.now ≡ codes "check") }
+        ensures tree { (result ≡ Some Asked.Tree) ↔ (word.now ≡ codes "tree") }
+        ensures print { (result ≡ Some Asked.Print) ↔ (word.now ≡ codes "print") }
+        ensures again { (result ≡ Some Asked.Again) ↔ (word.now ≡ codes "again") }
+        ensures shape { (result ≡ Some Asked.Shape) ↔ (word.now ≡ codes "shape") }
     {
         match word {
             "check" => Some(Asked::Check),

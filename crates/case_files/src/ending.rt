@@ -1,6 +1,7 @@
 //! How the program ended.
 
 ghost use Rattle.std.specs.Prelude.{◌≡◌, ◌↔◌};
+ghost use Rattle.case_files.specs.Telling.{stop_text};
 
 use source::memory::NoMemory;
 use std::{fmt, io};
@@ -65,14 +66,26 @@ impl Stop {
             Stop::OutOfMemory => Ending::OutOfMemory,
         }
     }
+
+    /// Why, in words.
+    #[tactic(auto, unfolding(crate::specs::Telling::stop_text))]
+    fn text(self) -> &'static str
+        ensures { result.now ≡ stop_text self }
+    {
+        match self {
+            Stop::Failed => "cannot read it, or write what came of it",
+            Stop::OutOfMemory => "no memory",
+        }
+    }
 }
 
 impl fmt::Display for Stop {
+    ghost use Rattle.std.specs.Prelude.{Some};
+
+    ghost output = { λ stop. Some (stop_text stop) };
+
     fn fmt<W: fmt::Write>(&self, f: &mut fmt::Formatter<W>) -> fmt::Result {
-        match self {
-            Stop::Failed => write!(f, "cannot read it, or write what came of it"),
-            Stop::OutOfMemory => write!(f, "no memory"),
-        }
+        f.write_str(self.text())
     }
 }
 

@@ -1,6 +1,8 @@
 -- What was pushed where a `Vec` stands in a recursive type.
-use Rattle.std.proofs.Common.{◌≡◌, ℕ, List, Option, ◌++◌, Vec, Global, sym, ap, ◌∙◌, append_assoc}
+use Rattle.std.proofs.Common.{◌≡◌, ℕ, List, Option, Result, ◌++◌, Vec, Global, sym, ap, ◌∙◌, append_assoc}
 use Rattle.std.specs.Prelude.{codes}
+use Rattle.std.specs.Result.{OnOk}
+use Rattle.std.proofs.lemmas.Result.{on_ok_weaker}
 use Rattle.std.specs.Fmt.{decimal}
 use Rattle.source.specs.declared.span.Span.{Span}
 use Rattle.syntax.specs.declared.tree.Level.{Level}
@@ -22,19 +24,23 @@ pub chain_out : (old mid new : List ℕ) (j : the_joined.Joined) (k : Level) (fi
 chain_out old mid new j k first links is p q =
     q ∙ ap (λ (x : List ℕ). x ++ links_text (links_of links.items)) p ∙ append_assoc old (expr_text (expr_of first)) (links_text (links_of links.items)) ∙ ap (λ (x : List ℕ). old ++ x) (sym (ap expr_text (ap joined_of is ∙ joined_of-Chain k first links)))
 
-while_parts : (old w e b ss n i z : List ℕ) → ((((((old ++ w) ++ e) ++ b) ++ ss) ++ n) ++ i) ++ z ≡ old ++ ((((((w ++ e) ++ b) ++ ss) ++ n) ++ i) ++ z)
-while_parts old w e b ss n i z = simp append_assoc
+-- What is known where pushing went well gives what is wanted there.
+pub where_ok : {T E P Q : Type 0} (r : Result T E) → OnOk r P → (P → Q) → OnOk r Q
+where_ok r known wanted = on_ok_weaker r wanted known
 
-pub while_out : (old new : List ℕ) (d : ℕ) (s : the_stmt.Stmt) (at : Span) (test : the_expr.Expr) (body : the_block.Block) → s ≡ While at test body → new ≡ ((((((old ++ codes "while (") ++ expr_text (expr_of test)) ++ codes ") {") ++ stmts_text (deeper d) (stmts_of body.stmts.items)) ++ codes "\n") ++ indent d) ++ codes "}" → new ≡ old ++ stmt_text d (stmt_of s)
+while_parts : (old w e c o ss n i z : List ℕ) → (((((((old ++ w) ++ e) ++ c) ++ o) ++ ss) ++ n) ++ i) ++ z ≡ old ++ ((((((w ++ e) ++ (c ++ o)) ++ ss) ++ n) ++ i) ++ z)
+while_parts old w e c o ss n i z = simp append_assoc
+
+pub while_out : (old new : List ℕ) (d : ℕ) (s : the_stmt.Stmt) (at : Span) (test : the_expr.Expr) (body : the_block.Block) → s ≡ While at test body → new ≡ (((((((old ++ codes "while (") ++ expr_text (expr_of test)) ++ codes ")") ++ codes " {") ++ stmts_text (deeper d) (stmts_of body.stmts.items)) ++ codes "\n") ++ indent d) ++ codes "}" → new ≡ old ++ stmt_text d (stmt_of s)
 while_out old new d s at test body is p =
-    p ∙ while_parts old (codes "while (") (expr_text (expr_of test)) (codes ") {") (stmts_text (deeper d) (stmts_of body.stmts.items)) (codes "\n") (indent d) (codes "}") ∙ ap (λ (x : List ℕ). old ++ x) (sym (ap (stmt_text d) (ap stmt_of is ∙ stmt_of_While at test body)))
+    p ∙ while_parts old (codes "while (") (expr_text (expr_of test)) (codes ")") (codes " {") (stmts_text (deeper d) (stmts_of body.stmts.items)) (codes "\n") (indent d) (codes "}") ∙ ap (λ (x : List ℕ). old ++ x) (sym (ap (stmt_text d) (ap stmt_of is ∙ stmt_of_While at test body)))
 
-if_parts : (old w e b ss n i z o : List ℕ) → (((((((old ++ w) ++ e) ++ b) ++ ss) ++ n) ++ i) ++ z) ++ o ≡ old ++ (((((((w ++ e) ++ b) ++ ss) ++ n) ++ i) ++ z) ++ o)
-if_parts old w e b ss n i z o = simp append_assoc
+if_parts : (old w e c o ss n i z s : List ℕ) → ((((((((old ++ w) ++ e) ++ c) ++ o) ++ ss) ++ n) ++ i) ++ z) ++ s ≡ old ++ (((((((w ++ e) ++ (c ++ o)) ++ ss) ++ n) ++ i) ++ z) ++ s)
+if_parts old w e c o ss n i z s = simp append_assoc
 
-pub if_out : (old new : List ℕ) (d : ℕ) (s : the_stmt.Stmt) (at : Span) (test : the_expr.Expr) (body : the_block.Block) (other : Option the_block.Block) → s ≡ If at test body other → new ≡ (((((((old ++ codes "if (") ++ expr_text (expr_of test)) ++ codes ") {") ++ stmts_text (deeper d) (stmts_of body.stmts.items)) ++ codes "\n") ++ indent d) ++ codes "}") ++ else_text d (else_of other) → new ≡ old ++ stmt_text d (stmt_of s)
+pub if_out : (old new : List ℕ) (d : ℕ) (s : the_stmt.Stmt) (at : Span) (test : the_expr.Expr) (body : the_block.Block) (other : Option the_block.Block) → s ≡ If at test body other → new ≡ ((((((((old ++ codes "if (") ++ expr_text (expr_of test)) ++ codes ")") ++ codes " {") ++ stmts_text (deeper d) (stmts_of body.stmts.items)) ++ codes "\n") ++ indent d) ++ codes "}") ++ else_text d (else_of other) → new ≡ old ++ stmt_text d (stmt_of s)
 if_out old new d s at test body other is p =
-    p ∙ if_parts old (codes "if (") (expr_text (expr_of test)) (codes ") {") (stmts_text (deeper d) (stmts_of body.stmts.items)) (codes "\n") (indent d) (codes "}") (else_text d (else_of other)) ∙ ap (λ (x : List ℕ). old ++ x) (sym (ap (stmt_text d) (ap stmt_of is ∙ stmt_of_If at test body other)))
+    p ∙ if_parts old (codes "if (") (expr_text (expr_of test)) (codes ")") (codes " {") (stmts_text (deeper d) (stmts_of body.stmts.items)) (codes "\n") (indent d) (codes "}") (else_text d (else_of other)) ∙ ap (λ (x : List ℕ). old ++ x) (sym (ap (stmt_text d) (ap stmt_of is ∙ stmt_of_If at test body other)))
 
 repeat_parts : (old w n b is l i z : List ℕ) → ((((((old ++ w) ++ n) ++ b) ++ is) ++ l) ++ i) ++ z ≡ old ++ ((((((w ++ n) ++ b) ++ is) ++ l) ++ i) ++ z)
 repeat_parts old w n b is l i z = simp append_assoc

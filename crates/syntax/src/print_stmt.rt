@@ -1,6 +1,6 @@
 //! The texts of statements.
 
-ghost use Rattle.std.specs.Prelude.{◌≡◌, ◌++◌, OnOk, string_bytes};
+ghost use Rattle.std.specs.Prelude.{◌≡◌, ◌++◌, OnOk, codes, string_bytes};
 ghost use Rattle.syntax.specs.Views.{local_of, stmt_of, stmts_of, else_of};
 ghost use Rattle.syntax.specs.Printing.{indent, deeper, local_text, stmt_text, stmts_text, else_text};
 
@@ -58,23 +58,15 @@ fn push_stmt(alloc: Global, out: &mut String, s: &Stmt, depth: usize) -> Result<
         Stmt::If(_, test, body, other) => {
             out.push_str("if (")?;
             push_expr(alloc, out, test)?;
-            out.push_str(") {")?;
-            push_stmts(alloc, out, &body.stmts, deeper(depth))?;
-            out.push_str("\n")?;
-            push_indent(out, depth)?;
-            out.push_str("}")?;
-            push_else(alloc, out, other, depth)?;
-            Ok(())
+            out.push_str(")")?;
+            push_braced(alloc, out, body, depth)?;
+            push_else(alloc, out, other, depth)
         }
         Stmt::While(_, test, body) => {
             out.push_str("while (")?;
             push_expr(alloc, out, test)?;
-            out.push_str(") {")?;
-            push_stmts(alloc, out, &body.stmts, deeper(depth))?;
-            out.push_str("\n")?;
-            push_indent(out, depth)?;
-            out.push_str("}")?;
-            Ok(())
+            out.push_str(")")?;
+            push_braced(alloc, out, body, depth)
         }
         Stmt::Print(_, e) => {
             out.push_str("print ")?;
@@ -102,13 +94,22 @@ fn push_else(
     match other {
         None => Ok(()),
         Some(body) => {
-            out.push_str(" else {")?;
-            push_stmts(alloc, out, &body.stmts, deeper(depth))?;
-            out.push_str("\n")?;
-            push_indent(out, depth)?;
-            out.push_str("}")
+            out.push_str(" else")?;
+            push_braced(alloc, out, body, depth)
         }
     }
+}
+
+/// A block in braces behind what its line begins with, whose own lines stand one level further in than that line.
+#[cycle(print_stmt)]
+fn push_braced(alloc: Global, out: &mut String, body: &Block, depth: usize) -> Result<(), AllocError>
+    ensures { OnOk result (string_bytes out.new ≡ string_bytes out.old ++ codes " {" ++ stmts_text (deeper depth) (stmts_of body.now.stmts.items) ++ codes "\n" ++ indent depth ++ codes "}") }
+{
+    out.push_str(" {")?;
+    push_stmts(alloc, out, &body.stmts, deeper(depth))?;
+    out.push_str("\n")?;
+    push_indent(out, depth)?;
+    out.push_str("}")
 }
 
 /// Statements, each on a line of its own.
