@@ -4,8 +4,8 @@
 #
 #     tests/edits.sh [CRATE ..]
 #
-# No part of the gate, which tries those of crates/CRATE/must-fail alone: each takes some 15 seconds of
-# processor time. The copy has what earlier checks kept, so that only what they lack is proved first.
+# No part of the gate, which tries those of crates/CRATE/must-fail alone: each takes 10 to 30 seconds
+# of processor time. The copy has what earlier checks kept, so that only what they lack is proved first.
 set -euo pipefail
 cd "$(dirname "$0")/.."
 [ $# -gt 0 ] || set -- $(ls tests/edits)
