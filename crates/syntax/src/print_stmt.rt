@@ -102,7 +102,12 @@ fn push_else(
 
 /// A block in braces behind what its line begins with, whose own lines stand one level further in than that line.
 #[cycle(print_stmt)]
-fn push_braced(alloc: Global, out: &mut String, body: &Block, depth: usize) -> Result<(), AllocError>
+fn push_braced(
+    alloc: Global,
+    out: &mut String,
+    body: &Block,
+    depth: usize,
+) -> Result<(), AllocError>
     ensures { OnOk result (string_bytes out.new ≡ string_bytes out.old ++ codes " {" ++ stmts_text (deeper depth) (stmts_of body.now.stmts.items) ++ codes "\n" ++ indent depth ++ codes "}") }
 {
     out.push_str(" {")?;
