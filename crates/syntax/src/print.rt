@@ -9,21 +9,20 @@ use crate::tree::{
     Comparison, Const, Element, Expr, Joined, Link, Name, Op, Path, Place, Prefix, ValueType,
 };
 use source::token::Number;
-use std::alloc::{AllocError, Global};
+use std::alloc::AllocError;
 
-pub fn push_number(alloc: Global, out: &mut String, n: u64) -> Result<(), AllocError>
+pub fn push_number(out: &mut String, n: u64) -> Result<(), AllocError>
     ensures { OnOk result (string_bytes out.new ≡ string_bytes out.old ++ decimal n) }
 {
-    let digits = n.to_string(alloc)?;
-    out.push_str(digits.as_str())
+    write!(out, "{n}")
 }
 
 /// A number in brackets.
-pub fn push_index(alloc: Global, out: &mut String, n: &Number) -> Result<(), AllocError>
+pub fn push_index(out: &mut String, n: &Number) -> Result<(), AllocError>
     ensures { OnOk result (string_bytes out.new ≡ string_bytes out.old ++ index_text n.now) }
 {
     out.push_str("[")?;
-    push_number(alloc, out, n.value)?;
+    push_number(out, n.value)?;
     out.push_str("]")
 }
 
@@ -39,19 +38,19 @@ pub fn push_type(out: &mut String, value_type: &ValueType) -> Result<(), AllocEr
     }
 }
 
-pub fn push_const(alloc: Global, out: &mut String, value: &Const) -> Result<(), AllocError>
+pub fn push_const(out: &mut String, value: &Const) -> Result<(), AllocError>
     ensures { OnOk result (string_bytes out.new ≡ string_bytes out.old ++ const_text (const_of value.now)) }
 {
     match value {
-        Const::Int(n) => push_number(alloc, out, n.value),
+        Const::Int(n) => push_number(out, n.value),
         Const::Negative(_, n) => {
             out.push_str("-")?;
-            push_number(alloc, out, n.value)
+            push_number(out, n.value)
         }
         Const::Null(_) => out.push_str("null"),
         Const::Member(pool, index) => {
             out.push_str(pool.text.as_str())?;
-            push_index(alloc, out, index)
+            push_index(out, index)
         }
     }
 }
@@ -111,74 +110,74 @@ fn prefix_words(op: Prefix) -> &'static str
 }
 
 #[cycle(print_expr)]
-pub fn push_expr(alloc: Global, out: &mut String, e: &Expr) -> Result<(), AllocError>
+pub fn push_expr(out: &mut String, e: &Expr) -> Result<(), AllocError>
     ensures { OnOk result (string_bytes out.new ≡ string_bytes out.old ++ expr_text (expr_of e.now)) }
 {
     match e {
-        Expr::Int(n) => push_number(alloc, out, n.value),
+        Expr::Int(n) => push_number(out, n.value),
         Expr::Null(_) => out.push_str("null"),
         Expr::Name(name) => out.push_str(name.text.as_str()),
-        Expr::Element(element) => push_element(alloc, out, element),
+        Expr::Element(element) => push_element(out, element),
         Expr::Path(path) => push_path(out, path),
         Expr::Paren(_, inner) => {
             out.push_str("(")?;
-            push_expr(alloc, out, inner)?;
+            push_expr(out, inner)?;
             out.push_str(")")
         }
         Expr::Prefix(op, _, inner) => {
             out.push_str(prefix_words(*op))?;
-            push_expr(alloc, out, inner)
+            push_expr(out, inner)
         }
-        Expr::Joined(joined) => push_joined(alloc, out, joined),
+        Expr::Joined(joined) => push_joined(out, joined),
     }
 }
 
 #[cycle(print_expr)]
-fn push_joined(alloc: Global, out: &mut String, joined: &Joined) -> Result<(), AllocError>
+fn push_joined(out: &mut String, joined: &Joined) -> Result<(), AllocError>
     ensures { OnOk result (string_bytes out.new ≡ string_bytes out.old ++ expr_text (joined_of joined.now)) }
 {
     match joined {
         Joined::Chain(_, first, links) => {
-            push_expr(alloc, out, first)?;
-            push_links(alloc, out, links)?;
+            push_expr(out, first)?;
+            push_links(out, links)?;
             Ok(())
         }
         Joined::Compare(comparison, left, right) => {
-            push_expr(alloc, out, left)?;
+            push_expr(out, left)?;
             out.push_str(comparison_words(*comparison))?;
-            push_expr(alloc, out, right)
+            push_expr(out, right)
         }
     }
 }
 
 #[cycle(print_expr)]
-fn push_element(alloc: Global, out: &mut String, element: &Element) -> Result<(), AllocError>
+fn push_element(out: &mut String, element: &Element) -> Result<(), AllocError>
     ensures { OnOk result (string_bytes out.new ≡ string_bytes out.old ++ place_text (element_of element.now)) }
 {
     out.push_str(element.name.text.as_str())?;
     out.push_str("[")?;
-    push_expr(alloc, out, &element.index)?;
+    push_expr(out, &element.index)?;
     out.push_str("]")
 }
 
 #[cycle(print_expr)]
-fn push_links(alloc: Global, out: &mut String, links: &[Link]) -> Result<(), AllocError>
+fn push_links(out: &mut String, links: &[Link]) -> Result<(), AllocError>
     ensures { OnOk result (string_bytes out.new ≡ string_bytes out.old ++ links_text (links_of links.now)) }
 {
     'links: for link in links {
         out.push_str(op_words(link.op))?;
-        push_expr(alloc, out, &link.operand)?;
+        push_expr(out, &link.operand)?;
     }
     Ok(())
 }
 
 /// What stands before `=` in an assignment.
-pub fn push_place(alloc: Global, out: &mut String, place: &Place) -> Result<(), AllocError>
+pub fn push_place(out: &mut String, place: &Place) -> Result<(), AllocError>
     ensures { OnOk result (string_bytes out.new ≡ string_bytes out.old ++ place_text (place_of place.now)) }
 {
     match place {
         Place::Name(name) => out.push_str(name.text.as_str()),
-        Place::Element(element) => push_element(alloc, out, element),
+        Place::Element(element) => push_element(out, element),
         Place::Path(path) => push_path(out, path),
     }
 }

@@ -10,7 +10,7 @@ use crate::print_thread::push_thread;
 use crate::tree::{
     Array, Const, Decl, Init, Member, Param, Pool, Protection, Section, Struct, ValueType, Variable,
 };
-use std::alloc::{AllocError, Global};
+use std::alloc::AllocError;
 
 fn push_annotation(out: &mut String, protection: &Protection) -> Result<(), AllocError>
     ensures { OnOk result (string_bytes out.new ≡ string_bytes out.old ++ protection_text (protection_of protection.now)) }
@@ -31,14 +31,14 @@ fn push_protection(out: &mut String, protection: &Option<Protection>) -> Result<
     }
 }
 
-fn push_value(alloc: Global, out: &mut String, value: &Option<Const>) -> Result<(), AllocError>
+fn push_value(out: &mut String, value: &Option<Const>) -> Result<(), AllocError>
     ensures { OnOk result (string_bytes out.new ≡ string_bytes out.old ++ optional_text value_text (option_of const_of value.now)) }
 {
     match value {
         None => Ok(()),
         Some(value) => {
             out.push_str(" = ")?;
-            push_const(alloc, out, value)
+            push_const(out, value)
         }
     }
 }
@@ -102,7 +102,7 @@ fn push_struct(out: &mut String, declared: &Struct) -> Result<(), AllocError>
     out.push_str("\n}\n")
 }
 
-fn push_variable(alloc: Global, out: &mut String, variable: &Variable) -> Result<(), AllocError>
+fn push_variable(out: &mut String, variable: &Variable) -> Result<(), AllocError>
     ensures { OnOk result (string_bytes out.new ≡ string_bytes out.old ++ variable_text (variable_of variable.now)) }
 {
     out.push_str("global ")?;
@@ -110,43 +110,43 @@ fn push_variable(alloc: Global, out: &mut String, variable: &Variable) -> Result
     out.push_str(" ")?;
     out.push_str(variable.name.text.as_str())?;
     push_protection(out, &variable.protection)?;
-    push_value(alloc, out, &variable.value)?;
+    push_value(out, &variable.value)?;
     out.push_str(";\n")
 }
 
-fn push_array(alloc: Global, out: &mut String, array: &Array) -> Result<(), AllocError>
+fn push_array(out: &mut String, array: &Array) -> Result<(), AllocError>
     ensures { OnOk result (string_bytes out.new ≡ string_bytes out.old ++ array_text (array_of array.now)) }
 {
     out.push_str("global ")?;
     push_type(out, &array.value_type)?;
     out.push_str(" ")?;
     out.push_str(array.name.text.as_str())?;
-    push_index(alloc, out, &array.length)?;
+    push_index(out, &array.length)?;
     push_protection(out, &array.protection)?;
     out.push_str(";\n")
 }
 
-fn push_pool(alloc: Global, out: &mut String, pool: &Pool) -> Result<(), AllocError>
+fn push_pool(out: &mut String, pool: &Pool) -> Result<(), AllocError>
     ensures { OnOk result (string_bytes out.new ≡ string_bytes out.old ++ pool_text (pool_of pool.now)) }
 {
     out.push_str("pool ")?;
     out.push_str(pool.target.text.as_str())?;
     out.push_str(" ")?;
     out.push_str(pool.name.text.as_str())?;
-    push_index(alloc, out, &pool.length)?;
+    push_index(out, &pool.length)?;
     out.push_str(";\n")
 }
 
-fn push_init(alloc: Global, out: &mut String, init: &Init) -> Result<(), AllocError>
+fn push_init(out: &mut String, init: &Init) -> Result<(), AllocError>
     ensures { OnOk result (string_bytes out.new ≡ string_bytes out.old ++ init_text (init_of init.now)) }
 {
     out.push_str("init ")?;
     out.push_str(init.pool.text.as_str())?;
-    push_index(alloc, out, &init.index)?;
+    push_index(out, &init.index)?;
     out.push_str(".")?;
     out.push_str(init.field.text.as_str())?;
     out.push_str(" = ")?;
-    push_const(alloc, out, &init.value)?;
+    push_const(out, &init.value)?;
     out.push_str(";\n")
 }
 
@@ -182,7 +182,7 @@ fn push_params(out: &mut String, params: &[Param]) -> Result<(), AllocError>
     }
 }
 
-fn push_section(alloc: Global, out: &mut String, section: &Section) -> Result<(), AllocError>
+fn push_section(out: &mut String, section: &Section) -> Result<(), AllocError>
     ensures { OnOk result (string_bytes out.new ≡ string_bytes out.old ++ section_text (section_of section.now)) }
 {
     out.push_str("atomic ")?;
@@ -192,11 +192,11 @@ fn push_section(alloc: Global, out: &mut String, section: &Section) -> Result<()
     out.push_str(")")?;
     push_result(out, &section.result)?;
     out.push_str(" {")?;
-    push_stmts(alloc, out, &section.body.stmts, 1)?;
+    push_stmts(out, &section.body.stmts, 1)?;
     out.push_str("\n}\n")
 }
 
-fn push_decl(alloc: Global, out: &mut String, decl: &Decl) -> Result<(), AllocError>
+fn push_decl(out: &mut String, decl: &Decl) -> Result<(), AllocError>
     ensures { OnOk result (string_bytes out.new ≡ string_bytes out.old ++ decl_text (decl_of decl.now)) }
 {
     match decl {
@@ -206,21 +206,21 @@ fn push_decl(alloc: Global, out: &mut String, decl: &Decl) -> Result<(), AllocEr
             out.push_str(";\n")
         }
         Decl::Struct(declared) => push_struct(out, declared),
-        Decl::Global(variable) => push_variable(alloc, out, variable),
-        Decl::Array(array) => push_array(alloc, out, array),
-        Decl::Pool(pool) => push_pool(alloc, out, pool),
-        Decl::Init(init) => push_init(alloc, out, init),
-        Decl::Atomic(section) => push_section(alloc, out, section),
-        Decl::Thread(thread) => push_thread(alloc, out, thread),
+        Decl::Global(variable) => push_variable(out, variable),
+        Decl::Array(array) => push_array(out, array),
+        Decl::Pool(pool) => push_pool(out, pool),
+        Decl::Init(init) => push_init(out, init),
+        Decl::Atomic(section) => push_section(out, section),
+        Decl::Thread(thread) => push_thread(out, thread),
     }
 }
 
 /// Declarations, one behind the other.
-pub fn push_decls(alloc: Global, out: &mut String, decls: &[Decl]) -> Result<(), AllocError>
+pub fn push_decls(out: &mut String, decls: &[Decl]) -> Result<(), AllocError>
     ensures { OnOk result (string_bytes out.new ≡ string_bytes out.old ++ tree_text (map decl_of decls.now)) }
 {
     'decls: for decl in decls {
-        push_decl(alloc, out, decl)?;
+        push_decl(out, decl)?;
     }
     Ok(())
 }

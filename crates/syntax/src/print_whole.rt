@@ -23,6 +23,6 @@ pub fn print_tree(alloc: Global, tree: &Tree) -> Result<String, NoMemory>
     ensures same { IfOk result (λ printed. (text : List ℕ) (ts : List Tok) → HasTokens text ts → HasTree ts (tree_of tree.now) → HasTextOf (string_bytes printed) (tree_of tree.now)) }
 {
     let mut out = String::new(alloc);
-    push_decls(alloc, &mut out, &tree.decls)?;
+    push_decls(&mut out, &tree.decls)?;
     Ok(out)
 }
