@@ -140,8 +140,9 @@ fn judge_joined(
             let operand = wanted(alloc, program, locals, operand_want(*level), first, least)?;
             match level {
                 Level::Term | Level::Sum => {
+                    let first = number_in(operand);
                     let rest = judge_links(alloc, program, locals, *level, links, least)?;
-                    chained(alloc, number_in(operand), rest)
+                    chained(alloc, first, rest)
                 }
                 Level::Conjunction | Level::Disjunction => {
                     let first = test_in(operand);

@@ -15,7 +15,7 @@ use Rattle.sections.proofs.expr.+judge.Goals as goal
 pub judge_joined-returns-in_ok-rest-in-Term-clause-value : goal.judge_joined-returns-in_ok-rest-in-Term-clause-value
 judge_joined-returns-in_ok-rest-in-Term-clause-value t c =
     subst (λ s. IfOk c.chained.result (λ r. option_map resolved_expr_of r ≡ s))
-    (numbers_value (scope_of (program_of c.args.program.now) c.args.locals.now) c.args.e.now c.in-Chain.level c.in-Chain.first c.in-Chain.links _ _ _ _ c.in-Chain.is c.in-Term.is c.deref-in-Term.ensures.value c.number_in.ensures c.in_ok-operand-in-Chain.ensures.value c.in_ok-rest-in-Term.ensures.value)
+    (numbers_value (scope_of (program_of c.args.program.now) c.args.locals.now) c.args.e.now c.in-Chain.level c.in-Chain.first c.in-Chain.links _ _ _ _ c.in-Chain.is c.in-Term.is c.deref-in-Term.ensures.value c.number_in-first.ensures c.in_ok-operand-in-Chain.ensures.value c.in_ok-rest-in-Term.ensures.value)
     c.chained.ensures
 
 pub judge_joined-returns-in_ok-rest-in-Term-clause-faults : goal.judge_joined-returns-in_ok-rest-in-Term-clause-faults
