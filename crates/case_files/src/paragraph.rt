@@ -1,6 +1,6 @@
 //! The paragraphs of a file of cases.
 
-ghost use Rattle.std.specs.Prelude.{◌≡◌, ◌∷◌, ◌++◌, ◌↔◌, ◌⊎◌, List, ℕ, None, Some, [], codes};
+ghost use Rattle.std.specs.Prelude.{◌≡◌, ◌≢◌, ◌∷◌, ◌++◌, ◌↔◌, ◌⊎◌, List, ℕ, None, Some, [], codes};
 ghost use Rattle.std.specs.Borrow.{Bor};
 
 use crate::asked::Asked;
@@ -22,15 +22,17 @@ pub enum Paragraph<'a> {
 
 /// What this paragraph is.
 pub fn read_paragraph(paragraph: &str) -> Paragraph<'_>
-    ensures note { (rest : List ℕ) → paragraph.now ≡ 35 ∷ rest → result ≡ Paragraph.Note }
+    ensures note { (result ≡ Paragraph.Note) ↔ ((rest : List ℕ) × (paragraph.now ≡ 35 ∷ rest)) }
     ensures check { (result ≡ Paragraph.Ask Asked.Check) ↔ (paragraph.now ≡ codes "@ask check") }
     ensures tree { (result ≡ Paragraph.Ask Asked.Tree) ↔ (paragraph.now ≡ codes "@ask tree") }
     ensures print { (result ≡ Paragraph.Ask Asked.Print) ↔ (paragraph.now ≡ codes "@ask print") }
     ensures again { (result ≡ Paragraph.Ask Asked.Again) ↔ (paragraph.now ≡ codes "@ask again") }
     ensures shape { (result ≡ Paragraph.Ask Asked.Shape) ↔ (paragraph.now ≡ codes "@ask shape") }
     ensures head { (text : Bor (List ℕ)) → result ≡ Paragraph.Head (Some text) → paragraph.now ≡ codes "@head\n" ++ text.now }
+    ensures headed { (rest : List ℕ) → paragraph.now ≡ codes "@head\n" ++ rest → (text : Bor (List ℕ)) × (result ≡ Paragraph.Head (Some text)) }
     ensures case { (text want : Bor (List ℕ)) → result ≡ Paragraph.Case text want → (paragraph.now ≡ text.now ++ codes "\n=> " ++ want.now) ⊎ ((text.now ≡ []) × (paragraph.now ≡ codes "=> " ++ want.now)) }
-    ensures headless { paragraph.now ≡ codes "@head" → result ≡ Paragraph.Head None }
+    ensures headless { (result ≡ Paragraph.Head None) ↔ (paragraph.now ≡ codes "@head") }
+    ensures unreadable { result ≡ Paragraph.Unreadable → ((text want : List ℕ) → paragraph.now ≢ text ++ (codes "\n=> " ++ want)) ⊎ ((word : List ℕ) × (paragraph.now ≡ codes "@ask " ++ word)) }
 {
     if paragraph.starts_with('#') {
         return Paragraph::Note;
