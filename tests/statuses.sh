@@ -19,6 +19,7 @@ printf 'history 1\ncall 0 0 f() ends\ncells\nn 1\nend\n' >history
 for name in missing.al folder; do echo "autolock: cannot read $name" >"no_$name"; done
 echo 'autolock: cannot write' >unwritten
 echo 'some text' >some
+echo 'autolock 0.1.0' >version
 
 # Whether an output is the wanted one, which `some` stands for where only some text is wanted.
 is() { if [ "$2" = some ]; then [ -s "$1" ]; else cmp -s "$1" "$2"; fi; }
@@ -53,6 +54,7 @@ run "two files" 2 none some serial right.al wrong.al
 run "too many turns" 2 none some serial --turns 1000000001 right.al
 run "turns that are no number" 2 none some serial --turns many right.al
 run "help" 0 some none --help
+run "version" 0 version none --version
 run "help on a command" 0 some none serial --help
 run "a file that is not there" 3 none no_missing.al serial missing.al
 run "a folder" 3 none no_folder serial folder

@@ -1,7 +1,7 @@
 #!/usr/bin/env bash
-# Runs loops of integer arithmetic, of array elements, of globals and of field walks, and calls of a one-line section on
-# 10 and on 262,144 cells, beside the same in Lua 5.4 and CPython. Rounds are interleaved; the least time of each is
-# printed, in milliseconds, and in nanoseconds a call. Needs lua5.4 and python3.
+# Runs loops of integer arithmetic, of array elements, of globals, of field walks and of references from a pool and an
+# array, and calls of a one-line section on 10 and on 262,144 cells, beside the same in Lua 5.4 and CPython. Rounds are
+# interleaved; the least time of each is printed, in milliseconds, and in nanoseconds a call. Needs lua5.4 and python3.
 #
 #     bench/meaning/run.sh [ROUNDS]
 set -euo pipefail
@@ -11,7 +11,7 @@ program=${BENCH_MEANING:-$("$here/../build.sh" meaning)}
 python3 - "$program" "$here" "$rounds" <<'PYTHON'
 import subprocess, sys
 program, here, rounds = sys.argv[1], sys.argv[2], int(sys.argv[3])
-LOOPS = ["arith", "array", "globals", "fields"]
+LOOPS = ["arith", "array", "globals", "fields", "references"]
 CALLS = ["small", "large"]
 COUNT = 2_000_000
 def once(words):

@@ -47,6 +47,17 @@ function work.fields()
   end
   return p.v
 end
+local following = {}
+for k = 0, 999 do following[k] = nodes[(k + 1) % 1000] end
+function work.references()
+  local i, p = 0, nil
+  while i < 4000000 do
+    p = nodes[i % 1000]
+    p = following[i % 1000]
+    i = i + 1
+  end
+  return p.v
+end
 function work.small()
   a[3] = a[3] + 1
   return a[3]

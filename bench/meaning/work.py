@@ -60,12 +60,24 @@ def fields():
     return p.v
 
 
+following = [nodes[(k + 1) % 1000] for k in range(1000)]
+
+
+def references():
+    i = 0
+    while i < 4000000:
+        p = nodes[i % 1000]
+        p = following[i % 1000]
+        i = i + 1
+    return p.v
+
+
 def small():
     a[3] = a[3] + 1
     return a[3]
 
 
-work = {"arith": arith, "array": array, "globals": globals_, "fields": fields, "small": small, "large": small}
+work = {"arith": arith, "array": array, "globals": globals_, "fields": fields, "references": references, "small": small, "large": small}
 name, count = sys.argv[1], int(sys.argv[2])
 f = work[name]
 start = time.perf_counter()

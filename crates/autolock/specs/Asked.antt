@@ -1,12 +1,20 @@
--- What a line asks for.
-use Rattle.std.specs.Prelude.{ℕ, List}
+-- What the words ask for.
+use Rattle.std.specs.Prelude.{◌≡◌, ◌⊎◌, ℕ, List}
+use Rattle.clap.specs.declared.error.kind.ErrorKind.{ErrorKind}
+use Rattle.clap.specs.declared.error.kind.ErrorKind.TheVariants.{DisplayHelp, DisplayVersion}
+use Rattle.driver.specs.declared.status.Status.{Status}
+use Rattle.driver.specs.{SerialAnswers}
 use Rattle.words.specs.declared.line.Line.{Line}
 use Rattle.words.specs.declared.line.Line.TheVariants.{Serial}
 
--- the name of the file whose program is to run
+-- the name of the file whose program is asked for
 abbrev pub file_of : Line → List ℕ
 file_of (Serial file turns) = file.now
 
--- the most turns of each execution of a loop
-abbrev pub turns_of : Line → ℕ
-turns_of (Serial file turns) = turns
+-- what the engine of the line's command answers for a text: the status, and what is written and told
+abbrev pub LineAnswers : Line → List ℕ → Status → List ℕ → List ℕ → Type 0
+LineAnswers (Serial file turns) text status out err = SerialAnswers turns file.now text status out err
+
+-- help or the version is asked for
+abbrev pub IsAsked : ErrorKind → Type 0
+IsAsked kind = (kind ≡ DisplayHelp) ⊎ (kind ≡ DisplayVersion)

@@ -3,16 +3,13 @@
 //!
 //! It exits with 0 where what was asked for was written, 1 where the program's text has a fault, 2
 //! where the words are none of its own, 3 where reading or writing failed, 4 where memory ran out,
-//! 7 where a call is not settled by the given turns; `--help` exits with 0.
+//! 7 where a call is not settled by the given turns; `--help` and `--version` exit with 0.
 #![tactic(auto)]
 
-ghost use Rattle.std.specs.Prelude.{◌≡◌, ◌≢◌, ◌⊎◌, ℕ, List, false, IfOk, IfSome, map, string_bytes};
-ghost use Rattle.std.specs.Io.KnownBytes.{Appends};
-ghost use Rattle.autolock.specs.Asked.{file_of, turns_of};
+ghost use Rattle.std.specs.Prelude.{◌≡◌, ◌≢◌, ◌⊎◌, false, IfOk, map, string_bytes};
+ghost use Rattle.autolock.specs.Asked.{file_of, IsAsked, LineAnswers};
 ghost use Rattle.clap.specs.Values.{kind_of};
-ghost use Rattle.driver.specs.Messages.{cannot_write, no_memory};
-ghost use Rattle.driver.specs.Serial.{SerialAnswers};
-ghost use Rattle.driver.specs.Streams.{writer_of, writing_failed};
+ghost use Rattle.driver.specs.{Serves, Tells, cannot_read, cannot_write, no_memory, reading_failed, writing_failed};
 
 use clap::Error;
 use clap::error::ErrorKind;
@@ -25,75 +22,57 @@ use std::process::ExitCode;
 use std::{env, fs, io};
 use words::{Line, words};
 
-/// The name of the file whose program the line asks to run.
+/// The name of the file that the line names.
 fn file_name<'a>(line: Line<'a>) -> &'a str
     ensures { result.now ≡ file_of line.entry }
 {
     match line {
-        Line::Serial(file, _) => file,
+        Line::Serial { file, .. } => file,
     }
 }
 
-/// The most turns that the line allows each execution of a loop.
-fn most_turns(line: Line<'_>) -> u64
-    ensures { result ≡ turns_of line.entry }
-{
-    match line {
-        Line::Serial(_, turns) => turns,
-    }
-}
-
-/// Runs the engine of a line over its file, which is open.
-fn run_opened<S: Read + Drop, O: Write, E: Write>(
+/// Runs the engine of a line's command over its file, which is open.
+fn run_opened<S: Read, O: Write, E: Write>(
     alloc: Global,
     line: Line<'_>,
-    opened: S,
+    source: &mut SourceText<S>,
     out: &mut Sink<O>,
     err: &mut Sink<E>,
 ) -> Status
-    requires { writing_failed out.old ≡ false }
-
-    // What is asked for is what the line says: its file's program, with its turns.
-    ensures answers { result ≢ Status.Failed → result ≢ Status.OutOfMemory →
-        (text : List ℕ) × (wrote : List ℕ) × (told : List ℕ)
-        × IfSome (S.remaining opened) (λ bytes. text ≡ bytes)
-        × SerialAnswers (turns_of line.entry) (file_of line.entry) text result wrote told
-        × Appends (O.contents (writer_of out.old)) (O.contents (writer_of out.new)) wrote
-        × (writing_failed err.new ≡ false → Appends (E.contents (writer_of err.old)) (E.contents (writer_of err.new)) told) }
-    ensures words { result ≢ Status.BadWords }
+    requires readable { reading_failed source.old ≡ false }
+    requires writable { writing_failed out.old ≡ false }
+    ensures { Serves (LineAnswers line.entry) (file_of line.entry) S.remaining source.old source.new O.contents out.old out.new
+        E.contents err.old err.new result }
 {
-    serial(
-        alloc,
-        &mut SourceText::new(opened),
-        file_name(line),
-        most_turns(line),
-        out,
-        err,
-    )
+    match line {
+        Line::Serial { file, turns } => serial(alloc, source, file, turns, out, err),
+    }
 }
 
 /// Opens the file of a line, and runs its engine.
 fn run_line<E: Write>(rt: &HostRuntime, line: Line<'_>, err: &mut Sink<E>) -> Status
     ensures words { result ≢ Status.BadWords }
+    ensures failed { result ≡ Status.Failed →
+        Tells E.contents err.old err.new (cannot_read (file_of line.entry)) ⊎ Tells E.contents err.old err.new cannot_write }
+    ensures memory { result ≡ Status.OutOfMemory → Tells E.contents err.old err.new no_memory }
 {
     let Ok(opened) = fs::open(rt, file_name(line)) else {
         tell_cannot_read(err, file_name(line));
         return Status::Failed;
     };
+    let mut source = SourceText::new(opened);
     let mut out = Sink::new(rt.stdout());
-    run_opened(rt.alloc(), line, opened, &mut out, err)
+    run_opened(rt.alloc(), line, &mut source, &mut out, err)
 }
 
-/// Prints what `clap` says of the words: help on standard output, anything else on standard error. `err` gets no more
-/// than a message, where memory ran out or the help could not be written.
+/// Prints what `clap` says of the words: help and the version on standard output, anything else on standard error. `err`
+/// gets no more than a message, where memory ran out or what was asked for could not be written.
 fn tell_words<E: Write>(rt: &HostRuntime, error: &Error, err: &mut Sink<E>) -> Status
     ensures memory { kind_of error.now ≡ ErrorKind.OutOfMemory → result ≡ Status.OutOfMemory }
-    ensures help { kind_of error.now ≡ ErrorKind.DisplayHelp → (result ≡ Status.Done) ⊎ (result ≡ Status.Failed) }
-    ensures bad { kind_of error.now ≢ ErrorKind.OutOfMemory → kind_of error.now ≢ ErrorKind.DisplayHelp → result ≡ Status.BadWords }
-    ensures memory_err { kind_of error.now ≡ ErrorKind.OutOfMemory → writing_failed err.new ≡ false →
-        Appends (E.contents (writer_of err.old)) (E.contents (writer_of err.new)) no_memory }
-    ensures help_err { result ≡ Status.Failed → writing_failed err.new ≡ false →
-        Appends (E.contents (writer_of err.old)) (E.contents (writer_of err.new)) cannot_write }
+    ensures asked { IsAsked (kind_of error.now) → (result ≡ Status.Done) ⊎ (result ≡ Status.Failed) }
+    ensures bad { kind_of error.now ≢ ErrorKind.OutOfMemory → (IsAsked (kind_of error.now) → ⊥) → result ≡ Status.BadWords }
+    ensures memory_err { kind_of error.now ≡ ErrorKind.OutOfMemory → Tells E.contents err.old err.new no_memory }
+    ensures asked_err { result ≡ Status.Failed → Tells E.contents err.old err.new cannot_write }
     ensures quiet { result ≢ Status.OutOfMemory → result ≢ Status.Failed → err.new ≡ err.old }
 {
     match error.kind() {
@@ -101,7 +80,7 @@ fn tell_words<E: Write>(rt: &HostRuntime, error: &Error, err: &mut Sink<E>) -> S
             tell_no_memory(err);
             Status::OutOfMemory
         }
-        ErrorKind::DisplayHelp => match error.print(rt) {
+        ErrorKind::DisplayHelp | ErrorKind::DisplayVersion => match error.print(rt) {
             Ok(()) => Status::Done,
             Err(_) => {
                 tell_cannot_write(err);

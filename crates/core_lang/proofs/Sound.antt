@@ -37,13 +37,8 @@ use Rattle.core_lang.specs.Meaning.{State, Flow, GoesOn, Traps, Beyond, Astray, 
 use Rattle.core_lang.specs.Whole.{opening, default_of, default_local, returned, ending, concluded}
 use Rattle.core_lang.specs.Typing.{lookup, struct_of, HasType, HaveTypes, local_types, cell_types, final_target, field_type, if_global, global_type, array_type, pool_struct, LeadsTo, IsPathTo, IsOf, AreIntegers, CanCompare, IsTest, AreTests, GivesLocal, IsWellTyped, AreWellTyped, AllWellTyped, IsResult}
 use Rattle.core_lang.specs.WellFormed.{IsCell, IsLaidOut, IsWithinLimits}
+use Rattle.core_lang.specs.Soundness.{Gives, IsTypedState, LeadsToTyped, ValuesHaveTheirTypes, TestsDecide, EffectsStayTyped}
 use Rattle.core_lang.specs.Laws.{StaysTyped, NeverGoAstray}
-
--- a result that is no failure but a trap, and that has the property
-abbrev Gives : {A : Type 0} → (A → Type 0) → Result A Failure → Type 0
-Gives P (Ok a) = P a
-Gives P (Err (Trap t)) = ⊤
-Gives P (Err Wrong) = ⊥
 
 gives_with : {A B : Type 0} (P : A → Type 0) (Q : B → Type 0) (r : Result A Failure) (f : A → Result B Failure) → Gives P r → ((a : A) → P a → Gives Q (f a)) → Gives Q (with r f)
 gives_with P Q (Ok a) f h k = k a h
@@ -188,10 +183,8 @@ module _ (program : Typed) (types : List ValueType) (laid : IsLaidOut program) (
       let x = lookup_some (slice_get program.cells.items cell) (λ (c : Cell). if_global c.owner c.value_type) t e in
       mapped_there (λ (c : Cell). c.value_type) program.cells.items cell x.0 x.1 ∙ ap Some (global_owner x.0.owner x.0.value_type t x.2)
 
-  -- the values of a state have their types
-  record IsTyped (s : State) : Type 0 where
-    locals : HaveTypes program.shape types s.locals
-    heap : HaveTypes program.shape (cell_types program) s.heap
+  abbrev IsTyped : State → Type 0
+  IsTyped = IsTypedState program types
 
   element_sound : (array : ℕ) (v : Value) (t : ValueType) → array_type program array ≡ Some t → Has Integer v → Gives (IsCellOf t) (element_cell program.shape array v)
   element_sound array v t e h =
@@ -244,13 +237,13 @@ module _ (program : Typed) (types : List ValueType) (laid : IsLaidOut program) (
       Gives (Has to) (along program.shape heap v fs)
   along_sound heap hh from to v [] h l = subst (λ t. Has t v) l h
   along_sound heap hh Integer to v (f ∷ fs) h l = absurd l
-  along_sound heap hh (Reference s) to v (step.Final f ∷ fs) h l =
-      gives_with (Has (Reference l.0)) (Has to) (final_value program.shape v f) _ (final_sound v s f l.0 h l.1)
-      (λ w hw. along_sound heap hh (Reference l.0) to w fs hw l.2)
-  along_sound heap hh (Reference s) to v (step.Field f ∷ fs) h l =
-      gives_with (Has l.0) (Has to) (with (field_cell program.shape v f) (λ cell. read heap cell)) _
-      (gives_with (IsCellOf l.0) (Has l.0) (field_cell program.shape v f) (λ cell. read heap cell) (field_sound v s f l.0 h l.1) (λ cell c. read_sound heap cell l.0 hh c))
-      (λ w hw. along_sound heap hh l.0 to w fs hw l.2)
+  along_sound heap hh (Reference s) to v (step.Final k f ∷ fs) h l =
+      gives_with (Has (Reference l.1)) (Has to) (final_value program.shape v f) _ (final_sound v s f l.1 h l.2)
+      (λ w hw. along_sound heap hh (Reference l.1) to w fs hw l.3)
+  along_sound heap hh (Reference s) to v (step.Field k f ∷ fs) h l =
+      gives_with (Has l.1) (Has to) (with (field_cell program.shape v f) (λ cell. read heap cell)) _
+      (gives_with (IsCellOf l.1) (Has l.1) (field_cell program.shape v f) (λ cell. read heap cell) (field_sound v s f l.1 h l.2) (λ cell c. read_sound heap cell l.1 hh c))
+      (λ w hw. along_sound heap hh l.1 to w fs hw l.3)
 
   path_sound : (p : Path) (t : ValueType) (s : State) → IsTyped s → IsPathTo program types p t → Gives (Has t) (place_of p program.shape s.locals s.heap)
   path_sound p t s ty is =
@@ -337,10 +330,7 @@ module _ (program : Typed) (types : List ValueType) (laid : IsLaidOut program) (
   -- ---- statements
 
   abbrev Stays : Flow → Type 0
-  Stays (GoesOn s) = IsTyped s
-  Stays (Traps t s) = IsTyped s
-  Stays Beyond = ⊤
-  Stays Astray = ⊥
+  Stays = LeadsToTyped program types
 
   given_sound : {A : Type 0} (P : A → Type 0) (r : Result A Failure) (s : State) (f : A → Flow) → IsTyped s → Gives P r → ((a : A) → P a → Stays (f a)) → Stays (given r s f)
   given_sound P (Ok a) s f ty h k = k a h
@@ -392,11 +382,11 @@ module _ (program : Typed) (types : List ValueType) (laid : IsLaidOut program) (
         given_sound (Has Integer) (value_of i program.shape s.locals s.heap) s _ ty (value_sound i Integer s ty is.2)
         (λ v h. given_sound (IsCellOf is.0) (element_cell program.shape array v) s _ ty (element_sound array v is.0 is.1 h)
         (λ cell c. given_sound (Has is.0) (value_of e program.shape s.locals s.heap) s _ ty (value_sound e is.0 s ty is.3) (λ w hw. write_sound cell is.0 w s ty c hw)))
-    effect_sound (SetField p f e) n s ty is =
-        given_sound (Has (Reference is.0)) (with (place_of p program.shape s.locals s.heap) not_null) s _ ty
-        (gives_with (Has (Reference is.0)) (Has (Reference is.0)) (place_of p program.shape s.locals s.heap) _ (path_sound p (Reference is.0) s ty is.1) (λ v h. not_null_sound program.shape is.0 v h))
-        (λ v h. given_sound (Has is.2.0) (value_of e program.shape s.locals s.heap) s _ ty (value_sound e is.2.0 s ty is.2.2)
-        (λ w hw. given_sound (IsCellOf is.2.0) (field_cell program.shape v f) s _ ty (field_sound v is.0 f is.2.0 h is.2.1) (λ cell c. write_sound cell is.2.0 w s ty c hw)))
+    effect_sound (SetField p k f e) n s ty is =
+        given_sound (Has (Reference k)) (with (place_of p program.shape s.locals s.heap) not_null) s _ ty
+        (gives_with (Has (Reference k)) (Has (Reference k)) (place_of p program.shape s.locals s.heap) _ (path_sound p (Reference k) s ty is.0) (λ v h. not_null_sound program.shape k v h))
+        (λ v h. given_sound (Has is.1.0) (value_of e program.shape s.locals s.heap) s _ ty (value_sound e is.1.0 s ty is.1.2)
+        (λ w hw. given_sound (IsCellOf is.1.0) (field_cell program.shape v f) s _ ty (field_sound v k f is.1.0 h is.1.1) (λ cell c. write_sound cell is.1.0 w s ty c hw)))
     effect_sound (Print e) n s ty is = given_sound (Has Integer) (value_of e program.shape s.locals s.heap) s _ ty (value_sound e Integer s ty is) (λ v h. print_sound v s ty h)
     effect_sound (If' c m a) n s ty is =
         given_sound IsAny (truth_of c program.shape s.locals s.heap) s _ ty (test_sound c s ty is.0) (λ x _. choose_sound x _ _ (effects_sound a n s ty is.1) ty)
@@ -456,7 +446,16 @@ pub never_astray : NeverGoAstray
 never_astray program k n section arguments heap well is fit typed =
     let types = local_types section.locals.items in
     let good = well.sections k section is in
-    let start : IsTyped program types well.laid_out well.within (opening section arguments heap) =
+    let start : IsTypedState program types (opening section arguments heap) =
     record { locals = opening_has program.shape section.parameters section.locals.items arguments fit; heap = typed } in
     concluded_sound program types well.laid_out well.within section.result_type section.result (sequence section.body.items program.shape n (opening section arguments heap)) good.result
     (sequence_sound program types well.laid_out well.within section.body.items n (opening section arguments heap) start good.body)
+
+pub values_have_their_types : ValuesHaveTheirTypes
+values_have_their_types program types e t s well ty is = value_sound program types well.laid_out well.within e t s ty is
+
+pub tests_decide : TestsDecide
+tests_decide program types c s well ty is = test_sound program types well.laid_out well.within c s ty is
+
+pub effects_stay_typed : EffectsStayTyped
+effects_stay_typed program types x n s well ty is = effect_sound program types well.laid_out well.within x n s ty is

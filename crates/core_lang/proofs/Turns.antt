@@ -50,7 +50,7 @@ mutual
   effect_more (SetLocal k e) shape n m le s is = refl
   effect_more (SetGlobal k e) shape n m le s is = refl
   effect_more (SetElement a i e) shape n m le s is = refl
-  effect_more (SetField p f e) shape n m le s is = refl
+  effect_more (SetField p k f e) shape n m le s is = refl
   effect_more (Print e) shape n m le s is = refl
   effect_more (If' c k a) shape n m le s is =
       choice_more (truth_of c shape s.locals s.heap) s _ _ _ _ (effects_more a shape n m le s) (λ _. refl) is

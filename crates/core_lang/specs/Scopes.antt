@@ -50,7 +50,7 @@ abbrev mutual
   IsScoped scope (SetLocal local e) = Contains scope local × NamesOnly scope e
   IsScoped scope (SetGlobal cell e) = NamesOnly scope e
   IsScoped scope (SetElement array index e) = NamesOnly scope index × NamesOnly scope e
-  IsScoped scope (SetField base field e) = Contains scope base.local × NamesOnly scope e
+  IsScoped scope (SetField base structure field e) = Contains scope base.local × NamesOnly scope e
   IsScoped scope (Print e) = NamesOnly scope e
   IsScoped scope (If' c m block) = TestsOnly scope c × AreScoped scope block
   IsScoped scope (IfElse' c m block k otherwise) = TestsOnly scope c × AreScoped scope block × AreScoped scope otherwise

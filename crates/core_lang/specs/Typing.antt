@@ -1,5 +1,5 @@
 -- Which values a type has, and which expressions and statements are well typed.
-use Rattle.std.specs.Prelude.{◌≡◌, ℕ, List, [], ◌∷◌, map, take, slice_get, Option, Some, None, ⊤}
+use Rattle.std.specs.Prelude.{◌≡◌, ℕ, List, [], ◌∷◌, length, map, take, slice_get, Option, Some, None, ⊤}
 use Rattle.core_lang.specs.declared.value.Value.{Value}
 use Rattle.core_lang.specs.declared.value.Value.TheVariants.{Int, Ref}
 use Rattle.core_lang.specs.declared.value.ValueType.{ValueType}
@@ -69,6 +69,10 @@ cell_types program = map (λ (cell : Cell). cell.value_type) program.cells.items
 abbrev pub IsHeap : Typed → List Value → Type 0
 IsHeap program heap = HaveTypes program.shape (cell_types program) heap
 
+-- a heap with as many cells as the program
+abbrev pub HasCells : Typed → List Value → Type 0
+HasCells program heap = length heap ≡ length program.cells.items
+
 -- arguments that fit a section: a value of its type for each parameter
 abbrev pub Fit : Typed → Section → List Value → Type 0
 Fit program section arguments = HaveTypes program.shape (local_types (take section.parameters section.locals.items)) arguments
@@ -117,8 +121,8 @@ module _ (program : Typed) (locals : List ValueType) where
   abbrev pub LeadsTo : ValueType → List FieldStep → ValueType → Type 0
   LeadsTo from [] to = from ≡ to
   LeadsTo Integer (f ∷ fs) to = ⊥
-  LeadsTo (Reference s) (step.Final f ∷ fs) to = (target : ℕ) × (final_target program s f ≡ Some target) × LeadsTo (Reference target) fs to
-  LeadsTo (Reference s) (step.Field f ∷ fs) to = (t : ValueType) × (field_type program s f ≡ Some t) × LeadsTo t fs to
+  LeadsTo (Reference s) (step.Final structure f ∷ fs) to = (structure ≡ s) × (target : ℕ) × (final_target program s f ≡ Some target) × LeadsTo (Reference target) fs to
+  LeadsTo (Reference s) (step.Field structure f ∷ fs) to = (structure ≡ s) × (t : ValueType) × (field_type program s f ≡ Some t) × LeadsTo t fs to
 
   -- a path that leads to a value of a type
   abbrev pub IsPathTo : Path → ValueType → Type 0
@@ -177,7 +181,7 @@ module _ (program : Typed) (locals : List ValueType) where
     IsWellTyped (SetLocal local e) = GivesLocal local e
     IsWellTyped (SetGlobal cell e) = (t : ValueType) × (global_type program cell ≡ Some t) × IsOf e t
     IsWellTyped (SetElement array index e) = (t : ValueType) × (array_type program array ≡ Some t) × IsOf index Integer × IsOf e t
-    IsWellTyped (SetField base f e) = (s : ℕ) × IsPathTo base (Reference s) × ((t : ValueType) × (field_type program s f ≡ Some t) × IsOf e t)
+    IsWellTyped (SetField base s f e) = IsPathTo base (Reference s) × ((t : ValueType) × (field_type program s f ≡ Some t) × IsOf e t)
     IsWellTyped (Print e) = IsOf e Integer
     IsWellTyped (If' c m block) = IsTest c × AreWellTyped block
     IsWellTyped (IfElse' c m block k otherwise) = IsTest c × AreWellTyped block × AreWellTyped otherwise

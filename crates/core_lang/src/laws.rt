@@ -1,6 +1,7 @@
 //! What holds of the meaning of every program: functions that do nothing, and whose contracts are the laws.
 
 ghost use Rattle.core_lang.specs.Laws.{MoreTurnsChangeNothing, HaveAtMostOneWhole, NeverGoAstray, OpeningIsTyped, OverIsWhole, WholeIsOver, SerialOfNone, SerialOfBoth, SerialSplits, QuietCallsChangeNothing, HaveAtMostOneSerial, SettledAreSerial};
+ghost use Rattle.core_lang.specs.Soundness.{ValuesHaveTheirTypes, TestsDecide, EffectsStayTyped};
 
 /// What a run gives with some turns, it gives with more.
 pub fn more_turns_change_nothing()
@@ -10,6 +11,23 @@ pub fn more_turns_change_nothing()
 /// A section has at most one run whole from its arguments and a heap.
 pub fn at_most_one_whole()
     ensures { HaveAtMostOneWhole }
+{}
+
+/// In a well-formed program, where each local and cell has a value of its type, a well-typed expression gives a value of
+/// its type, or traps.
+pub fn values_have_their_types()
+    ensures { ValuesHaveTheirTypes }
+{}
+
+/// A well-typed condition is true or false there, or traps.
+pub fn tests_decide()
+    ensures { TestsDecide }
+{}
+
+/// And a well-typed statement leads to a state where each local and cell has a value of its type again: on, to a trap or
+/// past the turns, and never astray.
+pub fn effects_stay_typed()
+    ensures { EffectsStayTyped }
 {}
 
 /// A section of a well-formed program, called with arguments that fit it on a heap of the program, never goes astray,

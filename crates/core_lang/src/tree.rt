@@ -1,7 +1,8 @@
 //! The statements and expressions of a section, with numbers in place of names.
 //!
 //! Chains of operators and of fields are lists, so only parentheses, indexes, prefix signs and blocks nest. A `start`
-//! is a byte of the source text, counted from 0; what a section means does not depend on it.
+//! is a byte of the source text, counted from 0; what a section means does not depend on it. What numbers name, the
+//! order of locals and the bounds on how many there are hold of well-formed programs (`specs/WellFormed.antt`).
 
 use crate::value::ValueType;
 
@@ -40,10 +41,20 @@ pub enum Comparison {
 /// A field of the struct that has been reached.
 #[derive(Clone, Copy, PartialEq, Eq, Debug)]
 pub enum FieldStep {
-    /// A final reference, by its number among the struct's final references.
-    Final(u32),
-    /// A field that sections write, by its number among the struct's fields.
-    Field(u32),
+    /// A final reference.
+    Final {
+        /// The struct, an index into [`crate::typed::Typed::structs`].
+        structure: usize,
+        /// The final reference, by its number among the struct's final references.
+        number: u32,
+    },
+    /// A field that sections write.
+    Field {
+        /// The struct, an index into [`crate::typed::Typed::structs`].
+        structure: usize,
+        /// The field, by its number among the struct's fields.
+        number: u32,
+    },
 }
 
 /// A local and the fields that lead on from it, as `a.owner.next`. Each of its fields that is not final is an access.
@@ -63,7 +74,7 @@ pub struct Path {
 #[derive(Drop)]
 #[cycle(expr)]
 pub enum Expr {
-    /// A number as it is written, so never a negative one.
+    /// A number.
     Number(i64),
     /// `null`
     Null,
@@ -98,7 +109,7 @@ pub enum Expr {
     Chain {
         /// The first operand.
         first: Box<Expr>,
-        /// The further operands; at least one.
+        /// The further operands.
         rest: Vec<Operation>,
     },
 }
@@ -120,9 +131,9 @@ pub enum Condition {
     Compare(Comparison, Expr, Expr),
     /// `!`
     Not(Box<Condition>),
-    /// Operands of `&&`: all but the last, of which there is at least one, and the last.
+    /// Operands of `&&`: all but the last, and the last.
     And(Vec<Condition>, Box<Condition>),
-    /// Operands of `||`: all but the last, of which there is at least one, and the last.
+    /// Operands of `||`: all but the last, and the last.
     Or(Vec<Condition>, Box<Condition>),
 }
 
@@ -174,7 +185,9 @@ pub enum Action {
     SetField {
         /// What leads to the object.
         base: Path,
-        /// The field, by its number among the fields of the object's struct.
+        /// The object's struct, an index into [`crate::typed::Typed::structs`].
+        structure: usize,
+        /// The field, by its number among the struct's fields.
         field: u32,
         /// What is assigned.
         value: Expr,
@@ -229,7 +242,7 @@ pub enum LocalKind {
 /// A parameter, a `let` or a `var`.
 #[derive(Drop)]
 pub struct Local {
-    /// Its name, which no other local of the section bears.
+    /// Its name.
     pub name: String,
     /// Where its value comes from.
     pub kind: LocalKind,

@@ -1,5 +1,6 @@
 pub mod RefusalLemmas
-pub mod CameLemmas
+pub mod CallLemmas
+pub mod RunningLemmas
 pub mod SerialLemmas
 pub mod WritingLemmas
 pub mod FaultlessLemmas

@@ -7,7 +7,7 @@ use Rattle.source.specs.Texts as text
 use Rattle.syntax.specs.Trees.{Decl}
 use Rattle.syntax.specs.Faults as grammar
 use Rattle.resolution.specs.Faults as names
-use Rattle.resolution.specs.Leasts.{IsLeast}
+use Rattle.source.specs.Mistakes.{IsLeastOf}
 use Rattle.driver.specs.Programs.{IsRefusal, HasNoTextFault, HasNoTokenFault, in_text, in_tokens, in_tree}
 
 pub text_refused : (source : List ℕ) (e : Refusal) → text.IsRefusal source e → IsRefusal source e
@@ -21,7 +21,7 @@ tokens_refused source tokens (Fault fault) no_text has refused = in_tokens token
 
 pub tree_refused : (source : List ℕ) (tokens : List Tok) (tree : List Decl) (e : Refusal) → HasNoTextFault source
     → text.HasTokens source tokens → HasNoTokenFault tokens → grammar.HasRightTree tokens tree
-    → names.IsRefusal tree e → IsLeast tree e → IsRefusal source e
+    → names.IsRefusal tree e → IsLeastOf (names.IsFault tree) e → IsRefusal source e
 tree_refused source tokens tree NoMemory no_text has no_token right refused least = tt
 tree_refused source tokens tree (Fault fault) no_text has no_token right refused least =
     in_tree tokens tree no_text has no_token right refused least

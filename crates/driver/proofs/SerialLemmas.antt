@@ -1,113 +1,92 @@
--- How far calls come is their serial meaning.
-use Rattle.std.proofs.Common.{◌≡◌, ◌∙◌, ℕ, List, [], ◌∷◌, ◌++◌, slice_get, Option, Some, None, ap, sym, subst, refl, append-nil, string_bytes}
+-- The text of a run is the one of its serial meaning.
+use Rattle.std.proofs.Common.{◌≡◌, ◌∙◌, ℕ, List, [], ◌∷◌, ◌++◌, ap, sym, subst, refl, append-nil, string_bytes}
+use Rattle.std.proofs.lemmas.List.{map-append, append_cancel_right}
 use Rattle.core_lang.specs.declared.value.Value.{Value}
-use Rattle.core_lang.specs.declared.tree.Section.{Section}
 use Rattle.core_lang.specs.declared.typed.Typed.{Typed}
-use Rattle.core_lang.specs.Serial.{Scheduled, Invocation, Progress, end_of, run_section, run_call, go_on, serial_with, serial_run, all_calls, opening_heap, WholeCall, Serial, SerialFromOpening}
-use Rattle.core_lang.specs.Whole.{Finished, Run, Over, Beyond_turns, Gone_astray}
-use Rattle.report.specs.Entry.{Entry}
+use Rattle.core_lang.specs.Laws.{SettledAreSerial}
+use Rattle.core_lang.specs.Serial.{Scheduled, Ended, all_calls, opening_heap, serial_run, Serial, SerialFromOpening}
 use Rattle.report.specs.History.{history_of, unsettled_of}
 use Rattle.source.specs.declared.fault.Fault.{Fault}
 use Rattle.driver.specs.declared.answer.Answer.{Answer}
 use Rattle.driver.specs.declared.status.Status.{Status}
+use Rattle.driver.specs.declared.status.Status.TheVariants.{Done, Refused, BadWords, Failed, OutOfMemory, Unsettled}
 use Rattle.driver.specs.Programs.{Accepts, IsOfFirstPass}
-use Rattle.driver.specs.Running.{Came, GoesBeyond, StopsBeyond, came, came_on}
-use Rattle.driver.specs.Answers.{IsTold, IsRun, IsFaultAnswer}
-use Rattle.driver.specs.Serial.{calls_of, entry, entries, IsHistory, StopsAtCall, SerialAnswers}
+use Rattle.driver.specs.Running.{StopsAt}
+use Rattle.driver.specs.Answers.{IsRunAnswer, IsFaultAnswer}
+use Rattle.driver.specs.Serial.{calls_of, entry, entries, IsHistory, StopsAtCall, RunAnswers, SerialAnswers}
 
--- a call that is over within some turns is a call run whole
-whole_call : (program : Typed) (n : ℕ) (call : Invocation) (heap : List Value) (finished : Finished) (o : Option Section)
-    → slice_get program.sections.items call.section ≡ o → run_section o program n call.arguments heap ≡ Over finished
-    → WholeCall program call heap finished
-whole_call program n call heap finished None here over = absurd (let no : Gone_astray ≡ Over finished = over in cc)
-whole_call program n call heap finished (Some section) here over = (section, here, (n, over))
+-- the calls ahead of those that the turns don't settle are run serially
+settled_ahead : SettledAreSerial → (turns : ℕ) (program : Typed) (before after : List Scheduled) →
+    all_calls program ≡ before ++ after → (serial_run program turns).unsettled ≡ calls_of after →
+    SerialFromOpening program (calls_of before) (serial_run program turns).ends (serial_run program turns).heap
+settled_ahead law turns program before after parts left =
+    let settled = (law program turns (opening_heap program) (calls_of (all_calls program))).0 in
+    let split : calls_of (all_calls program) ≡ calls_of before ++ calls_of after =
+    ap calls_of parts ∙ map-append (λ (s : Scheduled). s.call) before after in
+    let same : settled.0 ≡ calls_of before =
+    append_cancel_right settled.0 (calls_of before) (calls_of after) (ap (λ xs. settled.0 ++ xs) (sym left) ∙ sym settled.1 ∙ split) in
+    subst (λ xs. Serial program (opening_heap program) xs (serial_run program turns).ends (serial_run program turns).heap) same settled.2
 
--- so far as entries and so far as ends are one
-pub record IsSerially (program : Typed) (heap : List Value) (ss : List Scheduled) (c : Came) (p : Progress) : Type 0 where
-  pub heap_is : p.heap ≡ c.heap
-  pub left_is : p.unsettled ≡ calls_of c.left
-  pub before : List Scheduled
-  pub parts : ss ≡ before ++ c.left
-  pub entries_are : c.entries ≡ entries before p.ends
-  pub serial : Serial program heap (calls_of before) p.ends p.heap
+-- as many calls end as are run
+entries_ahead : (program : Typed) (heap last : List Value) (before after : List Scheduled) (ends : List Ended) →
+    Serial program heap (calls_of before) ends last → entries (before ++ after) ends ≡ entries before ends
+entries_ahead program heap last [] [] [] ran = refl
+entries_ahead program heap last [] (s ∷ after) [] ran = refl
+entries_ahead program heap last [] after (e ∷ ends) ran = absurd ran
+entries_ahead program heap last (s ∷ before) after [] ran = absurd ran
+entries_ahead program heap last (s ∷ before) after (e ∷ ends) ran =
+    ap (λ es. entry s e ∷ es) (entries_ahead program ran.0.heap last before after ends ran.3)
 
-serially_one : (program : Typed) (turns : ℕ) (heap : List Value) (s : Scheduled) (ss : List Scheduled) (run : Run)
-    → run_call program turns s.call heap ≡ run
-    → ((next : List Value) → IsSerially program next ss (came program turns next ss) (serial_with program turns next (calls_of ss)))
-    → IsSerially program heap (s ∷ ss) (came_on run s heap ss (λ next. came program turns next ss))
-    (go_on run heap (calls_of (s ∷ ss)) (λ next. serial_with program turns next (calls_of ss)))
-serially_one program turns heap s ss (Over finished) is next =
-    let rest = next finished.heap in
+-- the turns settle all calls
+pub history_told : SettledAreSerial → (turns : ℕ) (program : Typed) (out err : List ℕ) → (serial_run program turns).unsettled ≡ [] →
+    out ≡ history_of program (entries (all_calls program) (serial_run program turns).ends) (serial_run program turns).heap → err ≡ [] →
+    IsHistory turns program out err
+history_told law turns program out err settled is none =
     record {
-      heap_is = rest.heap_is;
-      left_is = rest.left_is;
-      before = s ∷ rest.before;
-      parts = ap (λ (xs : List Scheduled). s ∷ xs) rest.parts;
-      entries_are = ap (λ (xs : List Entry). entry s (end_of finished) ∷ xs) rest.entries_are;
-      serial = (finished, whole_call program turns s.call heap finished (slice_get program.sections.items s.call.section) refl is, refl, rest.serial);
-    }
-serially_one program turns heap s ss Beyond_turns is next =
-    record { heap_is = refl; left_is = refl; before = []; parts = refl; entries_are = refl; serial = refl }
-serially_one program turns heap s ss Gone_astray is next =
-    record { heap_is = refl; left_is = refl; before = []; parts = refl; entries_are = refl; serial = refl }
-
-pub serially : (program : Typed) (turns : ℕ) (ss : List Scheduled) (heap : List Value)
-    → IsSerially program heap ss (came program turns heap ss) (serial_with program turns heap (calls_of ss))
-serially program turns [] heap =
-    record { heap_is = refl; left_is = refl; before = []; parts = refl; entries_are = refl; serial = refl }
-serially program turns (s ∷ ss) heap =
-    serially_one program turns heap s ss (run_call program turns s.call heap) refl (λ next. serially program turns ss next)
-
--- nothing is left: the history
-history_told : (turns : ℕ) (program : Typed) (out err : List ℕ) (c : Came)
-    → IsSerially program (opening_heap program) (all_calls program) c (serial_run program turns) → c.left ≡ []
-    → out ≡ history_of program c.entries c.heap → err ≡ [] → IsHistory turns program out err
-history_told turns program out err c i none out_is err_is =
-    let all : i.before ≡ all_calls program = sym (i.parts ∙ ap (λ (xs : List Scheduled). i.before ++ xs) none ∙ append-nil i.before) in
-    record {
-      settled = i.left_is ∙ ap calls_of none;
-      serial = subst (λ (ss : List Scheduled). SerialFromOpening program (calls_of ss) (serial_run program turns).ends (serial_run program turns).heap) all i.serial;
-      written = out_is ∙ ap (λ (es : List Entry). history_of program es c.heap)
-          (i.entries_are ∙ ap (λ (ss : List Scheduled). entries ss (serial_run program turns).ends) all)
-          ∙ ap (λ (h : List Value). history_of program (entries (all_calls program) (serial_run program turns).ends) h) (sym i.heap_is);
-      told = err_is;
+      settled = settled;
+      serial = settled_ahead law turns program (all_calls program) [] (sym (append-nil (all_calls program))) settled;
+      written = is;
+      told = none;
     }
 
--- something is left: the calls before it, and its place
-stop_told : (turns : ℕ) (program : Typed) (out err : List ℕ) (c : Came) (s : Scheduled) (ss : List Scheduled)
-    → IsSerially program (opening_heap program) (all_calls program) c (serial_run program turns) → c.left ≡ s ∷ ss
-    → out ≡ unsettled_of program c.entries s.thread s.step → err ≡ [] → StopsBeyond program turns c → StopsAtCall turns program out err
-stop_told turns program out err c s ss i some out_is err_is beyond =
+-- the turns settle the calls up to one
+pub stop_told : SettledAreSerial → (turns : ℕ) (program : Typed) (thread step : ℕ) (out err : List ℕ) → StopsAt turns program (thread, step) →
+    out ≡ unsettled_of program (entries (all_calls program) (serial_run program turns).ends) thread step → err ≡ [] →
+    StopsAtCall turns program out err
+stop_told law turns program thread step out err stops is none =
+    let ran = settled_ahead law turns program stops.before (stops.this ∷ stops.after) stops.parts stops.unsettled in
+    let ends = (serial_run program turns).ends in
+    let ahead : entries (all_calls program) ends ≡ entries stops.before ends =
+    ap (λ ss. entries ss ends) stops.parts ∙ entries_ahead program (opening_heap program) (serial_run program turns).heap stops.before (stops.this ∷ stops.after) ends ran in
     record {
-      before = i.before;
-      this = s;
-      after = ss;
-      parts = i.parts ∙ ap (λ (xs : List Scheduled). i.before ++ xs) some;
-      unsettled = i.left_is ∙ ap calls_of some;
-      serial = i.serial;
-      beyond = rw i.heap_is (subst (GoesBeyond program turns c.heap) some beyond);
-      written = out_is ∙ ap (λ (es : List Entry). unsettled_of program es s.thread s.step) i.entries_are;
-      told = err_is;
+      before = stops.before;
+      this = stops.this;
+      after = stops.after;
+      parts = stops.parts;
+      unsettled = stops.unsettled;
+      serial = ran;
+      beyond = stops.beyond;
+      written = is ∙ ap (λ es. unsettled_of program es thread step) ahead ∙ ap (λ (p : ℕ × ℕ). unsettled_of program (entries stops.before ends) p.0 p.1) stops.here;
+      told = none;
     }
 
-told_answers : (turns : ℕ) (file text : List ℕ) (program : Typed) (status : Status) (out err : List ℕ) (c : Came) (left : List Scheduled)
-    → Accepts text program → IsSerially program (opening_heap program) (all_calls program) c (serial_run program turns)
-    → c.left ≡ left → IsTold program c left status out → err ≡ [] → StopsBeyond program turns c → SerialAnswers turns file text status out err
-told_answers turns file text program status out err c [] accepts i is told err_is beyond =
-    rw told.0 (program, accepts, history_told turns program out err c i is told.1 err_is)
-told_answers turns file text program status out err c (s ∷ ss) accepts i is told err_is beyond =
-    rw told.0 (program, accepts, stop_told turns program out err c s ss i is told.1 err_is beyond)
+answers_status : (turns : ℕ) (file text : List ℕ) (program : Typed) (status : Status) (out err : List ℕ) → Accepts text program →
+    RunAnswers turns program status out err → SerialAnswers turns file text status out err
+answers_status turns file text program Done out err accepts run = (program, accepts, run)
+answers_status turns file text program Unsettled out err accepts run = (program, accepts, run)
+answers_status turns file text program Refused out err accepts run = absurd run
+answers_status turns file text program BadWords out err accepts run = absurd run
+answers_status turns file text program Failed out err accepts run = absurd run
+answers_status turns file text program OutOfMemory out err accepts run = absurd run
 
 -- a run is an answer
-pub run_answers : (turns : ℕ) (file text : List ℕ) (program : Typed) (answer : Answer) → Accepts text program → IsRun turns program answer
-    → SerialAnswers turns file text answer.status (string_bytes answer.out) (string_bytes answer.err)
+pub run_answers : (turns : ℕ) (file text : List ℕ) (program : Typed) (answer : Answer) → Accepts text program → IsRunAnswer turns program answer →
+    SerialAnswers turns file text answer.status (string_bytes answer.out) (string_bytes answer.err)
 run_answers turns file text program answer accepts run =
-    let c = came program turns (opening_heap program) (all_calls program) in
-    told_answers turns file text program answer.status (string_bytes answer.out) (string_bytes answer.err) c c.left accepts
-    (serially program turns (all_calls program) (opening_heap program)) refl run.0 run.1 run.2
+    answers_status turns file text program answer.status (string_bytes answer.out) (string_bytes answer.err) accepts run
 
 -- so is the line of a fault
-pub fault_answers : (turns : ℕ) (file text : List ℕ) (fault : Fault) (answer : Answer) → IsOfFirstPass text fault → IsFaultAnswer file text fault answer
-    → SerialAnswers turns file text answer.status (string_bytes answer.out) (string_bytes answer.err)
+pub fault_answers : (turns : ℕ) (file text : List ℕ) (fault : Fault) (answer : Answer) → IsOfFirstPass text fault → IsFaultAnswer file text fault answer →
+    SerialAnswers turns file text answer.status (string_bytes answer.out) (string_bytes answer.err)
 fault_answers turns file text fault answer given is =
     rw is.0 (record { fault = fault; given = given; written = is.1; told = is.2 })

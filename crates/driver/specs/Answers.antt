@@ -1,26 +1,25 @@
 -- What this crate's functions compute of a text's answer.
-use Rattle.std.specs.Prelude.{◌≡◌, ℕ, List, [], ◌∷◌, string_bytes}
+use Rattle.std.specs.Prelude.{◌≡◌, ℕ, Bool, true, false, List, [], string_bytes}
 use Rattle.core_lang.specs.declared.typed.Typed.{Typed}
-use Rattle.core_lang.specs.Serial.{Scheduled, all_calls, opening_heap}
-use Rattle.report.specs.History.{line, history_of, unsettled_of}
+use Rattle.report.specs.History.{line}
 use Rattle.source.specs.declared.fault.Fault.{Fault}
 use Rattle.source.specs.Faults.{fault_text}
 use Rattle.driver.specs.declared.answer.Answer.{Answer}
 use Rattle.driver.specs.declared.status.Status.{Status}
-use Rattle.driver.specs.declared.status.Status.TheVariants.{Done, Refused, Unsettled}
-use Rattle.driver.specs.Running.{Came, StopsBeyond, came}
+use Rattle.driver.specs.declared.status.Status.TheVariants.{Refused, Failed}
+use Rattle.driver.specs.Messages.{cannot_write}
+use Rattle.driver.specs.Serial.{RunAnswers}
 
--- the answer to how far calls came, by what is left
-abbrev pub IsTold : Typed → Came → List Scheduled → Status → List ℕ → Type 0
-IsTold program c [] status out = (status ≡ Done) × (out ≡ history_of program c.entries c.heap)
-IsTold program c (s ∷ ss) status out = (status ≡ Unsettled) × (out ≡ unsettled_of program c.entries s.thread s.step)
-
-abbrev pub IsRun : ℕ → Typed → Answer → Type 0
-IsRun turns program answer =
-    let c = came program turns (opening_heap program) (all_calls program) in
-    IsTold program c c.left answer.status (string_bytes answer.out) × (string_bytes answer.err ≡ []) × StopsBeyond program turns c
+-- the answer to a program's run
+abbrev pub IsRunAnswer : ℕ → Typed → Answer → Type 0
+IsRunAnswer turns program answer = RunAnswers turns program answer.status (string_bytes answer.out) (string_bytes answer.err)
 
 -- the answer to a fault
 abbrev pub IsFaultAnswer : List ℕ → List ℕ → Fault → Answer → Type 0
 IsFaultAnswer file text fault answer =
     (answer.status ≡ Refused) × (string_bytes answer.out ≡ []) × (string_bytes answer.err ≡ line (fault_text file text fault))
+
+-- an answer went out, all of it; or the writer failed, and that is told
+abbrev pub GoesOut : Answer → Status → Bool → (List ℕ → Type 0) → (List ℕ → Type 0) → Type 0
+GoesOut answer result true Wrote Told = (result ≡ Failed) × Told cannot_write
+GoesOut answer result false Wrote Told = (result ≡ answer.status) × Wrote (string_bytes answer.out) × Told (string_bytes answer.err)

@@ -10,7 +10,7 @@ use Rattle.source.specs.Texts as text
 use Rattle.syntax.specs.Trees.{Decl}
 use Rattle.syntax.specs.Faults as grammar
 use Rattle.resolution.specs.Faults as names
-use Rattle.resolution.specs.Leasts.{IsLeast}
+use Rattle.source.specs.Mistakes.{IsLeastOf}
 use Rattle.resolution.specs.Resolved.{Resolves}
 
 -- a fault of the text; of the tokens of a text that has some; of the tree of tokens that have one
@@ -43,7 +43,7 @@ pub data IsOfFirstPass (source : List ℕ) (fault : the_fault.Fault) : Type 0 wh
       → grammar.IsRefusal tokens (Fault fault) → IsOfFirstPass source fault
   in_tree : (tokens : List Tok) (tree : List Decl) → HasNoTextFault source → text.HasTokens source tokens
       → HasNoTokenFault tokens → grammar.HasRightTree tokens tree
-      → names.IsRefusal tree (Fault fault) → IsLeast tree (Fault fault) → IsOfFirstPass source fault
+      → names.IsRefusal tree (Fault fault) → IsLeastOf (names.IsFault tree) (Fault fault) → IsOfFirstPass source fault
 
 -- a text was refused for such a fault, or for want of memory
 abbrev pub IsRefusal : List ℕ → Refusal → Type 0

@@ -59,9 +59,13 @@ pub record IsRefused (file text out err : List ℕ) : Type 0 where
   pub written : out ≡ []
   pub told : err ≡ line (fault_text file text fault)
 
+-- what `serial` answers for a program
+abbrev pub RunAnswers : ℕ → Typed → Status → List ℕ → List ℕ → Type 0
+RunAnswers turns program Done out err = IsHistory turns program out err
+RunAnswers turns program Unsettled out err = StopsAtCall turns program out err
+RunAnswers turns program status out err = ⊥
+
 -- what `serial` answers for a text
 abbrev pub SerialAnswers : ℕ → List ℕ → List ℕ → Status → List ℕ → List ℕ → Type 0
-SerialAnswers turns file text Done out err = (program : Typed) × Accepts text program × IsHistory turns program out err
-SerialAnswers turns file text Unsettled out err = (program : Typed) × Accepts text program × StopsAtCall turns program out err
 SerialAnswers turns file text Refused out err = IsRefused file text out err
-SerialAnswers turns file text status out err = ⊥
+SerialAnswers turns file text status out err = (program : Typed) × Accepts text program × RunAnswers turns program status out err

@@ -1,5 +1,6 @@
 -- What clauses say of the readers and writers that an engine is lent.
-use Rattle.std.specs.Prelude.{Bool}
+use Rattle.std.specs.Prelude.{◌≡◌, ℕ, Bool, false, List, Option, IfSome}
+use Rattle.std.specs.Io.KnownBytes.{Appends}
 use Rattle.driver.specs.declared.source_text.SourceText.{SourceText}
 use Rattle.driver.specs.declared.sink.Sink.{Sink}
 
@@ -18,3 +19,15 @@ writer_of sink = sink.writer
 -- whether writing to it failed
 abbrev pub writing_failed : {W : Type 0} → Sink W → Bool
 writing_failed sink = sink.failed
+
+-- the text is what the reader had to give; of a reader that doesn't tell its bytes nothing is said
+abbrev pub Reads : {R : Type 0} → (R → Option (List ℕ)) → SourceText R → List ℕ → Type 0
+Reads remaining source text = IfSome (remaining (reader_of source)) (λ bytes. text ≡ bytes)
+
+-- the bytes stand behind those that were written before; of a writer that doesn't tell its bytes nothing is said
+abbrev pub Writes : {W : Type 0} → (W → Option (List ℕ)) → Sink W → Sink W → List ℕ → Type 0
+Writes contents old new bytes = Appends (contents (writer_of old)) (contents (writer_of new)) bytes
+
+-- the same, unless writing failed
+abbrev pub Tells : {W : Type 0} → (W → Option (List ℕ)) → Sink W → Sink W → List ℕ → Type 0
+Tells contents old new bytes = writing_failed new ≡ false → Writes contents old new bytes

@@ -2,12 +2,13 @@
 
 ghost use Rattle.std.specs.Prelude.{◌≡◌, IfOk, string_bytes};
 ghost use Rattle.core_lang.specs.WellFormed.{IsWellFormed};
-ghost use Rattle.driver.specs.Answers.{IsRun, IsFaultAnswer};
+ghost use Rattle.driver.specs.Answers.{IsRunAnswer, IsFaultAnswer};
 ghost use Rattle.driver.specs.Serial.{SerialAnswers};
 
 use crate::program::program_of;
-use crate::running::{run_scripts, values};
+use crate::running::run_scripts;
 use crate::status::Status;
+use core_lang::laws;
 use core_lang::typed::Typed;
 use report::{history_text, unsettled_text};
 use source::fault::{Fault, Refusal};
@@ -42,19 +43,17 @@ fn refused(alloc: Global, file: &str, text: &[u8], fault: &Fault) -> Result<Answ
 /// The text of a program's run.
 fn ran(alloc: Global, program: &Typed, turns: u64) -> Result<Answer, NoMemory>
     requires { IsWellFormed program.now }
-    ensures { IfOk result (IsRun turns program.now) }
+    ensures { IfOk result (IsRunAnswer turns program.now) }
 {
+    laws::settled_are_serial();
     let ran = run_scripts(alloc, program, turns)?;
     let err = String::new(alloc);
     match ran.unsettled {
-        None => {
-            let values = values(alloc, &ran.heap, program.cells.len())?;
-            Ok(Answer {
-                status: Status::Done,
-                out: history_text(alloc, program, &ran.records, &values)?,
-                err,
-            })
-        }
+        None => Ok(Answer {
+            status: Status::Done,
+            out: history_text(alloc, program, &ran.records, ran.heap.cells())?,
+            err,
+        }),
         Some((thread, step)) => Ok(Answer {
             status: Status::Unsettled,
             out: unsettled_text(alloc, program, &ran.records, thread, step)?,

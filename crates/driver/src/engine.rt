@@ -1,10 +1,11 @@
 //! The engines over readers and writers.
 
-ghost use Rattle.std.specs.Prelude.{◌≡◌, ◌≢◌, ◌||◌, ◌↔◌, List, ℕ, [], true, false, IfSome, string_bytes};
-ghost use Rattle.std.specs.Io.KnownBytes.{Appends};
-ghost use Rattle.driver.specs.Messages.{Gives, cannot_read, cannot_write, no_memory};
+ghost use Rattle.std.specs.Prelude.{◌≡◌, false};
+ghost use Rattle.driver.specs.Answers.{GoesOut};
+ghost use Rattle.driver.specs.Engines.{Serves};
+ghost use Rattle.driver.specs.Messages.{cannot_read, cannot_write, no_memory};
 ghost use Rattle.driver.specs.Serial.{SerialAnswers};
-ghost use Rattle.driver.specs.Streams.{reader_of, reading_failed, writer_of, writing_failed};
+ghost use Rattle.driver.specs.Streams.{reading_failed, writing_failed, Writes, Tells};
 
 use crate::answer::{Answer, serial_answer};
 use crate::sink::Sink;
@@ -17,7 +18,7 @@ use std::io::{Read, Write};
 /// Tells on `err` that the file of this name could not be opened or read: `autolock: cannot read
 /// NAME`.
 pub fn tell_cannot_read<E: Write>(err: &mut Sink<E>, file: &str)
-    ensures { writing_failed err.new ≡ false → Appends (E.contents (writer_of err.old)) (E.contents (writer_of err.new)) (cannot_read file.now) }
+    ensures { Tells E.contents err.old err.new (cannot_read file.now) }
 {
     err.put(b"autolock: cannot read ");
     err.put(file.as_bytes());
@@ -26,14 +27,14 @@ pub fn tell_cannot_read<E: Write>(err: &mut Sink<E>, file: &str)
 
 /// Tells on `err` that a growth was refused: `autolock: no memory`.
 pub fn tell_no_memory<E: Write>(err: &mut Sink<E>)
-    ensures { writing_failed err.new ≡ false → Appends (E.contents (writer_of err.old)) (E.contents (writer_of err.new)) no_memory }
+    ensures { Tells E.contents err.old err.new no_memory }
 {
     err.put(b"autolock: no memory\n");
 }
 
 /// Tells on `err` that writing failed: `autolock: cannot write`.
 pub fn tell_cannot_write<E: Write>(err: &mut Sink<E>)
-    ensures { writing_failed err.new ≡ false → Appends (E.contents (writer_of err.old)) (E.contents (writer_of err.new)) cannot_write }
+    ensures { Tells E.contents err.old err.new cannot_write }
 {
     err.put(b"autolock: cannot write\n");
 }
@@ -41,9 +42,8 @@ pub fn tell_cannot_write<E: Write>(err: &mut Sink<E>)
 /// Writes an answer: first its text to `out`, and, where that did not fail, its message to `err`.
 fn give<O: Write, E: Write>(answer: &Answer, out: &mut Sink<O>, err: &mut Sink<E>) -> Status
     requires { writing_failed out.old ≡ false }
-    ensures { Gives answer.now.status (string_bytes answer.now.out) (string_bytes answer.now.err) result (writing_failed out.new)
-        (Appends (O.contents (writer_of out.old)) (O.contents (writer_of out.new)))
-        (λ bytes. writing_failed err.new ≡ false → Appends (E.contents (writer_of err.old)) (E.contents (writer_of err.new)) bytes) }
+    ensures { GoesOut answer.now result (writing_failed out.new) (Writes O.contents out.old out.new)
+        (Tells E.contents err.old err.new) }
 {
     out.put(answer.out.as_bytes());
     out.flush();
@@ -77,30 +77,8 @@ pub fn serial<S: Read, O: Write, E: Write>(
 ) -> Status
     requires readable { reading_failed source.old ≡ false }
     requires writable { writing_failed out.old ≡ false }
-
-    // The exact bytes, of the text that the reader tells where it tells it, and as far as the writers tell theirs.
-    ensures answers { result ≢ Status.Failed → result ≢ Status.OutOfMemory →
-        (text : List ℕ) × (wrote : List ℕ) × (told : List ℕ)
-        × IfSome (S.remaining (reader_of source.old)) (λ bytes. text ≡ bytes)
-        × SerialAnswers turns file.now text result wrote told
-        × Appends (O.contents (writer_of out.old)) (O.contents (writer_of out.new)) wrote
-        × (writing_failed err.new ≡ false → Appends (E.contents (writer_of err.old)) (E.contents (writer_of err.new)) told) }
-
-    // No word is its to judge.
-    ensures words { result ≢ Status.BadWords }
-
-    // It fails where reading or writing failed, and nowhere else.
-    ensures failed { (result ≡ Status.Failed) ↔ ((reading_failed source.new || writing_failed out.new) ≡ true) }
-    ensures read_out { reading_failed source.new ≡ true → out.new ≡ out.old }
-    ensures read_err { reading_failed source.new ≡ true → writing_failed err.new ≡ false →
-        Appends (E.contents (writer_of err.old)) (E.contents (writer_of err.new)) (cannot_read file.now) }
-    ensures write_err { reading_failed source.new ≡ false → writing_failed out.new ≡ true → writing_failed err.new ≡ false →
-        Appends (E.contents (writer_of err.old)) (E.contents (writer_of err.new)) cannot_write }
-
-    // Where memory runs out, nothing is written.
-    ensures memory_out { result ≡ Status.OutOfMemory → out.new ≡ out.old }
-    ensures memory_err { result ≡ Status.OutOfMemory → writing_failed err.new ≡ false →
-        Appends (E.contents (writer_of err.old)) (E.contents (writer_of err.new)) no_memory }
+    ensures { Serves (SerialAnswers turns file.now) file.now S.remaining source.old source.new O.contents out.old out.new
+        E.contents err.old err.new result }
 {
     let text = match source.read_whole(alloc) {
         Ok(text) => text,

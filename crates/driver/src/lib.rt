@@ -5,6 +5,7 @@
 //!
 //! - [`serial`]: all calls of a program one after another. `specs/Serial.antt` says what it answers,
 //!   and `specs/Programs.antt` which program a text is, or which fault it has.
+//! - [`program_of`]: the program of a text, or its fault.
 //! - [`Status`]: how a command ended, which is the exit status.
 //! - [`SourceText`], [`Sink`]: readers and writers that remember whether they failed.
 //! - [`tell_cannot_read`], [`tell_cannot_write`], [`tell_no_memory`]: the messages that the program
@@ -21,6 +22,7 @@ mod source_text;
 mod status;
 
 pub use engine::{serial, tell_cannot_read, tell_cannot_write, tell_no_memory};
+pub use program::program_of;
 pub use sink::Sink;
 pub use source_text::{ReadError, SourceText};
 pub use status::Status;

@@ -1,16 +1,14 @@
 //! The serial run of a program's calls.
 
-ghost use Rattle.std.specs.Prelude.{◌≡◌, IfOk, OnOk, length, map};
-ghost use Rattle.core_lang.specs.Serial.{all_calls, opening_heap};
+ghost use Rattle.std.specs.Prelude.{◌≡◌, IfOk};
+ghost use Rattle.core_lang.specs.Typing.{HasCells};
 ghost use Rattle.core_lang.specs.WellFormed.{IsWellFormed};
-ghost use Rattle.meaning.specs.Heaps.{HasCells};
-ghost use Rattle.report.specs.Entry.{entry_of};
-ghost use Rattle.driver.specs.Running.{scheduled_of, ended_of, IsRan, StopsBeyond, came};
+ghost use Rattle.report.specs.{entry_of};
+ghost use Rattle.driver.specs.Running.{scheduled_of, ended_of, IsRan};
 ghost use Rattle.driver.specs.Serial.{entry};
 
 use crate::schedule::{ScheduledCall, schedule};
 use core_lang::typed::Typed;
-use core_lang::value::Value;
 use meaning::heap::Heap;
 use meaning::run::{End, run_whole};
 use report::Record;
@@ -47,9 +45,8 @@ fn record_of(alloc: Global, call: &ScheduledCall<'_>, end: End) -> Result<Record
 /// turns of each execution of a loop settle them.
 pub fn run_scripts(alloc: Global, typed: &Typed, turns: u64) -> Result<Ran, NoMemory>
     requires { IsWellFormed typed.now }
-    ensures came { IfOk result (IsRan (came typed.now turns (opening_heap typed.now) (all_calls typed.now))) }
+    ensures ran { IfOk result (IsRan turns typed.now) }
     ensures cells { IfOk result (λ ran. HasCells typed.now ran.heap) }
-    ensures beyond { OnOk result (StopsBeyond typed.now turns (came typed.now turns (opening_heap typed.now) (all_calls typed.now))) }
 {
     let calls = schedule(alloc, typed)?;
     let mut heap = Heap::open(alloc, typed)?;
@@ -79,16 +76,4 @@ pub fn run_scripts(alloc: Global, typed: &Typed, turns: u64) -> Result<Ran, NoMe
         heap,
         unsettled: None,
     })
-}
-
-/// The values of all cells.
-pub fn values(alloc: Global, heap: &Heap, cells: usize) -> Result<Vec<Value>, NoMemory>
-    requires { cells ≡ length heap.now }
-    ensures { IfOk result (λ all. all.items ≡ heap.now) }
-{
-    let mut all = Vec::with_capacity(alloc, cells)?;
-    for cell in 0..cells {
-        all.push(heap.get(cell))?;
-    }
-    Ok(all)
 }

@@ -2,4 +2,5 @@ pub mod Undo
 pub mod Answer
 pub mod Fitted
 pub mod Execution
-pub mod Heaps
+-- what the public clauses cite
+pub use Rattle.meaning.specs.Answer.{Answers, NoneIsBeyond}

@@ -113,9 +113,9 @@ fn value_of_field(
     ensures { result ≡ step_value shape.now heap.now base field }
 {
     match field {
-        FieldStep::Final(field) => value_of_final(shape, base, field),
-        FieldStep::Field(field) => {
-            let cell = cell_of_field(shape, base, field)?;
+        FieldStep::Final { number, .. } => value_of_final(shape, base, number),
+        FieldStep::Field { number, .. } => {
+            let cell = cell_of_field(shape, base, number)?;
             value_at(heap, cell)
         }
     }

@@ -5,7 +5,7 @@ ghost use Rattle.core_lang.specs.Meaning.{value_of, truth_of};
 
 use crate::access::{cell_of_element, follow, member, value_at};
 use crate::operators::{compare, negate, operate};
-use crate::short::{number, simple};
+use crate::short::{number, reference, simple};
 use core_lang::shape::Shape;
 use core_lang::tree::{Comparison, Condition, Expr};
 use core_lang::value::{Failure, Value};
@@ -20,6 +20,9 @@ pub fn evaluate(e: &Expr, shape: &Shape, locals: &[Value], heap: &[Value]) -> Re
     }
     if let Some(n) = number(e, shape, locals, heap) {
         return Ok(Value::Int(n));
+    }
+    if let Some(v) = reference(e, shape, locals, heap) {
+        return Ok(v);
     }
     walk(e, shape, locals, heap)
 }

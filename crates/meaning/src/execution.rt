@@ -1,17 +1,18 @@
 //! A section under way.
 
-ghost use Rattle.std.specs.Prelude.{◌≡◌};
-ghost use Rattle.core_lang.specs.Meaning.{effect_of, sequence, stored, written, printed, truth_of, turns};
+ghost use Rattle.std.specs.Prelude.{◌≡◌, Ok, IfSome};
+ghost use Rattle.core_lang.specs.Cells.{element_cell, with};
+ghost use Rattle.core_lang.specs.Meaning.{effect_of, sequence, stored, written, printed, truth_of, turns, value_of};
 ghost use Rattle.core_lang.specs.Whole.{concluded};
 ghost use Rattle.meaning.specs.Answer.{Follows, Concludes};
-ghost use Rattle.meaning.specs.Execution.{state_of, Keeps};
+ghost use Rattle.meaning.specs.Execution.{state_of, assigned, Keeps};
 
 use crate::access::{cell_of_element, cell_of_field, follow, non_null};
 use crate::draft::Draft;
 use crate::evaluate::{evaluate, is_true};
 use crate::short;
 use core_lang::shape::Shape;
-use core_lang::tree::{Action, Condition, Section, Stmt};
+use core_lang::tree::{Action, Condition, Expr, Section, Stmt};
 use core_lang::value::{Failure, Outcome, Trap, Value};
 use std::alloc::AllocError;
 
@@ -61,7 +62,7 @@ pub struct Execution {
     pub locals: Vec<Value>,
     /// The heap.
     pub draft: Draft,
-    /// The numbers printed, at most 256.
+    /// The numbers printed.
     pub prints: Vec<i64>,
 }
 
@@ -106,20 +107,24 @@ impl Execution {
         }
     }
 
+    // An assignment to a local.
+    #[inline(never)]
+    fn set(&mut self, local: usize, value: &Expr, shape: &Shape) -> Result<(), Stop>
+        ensures follows { Follows result (state_of self.new) (assigned local value.now shape.now (state_of self.old)) }
+        ensures keeps { Keeps self.old self.new }
+    {
+        let v = evaluate(value, shape, &self.locals, self.draft.cells())?;
+        self.store(local, v)
+    }
+
     #[cycle(run)]
     fn run(&mut self, action: &Action, shape: &Shape, turns: u64) -> Result<(), Stop>
         ensures follows { Follows result (state_of self.new) (effect_of action.now shape.now turns (state_of self.old)) }
         ensures keeps { Keeps self.old self.new }
     {
         match action {
-            Action::Bind { local, value } => {
-                let v = evaluate(value, shape, &self.locals, self.draft.cells())?;
-                self.store(*local, v)
-            }
-            Action::SetLocal { local, value } => {
-                let v = evaluate(value, shape, &self.locals, self.draft.cells())?;
-                self.store(*local, v)
-            }
+            Action::Bind { local, value } => self.set(*local, value, shape),
+            Action::SetLocal { local, value } => self.set(*local, value, shape),
             Action::SetGlobal { cell, value } => {
                 let v = evaluate(value, shape, &self.locals, self.draft.cells())?;
                 self.write(*cell as usize, v)
@@ -134,7 +139,12 @@ impl Execution {
                 let v = evaluate(value, shape, &self.locals, self.draft.cells())?;
                 self.write(cell, v)
             }
-            Action::SetField { base, field, value } => {
+            Action::SetField {
+                base,
+                field,
+                value,
+                ..
+            } => {
                 let base = non_null(follow(base, shape, &self.locals, self.draft.cells())?)?;
                 let v = evaluate(value, shape, &self.locals, self.draft.cells())?;
                 let cell = cell_of_field(shape, base, *field)?;
@@ -211,7 +221,7 @@ impl Execution {
         Ok(())
     }
 
-    // An assignment to a local is made here where it has a value, since a call costs as much as the rest.
+    // An assignment to a local is made here where it has a number, since a call costs as much as the rest.
     #[inline(always)]
     #[cycle(run)]
     fn step(&mut self, action: &Action, shape: &Shape, turns: u64) -> Result<(), Stop>
@@ -222,8 +232,18 @@ impl Execution {
             if let Some(v) = short::value(value, shape, &self.locals, self.draft.cells()) {
                 return self.store(*local, v);
             }
+            return self.set(*local, value, shape);
         }
         self.assign(action, shape, turns)
+    }
+
+    // The cell of an array's element, if its index is found the short way.
+    #[inline(always)]
+    fn element(&self, array: usize, index: &Expr, shape: &Shape) -> Option<usize>
+        ensures { IfSome result (λ cell. with (value_of index.now shape.now self.now.locals.items self.now.draft.now)
+            (element_cell shape.now array) ≡ Ok cell) }
+    {
+        short::cell(array, index, shape, &self.locals, self.draft.cells())
     }
 
     // A further assignment is made here where its parts have values: `run` has a large frame. The rest, with each trap,
@@ -245,19 +265,19 @@ impl Execution {
             value,
         } = action
         {
-            if let Some(cell) = short::cell(
-                *array,
-                index,
-                shape,
-                &self.locals,
-                self.draft.cells(),
-            ) {
+            if let Some(cell) = self.element(*array, index, shape) {
                 if let Some(v) = short::value(value, shape, &self.locals, self.draft.cells()) {
                     return self.write(cell, v);
                 }
             }
         }
-        if let Action::SetField { base, field, value } = action {
+        if let Action::SetField {
+            base,
+            field,
+            value,
+            ..
+        } = action
+        {
             if let Some(base) = short::base(base, shape, &self.locals, self.draft.cells()) {
                 if let Some(v) = short::value(value, shape, &self.locals, self.draft.cells()) {
                     if let Ok(cell) = cell_of_field(shape, base, *field) {

@@ -1,9 +1,9 @@
 //! The values of all cells.
 
-ghost use Rattle.std.specs.Prelude.{◌≡◌, ◌<◌, length, slice_get, IfOk};
+ghost use Rattle.std.specs.Prelude.{◌≡◌, IfOk};
 ghost use Rattle.std.specs.Bool.{Decides};
 ghost use Rattle.core_lang.specs.Serial.{opening_heap};
-ghost use Rattle.meaning.specs.Heaps.{HasCells};
+ghost use Rattle.core_lang.specs.Typing.{HasCells};
 
 use core_lang::typed::Typed;
 use core_lang::value::Value;
@@ -48,15 +48,15 @@ impl Heap {
         Ok(Heap { cells, is_written })
     }
 
-    /// What a cell of the heap holds. Takes no memory.
-    pub fn get(&self, cell: usize) -> Value
-        requires { cell < length self.now }
-        ensures { slice_get self.now cell ≡ Some result }
+    /// What the cells hold, by their numbers.
+    #[inline]
+    pub fn cells(&self) -> &[Value]
+        ensures { result.now ≡ self.now }
     {
-        self.cells[cell]
+        self.cells.as_slice()
     }
 
-    /// Whether the heap has as many cells as a program. Takes no memory.
+    /// Whether the heap has as many cells as a program.
     pub fn has_cells_of(&self, program: &Typed) -> bool
         ensures { Decides result (HasCells program.now self.now) }
     {

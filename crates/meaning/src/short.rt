@@ -3,14 +3,14 @@
 
 ghost use Rattle.std.specs.Prelude.{◌≡◌, Ok, IfSome};
 ghost use Rattle.core_lang.specs.Arithmetic.{on_values, negated};
-ghost use Rattle.core_lang.specs.Cells.{element_cell, not_null, read, with};
+ghost use Rattle.core_lang.specs.Cells.{element_cell, member_of, not_null, read, with};
 ghost use Rattle.core_lang.specs.Meaning.{place_of, value_of};
 
-use crate::access::{cell_of_element, follow, non_null};
+use crate::access::{cell_of_element, follow, member, non_null};
 use crate::operators::{negate, operate};
 use core_lang::shape::Shape;
 use core_lang::tree::{Expr, Operator, Path};
-use core_lang::value::Value;
+use core_lang::value::{Value, ValueType};
 
 /// The value that an expression gives, if it is found the short way.
 #[inline(always)]
@@ -29,9 +29,31 @@ pub fn value(e: &Expr, shape: &Shape, locals: &[Value], heap: &[Value]) -> Optio
             None => None,
         };
     }
-    match other_number(e, shape, locals, heap) {
+    match lone_number(e, shape, locals, heap) {
         Some(n) => Some(Value::Int(n)),
         None => None,
+    }
+}
+
+/// The value of an expression for which `value` finds none since it is a reference.
+///
+/// It stands apart from `value`, where numbers stay in registers, as they would not beside values that come from memory.
+#[inline(never)]
+pub fn reference(e: &Expr, shape: &Shape, locals: &[Value], heap: &[Value]) -> Option<Value>
+    ensures { IfSome result (λ v. value_of e.now shape.now locals.now heap.now ≡ Ok v) }
+{
+    match e {
+        Expr::Null => Some(Value::Ref(None)),
+        Expr::Global { cell, .. } => held(heap, *cell as usize),
+        Expr::Element { array, index, .. } => {
+            let cell = cell(*array, index, shape, locals, heap)?;
+            held(heap, cell)
+        }
+        Expr::Member { pool, index } => {
+            let index = number(index, shape, locals, heap)?;
+            reference_in(shape, *pool, index)
+        }
+        _ => None,
     }
 }
 
@@ -45,6 +67,19 @@ pub fn number(e: &Expr, shape: &Shape, locals: &[Value], heap: &[Value]) -> Opti
     }
     if let Expr::Chain { .. } = e {
         return chain(e, shape, locals, heap);
+    }
+    lone_number(e, shape, locals, heap)
+}
+
+// The number that any other expression gives which is no operand. It may be a reference, and then no index is computed.
+#[inline(never)]
+fn lone_number(e: &Expr, shape: &Shape, locals: &[Value], heap: &[Value]) -> Option<i64>
+    ensures { IfSome result (λ n. value_of e.now shape.now locals.now heap.now ≡ Ok (Value.Int n)) }
+{
+    if let Expr::Element { array, .. } = e {
+        if holds_references(shape, *array) {
+            return None;
+        }
     }
     other_number(e, shape, locals, heap)
 }
@@ -192,6 +227,37 @@ fn other_number(e: &Expr, shape: &Shape, locals: &[Value], heap: &[Value]) -> Op
         Expr::Member { .. } => None,
         Expr::Negate(e) => negated_number(operand(e, shape, locals, heap)?),
         Expr::Chain { .. } => chain(e, shape, locals, heap),
+    }
+}
+
+// Whether the elements of an array are references.
+#[inline(always)]
+fn holds_references(shape: &Shape, array: usize) -> bool {
+    match shape.arrays.get(array) {
+        Some(array) => matches!(array.element, ValueType::Reference(_)),
+        None => false,
+    }
+}
+
+// What a cell holds.
+#[inline(always)]
+fn held(heap: &[Value], cell: usize) -> Option<Value>
+    ensures { IfSome result (λ v. read heap.now cell ≡ Ok v) }
+{
+    match heap.get(cell) {
+        Some(value) => Some(*value),
+        None => None,
+    }
+}
+
+// The reference to a pool's member.
+#[inline(always)]
+fn reference_in(shape: &Shape, pool: usize, index: i64) -> Option<Value>
+    ensures { IfSome result (λ v. member_of shape.now pool (Value.Int index) ≡ Ok v) }
+{
+    match member(shape, pool, Value::Int(index)) {
+        Ok(value) => Some(value),
+        Err(_) => None,
     }
 }
 

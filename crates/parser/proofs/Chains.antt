@@ -10,7 +10,7 @@ use Rattle.syntax.specs.declared.tree.Joined.{Chain}
 use Rattle.syntax.specs.declared.tree.Link as l
 use Rattle.syntax.specs.Trees.{Expr, chain, Links, no_links, link}
 use Rattle.syntax.specs.Views.{expr_of, joined_of, links_of}
-use Rattle.syntax.proofs.Rows.{joined_of-Chain}
+use Rattle.syntax.specs.Rows.{joined_of-Chain}
 use Rattle.parser.specs.declared.stop.Stop.{Stop}
 use Rattle.parser.specs.Reading.{◌>>=◌, Fails, Reader}
 use Rattle.parser.specs.Bodies.{op_of, before_rest, op_at, link_from, next_link, add_link, links_at, chain_at}

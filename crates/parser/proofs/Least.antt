@@ -10,7 +10,7 @@ use Rattle.syntax.specs.declared.tree.Block as the_block
 use Rattle.syntax.specs.Returns.{IsReturn, is_return, HasReturn, this_returns, returns_inside, later_returns, HasReturnInside, in_then, in_else, in_while, HasStrayReturn, this_early, stray_inside, later_stray, EndsInReturn, last_returns, ends_later, IsSectionFault, no_result, stray, missing, IsReturnFault, this_section, later_section, ReturnsRight, IsFirstReturnFault}
 use Rattle.syntax.specs.Trees.{Ident, ValueType, Expr, Variable, Array, Struct, Pool, Init, Thread, Stmt, let_local, var_local, assign, if_then, while, print, return_value, Stmts, no_stmts, stmt, Otherwise, no_else, else_do, Section, Decl, lock, struct, global, array, pool, init, atomic, thread}
 use Rattle.syntax.specs.Views.{stmt_of, stmts_of, else_of}
-use Rattle.syntax.proofs.Rows.{stmt_of_While, stmt_of_If}
+use Rattle.syntax.specs.Rows.{stmt_of_While, stmt_of_If}
 use Rattle.parser.specs.Returning.{earlier, own_return, least_return, inner_return, other_return, least_stray, is_return as returns, does_end, missing_at, section_fault_of, decl_fault, least_fault}
 
 -- ---- the lesser of places

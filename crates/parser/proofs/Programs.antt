@@ -1,5 +1,5 @@
 -- What reading says of a whole program.
-use Rattle.std.proofs.Common.{◌≡◌, ℕ, zero, suc, ◌-◌, ◌<◌, Bool, true, false, List, [], ◌∷◌, ◌++◌, length, drop, Option, Some, None, Result, Ok, Err, refl, sym, ap, ◌∙◌, subst, append_assoc, length-append, arith}
+use Rattle.std.proofs.Common.{◌≡◌, ℕ, zero, suc, ◌-◌, ◌<◌, ◌≤◌, Bool, true, false, List, [], ◌∷◌, ◌++◌, length, drop, Option, Some, None, Result, Ok, Err, refl, sym, ap, ◌∙◌, subst, append_assoc, length-append, arith}
 use Rattle.std.specs.Prelude.{IfSome}
 use Rattle.std.proofs.lemmas.List.{drop_at, drop-map, length-map}
 use Rattle.source.specs.declared.span.Span.{Span}
@@ -7,7 +7,8 @@ use Rattle.source.specs.declared.token.Token.{Token}
 use Rattle.source.specs.Tokens.{Lexeme, name, int, word, mark, end, Tok, seen_token, seen}
 use Rattle.syntax.specs.Trees.{Decl}
 use Rattle.syntax.specs.Grammar.{tok, AreMany, IsDecl, Spells, spells, open_after, nesting, IsOpening, LIMIT, IsShallow, HasTree}
-use Rattle.syntax.specs.Faults.{IsUnexpected, IsTooDeep, NoEnd}
+use Rattle.syntax.specs.Returns.{IsFirstReturnFault}
+use Rattle.syntax.specs.Faults.{IsUnexpected, IsTooDeep, IsMisplaced, NoEnd}
 use Rattle.parser.specs.declared.stop.Stop.{Stop}
 use Rattle.parser.specs.declared.stop.Stop.TheVariants.{Unexpected, TooDeep, NoMemory}
 use Rattle.parser.specs.Reading.{◌>>=◌, Reader, Next, turn, many_at, same_kind, is_next, next_unless, next_until}
@@ -221,6 +222,22 @@ one_end (w ∷ b) (v ∷ c) t u x y e h g =
     let rest : b ++ t ∷ x ≡ c ++ u ∷ y = cc in
     let ends = one_end b c t u x y rest (λ mid p. h mid (ap (λ (s : Tok). s ∷ c) (sym same) ∙ ap (λ (l : List Tok). w ∷ l) p)) (λ mid p. g mid (ap (λ (s : Tok). s ∷ b) same ∙ ap (λ (l : List Tok). v ∷ l) p)) in
     ap (λ (s : Tok). s ∷ b ++ t ∷ []) same ∙ ap (λ (l : List Tok). v ∷ l) ends
+
+-- an opening sign at the limit has none ahead of it
+too_deep_ahead : (ts : List Tok) (a b : ℕ) (m : IsTooDeep ts a) (n : IsTooDeep ts b) (mid : List Tok) → n.before ≡ m.before ++ m.token ∷ mid → ⊥
+too_deep_ahead ts a b m n mid e = let low : nesting 0 m.before < LIMIT = n.first m.before mid m.token e m.opens in omega (arith, m.deep, low)
+
+pub only_too_deep : (ts : List Tok) (a b : ℕ) → IsTooDeep ts a → IsTooDeep ts b → a ≡ b
+only_too_deep ts a b m n =
+    let same : m.token ≡ n.token = one_place m.before n.before m.token n.token m.after n.after (sym m.parts ∙ n.parts) (too_deep_ahead ts a b m n) (too_deep_ahead ts b a n m) in
+    sym m.place ∙ ap (λ (t : Tok). t.span.start) same ∙ n.place
+
+pub only_misplaced : (ts : List Tok) (a b : ℕ) → IsMisplaced ts a → IsMisplaced ts b → a ≡ b
+only_misplaced ts a b m n =
+    let first = subst (λ (ds : List Decl). IsFirstReturnFault ds a) (only_tree ts m.tree n.tree m.has_tree n.has_tree) m.first in
+    let low : a ≤ b = first.1 b n.first.0 in
+    let high : b ≤ a = n.first.1 a first.0 in
+    omega arith
 
 -- no tokens have both faults
 pub never_both : (ts : List Tok) (a b : ℕ) → IsUnexpected ts a → IsTooDeep ts b → ⊥

@@ -2,3 +2,10 @@ pub mod Reading
 pub mod Returning
 pub mod Bodies
 pub mod Declarations
+-- what public clauses cite
+pub use Rattle.source.specs.Faults.{IsFaultAt}
+pub use Rattle.source.specs.Tokens.{Tok, seen}
+pub use Rattle.syntax.specs.Trees.{Decl}
+pub use Rattle.syntax.specs.Views.{tree_of}
+pub use Rattle.syntax.specs.Grammar.{HasTree}
+pub use Rattle.syntax.specs.Faults.{HasRightTree, IsMisplaced, IsRefusal, IsTooDeep, IsUnexpected}

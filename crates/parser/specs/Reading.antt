@@ -56,9 +56,6 @@ many_at nil cons next ts = many_in nil cons next (suc (length ts)) ts
 
 -- ---- single tokens
 
-abbrev pub unexpected : {A : Type 0} → List Tok → Result A Stop
-unexpected ts = Err (Unexpected (length ts))
-
 abbrev pub sign_code : Sign → ℕ
 sign_code OpenBrace = 0
 sign_code CloseBrace = 1

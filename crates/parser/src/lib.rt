@@ -2,7 +2,8 @@
 //!
 //! - [`parse`]: the tree, or the first fault: of the grammar, `E03` or `E04`, and where there is none, `E18`.
 //! - [`one_tree`]: tokens have one tree at most.
-//! - [`one_unexpected`], [`never_both`]: tokens have one `E03` at most, and never an `E03` and an `E04`.
+//! - [`one_unexpected`], [`one_too_deep`], [`one_misplaced`], [`never_both`]: tokens have one `E03`, one `E04` and one
+//!   `E18` at most, and never an `E03` and an `E04`.
 //!
 //! Which tokens spell which tree is the grammar of `syntax/specs/Grammar.antt`; what each fault
 //! means, `syntax/specs/Faults.antt`.
@@ -20,4 +21,4 @@ mod take;
 mod thread;
 mod whole;
 
-pub use whole::{never_both, one_tree, one_unexpected, parse};
+pub use whole::{never_both, one_misplaced, one_too_deep, one_tree, one_unexpected, parse};

@@ -3,12 +3,8 @@
 ghost use Rattle.std.specs.Prelude.{◌≡◌, ◌-◌, ℕ, List, IfOk, IfErr, MatchResult, drop, length};
 ghost use Rattle.source.specs.declared.fault.Code.TheVariants.{MisplacedReturn};
 ghost use Rattle.source.specs.declared.fault.Refusal.TheVariants.{NoMemory};
-ghost use Rattle.source.specs.Tokens.{Tok, seen};
-ghost use Rattle.source.specs.Faults.{IsFaultAt};
-ghost use Rattle.syntax.specs.Trees.{Decl};
-ghost use Rattle.syntax.specs.Views.{tree_of};
-ghost use Rattle.syntax.specs.Grammar.{HasTree};
-ghost use Rattle.syntax.specs.Faults.{HasRightTree, IsMisplaced, IsRefusal, IsTooDeep, IsUnexpected};
+ghost use Rattle.source.specs.{Tok, seen, IsFaultAt};
+ghost use Rattle.syntax.specs.{Decl, tree_of, HasTree, HasRightTree, IsMisplaced, IsRefusal, IsTooDeep, IsUnexpected};
 ghost use Rattle.parser.specs.Declarations.{first_start};
 
 use crate::decl::program;
@@ -80,6 +76,16 @@ pub fn one_tree()
 /// A law: tokens have one `E03` at most.
 pub fn one_unexpected()
     ensures { (ts : List Tok) (a b : ℕ) → IsUnexpected ts a → IsUnexpected ts b → a ≡ b }
+{}
+
+/// A law: tokens have one `E04` at most.
+pub fn one_too_deep()
+    ensures { (ts : List Tok) (a b : ℕ) → IsTooDeep ts a → IsTooDeep ts b → a ≡ b }
+{}
+
+/// A law: tokens have one `E18` at most, the first.
+pub fn one_misplaced()
+    ensures { (ts : List Tok) (a b : ℕ) → IsMisplaced ts a → IsMisplaced ts b → a ≡ b }
 {}
 
 /// A law: no tokens have both an `E03` and an `E04`.

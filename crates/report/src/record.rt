@@ -15,6 +15,6 @@ pub struct Record {
     pub arguments: Vec<Value>,
     /// How the section ended.
     pub outcome: Outcome,
-    /// What it printed, in order; at most 256 numbers.
+    /// What it printed, in order.
     pub prints: Vec<i64>,
 }

@@ -14,11 +14,11 @@ use Rattle.syntax.specs.declared.tree.Comparison.TheVariants as sign
 use Rattle.syntax.specs.Trees.{Ident, ref_type, Const, int_const, negative, member_const, Place, lone, element, path, Expr, int, place, chain, compare, assign, Protection, Member, lock_member, final_member, field_member, Struct, Pool, Init, Call, Decl, lock, struct, global, array, pool, init, atomic, thread}
 use Rattle.core_lang.specs.declared.value.ValueType.TheVariants.{Integer, Reference}
 use Rattle.core_lang.specs.declared.tree.FieldStep.{FieldStep}
-use Rattle.resolution.specs.declared.mistake.Mistake.{Mistake}
+use Rattle.source.specs.declared.mistake.Mistake.{Mistake}
 use Rattle.resolution.specs.declared.wanted.Want.{Want}
 use Rattle.resolution.specs.declared.wanted.Want.TheVariants.{Value}
 use Rattle.resolution.specs.Limits.{STRUCT_LIMIT, MEMBER_LIMIT, FINAL_LIMIT, CLASS_LIMIT, OBJECT_LIMIT, CELL_LIMIT, SECTION_LIMIT, THREAD_LIMIT, PARAMETER_LIMIT, LOCAL_LIMIT, CALL_LIMIT}
-use Rattle.resolution.specs.Scopes.{Scope, Local, outside, Meaning, a_local, a_decl, nothing, meaning, place_of, count, declared, the_decl, alike, the_struct, member_name, member_bears, the_member, the_local, has_type, type_of, struct_named, entered}
+use Rattle.resolution.specs.Scopes.{Scope, Local, outside, Meaning, a_local, a_decl, nothing, meaning, place_of, count, declared, the_decl, alike, the_struct, member_name, member_bears, the_member, the_local, has_type, member_has_type, type_of, struct_named, entered}
 use Rattle.resolution.specs.Numbers.{is_lock, total, classes_of, objects_of, cells_of, calls_of}
 use Rattle.resolution.specs.Expressions.{ResolvedExpr, value, truth, fits, fits_sort, alike_sorts, want, typed, operator_of, Walk, reached, at_lock, lost, stepped, walked, at_local, walk_from}
 use Rattle.resolution.specs.Statements.{first_name, target_of, wanted_by}
@@ -29,24 +29,17 @@ use Rattle.resolution.specs.Where.{Has, first, further, HasStmt, HasExpr, HasPla
 use Rattle.resolution.specs.Faults as fault
 use Rattle.resolution.specs.Faults.{start_of, const_start, IsTooLarge, IsDeclaredTwice, Reaches, stays, goes_on, Walks, walks, NamesGlobal, IsLockDecl, IsLockMember, IsFinalMember, IsUnknown, AreUnlike, IsEquality, IsOfNumbers, IsNoValue, HasNoElements, IsNoReference, IsNoStruct, IsSection, IsPool, IsWrongType, IsWrongCount, IsNotAssignable, IsUnprotected, EndsAtNoLock, PassesNonFinal, limit_of, IsOverLimit, IsFinalMissing, IsOutOfRange, IsLockAsValue, IsFault, too_large, declared_twice, unknown, wrong_type, miscounted, not_assignable, without_lock, ends_at_no_lock, passes_non_final, over_limit, final_missing, out_of_range, lock_as_value}
 use Rattle.resolution.specs.FaultLists as list
-use Rattle.resolution.specs.FaultLists.{one, one_if, unfit, no_struct, type_faults, number_faults, index_faults, own_faults, sort_misfit, const_faults, argument_faults, no_elements, no_member, no_field, step_faults, end_faults, walk_faults, path_faults, misfit, unlike, side_faults, operator_faults, expr_faults, place_faults, wanted_faults, taken, local_faults, no_target, no_array, final_faults, target_faults, global_lock_faults, lock_faults, passed_faults, last_faults, passed, along_faults, annotation_faults, protection_faults, opening_faults, some_lacks, is_at, is_due, lacks, missing_faults, field_faults, named_faults, null_faults, init_faults, call_faults, again, twice, twice_faults, member_twice_faults, struct_faults, passes, lock_count, member_counts, count_faults, total_faults, given_before, init_target_again, repeated, repeated_faults, each_faults, program_faults}
-use Rattle.resolution.proofs.Members.{In, at, at_if}
+use Rattle.resolution.specs.FaultLists.{one, one_if, unfit, unfit_member, no_struct, type_faults, number_faults, index_faults, own_faults, sort_misfit, const_faults, argument_faults, no_elements, no_member, no_field, step_faults, end_faults, walk_faults, path_faults, misfit, unlike, side_faults, operator_faults, expr_faults, place_faults, wanted_faults, taken, local_faults, no_target, no_array, final_faults, target_faults, global_lock_faults, lock_faults, passed_faults, last_faults, passed, along_faults, annotation_faults, protection_faults, opening_faults, some_lacks, is_at, is_due, lacks, missing_faults, field_faults, named_faults, null_faults, init_faults, call_faults, again, twice, twice_faults, member_twice_faults, struct_faults, first_too_many, lock_count, member_counts, count_faults, total_faults, given_before, init_target_again, repeated, repeated_faults, each_faults, program_faults}
+use Rattle.source.specs.Leasts.{IsAmong}
+use Rattle.resolution.proofs.Members.{at, at_if}
 use Rattle.resolution.proofs.Members as m
 use Rattle.resolution.proofs.Named.{member_is}
 use Rattle.resolution.proofs.Parts.{chain_link, of_place_at, of_decl, of_stmt, stmt_decls, of_wanted, expr_decls, of_expr, own, of_param, of_local, local_decls, in_members_field, of_type, of_call, of_const}
-
-lt_is : (n k : ℕ) → n < k → nat_lt n k ≡ true
-lt_is n k l = grind (arith, nat_tests)
-
-le_is : (n k : ℕ) → n ≤ k → nat_le n k ≡ true
-le_is n k l = grind (arith, nat_tests)
-
-both_true : (a b : Bool) → a ≡ true → b ≡ true → (a && b) ≡ true
-both_true true b e h = h
-both_true false b e h = cc
+use Rattle.resolution.proofs.Tests.{lt_true, le_true, both_true}
+use Rattle.std.proofs.lemmas.List.{append-nil}
 
 abbrev listed : List Decl → Code → ℕ → Type 0
-listed decls c p = In (record { code = c; start = p }) (program_faults decls)
+listed decls c p = IsAmong (record { code = c; start = p }) (program_faults decls)
 
 -- what is noted unless the type has a fault
 unfit_in : (decls : List Decl) (c : Code) (p : ℕ) (x : Meaning) → has_type decls x ≡ true → unfit decls c p x ≡ one c p
@@ -55,30 +48,26 @@ unfit_in decls c p x e = ap (λ (b : Bool). one_if b c p) e
 -- ---- E02
 
 large : (decls : List Decl) (p : ℕ) → IsTooLarge decls p → listed decls NumberTooLarge p
-large decls p (fault.expression {sc = sc} {w = w} {n = n} h over) = of_expr decls sc w (int n) h _ (at_if (nat_lt NUMBER_LIMIT n.value) NumberTooLarge n.span.start (lt_is NUMBER_LIMIT n.value over))
-large decls p (fault.constant {w = w} {n = n} h over) = of_const decls w (int_const n) h _ (m.in_left _ (number_faults n) _ (at_if (nat_lt NUMBER_LIMIT n.value) NumberTooLarge n.span.start (lt_is NUMBER_LIMIT n.value over)))
-large decls p (fault.negative_constant {w = w} sign {n = n} h over) = of_const decls w (negative sign n) h _ (m.in_left _ (number_faults n) _ (at_if (nat_lt NUMBER_LIMIT n.value) NumberTooLarge n.span.start (lt_is NUMBER_LIMIT n.value over)))
+large decls p (fault.expression {sc = sc} {w = w} {n = n} h over) = of_expr decls sc w (int n) h _ (at_if (nat_lt NUMBER_LIMIT n.value) NumberTooLarge n.span.start (lt_true NUMBER_LIMIT n.value over))
+large decls p (fault.constant {w = w} {n = n} h over) = of_const decls w (int_const n) h _ (m.in_left _ (number_faults n) _ (at_if (nat_lt NUMBER_LIMIT n.value) NumberTooLarge n.span.start (lt_true NUMBER_LIMIT n.value over)))
+large decls p (fault.negative_constant {w = w} sign {n = n} h over) = of_const decls w (negative sign n) h _ (m.in_left _ (number_faults n) _ (at_if (nat_lt NUMBER_LIMIT n.value) NumberTooLarge n.span.start (lt_true NUMBER_LIMIT n.value over)))
 
 -- ---- E05
 
-nil_right : {A : Type 0} (xs : List A) → xs ++ [] ≡ xs
-nil_right [] = refl
-nil_right (x ∷ xs) = ap (λ (ys : List _). x ∷ ys) (nil_right xs)
-
-in_twice : (ahead before rest : List Decl) (d : Decl) (f : Mistake) → In f (twice (ahead ++ before) (declared d)) → In f (twice_faults ahead (before ++ d ∷ rest))
-in_twice ahead [] rest d f i = m.in_left f (twice ahead (declared d)) (twice_faults (ahead ++ d ∷ []) rest) (subst (λ (ds : List Decl). In f (twice ds (declared d))) (nil_right ahead) i)
+in_twice : (ahead before rest : List Decl) (d : Decl) (f : Mistake) → IsAmong f (twice (ahead ++ before) (declared d)) → IsAmong f (twice_faults ahead (before ++ d ∷ rest))
+in_twice ahead [] rest d f i = m.in_left f (twice ahead (declared d)) (twice_faults (ahead ++ d ∷ []) rest) (subst (λ (ds : List Decl). IsAmong f (twice ds (declared d))) (append-nil ahead) i)
 in_twice ahead (b ∷ before) rest d f i =
-    m.in_right f (twice ahead (declared b)) _ (in_twice (ahead ++ b ∷ []) before rest d f (subst (λ (ds : List Decl). In f (twice ds (declared d))) (sym (append_assoc ahead (b ∷ []) before)) i))
+    m.in_right f (twice ahead (declared b)) _ (in_twice (ahead ++ b ∷ []) before rest d f (subst (λ (ds : List Decl). IsAmong f (twice ds (declared d))) (sym (append_assoc ahead (b ∷ []) before)) i))
 
-pub in_member_twice : (ahead before rest : List Member) (x : Member) (f : Mistake) → In f (again (member_name x).span.start (place_of member_bears (ahead ++ before) (member_name x).text)) → In f (member_twice_faults ahead (before ++ x ∷ rest))
+pub in_member_twice : (ahead before rest : List Member) (x : Member) (f : Mistake) → IsAmong f (again (member_name x).span.start (place_of member_bears (ahead ++ before) (member_name x).text)) → IsAmong f (member_twice_faults ahead (before ++ x ∷ rest))
 in_member_twice ahead [] rest x f i =
     m.in_left f (again (member_name x).span.start (place_of member_bears ahead (member_name x).text)) (member_twice_faults (ahead ++ x ∷ []) rest)
-    (subst (λ (ms : List Member). In f (again (member_name x).span.start (place_of member_bears ms (member_name x).text))) (nil_right ahead) i)
+    (subst (λ (ms : List Member). IsAmong f (again (member_name x).span.start (place_of member_bears ms (member_name x).text))) (append-nil ahead) i)
 in_member_twice ahead (b ∷ before) rest x f i =
     m.in_right f (again (member_name b).span.start (place_of member_bears ahead (member_name b).text)) _
-    (in_member_twice (ahead ++ b ∷ []) before rest x f (subst (λ (ms : List Member). In f (again (member_name x).span.start (place_of member_bears ms (member_name x).text))) (sym (append_assoc ahead (b ∷ []) before)) i))
+    (in_member_twice (ahead ++ b ∷ []) before rest x f (subst (λ (ms : List Member). IsAmong f (again (member_name x).span.start (place_of member_bears ms (member_name x).text))) (sym (append_assoc ahead (b ∷ []) before)) i))
 
-pub in_structs : (ds : List Decl) (s : Struct) → Has ds (struct s) → (f : Mistake) → In f (member_twice_faults [] s.members) → In f (struct_faults ds)
+pub in_structs : (ds : List Decl) (s : Struct) → Has ds (struct s) → (f : Mistake) → IsAmong f (member_twice_faults [] s.members) → IsAmong f (struct_faults ds)
 in_structs [] s h f i = elim h [ ]
 in_structs (struct s ∷ ds) r first f i = m.in_left f (member_twice_faults [] s.members) (struct_faults ds) i
 in_structs (struct s ∷ ds) r (further h) f i = m.in_right f (member_twice_faults [] s.members) _ (in_structs ds r h f i)
@@ -90,25 +79,25 @@ in_structs (init j ∷ ds) r (further h) f i = in_structs ds r h f i
 in_structs (atomic s ∷ ds) r (further h) f i = in_structs ds r h f i
 in_structs (thread t ∷ ds) r (further h) f i = in_structs ds r h f i
 
-of_twice : (decls : List Decl) (f : Mistake) → In f (twice_faults [] decls) → In f (program_faults decls)
+of_twice : (decls : List Decl) (f : Mistake) → IsAmong f (twice_faults [] decls) → IsAmong f (program_faults decls)
 of_twice decls f i =
     m.in_left f (twice_faults [] decls ++ struct_faults decls ++ total_faults decls [] decls ++ repeated_faults decls [] decls) (each_faults decls 0 decls)
     (m.in_left f (twice_faults [] decls ++ struct_faults decls ++ total_faults decls [] decls) (repeated_faults decls [] decls)
     (m.in_left f (twice_faults [] decls ++ struct_faults decls) (total_faults decls [] decls) (m.in_left f (twice_faults [] decls) (struct_faults decls) i)))
 
-pub of_structs : (decls : List Decl) (f : Mistake) → In f (struct_faults decls) → In f (program_faults decls)
+pub of_structs : (decls : List Decl) (f : Mistake) → IsAmong f (struct_faults decls) → IsAmong f (program_faults decls)
 of_structs decls f i =
     m.in_left f (twice_faults [] decls ++ struct_faults decls ++ total_faults decls [] decls ++ repeated_faults decls [] decls) (each_faults decls 0 decls)
     (m.in_left f (twice_faults [] decls ++ struct_faults decls ++ total_faults decls [] decls) (repeated_faults decls [] decls)
     (m.in_left f (twice_faults [] decls ++ struct_faults decls) (total_faults decls [] decls) (m.in_right f (twice_faults [] decls) _ i)))
 
-pub of_totals : (decls : List Decl) (f : Mistake) → In f (total_faults decls [] decls) → In f (program_faults decls)
+pub of_totals : (decls : List Decl) (f : Mistake) → IsAmong f (total_faults decls [] decls) → IsAmong f (program_faults decls)
 of_totals decls f i =
     m.in_left f (twice_faults [] decls ++ struct_faults decls ++ total_faults decls [] decls ++ repeated_faults decls [] decls) (each_faults decls 0 decls)
     (m.in_left f (twice_faults [] decls ++ struct_faults decls ++ total_faults decls [] decls) (repeated_faults decls [] decls)
     (m.in_right f (twice_faults [] decls ++ struct_faults decls) _ i))
 
-of_repeated : (decls : List Decl) (f : Mistake) → In f (repeated_faults decls [] decls) → In f (program_faults decls)
+of_repeated : (decls : List Decl) (f : Mistake) → IsAmong f (repeated_faults decls [] decls) → IsAmong f (program_faults decls)
 of_repeated decls f i =
     m.in_left f (twice_faults [] decls ++ struct_faults decls ++ total_faults decls [] decls ++ repeated_faults decls [] decls) (each_faults decls 0 decls)
     (m.in_right f (twice_faults [] decls ++ struct_faults decls ++ total_faults decls [] decls) _ i)
@@ -122,9 +111,9 @@ twice_at decls sc x h is = of_local decls sc x h _ (m.in_left _ (taken x.span.st
 
 twice_in : (decls : List Decl) (p : ℕ) → IsDeclaredTwice decls p → listed decls DeclaredTwice p
 twice_in decls p (fault.two_decls before behind d {x = x} parts is e) =
-    of_twice decls _ (subst (λ (ds : List Decl). In (record { code = DeclaredTwice; start = x.span.start }) (twice_faults [] ds)) (sym parts) (in_twice [] before behind d _ (at DeclaredTwice x.span.start _ (ap (twice before) is ∙ ap (again x.span.start) e))))
+    of_twice decls _ (subst (λ (ds : List Decl). IsAmong (record { code = DeclaredTwice; start = x.span.start }) (twice_faults [] ds)) (sym parts) (in_twice [] before behind d _ (at DeclaredTwice x.span.start _ (ap (twice before) is ∙ ap (again x.span.start) e))))
 twice_in decls p (fault.two_members {s = s} before behind x h parts e) =
-    of_structs decls _ (in_structs decls s h _ (subst (λ (ms : List Member). In (record { code = DeclaredTwice; start = (member_name x).span.start }) (member_twice_faults [] ms)) (sym parts) (in_member_twice [] before behind x _ (at DeclaredTwice (member_name x).span.start _ (ap (again (member_name x).span.start) e)))))
+    of_structs decls _ (in_structs decls s h _ (subst (λ (ms : List Member). IsAmong (record { code = DeclaredTwice; start = (member_name x).span.start }) (member_twice_faults [] ms)) (sym parts) (in_member_twice [] before behind x _ (at DeclaredTwice (member_name x).span.start _ (ap (again (member_name x).span.start) e)))))
 twice_in decls p (fault.two_locals {sc = sc} {x = x} h is) = twice_at decls sc x h (ap (λ (l : Option (ℕ × Local)). taken x.span.start l (the_decl sc.decls x.text)) is)
 twice_in decls p (fault.top_level {sc = sc} {x = x} {f = f} h is) =
     twice_at decls sc x h (ap (λ (ds : List Decl). taken x.span.start (the_local sc.locals x.text) (the_decl ds x.text)) (local_decls decls sc x h) ∙ ap (taken x.span.start (the_local sc.locals x.text)) is ∙ taken_some x.span.start (the_local sc.locals x.text) f)
@@ -132,18 +121,18 @@ twice_in decls p (fault.top_level {sc = sc} {x = x} {f = f} h is) =
 -- ---- places
 
 -- what is listed for a place that is read and for one that is written
-of_place : (decls : List Decl) (sc : Scope) (p : Place) → HasPlace decls sc p → (f : Mistake) → (sc.decls ≡ decls → In f (place_faults sc p)) → (sc.decls ≡ decls → In f (target_faults sc p)) → In f (program_faults decls)
+of_place : (decls : List Decl) (sc : Scope) (p : Place) → HasPlace decls sc p → (f : Mistake) → (sc.decls ≡ decls → IsAmong f (place_faults sc p)) → (sc.decls ≡ decls → IsAmong f (target_faults sc p)) → IsAmong f (program_faults decls)
 of_place decls sc p (is_read {w = w} h) f read written = of_expr decls sc w (place p) h f (read (expr_decls decls sc w (place p) h))
 of_place decls sc p (is_written {e = e} h) f read written = of_stmt decls sc (assign p e) h f (m.in_left f (target_faults sc p) (wanted_faults sc (wanted_by (target_of sc p)) e) (written (stmt_decls decls sc (assign p e) h)))
 
-of_indexed : (decls : List Decl) (sc : Scope) (x : Ident) (e : Expr) → HasPlace decls sc (element x e) → (f : Mistake) → (sc.decls ≡ decls → In f (no_elements sc.decls x.span.start (meaning sc x.text))) → In f (program_faults decls)
+of_indexed : (decls : List Decl) (sc : Scope) (x : Ident) (e : Expr) → HasPlace decls sc (element x e) → (f : Mistake) → (sc.decls ≡ decls → IsAmong f (no_elements sc.decls x.span.start (meaning sc x.text))) → IsAmong f (program_faults decls)
 of_indexed decls sc x e h f i =
     let a = no_elements sc.decls x.span.start (meaning sc x.text) in
     of_place decls sc (element x e) h f
     (λ s. m.in_left f (a ++ expr_faults sc e) (misfit (Value Integer) (start_of e) (typed sc e)) (m.in_left f a (expr_faults sc e) (i s)))
     (λ s. m.in_left f (a ++ no_array sc.decls x.span.start (meaning sc x.text)) (wanted_faults sc (Value Integer) e) (m.in_left f a (no_array sc.decls x.span.start (meaning sc x.text)) (i s)))
 
-of_path : (decls : List Decl) (sc : Scope) (x : Ident) (fs : List Ident) → HasPlace decls sc (path x fs) → (f : Mistake) → (sc.decls ≡ decls → In f (path_faults sc.decls x.span.start (meaning sc x.text) fs)) → In f (program_faults decls)
+of_path : (decls : List Decl) (sc : Scope) (x : Ident) (fs : List Ident) → HasPlace decls sc (path x fs) → (f : Mistake) → (sc.decls ≡ decls → IsAmong f (path_faults sc.decls x.span.start (meaning sc x.text) fs)) → IsAmong f (program_faults decls)
 of_path decls sc x fs h f i =
     of_place decls sc (path x fs) h f i (λ s. m.in_left f (path_faults sc.decls x.span.start (meaning sc x.text) fs) (final_faults x.span.start (walk_from sc.decls (meaning sc x.text) fs)) (i s))
 
@@ -154,21 +143,21 @@ unknown_place decls sc (path x fs) h is = of_path decls sc x fs h _ (λ s. at Un
 
 -- ---- paths
 
-in_walk : (decls : List Decl) (p : ℕ) (w : Walk) (before behind : List Ident) (y : Ident) (f : Mistake) → In f (step_faults decls p (walked decls w before) y) → In f (walk_faults decls p w (before ++ y ∷ behind))
+in_walk : (decls : List Decl) (p : ℕ) (w : Walk) (before behind : List Ident) (y : Ident) (f : Mistake) → IsAmong f (step_faults decls p (walked decls w before) y) → IsAmong f (walk_faults decls p w (before ++ y ∷ behind))
 in_walk decls p w [] behind y f i = m.in_left f (step_faults decls p w y) (walk_faults decls p (stepped decls w y) behind) i
 in_walk decls p w (b ∷ before) behind y f i = m.in_right f (step_faults decls p w b) _ (in_walk decls p (stepped decls w b) before behind y f i)
 
-in_end : (decls : List Decl) (p : ℕ) (w : Walk) (fs : List Ident) (f : Mistake) → In f (end_faults p (walked decls w fs)) → In f (walk_faults decls p w fs)
+in_end : (decls : List Decl) (p : ℕ) (w : Walk) (fs : List Ident) (f : Mistake) → IsAmong f (end_faults p (walked decls w fs)) → IsAmong f (walk_faults decls p w fs)
 in_end decls p w [] f i = i
 in_end decls p w (b ∷ fs) f i = m.in_right f (step_faults decls p w b) _ (in_end decls p (stepped decls w b) fs f i)
 
 -- a step that is wrong, from a local
-in_path : (decls : List Decl) (p : ℕ) (x : Meaning) (fs before behind : List Ident) (y : Ident) (f : Mistake) → fs ≡ before ++ y ∷ behind → In f (step_faults decls p (walk_from decls x before) y) → In f (path_faults decls p x fs)
-in_path decls p (a_local n l) fs before behind y f parts i = subst (λ (xs : List Ident). In f (walk_faults decls p (at_local l.value_type) xs)) (sym parts) (in_walk decls p (at_local l.value_type) before behind y f i)
+in_path : (decls : List Decl) (p : ℕ) (x : Meaning) (fs before behind : List Ident) (y : Ident) (f : Mistake) → fs ≡ before ++ y ∷ behind → IsAmong f (step_faults decls p (walk_from decls x before) y) → IsAmong f (path_faults decls p x fs)
+in_path decls p (a_local n l) fs before behind y f parts i = subst (λ (xs : List Ident). IsAmong f (walk_faults decls p (at_local l.value_type) xs)) (sym parts) (in_walk decls p (at_local l.value_type) before behind y f i)
 in_path decls p (a_decl n d) fs before behind y f parts i = absurd i
 in_path decls p nothing fs before behind y f parts i = absurd i
 
-in_path_end : (decls : List Decl) (p : ℕ) (x : Meaning) (fs : List Ident) (f : Mistake) → In f (end_faults p (walk_from decls x fs)) → In f (path_faults decls p x fs)
+in_path_end : (decls : List Decl) (p : ℕ) (x : Meaning) (fs : List Ident) (f : Mistake) → IsAmong f (end_faults p (walk_from decls x fs)) → IsAmong f (path_faults decls p x fs)
 in_path_end decls p (a_local n l) fs f i = in_end decls p (at_local l.value_type) fs f i
 in_path_end decls p (a_decl n d) fs f i = absurd i
 in_path_end decls p nothing fs f i = absurd i
@@ -180,63 +169,63 @@ unknown_field decls ds p x before y steps k s same to is e =
 
 -- ---- annotations
 
-in_along : (decls : List Decl) (p : ℕ) (from : AnnotationCursor) (y : Ident) (ys : List Ident) (st : AnnotationCursor) (x z : Ident) (zs : List Ident) → Reaches decls from y ys st x (z ∷ zs) → (f : Mistake) → In f (passed p (Some st) x) → In f (along_faults decls p (Some from) y ys)
-in_along decls p from y ys st x z zs stays f i = m.in_left f (passed p (Some from) y) (along_faults decls p (stepped_on decls (Some from) y) z zs) i
+in_along : (decls : List Decl) (p : ℕ) (from : AnnotationCursor) (y : Ident) (ys : List Ident) (st : AnnotationCursor) (x z : Ident) (zs : List Ident) → Reaches decls from y ys st x (z ∷ zs) → (f : Mistake) → IsAmong f (passed decls p (Some st) x) → IsAmong f (along_faults decls p (Some from) y ys)
+in_along decls p from y ys st x z zs stays f i = m.in_left f (passed decls p (Some from) y) (along_faults decls p (stepped_on decls (Some from) y) z zs) i
 in_along decls p from y (v ∷ vs) st x z zs (goes_on {next = next} e r) f i =
-    m.in_right f (passed p (Some from) y) _ (subst (λ (o : Option AnnotationCursor). In f (along_faults decls p o v vs)) (sym e) (in_along decls p next v vs st x z zs r f i))
+    m.in_right f (passed decls p (Some from) y) _ (subst (λ (o : Option AnnotationCursor). IsAmong f (along_faults decls p o v vs)) (sym e) (in_along decls p next v vs st x z zs r f i))
 
-in_along_end : (decls : List Decl) (p : ℕ) (from : AnnotationCursor) (y : Ident) (ys : List Ident) (st : AnnotationCursor) (x : Ident) → Reaches decls from y ys st x [] → (f : Mistake) → In f (list.ended p (Some st) x) → In f (along_faults decls p (Some from) y ys)
+in_along_end : (decls : List Decl) (p : ℕ) (from : AnnotationCursor) (y : Ident) (ys : List Ident) (st : AnnotationCursor) (x : Ident) → Reaches decls from y ys st x [] → (f : Mistake) → IsAmong f (list.ended decls p (Some st) x) → IsAmong f (along_faults decls p (Some from) y ys)
 in_along_end decls p from y ys st x stays f i = i
 in_along_end decls p from y (v ∷ vs) st x (goes_on {next = next} e r) f i =
-    m.in_right f (passed p (Some from) y) _ (subst (λ (o : Option AnnotationCursor). In f (along_faults decls p o v vs)) (sym e) (in_along_end decls p next v vs st x r f i))
+    m.in_right f (passed decls p (Some from) y) _ (subst (λ (o : Option AnnotationCursor). IsAmong f (along_faults decls p o v vs)) (sym e) (in_along_end decls p next v vs st x r f i))
 
-of_annotation : (decls : List Decl) (n : ℕ) (ms : List Member) (p : Protection) → Annotates decls n ms p → (f : Mistake) → In f (annotation_faults decls (cursor_at n ms) p (the_member ms p.first.text)) → In f (program_faults decls)
+of_annotation : (decls : List Decl) (n : ℕ) (ms : List Member) (p : Protection) → Annotates decls n ms p → (f : Mistake) → IsAmong f (annotation_faults decls (cursor_at n ms) p (the_member ms p.first.text)) → IsAmong f (program_faults decls)
 of_annotation decls n ms p (annotates {s = s} {f = g} here b e) f i =
-    of_place_at decls n (struct s) here f (in_members_field decls n s.members s.members g b f (m.in_right f (type_faults (outside decls) g.value_type) _ (subst (λ (o : Option Protection). In f (protection_faults decls n s.members g.name.span.start o)) (sym e) i)))
+    of_place_at decls n (struct s) here f (in_members_field decls n s.members s.members g b f (m.in_right f (type_faults (outside decls) g.value_type) _ (subst (λ (o : Option Protection). IsAmong f (protection_faults decls n s.members g.name.span.start o)) (sym e) i)))
 
 -- a walk's name that others follow
-of_passed : (decls : List Decl) (p : Protection) (st : AnnotationCursor) (x z : Ident) (zs : List Ident) → Walks decls p st x (z ∷ zs) → (f : Mistake) → In f (passed p.first.span.start (Some st) x) → In f (program_faults decls)
+of_passed : (decls : List Decl) (p : Protection) (st : AnnotationCursor) (x z : Ident) (zs : List Ident) → Walks decls p st x (z ∷ zs) → (f : Mistake) → IsAmong f (passed decls p.first.span.start (Some st) x) → IsAmong f (program_faults decls)
 of_passed decls p st x z zs (walks {i = n} {ms = ms} {own = o} h is r) f i =
-    of_annotation decls n ms p h f (subst (λ (q : Option (ℕ × Member)). In f (annotation_faults decls (cursor_at n ms) p q)) (sym is) (in_along decls p.first.span.start (cursor_at n ms) p.first p.rest st x z zs r f i))
+    of_annotation decls n ms p h f (subst (λ (q : Option (ℕ × Member)). IsAmong f (annotation_faults decls (cursor_at n ms) p q)) (sym is) (in_along decls p.first.span.start (cursor_at n ms) p.first p.rest st x z zs r f i))
 
 -- its last name
-of_last : (decls : List Decl) (p : Protection) (st : AnnotationCursor) (x : Ident) → Walks decls p st x [] → (f : Mistake) → In f (list.ended p.first.span.start (Some st) x) → In f (program_faults decls)
+of_last : (decls : List Decl) (p : Protection) (st : AnnotationCursor) (x : Ident) → Walks decls p st x [] → (f : Mistake) → IsAmong f (list.ended decls p.first.span.start (Some st) x) → IsAmong f (program_faults decls)
 of_last decls p st x (walks {i = n} {ms = ms} {own = o} h is r) f i =
-    of_annotation decls n ms p h f (subst (λ (q : Option (ℕ × Member)). In f (annotation_faults decls (cursor_at n ms) p q)) (sym is) (in_along_end decls p.first.span.start (cursor_at n ms) p.first p.rest st x r f i))
+    of_annotation decls n ms p h f (subst (λ (q : Option (ℕ × Member)). IsAmong f (annotation_faults decls (cursor_at n ms) p q)) (sym is) (in_along_end decls p.first.span.start (cursor_at n ms) p.first p.rest st x r f i))
 
 unknown_passed : (decls : List Decl) (p : Protection) (st : AnnotationCursor) (y : Ident) (ys : List Ident) → Walks decls p st y ys → the_member st.members y.text ≡ None → listed decls UnknownName y.span.start
-unknown_passed decls p st y [] h e = of_last decls p st y h _ (at UnknownName y.span.start _ (ap (last_faults p.first.span.start y.span.start) e))
-unknown_passed decls p st y (z ∷ zs) h e = of_passed decls p st y z zs h _ (at UnknownName y.span.start _ (ap (passed_faults p.first.span.start y.span.start (length st.through)) e))
+unknown_passed decls p st y [] h e = of_last decls p st y h _ (at UnknownName y.span.start _ (ap (last_faults decls p.first.span.start y.span.start) e))
+unknown_passed decls p st y (z ∷ zs) h e = of_passed decls p st y z zs h _ (at UnknownName y.span.start _ (ap (passed_faults decls p.first.span.start y.span.start (length st.through)) e))
 
 -- one that is to name a global lock
-of_global_lock : (decls : List Decl) (p : Protection) → NamesGlobal decls p → (f : Mistake) → In f (global_lock_faults p.first.span.start (the_decl decls p.first.text) p.rest) → In f (program_faults decls)
+of_global_lock : (decls : List Decl) (p : Protection) → NamesGlobal decls p → (f : Mistake) → IsAmong f (global_lock_faults decls p.first.span.start (the_decl decls p.first.text) p.rest) → IsAmong f (program_faults decls)
 of_global_lock decls p (fault.of_global (of_variable {v = v} h e)) f i =
     of_decl decls (global v) h f (λ n here. m.in_left f (type_faults (outside decls) v.value_type ++ lock_faults decls v.name.span.start v.protection) (opening_faults decls (want (type_of (outside decls) v.value_type)) v.value)
-    (m.in_right f (type_faults (outside decls) v.value_type) _ (subst (λ (o : Option Protection). In f (lock_faults decls v.name.span.start o)) (sym e) i)))
+    (m.in_right f (type_faults (outside decls) v.value_type) _ (subst (λ (o : Option Protection). IsAmong f (lock_faults decls v.name.span.start o)) (sym e) i)))
 of_global_lock decls p (fault.of_global (of_elements {a = a} h e)) f i =
-    of_decl decls (array a) h f (λ n here. m.in_right f (type_faults (outside decls) a.value_type) _ (subst (λ (o : Option Protection). In f (lock_faults decls a.name.span.start o)) (sym e) i))
+    of_decl decls (array a) h f (λ n here. m.in_right f (type_faults (outside decls) a.value_type) _ (subst (λ (o : Option Protection). IsAmong f (lock_faults decls a.name.span.start o)) (sym e) i))
 of_global_lock decls p (fault.no_member {i = n} {ms = ms} h is) f i =
-    of_annotation decls n ms p h f (subst (λ (q : Option (ℕ × Member)). In f (annotation_faults decls (cursor_at n ms) p q)) (sym is) i)
+    of_annotation decls n ms p h f (subst (λ (q : Option (ℕ × Member)). IsAmong f (annotation_faults decls (cursor_at n ms) p q)) (sym is) i)
 
 -- ---- inits
 
-init_part : (decls : List Decl) (x : Init) → Has decls (init x) → (f : Mistake) → In f (index_faults decls x.pool.span.start (the_decl decls x.pool.text) x.index ++ named_faults decls x.field.span.start (pool_members decls (the_decl decls x.pool.text)) x.field.text) → In f (program_faults decls)
+init_part : (decls : List Decl) (x : Init) → Has decls (init x) → (f : Mistake) → IsAmong f (index_faults decls x.pool.span.start (the_decl decls x.pool.text) x.index ++ named_faults decls x.field.span.start (pool_members decls (the_decl decls x.pool.text)) x.field.text) → IsAmong f (program_faults decls)
 init_part decls x h f i =
     let a = index_faults decls x.pool.span.start (the_decl decls x.pool.text) x.index in
     let b = named_faults decls x.field.span.start (pool_members decls (the_decl decls x.pool.text)) x.field.text in
     let c = const_faults decls (member_want decls (initialised decls x)) x.value in
     of_decl decls (init x) h f (λ n here. m.in_left f (a ++ b ++ c) (null_faults decls (initialised decls x) x.value) (m.in_left f (a ++ b) c i))
 
-of_init_index : (decls : List Decl) (x : Init) → Has decls (init x) → (f : Mistake) → In f (index_faults decls x.pool.span.start (the_decl decls x.pool.text) x.index) → In f (program_faults decls)
+of_init_index : (decls : List Decl) (x : Init) → Has decls (init x) → (f : Mistake) → IsAmong f (index_faults decls x.pool.span.start (the_decl decls x.pool.text) x.index) → IsAmong f (program_faults decls)
 of_init_index decls x h f i = init_part decls x h f (m.in_left f (index_faults decls x.pool.span.start (the_decl decls x.pool.text) x.index) _ i)
 
-of_init_field : (decls : List Decl) (x : Init) (ms : List Member) → Has decls (init x) → pool_members decls (the_decl decls x.pool.text) ≡ Some ms → (f : Mistake) → In f (field_faults x.field.span.start (the_member ms x.field.text)) → In f (program_faults decls)
+of_init_field : (decls : List Decl) (x : Init) (ms : List Member) → Has decls (init x) → pool_members decls (the_decl decls x.pool.text) ≡ Some ms → (f : Mistake) → IsAmong f (field_faults x.field.span.start (the_member ms x.field.text)) → IsAmong f (program_faults decls)
 of_init_field decls x ms h is f i =
-    init_part decls x h f (m.in_right f (index_faults decls x.pool.span.start (the_decl decls x.pool.text) x.index) _ (subst (λ (o : Option (List Member)). In f (named_faults decls x.field.span.start o x.field.text)) (sym is) i))
+    init_part decls x h f (m.in_right f (index_faults decls x.pool.span.start (the_decl decls x.pool.text) x.index) _ (subst (λ (o : Option (List Member)). IsAmong f (named_faults decls x.field.span.start o x.field.text)) (sym is) i))
 
 -- ---- E06
 
-const_own : (decls : List Decl) (w : Want) (x : Ident) (n : Number) → HasConst decls w (member_const x n) → (f : Mistake) → In f (index_faults decls x.span.start (the_decl decls x.text) n) → In f (program_faults decls)
+const_own : (decls : List Decl) (w : Want) (x : Ident) (n : Number) → HasConst decls w (member_const x n) → (f : Mistake) → IsAmong f (index_faults decls x.span.start (the_decl decls x.text) n) → IsAmong f (program_faults decls)
 const_own decls w x n h f i = of_const decls w (member_const x n) h f (m.in_left f (own_faults decls (member_const x n)) _ i)
 
 call_at : (decls : List Decl) (c : Call) (k : Code) → HasCall decls c → call_faults decls c.section.span.start (the_decl decls c.section.text) c.arguments ≡ one k c.section.span.start → listed decls k c.section.span.start
@@ -251,7 +240,7 @@ unknown_in decls p (fault.in_init {i = x} h e) = of_init_index decls x h _ (at U
 unknown_in decls p (fault.no_field_initialised {i = x} {ms = ms} h is e) = of_init_field decls x ms h is _ (at UnknownName x.field.span.start _ (ap (field_faults x.field.span.start) e))
 unknown_in decls p (fault.no_field {sc = sc} {x = x} {fs = fs} before behind y steps k {s = s} h parts to is e) =
     of_path decls sc x fs h _ (λ same. in_path sc.decls x.span.start (meaning sc x.text) fs before behind y _ parts (at UnknownName y.span.start _ (unknown_field decls sc.decls x.span.start (meaning sc x.text) before y steps k s same to is e)))
-unknown_in decls p (fault.no_lock {p = q} h e) = of_global_lock decls q h _ (at UnknownName q.first.span.start _ (ap (λ (o : Option (ℕ × Decl)). global_lock_faults q.first.span.start o q.rest) e))
+unknown_in decls p (fault.no_lock {p = q} h e) = of_global_lock decls q h _ (at UnknownName q.first.span.start _ (ap (λ (o : Option (ℕ × Decl)). global_lock_faults decls q.first.span.start o q.rest) e))
 unknown_in decls p (fault.no_field_passed {p = q} {st = st} {y = y} {ys = ys} h e) = unknown_passed decls q st y ys h e
 
 -- ---- E07
@@ -318,15 +307,15 @@ no_struct_is p (a_decl n (atomic s)) h = refl
 no_struct_is p (a_decl n (thread t)) h = refl
 no_struct_is p nothing h = absurd h
 
-no_section_is : (decls : List Decl) (p k : ℕ) (d : Decl) (cs : List Const) → (IsSection d → ⊥) → call_faults decls p (Some (k, d)) cs ≡ one WrongType p
-no_section_is decls p k (lock y) cs h = refl
-no_section_is decls p k (struct s) cs h = refl
-no_section_is decls p k (global v) cs h = refl
-no_section_is decls p k (array a) cs h = refl
-no_section_is decls p k (pool q) cs h = refl
-no_section_is decls p k (init j) cs h = refl
-no_section_is decls p k (atomic s) cs h = absurd (h tt)
-no_section_is decls p k (thread t) cs h = refl
+no_section_is : (decls : List Decl) (p k : ℕ) (d : Decl) (cs : List Const) → (IsSection d → ⊥) → has_type decls (a_decl k d) ≡ true → call_faults decls p (Some (k, d)) cs ≡ one WrongType p
+no_section_is decls p k (lock y) cs h e = refl
+no_section_is decls p k (struct s) cs h e = refl
+no_section_is decls p k (global v) cs h e = unfit_in decls WrongType p (a_decl k (global v)) e
+no_section_is decls p k (array a) cs h e = unfit_in decls WrongType p (a_decl k (array a)) e
+no_section_is decls p k (pool q) cs h e = unfit_in decls WrongType p (a_decl k (pool q)) e
+no_section_is decls p k (init j) cs h e = refl
+no_section_is decls p k (atomic s) cs h e = absurd (h tt)
+no_section_is decls p k (thread t) cs h e = refl
 
 no_pool_is : (decls : List Decl) (p k : ℕ) (d : Decl) (n : Number) → (IsPool d → ⊥) → has_type decls (a_decl k d) ≡ true → index_faults decls p (Some (k, d)) n ≡ one WrongType p
 no_pool_is decls p k (pool q) n h e = absurd (h tt)
@@ -367,7 +356,7 @@ wrong_in decls p (fault.no_reference {sc = sc} {x = x} {fs = fs} before behind y
     of_path decls sc x fs h _ (λ same. in_path sc.decls x.span.start (meaning sc x.text) fs before behind y _ parts
     (at WrongType x.span.start _ (no_reference_is sc.decls x.span.start (walk_from sc.decls (meaning sc x.text) before) y (subst (λ (cs : List Decl). IsNoReference (walk_from cs (meaning sc x.text) before)) (sym same) not_so))))
 wrong_in decls p (fault.no_struct {sc = sc} {x = x} h not_so) = of_type decls sc (ref_type x) h _ (at WrongType x.span.start _ (no_struct_is x.span.start (meaning sc x.text) not_so))
-wrong_in decls p (fault.no_section {c = c} {i = k} {d = d} h is not_so) = call_at decls c WrongType h (ap (λ (o : Option (ℕ × Decl)). call_faults decls c.section.span.start o c.arguments) is ∙ no_section_is decls c.section.span.start k d c.arguments not_so)
+wrong_in decls p (fault.no_section {c = c} {i = k} {d = d} h is not_so t) = call_at decls c WrongType h (ap (λ (o : Option (ℕ × Decl)). call_faults decls c.section.span.start o c.arguments) is ∙ no_section_is decls c.section.span.start k d c.arguments not_so t)
 wrong_in decls p (fault.no_pool {w = w} {p = x} {n = n} {i = k} {d = d} h is not_so t) = const_own decls w x n h _ (at WrongType x.span.start _ (ap (λ (o : Option (ℕ × Decl)). index_faults decls x.span.start o n) is ∙ no_pool_is decls x.span.start k d n not_so t))
 wrong_in decls p (fault.no_pool_initialised {j = x} {i = k} {d = d} h is not_so t) = of_init_index decls x h _ (at WrongType x.pool.span.start _ (ap (λ (o : Option (ℕ × Decl)). index_faults decls x.pool.span.start o x.index) is ∙ no_pool_is decls x.pool.span.start k d x.index not_so t))
 wrong_in decls p (fault.misplaced_operator {sc = sc} {w = w} {level = level} {e = a} {f = g} {links = links} {o = o} h of l e) =
@@ -386,7 +375,7 @@ counted : (decls : List Decl) (p : ℕ) → IsWrongCount decls p → listed decl
 counted decls p (fault.wrong_count {c = c} {i = k} {s = s} h is other) =
     call_at decls c WrongArgumentCount h (ap (λ (o : Option (ℕ × Decl)). call_faults decls c.section.span.start o c.arguments) is ∙ ap (λ (b : Bool). if b then argument_faults decls s.params c.arguments else one WrongArgumentCount c.section.span.start) (other_count (length c.arguments) (length s.params) other))
 
-of_target : (decls : List Decl) (sc : Scope) (q : Place) (e : Expr) (c : Code) (p : ℕ) → HasStmt decls sc (assign q e) → (sc.decls ≡ decls → In (record { code = c; start = p }) (target_faults sc q)) → listed decls c p
+of_target : (decls : List Decl) (sc : Scope) (q : Place) (e : Expr) (c : Code) (p : ℕ) → HasStmt decls sc (assign q e) → (sc.decls ≡ decls → IsAmong (record { code = c; start = p }) (target_faults sc q)) → listed decls c p
 of_target decls sc q e c p h i = of_stmt decls sc (assign q e) h _ (m.in_left _ (target_faults sc q) _ (i (stmt_decls decls sc (assign q e) h)))
 
 no_target_is : (decls : List Decl) (p k : ℕ) (d : Decl) → IsNoValue d → has_type decls (a_decl k d) ≡ true → no_target decls p (a_decl k d) ≡ one NotAssignable p
@@ -400,8 +389,9 @@ no_target_is decls p k (atomic s) h e = unfit_in decls NotAssignable p (a_decl k
 no_target_is decls p k (thread t) h e = unfit_in decls NotAssignable p (a_decl k (thread t)) e
 
 fixed_in : (decls : List Decl) (p : ℕ) → IsNotAssignable decls p → listed decls NotAssignable p
-fixed_in decls p (fault.to_fixed {sc = sc} {x = x} {e = e} {i = n} {l = l} h is not_so) =
-    of_target decls sc (lone x) e NotAssignable x.span.start h (λ same. at NotAssignable x.span.start _ (ap (no_target sc.decls x.span.start) is ∙ ap (λ (b : Bool). if b then [] else one NotAssignable x.span.start) not_so))
+fixed_in decls p (fault.to_fixed {sc = sc} {x = x} {e = e} {i = n} {l = l} h is not_so t) =
+    of_target decls sc (lone x) e NotAssignable x.span.start h (λ same. at NotAssignable x.span.start _
+    (ap (no_target sc.decls x.span.start) is ∙ ap (λ (b : Bool). if b then [] else unfit sc.decls NotAssignable x.span.start (a_local n l)) not_so ∙ unfit_in sc.decls NotAssignable x.span.start (a_local n l) t))
 fixed_in decls p (fault.to_decl {sc = sc} {x = x} {e = e} {i = n} {d = d} h is not_so t) =
     of_target decls sc (lone x) e NotAssignable x.span.start h (λ same. at NotAssignable x.span.start _ (ap (no_target sc.decls x.span.start) is ∙ no_target_is sc.decls x.span.start n d not_so (has_same decls sc.decls (a_decl n d) same t)))
 fixed_in decls p (fault.to_member {sc = sc} {x = x} {j = j} {e = e} {i = n} {p = q} h is t) =
@@ -421,46 +411,49 @@ bare_in decls p (fault.bare_field {s = s} {f = g} h b e) =
 
 -- ---- E11, E12
 
-last_is : (head here n : ℕ) (x : Member) → (IsLockMember x → ⊥) → last_faults head here (Some (n, x)) ≡ one ProtectedByNoLock head
-last_is head here n (lock_member y) h = absurd (h tt)
-last_is head here n (final_member g) h = refl
-last_is head here n (field_member g) h = refl
+unfit_member_in : (decls : List Decl) (c : Code) (p : ℕ) (x : Member) → member_has_type decls x ≡ true → unfit_member decls c p x ≡ one c p
+unfit_member_in decls c p x e = ap (λ (b : Bool). one_if b c p) e
 
-global_lock_is : (p k : ℕ) (d : Decl) (ys : List Ident) → ((IsLockDecl d × (ys ≡ [])) → ⊥) → global_lock_faults p (Some (k, d)) ys ≡ one ProtectedByNoLock p
-global_lock_is p k (lock x) [] h = absurd (h (tt, refl))
-global_lock_is p k (lock x) (y ∷ ys) h = refl
-global_lock_is p k (struct s) ys h = refl
-global_lock_is p k (global v) ys h = refl
-global_lock_is p k (array a) ys h = refl
-global_lock_is p k (pool q) ys h = refl
-global_lock_is p k (init j) ys h = refl
-global_lock_is p k (atomic s) ys h = refl
-global_lock_is p k (thread t) ys h = refl
+last_is : (decls : List Decl) (head here n : ℕ) (x : Member) → (IsLockMember x → ⊥) → member_has_type decls x ≡ true → last_faults decls head here (Some (n, x)) ≡ one ProtectedByNoLock head
+last_is decls head here n (lock_member y) h e = absurd (h tt)
+last_is decls head here n (final_member g) h e = unfit_member_in decls ProtectedByNoLock head (final_member g) e
+last_is decls head here n (field_member g) h e = unfit_member_in decls ProtectedByNoLock head (field_member g) e
+
+global_lock_is : (decls : List Decl) (p k : ℕ) (d : Decl) (ys : List Ident) → ((IsLockDecl d × (ys ≡ [])) → ⊥) → has_type decls (a_decl k d) ≡ true → global_lock_faults decls p (Some (k, d)) ys ≡ one ProtectedByNoLock p
+global_lock_is decls p k (lock x) [] h e = absurd (h (tt, refl))
+global_lock_is decls p k (lock x) (y ∷ ys) h e = refl
+global_lock_is decls p k (struct s) ys h e = refl
+global_lock_is decls p k (global v) ys h e = unfit_in decls ProtectedByNoLock p (a_decl k (global v)) e
+global_lock_is decls p k (array a) ys h e = unfit_in decls ProtectedByNoLock p (a_decl k (array a)) e
+global_lock_is decls p k (pool q) ys h e = unfit_in decls ProtectedByNoLock p (a_decl k (pool q)) e
+global_lock_is decls p k (init j) ys h e = refl
+global_lock_is decls p k (atomic s) ys h e = refl
+global_lock_is decls p k (thread t) ys h e = refl
 
 ends_in : (decls : List Decl) (p : ℕ) → EndsAtNoLock decls p → listed decls ProtectedByNoLock p
-ends_in decls p (fault.ends_at_member {p = q} {st = st} {y = y} {i = n} {m = x} h is not_so) =
-    of_last decls q st y h _ (at ProtectedByNoLock q.first.span.start _ (ap (last_faults q.first.span.start y.span.start) is ∙ last_is q.first.span.start y.span.start n x not_so))
-ends_in decls p (fault.names_no_lock {p = q} {i = n} {d = d} h is not_so) =
-    of_global_lock decls q h _ (at ProtectedByNoLock q.first.span.start _ (ap (λ (o : Option (ℕ × Decl)). global_lock_faults q.first.span.start o q.rest) is ∙ global_lock_is q.first.span.start n d q.rest not_so))
+ends_in decls p (fault.ends_at_member {p = q} {st = st} {y = y} {i = n} {m = x} h is not_so t) =
+    of_last decls q st y h _ (at ProtectedByNoLock q.first.span.start _ (ap (last_faults decls q.first.span.start y.span.start) is ∙ last_is decls q.first.span.start y.span.start n x not_so t))
+ends_in decls p (fault.names_no_lock {p = q} {i = n} {d = d} h is not_so t) =
+    of_global_lock decls q h _ (at ProtectedByNoLock q.first.span.start _ (ap (λ (o : Option (ℕ × Decl)). global_lock_faults decls q.first.span.start o q.rest) is ∙ global_lock_is decls q.first.span.start n d q.rest not_so t))
 
-passed_is : (head here n k : ℕ) (x : Member) → (IsFinalMember x → ⊥) → passed_faults head here n (Some (k, x)) ≡ one ProtectedByPassesNonFinal here
-passed_is head here n k (lock_member y) h = refl
-passed_is head here n k (final_member g) h = absurd (h tt)
-passed_is head here n k (field_member g) h = refl
+passed_is : (decls : List Decl) (head here n k : ℕ) (x : Member) → (IsFinalMember x → ⊥) → member_has_type decls x ≡ true → passed_faults decls head here n (Some (k, x)) ≡ one ProtectedByPassesNonFinal here
+passed_is decls head here n k (lock_member y) h e = refl
+passed_is decls head here n k (final_member g) h e = absurd (h tt)
+passed_is decls head here n k (field_member g) h e = unfit_member_in decls ProtectedByPassesNonFinal here (field_member g) e
 
 passes_in : (decls : List Decl) (p : ℕ) → PassesNonFinal decls p → listed decls ProtectedByPassesNonFinal p
-passes_in decls p (fault.passes {p = q} {st = st} {y = y} {z = z} {zs = zs} {i = n} {m = x} h is not_so) =
-    of_passed decls q st y z zs h _ (at ProtectedByPassesNonFinal y.span.start _ (ap (passed_faults q.first.span.start y.span.start (length st.through)) is ∙ passed_is q.first.span.start y.span.start (length st.through) n x not_so))
+passes_in decls p (fault.passes {p = q} {st = st} {y = y} {z = z} {zs = zs} {i = n} {m = x} h is not_so t) =
+    of_passed decls q st y z zs h _ (at ProtectedByPassesNonFinal y.span.start _ (ap (passed_faults decls q.first.span.start y.span.start (length st.through)) is ∙ passed_is decls q.first.span.start y.span.start (length st.through) n x not_so t))
 
 -- ---- E15
 
-in_totals : (decls ahead before rest : List Decl) (d : Decl) (f : Mistake) → In f (count_faults decls (ahead ++ before) d) → In f (total_faults decls ahead (before ++ d ∷ rest))
-in_totals decls ahead [] rest d f i = m.in_left f (count_faults decls ahead d) (total_faults decls (ahead ++ d ∷ []) rest) (subst (λ (ds : List Decl). In f (count_faults decls ds d)) (nil_right ahead) i)
+in_totals : (decls ahead before rest : List Decl) (d : Decl) (f : Mistake) → IsAmong f (count_faults decls (ahead ++ before) d) → IsAmong f (total_faults decls ahead (before ++ d ∷ rest))
+in_totals decls ahead [] rest d f i = m.in_left f (count_faults decls ahead d) (total_faults decls (ahead ++ d ∷ []) rest) (subst (λ (ds : List Decl). IsAmong f (count_faults decls ds d)) (append-nil ahead) i)
 in_totals decls ahead (b ∷ before) rest d f i =
-    m.in_right f (count_faults decls ahead b) _ (in_totals decls (ahead ++ b ∷ []) before rest d f (subst (λ (ds : List Decl). In f (count_faults decls ds d)) (sym (append_assoc ahead (b ∷ []) before)) i))
+    m.in_right f (count_faults decls ahead b) _ (in_totals decls (ahead ++ b ∷ []) before rest d f (subst (λ (ds : List Decl). IsAmong f (count_faults decls ds d)) (sym (append_assoc ahead (b ∷ []) before)) i))
 
-pub of_counts : (decls before behind : List Decl) (d : Decl) → decls ≡ before ++ d ∷ behind → (f : Mistake) → In f (count_faults decls before d) → In f (program_faults decls)
-of_counts decls before behind d parts f i = of_totals decls f (subst (λ (ds : List Decl). In f (total_faults decls [] ds)) (sym parts) (in_totals decls [] before behind d f i))
+pub of_counts : (decls before behind : List Decl) (d : Decl) → decls ≡ before ++ d ∷ behind → (f : Mistake) → IsAmong f (count_faults decls before d) → IsAmong f (program_faults decls)
+of_counts decls before behind d parts f i = of_totals decls f (subst (λ (ds : List Decl). IsAmong f (total_faults decls [] ds)) (sym parts) (in_totals decls [] before behind d f i))
 
 parts_has : (before behind : List Decl) (d : Decl) → Has (before ++ d ∷ behind) d
 parts_has [] behind d = first
@@ -472,28 +465,28 @@ has_parts (x ∷ ds) d first = ([], ds, refl)
 has_parts (x ∷ ds) d (further h) = let r = has_parts ds d h in (x ∷ r.0, r.1, ap (λ (ys : List Decl). x ∷ ys) r.2)
 
 -- the declared name is the one that the fault stands at
-same_start : (a b : Ident) (c : Code) (p : ℕ) (fs : List Mistake) → Some a ≡ Some b → In (record { code = c; start = a.span.start }) fs → In (record { code = c; start = b.span.start }) fs
-same_start a b c p fs e i = let s : a ≡ b = cc in subst (λ (y : Ident). In (record { code = c; start = y.span.start }) fs) s i
+same_start : (a b : Ident) (c : Code) (p : ℕ) (fs : List Mistake) → Some a ≡ Some b → IsAmong (record { code = c; start = a.span.start }) fs → IsAmong (record { code = c; start = b.span.start }) fs
+same_start a b c p fs e i = let s : a ≡ b = cc in subst (λ (y : Ident). IsAmong (record { code = c; start = y.span.start }) fs) s i
 
-passes_true : (limit n own : ℕ) → n ≤ limit → limit < n + own → passes limit n own ≡ true
-passes_true limit n own a b = both_true (nat_le n limit) (nat_lt limit (n + own)) (le_is n limit a) (lt_is limit (n + own) b)
+passes_true : (limit n own : ℕ) → n ≤ limit → limit < n + own → first_too_many limit n own ≡ true
+passes_true limit n own a b = both_true (nat_le n limit) (nat_lt limit (n + own)) (le_true n limit a) (lt_true limit (n + own) b)
 
-many_in : (decls before : List Decl) (d : Decl) (x : Ident) (n : ℕ) → declared d ≡ Some x → limit_of d ≡ Some n → n ≤ count (alike d) before → In (record { code = LimitExceeded; start = x.span.start }) (count_faults decls before d)
+many_in : (decls before : List Decl) (d : Decl) (x : Ident) (n : ℕ) → declared d ≡ Some x → limit_of d ≡ Some n → n ≤ count (alike d) before → IsAmong (record { code = LimitExceeded; start = x.span.start }) (count_faults decls before d)
 many_in decls before (struct s) x n is l le =
-    same_start s.name x LimitExceeded 0 _ is (m.in_left _ (one_if (nat_le STRUCT_LIMIT (count (alike (struct s)) before)) LimitExceeded s.name.span.start) _ (at_if (nat_le STRUCT_LIMIT (count (alike (struct s)) before)) LimitExceeded s.name.span.start (let e : STRUCT_LIMIT ≡ n = cc in le_is STRUCT_LIMIT (count (alike (struct s)) before) (subst (λ (k : ℕ). k ≤ count (alike (struct s)) before) (sym e) le))))
+    same_start s.name x LimitExceeded 0 _ is (m.in_left _ (one_if (nat_le STRUCT_LIMIT (count (alike (struct s)) before)) LimitExceeded s.name.span.start) _ (at_if (nat_le STRUCT_LIMIT (count (alike (struct s)) before)) LimitExceeded s.name.span.start (let e : STRUCT_LIMIT ≡ n = cc in le_true STRUCT_LIMIT (count (alike (struct s)) before) (subst (λ (k : ℕ). k ≤ count (alike (struct s)) before) (sym e) le))))
 many_in decls before (atomic s) x n is l le =
-    same_start s.name x LimitExceeded 0 _ is (at_if (nat_le SECTION_LIMIT (count (alike (atomic s)) before)) LimitExceeded s.name.span.start (let e : SECTION_LIMIT ≡ n = cc in le_is SECTION_LIMIT (count (alike (atomic s)) before) (subst (λ (k : ℕ). k ≤ count (alike (atomic s)) before) (sym e) le)))
+    same_start s.name x LimitExceeded 0 _ is (at_if (nat_le SECTION_LIMIT (count (alike (atomic s)) before)) LimitExceeded s.name.span.start (let e : SECTION_LIMIT ≡ n = cc in le_true SECTION_LIMIT (count (alike (atomic s)) before) (subst (λ (k : ℕ). k ≤ count (alike (atomic s)) before) (sym e) le)))
 many_in decls before (thread t) x n is l le =
-    same_start t.name x LimitExceeded 0 _ is (m.in_left _ (one_if (nat_le THREAD_LIMIT (count (alike (thread t)) before)) LimitExceeded t.name.span.start) _ (at_if (nat_le THREAD_LIMIT (count (alike (thread t)) before)) LimitExceeded t.name.span.start (let e : THREAD_LIMIT ≡ n = cc in le_is THREAD_LIMIT (count (alike (thread t)) before) (subst (λ (k : ℕ). k ≤ count (alike (thread t)) before) (sym e) le))))
+    same_start t.name x LimitExceeded 0 _ is (m.in_left _ (one_if (nat_le THREAD_LIMIT (count (alike (thread t)) before)) LimitExceeded t.name.span.start) _ (at_if (nat_le THREAD_LIMIT (count (alike (thread t)) before)) LimitExceeded t.name.span.start (let e : THREAD_LIMIT ≡ n = cc in le_true THREAD_LIMIT (count (alike (thread t)) before) (subst (λ (k : ℕ). k ≤ count (alike (thread t)) before) (sym e) le))))
 many_in decls before (lock y) x n is l le = cc
 many_in decls before (global v) x n is l le = cc
 many_in decls before (array a) x n is l le = cc
 many_in decls before (pool q) x n is l le = cc
 many_in decls before (init j) x n is l le = cc
 
-objects_in : (decls before : List Decl) (d : Decl) (x : Ident) → declared d ≡ Some x → total objects_of before ≤ OBJECT_LIMIT → OBJECT_LIMIT < total objects_of before + objects_of d → In (record { code = LimitExceeded; start = x.span.start }) (count_faults decls before d)
+objects_in : (decls before : List Decl) (d : Decl) (x : Ident) → declared d ≡ Some x → total objects_of before ≤ OBJECT_LIMIT → OBJECT_LIMIT < total objects_of before + objects_of d → IsAmong (record { code = LimitExceeded; start = x.span.start }) (count_faults decls before d)
 objects_in decls before (pool q) x is a b =
-    same_start q.name x LimitExceeded 0 _ is (m.in_left _ (one_if (passes OBJECT_LIMIT (total objects_of before) (objects_of (pool q))) LimitExceeded q.name.span.start) _ (at_if (passes OBJECT_LIMIT (total objects_of before) (objects_of (pool q))) LimitExceeded q.name.span.start (passes_true OBJECT_LIMIT (total objects_of before) (objects_of (pool q)) a b)))
+    same_start q.name x LimitExceeded 0 _ is (m.in_left _ (one_if (first_too_many OBJECT_LIMIT (total objects_of before) (objects_of (pool q))) LimitExceeded q.name.span.start) _ (at_if (first_too_many OBJECT_LIMIT (total objects_of before) (objects_of (pool q))) LimitExceeded q.name.span.start (passes_true OBJECT_LIMIT (total objects_of before) (objects_of (pool q)) a b)))
 objects_in decls before (struct s) x is a b = absurd (omega (arith, a, b))
 objects_in decls before (atomic s) x is a b = absurd (omega (arith, a, b))
 objects_in decls before (thread t) x is a b = absurd (omega (arith, a, b))
@@ -502,22 +495,22 @@ objects_in decls before (global v) x is a b = absurd (omega (arith, a, b))
 objects_in decls before (array y) x is a b = absurd (omega (arith, a, b))
 objects_in decls before (init j) x is a b = absurd (omega (arith, a, b))
 
-cells_in : (decls before : List Decl) (d : Decl) (x : Ident) → declared d ≡ Some x → total (cells_of decls) before ≤ CELL_LIMIT → CELL_LIMIT < total (cells_of decls) before + cells_of decls d → In (record { code = LimitExceeded; start = x.span.start }) (count_faults decls before d)
+cells_in : (decls before : List Decl) (d : Decl) (x : Ident) → declared d ≡ Some x → total (cells_of decls) before ≤ CELL_LIMIT → CELL_LIMIT < total (cells_of decls) before + cells_of decls d → IsAmong (record { code = LimitExceeded; start = x.span.start }) (count_faults decls before d)
 cells_in decls before (global v) x is a b =
-    same_start v.name x LimitExceeded 0 _ is (at_if (passes CELL_LIMIT (total (cells_of decls) before) (cells_of decls (global v))) LimitExceeded v.name.span.start (passes_true CELL_LIMIT (total (cells_of decls) before) (cells_of decls (global v)) a b))
+    same_start v.name x LimitExceeded 0 _ is (at_if (first_too_many CELL_LIMIT (total (cells_of decls) before) (cells_of decls (global v))) LimitExceeded v.name.span.start (passes_true CELL_LIMIT (total (cells_of decls) before) (cells_of decls (global v)) a b))
 cells_in decls before (array y) x is a b =
-    same_start y.name x LimitExceeded 0 _ is (at_if (passes CELL_LIMIT (total (cells_of decls) before) (cells_of decls (array y))) LimitExceeded y.name.span.start (passes_true CELL_LIMIT (total (cells_of decls) before) (cells_of decls (array y)) a b))
+    same_start y.name x LimitExceeded 0 _ is (at_if (first_too_many CELL_LIMIT (total (cells_of decls) before) (cells_of decls (array y))) LimitExceeded y.name.span.start (passes_true CELL_LIMIT (total (cells_of decls) before) (cells_of decls (array y)) a b))
 cells_in decls before (pool q) x is a b =
-    same_start q.name x LimitExceeded 0 _ is (m.in_right _ (one_if (passes OBJECT_LIMIT (total objects_of before) (objects_of (pool q))) LimitExceeded q.name.span.start) _ (at_if (passes CELL_LIMIT (total (cells_of decls) before) (cells_of decls (pool q))) LimitExceeded q.name.span.start (passes_true CELL_LIMIT (total (cells_of decls) before) (cells_of decls (pool q)) a b)))
+    same_start q.name x LimitExceeded 0 _ is (m.in_right _ (one_if (first_too_many OBJECT_LIMIT (total objects_of before) (objects_of (pool q))) LimitExceeded q.name.span.start) _ (at_if (first_too_many CELL_LIMIT (total (cells_of decls) before) (cells_of decls (pool q))) LimitExceeded q.name.span.start (passes_true CELL_LIMIT (total (cells_of decls) before) (cells_of decls (pool q)) a b)))
 cells_in decls before (struct s) x is a b = absurd (omega (arith, a, b))
 cells_in decls before (atomic s) x is a b = absurd (omega (arith, a, b))
 cells_in decls before (thread t) x is a b = absurd (omega (arith, a, b))
 cells_in decls before (lock y) x is a b = absurd (omega (arith, a, b))
 cells_in decls before (init j) x is a b = absurd (omega (arith, a, b))
 
-calls_in : (decls before : List Decl) (d : Decl) (x : Ident) → declared d ≡ Some x → total calls_of before ≤ CALL_LIMIT → CALL_LIMIT < total calls_of before + calls_of d → In (record { code = LimitExceeded; start = x.span.start }) (count_faults decls before d)
+calls_in : (decls before : List Decl) (d : Decl) (x : Ident) → declared d ≡ Some x → total calls_of before ≤ CALL_LIMIT → CALL_LIMIT < total calls_of before + calls_of d → IsAmong (record { code = LimitExceeded; start = x.span.start }) (count_faults decls before d)
 calls_in decls before (thread t) x is a b =
-    same_start t.name x LimitExceeded 0 _ is (m.in_right _ (one_if (nat_le THREAD_LIMIT (count (alike (thread t)) before)) LimitExceeded t.name.span.start) _ (at_if (passes CALL_LIMIT (total calls_of before) (calls_of (thread t))) LimitExceeded t.name.span.start (passes_true CALL_LIMIT (total calls_of before) (calls_of (thread t)) a b)))
+    same_start t.name x LimitExceeded 0 _ is (m.in_right _ (one_if (nat_le THREAD_LIMIT (count (alike (thread t)) before)) LimitExceeded t.name.span.start) _ (at_if (first_too_many CALL_LIMIT (total calls_of before) (calls_of (thread t))) LimitExceeded t.name.span.start (passes_true CALL_LIMIT (total calls_of before) (calls_of (thread t)) a b)))
 calls_in decls before (struct s) x is a b = absurd (omega (arith, a, b))
 calls_in decls before (atomic s) x is a b = absurd (omega (arith, a, b))
 calls_in decls before (lock y) x is a b = absurd (omega (arith, a, b))
@@ -530,13 +523,13 @@ calls_in decls before (init j) x is a b = absurd (omega (arith, a, b))
 abbrev member_own : ℕ → ℕ → Member → List Mistake
 member_own classes n x = one_if (nat_le MEMBER_LIMIT n) LimitExceeded (member_name x).span.start ++ one_if (is_lock x && nat_le CLASS_LIMIT classes) LimitExceeded (member_name x).span.start
 
-in_member_counts : (classes n : ℕ) (ahead rest : List Member) (x : Member) (f : Mistake) → In f (member_own (classes + count is_lock ahead) (n + length ahead) x) → In f (member_counts classes n (ahead ++ x ∷ rest))
+in_member_counts : (classes n : ℕ) (ahead rest : List Member) (x : Member) (f : Mistake) → IsAmong f (member_own (classes + count is_lock ahead) (n + length ahead) x) → IsAmong f (member_counts classes n (ahead ++ x ∷ rest))
 in_member_counts classes n [] rest x f i =
     m.in_left f (member_own classes n x) (member_counts (classes + lock_count (is_lock x)) (n + 1) rest)
-    (subst (λ (k : ℕ). In f (member_own k n x)) (let z : classes + 0 ≡ classes = omega arith in z) (subst (λ (k : ℕ). In f (member_own (classes + 0) k x)) (let z : n + 0 ≡ n = omega arith in z) i))
+    (subst (λ (k : ℕ). IsAmong f (member_own k n x)) (let z : classes + 0 ≡ classes = omega arith in z) (subst (λ (k : ℕ). IsAmong f (member_own (classes + 0) k x)) (let z : n + 0 ≡ n = omega arith in z) i))
 in_member_counts classes n (b ∷ ahead) rest x f i =
     m.in_right f (member_own classes n b) _ (in_member_counts (classes + lock_count (is_lock b)) (n + 1) ahead rest x f
-    (subst (λ (k : ℕ). In f (member_own k (n + 1 + length ahead) x)) (locks_ahead b) (subst (λ (k : ℕ). In f (member_own (classes + count is_lock (b ∷ ahead)) k x)) (let z : n + suc (length ahead) ≡ n + 1 + length ahead = omega arith in z) i)))
+    (subst (λ (k : ℕ). IsAmong f (member_own k (n + 1 + length ahead) x)) (locks_ahead b) (subst (λ (k : ℕ). IsAmong f (member_own (classes + count is_lock (b ∷ ahead)) k x)) (let z : n + suc (length ahead) ≡ n + 1 + length ahead = omega arith in z) i)))
   where
     locks_ahead : (y : Member) → classes + count is_lock (y ∷ ahead) ≡ classes + lock_count (is_lock y) + count is_lock ahead
     locks_ahead (lock_member z) = omega arith
@@ -544,31 +537,31 @@ in_member_counts classes n (b ∷ ahead) rest x f i =
     locks_ahead (field_member z) = omega arith
 
 of_member_counts : (decls before behind : List Decl) (s : Struct) (ahead rest : List Member) (x : Member) → decls ≡ before ++ struct s ∷ behind → s.members ≡ ahead ++ x ∷ rest → (f : Mistake) →
-    In f (member_own (total classes_of before + count is_lock ahead) (length ahead) x) → In f (program_faults decls)
+    IsAmong f (member_own (total classes_of before + count is_lock ahead) (length ahead) x) → IsAmong f (program_faults decls)
 of_member_counts decls before behind s ahead rest x parts inner f i =
     of_counts decls before behind (struct s) parts f (m.in_right f (one_if (nat_le STRUCT_LIMIT (count (alike (struct s)) before)) LimitExceeded s.name.span.start) _
-    (subst (λ (ms : List Member). In f (member_counts (total classes_of before) 0 ms)) (sym inner) (in_member_counts (total classes_of before) 0 ahead rest x f
-    (subst (λ (k : ℕ). In f (member_own (total classes_of before + count is_lock ahead) k x)) (let z : length ahead ≡ 0 + length ahead = omega arith in z) i))))
+    (subst (λ (ms : List Member). IsAmong f (member_counts (total classes_of before) 0 ms)) (sym inner) (in_member_counts (total classes_of before) 0 ahead rest x f
+    (subst (λ (k : ℕ). IsAmong f (member_own (total classes_of before + count is_lock ahead) k x)) (let z : length ahead ≡ 0 + length ahead = omega arith in z) i))))
 
 over_in : (decls : List Decl) (p : ℕ) → IsOverLimit decls p → listed decls LimitExceeded p
 over_in decls p (fault.too_many before behind d {x = x} n parts is l le) = of_counts decls before behind d parts _ (many_in decls before d x n is l le)
 over_in decls p (fault.too_many_members {s = s} ahead rest x h inner le) =
     let r = has_parts decls (struct s) h in
-    of_member_counts decls r.0 r.1 s ahead rest x r.2 inner _ (m.in_left _ (one_if (nat_le MEMBER_LIMIT (length ahead)) LimitExceeded (member_name x).span.start) _ (at_if (nat_le MEMBER_LIMIT (length ahead)) LimitExceeded (member_name x).span.start (le_is MEMBER_LIMIT (length ahead) le)))
-over_in decls p (fault.too_many_locks before behind x parts le) = of_counts decls before behind (lock x) parts _ (at_if (nat_le CLASS_LIMIT (total classes_of before)) LimitExceeded x.span.start (le_is CLASS_LIMIT (total classes_of before) le))
+    of_member_counts decls r.0 r.1 s ahead rest x r.2 inner _ (m.in_left _ (one_if (nat_le MEMBER_LIMIT (length ahead)) LimitExceeded (member_name x).span.start) _ (at_if (nat_le MEMBER_LIMIT (length ahead)) LimitExceeded (member_name x).span.start (le_true MEMBER_LIMIT (length ahead) le)))
+over_in decls p (fault.too_many_locks before behind x parts le) = of_counts decls before behind (lock x) parts _ (at_if (nat_le CLASS_LIMIT (total classes_of before)) LimitExceeded x.span.start (le_true CLASS_LIMIT (total classes_of before) le))
 over_in decls p (fault.too_many_lock_fields before behind s ahead rest x parts inner le) =
     of_member_counts decls before behind s ahead rest (lock_member x) parts inner _ (m.in_right _ (one_if (nat_le MEMBER_LIMIT (length ahead)) LimitExceeded x.span.start) _
-    (at_if (nat_le CLASS_LIMIT (total classes_of before + count is_lock ahead)) LimitExceeded x.span.start (le_is CLASS_LIMIT (total classes_of before + count is_lock ahead) le)))
+    (at_if (nat_le CLASS_LIMIT (total classes_of before + count is_lock ahead)) LimitExceeded x.span.start (le_true CLASS_LIMIT (total classes_of before + count is_lock ahead) le)))
 over_in decls p (fault.too_many_objects before behind d {x = x} parts is a b) = of_counts decls before behind d parts _ (objects_in decls before d x is a b)
 over_in decls p (fault.too_many_cells before behind d {x = x} parts is a b) = of_counts decls before behind d parts _ (cells_in decls before d x is a b)
 over_in decls p (fault.too_many_calls before behind d {x = x} parts is a b) = of_counts decls before behind d parts _ (calls_in decls before d x is a b)
 over_in decls p (fault.too_many_parameters {x = x} q before behind h parts le) =
     of_param decls x before behind q h parts _ (m.in_left _ (local_faults (entered (ahead_of decls x) before) q.name ++ one_if (nat_le PARAMETER_LIMIT (length before)) LimitExceeded q.name.span.start) _
-    (m.in_right _ (local_faults (entered (ahead_of decls x) before) q.name) _ (at_if (nat_le PARAMETER_LIMIT (length before)) LimitExceeded q.name.span.start (le_is PARAMETER_LIMIT (length before) le))))
+    (m.in_right _ (local_faults (entered (ahead_of decls x) before) q.name) _ (at_if (nat_le PARAMETER_LIMIT (length before)) LimitExceeded q.name.span.start (le_true PARAMETER_LIMIT (length before) le))))
 over_in decls p (fault.too_many_locals {sc = sc} {x = x} h le) =
-    of_local decls sc x h _ (m.in_right _ (taken x.span.start (the_local sc.locals x.text) (the_decl sc.decls x.text)) _ (at_if (nat_le LOCAL_LIMIT (length sc.locals)) LimitExceeded x.span.start (le_is LOCAL_LIMIT (length sc.locals) le)))
+    of_local decls sc x h _ (m.in_right _ (taken x.span.start (the_local sc.locals x.text) (the_decl sc.decls x.text)) _ (at_if (nat_le LOCAL_LIMIT (length sc.locals)) LimitExceeded x.span.start (le_true LOCAL_LIMIT (length sc.locals) le)))
 over_in decls p (fault.too_many_finals {p = q} {st = st} {y = y} {z = z} {zs = zs} {i = n} {f = g} h is le) =
-    of_passed decls q st y z zs h _ (subst (In _) (sym (ap (passed_faults q.first.span.start y.span.start (length st.through)) is)) (at_if (nat_le FINAL_LIMIT (length st.through)) LimitExceeded q.first.span.start (le_is FINAL_LIMIT (length st.through) le)))
+    of_passed decls q st y z zs h _ (subst (IsAmong _) (sym (ap (passed_faults decls q.first.span.start y.span.start (length st.through)) is)) (at_if (nat_le FINAL_LIMIT (length st.through)) LimitExceeded q.first.span.start (le_true FINAL_LIMIT (length st.through) le)))
 
 -- ---- E16
 
@@ -614,7 +607,7 @@ missing_in : (decls : List Decl) (p : ℕ) → IsFinalMissing decls p → listed
 missing_in decls p (fault.not_given k {p = q} {ms = ms} name {m = x} {f = g} {s = s} n here is to target less none) =
     let found = member_is ms name x (final_member g) to in
     of_place_at decls k (pool q) here _ (m.in_right _ (type_faults (outside decls) (ref_type q.target)) _
-    (subst (λ (o : Option (List Member)). In (record { code = FinalWithoutOpeningValue; start = q.name.span.start }) (missing_faults decls k q o)) (sym is)
+    (subst (λ (o : Option (List Member)). IsAmong (record { code = FinalWithoutOpeningValue; start = q.name.span.start }) (missing_faults decls k q o)) (sym is)
     (at_if (lacks decls k q.length.value ms 0 ms) FinalWithoutOpeningValue q.name.span.start
     (lacks_in decls k q.length.value ms 0 ms x (final_member g) found.0
     (subst (λ (i : ℕ). is_due decls ms i (final_member g) ≡ true) (let z : x ≡ 0 + x = omega arith in z)
@@ -625,25 +618,25 @@ missing_in decls p (fault.not_given k {p = q} {ms = ms} name {m = x} {f = g} {s 
     self n = grind (arith, nat_tests)
 missing_in decls p (fault.given_null {i = x} {m = n} {f = g} {s = s} {at = here} h is target e) =
     of_decl decls (init x) h _ (λ k place. m.in_right _ (index_faults decls x.pool.span.start (the_decl decls x.pool.text) x.index ++ named_faults decls x.field.span.start (pool_members decls (the_decl decls x.pool.text)) x.field.text ++ const_faults decls (member_want decls (initialised decls x)) x.value) _
-    (subst (In _) (sym (ap (λ (o : Option (ℕ × Member)). null_faults decls o x.value) is ∙ ap (null_faults decls (Some (n, final_member g))) e)) (at_if (is_some (struct_named decls g.target)) FinalWithoutOpeningValue here.start (ap is_some target))))
+    (subst (IsAmong _) (sym (ap (λ (o : Option (ℕ × Member)). null_faults decls o x.value) is ∙ ap (null_faults decls (Some (n, final_member g))) e)) (at_if (is_some (struct_named decls g.target)) FinalWithoutOpeningValue here.start (ap is_some target))))
 
 -- ---- E17, E19
 
-in_repeated : (decls ahead before rest : List Decl) (d : Decl) (f : Mistake) → In f (repeated decls (ahead ++ before) d) → In f (repeated_faults decls ahead (before ++ d ∷ rest))
-in_repeated decls ahead [] rest d f i = m.in_left f (repeated decls ahead d) (repeated_faults decls (ahead ++ d ∷ []) rest) (subst (λ (ds : List Decl). In f (repeated decls ds d)) (nil_right ahead) i)
+in_repeated : (decls ahead before rest : List Decl) (d : Decl) (f : Mistake) → IsAmong f (repeated decls (ahead ++ before) d) → IsAmong f (repeated_faults decls ahead (before ++ d ∷ rest))
+in_repeated decls ahead [] rest d f i = m.in_left f (repeated decls ahead d) (repeated_faults decls (ahead ++ d ∷ []) rest) (subst (λ (ds : List Decl). IsAmong f (repeated decls ds d)) (append-nil ahead) i)
 in_repeated decls ahead (b ∷ before) rest d f i =
-    m.in_right f (repeated decls ahead b) _ (in_repeated decls (ahead ++ b ∷ []) before rest d f (subst (λ (ds : List Decl). In f (repeated decls ds d)) (sym (append_assoc ahead (b ∷ []) before)) i))
+    m.in_right f (repeated decls ahead b) _ (in_repeated decls (ahead ++ b ∷ []) before rest d f (subst (λ (ds : List Decl). IsAmong f (repeated decls ds d)) (sym (append_assoc ahead (b ∷ []) before)) i))
 
-beyond : (decls : List Decl) (k p : ℕ) (q : Pool) (n : Number) → has_type decls (a_decl k (pool q)) ≡ true → q.length.value ≤ n.value → In (record { code = InitOutOfRangeOrRepeated; start = n.span.start }) (index_faults decls p (Some (k, pool q)) n)
-beyond decls k p q n t le = at_if (has_type decls (a_decl k (pool q)) && nat_le q.length.value n.value) InitOutOfRangeOrRepeated n.span.start (both_true (has_type decls (a_decl k (pool q))) (nat_le q.length.value n.value) t (le_is q.length.value n.value le))
+beyond : (decls : List Decl) (k p : ℕ) (q : Pool) (n : Number) → has_type decls (a_decl k (pool q)) ≡ true → q.length.value ≤ n.value → IsAmong (record { code = InitOutOfRangeOrRepeated; start = n.span.start }) (index_faults decls p (Some (k, pool q)) n)
+beyond decls k p q n t le = at_if (has_type decls (a_decl k (pool q)) && nat_le q.length.value n.value) InitOutOfRangeOrRepeated n.span.start (both_true (has_type decls (a_decl k (pool q))) (nat_le q.length.value n.value) t (le_true q.length.value n.value le))
 
 range_in : (decls : List Decl) (p : ℕ) → IsOutOfRange decls p → listed decls InitOutOfRangeOrRepeated p
 range_in decls p (fault.constant_beyond {w = w} {x = x} {n = n} {i = k} {p = q} h is t le) =
-    const_own decls w x n h _ (subst (λ (o : Option (ℕ × Decl)). In (record { code = InitOutOfRangeOrRepeated; start = n.span.start }) (index_faults decls x.span.start o n)) (sym is) (beyond decls k x.span.start q n t le))
+    const_own decls w x n h _ (subst (λ (o : Option (ℕ × Decl)). IsAmong (record { code = InitOutOfRangeOrRepeated; start = n.span.start }) (index_faults decls x.span.start o n)) (sym is) (beyond decls k x.span.start q n t le))
 range_in decls p (fault.init_beyond {j = x} {i = k} {p = q} h is t le) =
-    of_init_index decls x h _ (subst (λ (o : Option (ℕ × Decl)). In (record { code = InitOutOfRangeOrRepeated; start = x.index.span.start }) (index_faults decls x.pool.span.start o x.index)) (sym is) (beyond decls k x.pool.span.start q x.index t le))
+    of_init_index decls x h _ (subst (λ (o : Option (ℕ × Decl)). IsAmong (record { code = InitOutOfRangeOrRepeated; start = x.index.span.start }) (index_faults decls x.pool.span.start o x.index)) (sym is) (beyond decls k x.pool.span.start q x.index t le))
 range_in decls p (fault.given_again before behind j {g = g} parts is e) =
-    of_repeated decls _ (subst (λ (ds : List Decl). In (record { code = InitOutOfRangeOrRepeated; start = j.start.start }) (repeated_faults decls [] ds)) (sym parts) (in_repeated decls [] before behind (init j) _
+    of_repeated decls _ (subst (λ (ds : List Decl). IsAmong (record { code = InitOutOfRangeOrRepeated; start = j.start.start }) (repeated_faults decls [] ds)) (sym parts) (in_repeated decls [] before behind (init j) _
     (at InitOutOfRangeOrRepeated j.start.start _ (ap (init_target_again decls before j.start.start) is ∙ ap (given_before j.start.start) e))))
 
 locks_in : (decls : List Decl) (p : ℕ) → IsLockAsValue decls p → listed decls LockAsValue p

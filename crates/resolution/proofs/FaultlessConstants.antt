@@ -1,8 +1,8 @@
 -- Constants, annotations, sections and calls for which no fault is listed are resolved.
-use Rattle.std.proofs.Common.{◌≡◌, ℕ, ◌<◌, List, [], ◌∷◌, ◌++◌, length, Option, Some, None, Bool, true, false, refl, sym, ap, ◌∙◌, subst, if◌then◌else◌, arith}
-use Rattle.std.specs.Prelude.{ℤ, neg_ℤ, nat_le, nat_lt, ◌&&◌, slice_get}
-use Rattle.std.proofs.lemmas.Bool.Decides.{nat_tests}
+use Rattle.std.proofs.Common.{◌≡◌, ℕ, List, [], ◌∷◌, ◌++◌, length, Option, Some, None, Bool, true, false, refl, sym, ap, ◌∙◌, subst, if◌then◌else◌, arith}
+use Rattle.std.specs.Prelude.{ℤ, neg_ℤ, nat_le, nat_lt, ◌&&◌, is_some, slice_get}
 use Rattle.source.specs.declared.span.Span.{Span}
+use Rattle.source.specs.declared.fault.Code.{Code}
 use Rattle.source.specs.declared.fault.Code.TheVariants.{UnknownName, WrongType, NeitherFinalNorProtected, ProtectedByNoLock, ProtectedByPassesNonFinal, InitOutOfRangeOrRepeated}
 use Rattle.source.specs.declared.token.Number.{Number}
 use Rattle.syntax.specs.Trees.{Ident, ref_type, Const, int_const, negative, null_const, member_const, Protection, Member, lock_member, final_member, field_member, Struct, Param, Decl, lock, struct, global, array, pool, init, atomic, thread}
@@ -15,30 +15,21 @@ use Rattle.resolution.specs.declared.wanted.Want.{Want}
 use Rattle.resolution.specs.declared.wanted.Want.TheVariants as wanted
 use Rattle.resolution.specs.Core as core
 use Rattle.resolution.specs.Scopes as scope
-use Rattle.resolution.specs.Scopes.{◌>>=◌, Scope, outside, a_decl, meaning, declared_as, number_at, the_decl, the_member, has_type, type_of, struct_named, bound, entered}
+use Rattle.resolution.specs.Scopes.{◌>>=◌, Scope, outside, a_decl, meaning, declared_as, number_at, the_decl, the_member, has_type, member_has_type, type_of, struct_named, bound, entered}
 use Rattle.resolution.specs.Expressions.{number_value, fits_sort, member_number}
 use Rattle.resolution.specs.Constants.{number_sort, const_sort, const_value, if_fitting, typed_const, added, want_of, typed_arguments, member_sort, reference_sort, member_of, object_of, referred, object_in}
 use Rattle.resolution.specs.Annotations.{class_in, class_of, class_number, AnnotationCursor, at_struct, through_member, stepped_on, ended_at, along, protection_by, cursor_at, protection_of}
 use Rattle.resolution.specs.Annotations as annotation
-use Rattle.resolution.specs.Where.{Has, HasType, of_pool, of_final}
+use Rattle.resolution.specs.Where.{Has, HasType, of_pool, of_final, of_field}
 use Rattle.resolution.specs.Faults.{const_start}
 use Rattle.resolution.specs.FaultLists as list
-use Rattle.resolution.specs.FaultLists.{one, one_if, unfit, type_faults, number_faults, index_faults, own_faults, sort_misfit, const_faults, argument_faults, local_faults, stmts_faults, param_faults, result_faults, global_lock_faults, lock_faults, passed_faults, last_faults, passed, along_faults, annotation_faults, protection_faults, call_faults, item_faults, items_faults, decl_faults}
+use Rattle.resolution.specs.FaultLists.{one, one_if, unfit, unfit_member, type_faults, number_faults, index_faults, own_faults, sort_misfit, const_faults, argument_faults, local_faults, stmts_faults, param_faults, result_faults, global_lock_faults, lock_faults, passed_faults, last_faults, passed, along_faults, annotation_faults, protection_faults, call_faults, item_faults, items_faults, decl_faults}
 use Rattle.resolution.proofs.Named.{named_is, member_is}
-use Rattle.resolution.proofs.FaultlessExpressions.{NoneIn, none_left, none_right, not_one, not_if, at_has, decl_has, Clean, known_named, decl_typed, unfit_not, fit_if}
+use Rattle.resolution.proofs.FaultlessExpressions.{NoneIn, none_left, none_right, not_one, not_if, at_has, decl_has, Clean, known, known_named, decl_typed, unfit_not, fit_if}
 use Rattle.resolution.proofs.FaultlessResolvedExprs.{number_is}
+use Rattle.resolution.proofs.Tests.{lt_true, le_false, and_false}
 
 -- ---- constants
-
-pub lt_true : (n k : ℕ) → n < k → nat_lt n k ≡ true
-lt_true n k l = grind (arith, nat_tests)
-
-pub le_false : (n k : ℕ) → nat_le n k ≡ false → k < n
-le_false n k e = grind (arith, nat_tests)
-
-pub and_false : (a b : Bool) → a ≡ true → (a && b) ≡ false → b ≡ false
-and_false true b e h = h
-and_false false b e h = cc
 
 -- a constant that has a type and a value
 pub record Valued (decls : List Decl) (c : Const) : Type 0 where
@@ -131,21 +122,29 @@ referred_is decls clean s (member_const x n) none not_null =
 
 -- ---- annotations
 
-global_lock_is : (decls : List Decl) (p : ℕ) (o : Option (ℕ × Decl)) (ys : List Ident) → NoneIn (global_lock_faults p o ys) → (c : ℕ) × (class_in decls o ys ≡ Some c)
-global_lock_is decls p None ys none = absurd (not_one UnknownName p none)
-global_lock_is decls p (Some (n, lock x)) [] none = (class_number decls n 0, refl)
-global_lock_is decls p (Some (n, lock x)) (y ∷ ys) none = absurd (not_one ProtectedByNoLock p none)
-global_lock_is decls p (Some (n, struct s)) ys none = absurd (not_one ProtectedByNoLock p none)
-global_lock_is decls p (Some (n, global v)) ys none = absurd (not_one ProtectedByNoLock p none)
-global_lock_is decls p (Some (n, array a)) ys none = absurd (not_one ProtectedByNoLock p none)
-global_lock_is decls p (Some (n, pool q)) ys none = absurd (not_one ProtectedByNoLock p none)
-global_lock_is decls p (Some (n, init j)) ys none = absurd (not_one ProtectedByNoLock p none)
-global_lock_is decls p (Some (n, atomic s)) ys none = absurd (not_one ProtectedByNoLock p none)
-global_lock_is decls p (Some (n, thread t)) ys none = absurd (not_one ProtectedByNoLock p none)
+-- what is declared has its type, so it is told where it is no lock
+no_lock : (decls : List Decl) → Clean decls → (p n : ℕ) (d : Decl) → Has decls d → NoneIn (unfit decls ProtectedByNoLock p (a_decl n d)) → ⊥
+no_lock decls clean p n d h none = unfit_not decls ProtectedByNoLock p (a_decl n d) (decl_typed decls clean n d h) none
 
-pub class_is : (decls : List Decl) (name : ℕ) (o : Option Protection) → NoneIn (lock_faults decls name o) → (c : ℕ) × (class_of decls o ≡ Some c)
-class_is decls name None none = absurd (not_one NeitherFinalNorProtected name none)
-class_is decls name (Some p) none = global_lock_is decls p.first.span.start (the_decl decls p.first.text) p.rest none
+global_lock_is : (decls : List Decl) → Clean decls → (p : ℕ) (o : Option (ℕ × Decl)) (ys : List Ident) → ((k : ℕ) (d : Decl) → ◌≡◌ {A = Option (ℕ × Decl)} o (Some (k, d)) → Has decls d) → NoneIn (global_lock_faults decls p o ys) → (c : ℕ) × (class_in decls o ys ≡ Some c)
+global_lock_is decls clean p None ys up none = absurd (not_one UnknownName p none)
+global_lock_is decls clean p (Some (n, lock x)) [] up none = (class_number decls n 0, refl)
+global_lock_is decls clean p (Some (n, lock x)) (y ∷ ys) up none = absurd (no_lock decls clean p n (lock x) (up n (lock x) refl) none)
+global_lock_is decls clean p (Some (n, struct s)) ys up none = absurd (no_lock decls clean p n (struct s) (up n (struct s) refl) none)
+global_lock_is decls clean p (Some (n, global v)) ys up none = absurd (no_lock decls clean p n (global v) (up n (global v) refl) none)
+global_lock_is decls clean p (Some (n, array a)) ys up none = absurd (no_lock decls clean p n (array a) (up n (array a) refl) none)
+global_lock_is decls clean p (Some (n, pool q)) ys up none = absurd (no_lock decls clean p n (pool q) (up n (pool q) refl) none)
+global_lock_is decls clean p (Some (n, init j)) ys up none = absurd (no_lock decls clean p n (init j) (up n (init j) refl) none)
+global_lock_is decls clean p (Some (n, atomic s)) ys up none = absurd (no_lock decls clean p n (atomic s) (up n (atomic s) refl) none)
+global_lock_is decls clean p (Some (n, thread t)) ys up none = absurd (no_lock decls clean p n (thread t) (up n (thread t) refl) none)
+
+-- the global lock that an annotation names
+named_lock : (decls : List Decl) → Clean decls → (p : Protection) → NoneIn (global_lock_faults decls p.first.span.start (the_decl decls p.first.text) p.rest) → (c : ℕ) × (class_in decls (the_decl decls p.first.text) p.rest ≡ Some c)
+named_lock decls clean p none = global_lock_is decls clean p.first.span.start (the_decl decls p.first.text) p.rest (λ k d e. decl_has decls p.first.text k d e) none
+
+pub class_is : (decls : List Decl) → Clean decls → (name : ℕ) (o : Option Protection) → NoneIn (lock_faults decls name o) → (c : ℕ) × (class_of decls o ≡ Some c)
+class_is decls clean name None none = absurd (not_one NeitherFinalNorProtected name none)
+class_is decls clean name (Some p) none = named_lock decls clean p none
 
 -- the struct that a name is found to be
 named_struct : (decls : List Decl) (o : Option (ℕ × Decl)) (k : ℕ) → scope.struct_meant decls (declared_as o) ≡ Some k → (n : ℕ) × (s : Struct) × (◌≡◌ {A = Option (ℕ × Decl)} o (Some (n, struct s)))
@@ -158,6 +157,15 @@ named_struct decls (Some (n, init x)) k e = cc
 named_struct decls (Some (n, atomic x)) k e = cc
 named_struct decls (Some (n, thread x)) k e = cc
 named_struct decls None k e = cc
+
+-- each member has a type
+member_typed : (decls : List Decl) → Clean decls → (s : Struct) (m : Member) → Has decls (struct s) → Has s.members m → member_has_type decls m ≡ true
+member_typed decls clean s (lock_member x) there has = refl
+member_typed decls clean s (final_member f) there has = let k = known_named decls clean f.target (of_final there has) in ap is_some k.is
+member_typed decls clean s (field_member f) there has = let t = known decls clean (outside decls) f.value_type (of_field there has) in ap is_some t.is
+
+unfit_member_not : (decls : List Decl) (c : Code) (p : ℕ) (m : Member) → member_has_type decls m ≡ true → NoneIn (unfit_member decls c p m) → ⊥
+unfit_member_not decls c p m e h = let f = not_if (member_has_type decls m) c p h in absurd cc
 
 -- a walk stands at a struct of the program
 abbrev Stands : List Decl → Option AnnotationCursor → Type 0
@@ -173,32 +181,39 @@ on_final decls clean through n x h =
     (record { structure = r.0; members = r.1.members; through = through ++ n ∷ [] }, r.1, ap (at_struct through n) r.2, f.here, refl)
 
 on_passed : (decls : List Decl) → Clean decls → (head here : ℕ) (st : AnnotationCursor) (s : Struct) → slice_get decls st.structure ≡ Some (struct s) → st.members ≡ s.members → (o : Option (ℕ × Member)) → ((n : ℕ) (m : Member) → ◌≡◌ {A = Option (ℕ × Member)} o (Some (n, m)) → Has s.members m) →
-    NoneIn (passed_faults head here (length st.through) o) → Stands decls (through_member decls st o)
+    NoneIn (passed_faults decls head here (length st.through) o) → Stands decls (through_member decls st o)
 on_passed decls clean head here st s at same None up none = absurd (not_one UnknownName here none)
 on_passed decls clean head here st s at same (Some (n, final_member g)) up none =
     on_final decls clean st.through (member_number st.members n (final_member g)) g.target (of_final (at_has decls st.structure (struct s) at) (up n (final_member g) refl))
-on_passed decls clean head here st s at same (Some (n, field_member g)) up none = absurd (not_one ProtectedByPassesNonFinal here none)
+on_passed decls clean head here st s at same (Some (n, field_member g)) up none =
+    absurd (unfit_member_not decls ProtectedByPassesNonFinal here (field_member g) (member_typed decls clean s (field_member g) (at_has decls st.structure (struct s) at) (up n (field_member g) refl)) none)
 on_passed decls clean head here st s at same (Some (n, lock_member x)) up none = absurd (not_one ProtectedByPassesNonFinal here none)
 
-on_ended : (decls : List Decl) (head here : ℕ) (st : AnnotationCursor) (o : Option (ℕ × Member)) → NoneIn (last_faults head here o) → (p : core.Protection) × (ended_at decls st o ≡ Some p)
-on_ended decls head here st None none = absurd (not_one UnknownName here none)
-on_ended decls head here st (Some (n, lock_member x)) none = (record { through = st.through; class = class_number decls st.structure (scope.number_in st.members n (lock_member x)) }, refl)
-on_ended decls head here st (Some (n, final_member g)) none = absurd (not_one ProtectedByNoLock head none)
-on_ended decls head here st (Some (n, field_member g)) none = absurd (not_one ProtectedByNoLock head none)
+on_ended : (decls : List Decl) → Clean decls → (head here : ℕ) (st : AnnotationCursor) (s : Struct) → slice_get decls st.structure ≡ Some (struct s) → (o : Option (ℕ × Member)) → ((n : ℕ) (m : Member) → ◌≡◌ {A = Option (ℕ × Member)} o (Some (n, m)) → Has s.members m) →
+    NoneIn (last_faults decls head here o) → (p : core.Protection) × (ended_at decls st o ≡ Some p)
+on_ended decls clean head here st s at None up none = absurd (not_one UnknownName here none)
+on_ended decls clean head here st s at (Some (n, lock_member x)) up none = (record { through = st.through; class = class_number decls st.structure (scope.number_in st.members n (lock_member x)) }, refl)
+on_ended decls clean head here st s at (Some (n, final_member g)) up none =
+    absurd (unfit_member_not decls ProtectedByNoLock head (final_member g) (member_typed decls clean s (final_member g) (at_has decls st.structure (struct s) at) (up n (final_member g) refl)) none)
+on_ended decls clean head here st s at (Some (n, field_member g)) up none =
+    absurd (unfit_member_not decls ProtectedByNoLock head (field_member g) (member_typed decls clean s (field_member g) (at_has decls st.structure (struct s) at) (up n (field_member g) refl)) none)
+
+-- a member that is found where a walk stands is one of that struct
+stands_at : (st : AnnotationCursor) (s : Struct) (q : List ℕ) → st.members ≡ s.members → (n : ℕ) (m : Member) → the_member st.members q ≡ Some (n, m) → Has s.members m
+stands_at st s q same n m e = subst (λ (ms : List Member). Has ms m) same (at_has st.members n m (member_is st.members q n m e).0)
 
 along_is : (decls : List Decl) → Clean decls → (head : ℕ) (o : Option AnnotationCursor) (y : Ident) (ys : List Ident) → Stands decls o → NoneIn (along_faults decls head o y ys) → (p : core.Protection) × (along decls o y ys ≡ Some p)
 along_is decls clean head o y [] st none =
-    let ended : NoneIn (last_faults head y.span.start (the_member st.0.members y.text)) = subst (λ (x : Option AnnotationCursor). NoneIn (list.ended head x y)) st.2 none in
-    let e = on_ended decls head y.span.start st.0 (the_member st.0.members y.text) ended in
+    let ended : NoneIn (last_faults decls head y.span.start (the_member st.0.members y.text)) = subst (λ (x : Option AnnotationCursor). NoneIn (list.ended decls head x y)) st.2 none in
+    let e = on_ended decls clean head y.span.start st.0 st.1 st.3 (the_member st.0.members y.text) (stands_at st.0 st.1 y.text st.4) ended in
     (e.0, ap (λ (x : Option AnnotationCursor). annotation.ended decls x y) st.2 ∙ e.1)
 along_is decls clean head o y (z ∷ zs) st none =
     let rest = along_faults decls head (stepped_on decls o y) z zs in
-    let step : NoneIn (passed_faults head y.span.start (length st.0.through) (the_member st.0.members y.text)) = subst (λ (x : Option AnnotationCursor). NoneIn (passed head x y)) st.2 (none_left (passed head o y) rest none) in
-    let next = on_passed decls clean head y.span.start st.0 st.1 st.3 st.4 (the_member st.0.members y.text)
-    (λ n m e. subst (λ (ms : List Member). Has ms m) st.4 (at_has st.0.members n m (member_is st.0.members y.text n m e).0)) step in
+    let step : NoneIn (passed_faults decls head y.span.start (length st.0.through) (the_member st.0.members y.text)) = subst (λ (x : Option AnnotationCursor). NoneIn (passed decls head x y)) st.2 (none_left (passed decls head o y) rest none) in
+    let next = on_passed decls clean head y.span.start st.0 st.1 st.3 st.4 (the_member st.0.members y.text) (stands_at st.0 st.1 y.text st.4) step in
     along_is decls clean head (stepped_on decls o y) z zs
     (next.0, next.1, ap (λ (x : Option AnnotationCursor). stepped_on decls x y) st.2 ∙ next.2, next.3, next.4)
-    (none_right (passed head o y) rest none)
+    (none_right (passed decls head o y) rest none)
 
 pub protection_is : (decls : List Decl) → Clean decls → (n : ℕ) (s : Struct) → slice_get decls n ≡ Some (struct s) → (name : ℕ) (o : Option Protection) → NoneIn (protection_faults decls n s.members name o) → (p : core.Protection) × (protection_of decls n s.members o ≡ Some p)
 protection_is decls clean n s at name None none = absurd (not_one NeitherFinalNorProtected name none)
@@ -206,4 +221,4 @@ protection_is decls clean n s at name (Some p) none = by_member (the_member s.me
   where
     by_member : (o : Option (ℕ × Member)) → NoneIn (annotation_faults decls (cursor_at n s.members) p o) → (q : core.Protection) × (protection_by decls (cursor_at n s.members) p o ≡ Some q)
     by_member (Some m) h = along_is decls clean p.first.span.start (Some (cursor_at n s.members)) p.first p.rest (cursor_at n s.members, s, refl, at, refl) h
-    by_member None h = let c = global_lock_is decls p.first.span.start (the_decl decls p.first.text) p.rest h in (record { through = []; class = c.0 }, ap (λ (o : Option ℕ). o >>= λ k. Some (record { through = []; class = k })) c.1)
+    by_member None h = let c = named_lock decls clean p h in (record { through = []; class = c.0 }, ap (λ (o : Option ℕ). o >>= λ k. Some (record { through = []; class = k })) c.1)

@@ -1,32 +1,33 @@
 -- Expressions for which no fault is listed have a type.
-use Rattle.std.proofs.Common.{◌≡◌, ℕ, zero, suc, ◌≤◌, List, [], ◌∷◌, ◌++◌, Option, Some, None, Bool, true, false, refl, sym, ap, ◌∙◌, subst, inl, if◌then◌else◌, arith}
-use Rattle.std.specs.Prelude.{nat_le, nat_lt, not, is_some, slice_get}
-use Rattle.std.proofs.lemmas.Bool.Decides.{nat_tests}
+use Rattle.std.proofs.Common.{◌≡◌, ℕ, zero, suc, List, [], ◌∷◌, ◌++◌, Option, Some, None, Bool, true, false, refl, sym, ap, ◌∙◌, subst, inl, if◌then◌else◌}
+use Rattle.std.specs.Prelude.{not, is_some, slice_get}
 use Rattle.source.specs.declared.fault.Code.{Code}
 use Rattle.source.specs.declared.fault.Code.TheVariants.{UnknownName, WrongType, LockAsValue}
 use Rattle.syntax.specs.Trees.{Ident, ValueType, int_type, ref_type, Member, lock_member, final_member, field_member, Struct, Decl, lock, struct, global, array, pool, init, atomic, thread}
 use Rattle.core_lang.specs.declared.value.ValueType as core_type
 use Rattle.core_lang.specs.declared.value.ValueType.TheVariants.{Integer, Reference}
 use Rattle.core_lang.specs.declared.tree.FieldStep.{FieldStep}
-use Rattle.resolution.specs.declared.mistake.Mistake.{Mistake}
+use Rattle.core_lang.specs.declared.tree.FieldStep.TheVariants as step
+use Rattle.source.specs.declared.mistake.Mistake.{Mistake}
 use Rattle.resolution.specs.declared.wanted.Sort.TheVariants as sort
 use Rattle.resolution.specs.declared.wanted.Want.{Want}
 use Rattle.resolution.specs.declared.wanted.Want.TheVariants.{Condition, Value}
 use Rattle.resolution.specs.Core as core
 use Rattle.resolution.specs.Scopes.{Scope, Local, outside, Meaning, a_local, a_decl, nothing, meaning, declared_as, local_or, bears, local_bears, ◌>>=◌, number_at, the_decl, the_local, structs_in, the_struct, the_member, has_type, type_of, struct_meant, struct_named}
-use Rattle.resolution.specs.Expressions.{ResolvedExpr, value, truth, fits, value_of, member_value, local_path, cell_of, fitting, as_value, as_truth, test_resolved, named_value, element_value, path_value, Walk, reached, at_lock, lost, stepped, walked, at_local, walk_from, over_final, over_field, over_member, over, member_number}
+use Rattle.resolution.specs.Expressions.{ResolvedExpr, value, truth, fits, value_of, member_value, local_path, cell_of, fitting, as_value, as_truth, test_resolved, named_value, element_value, path_value, Walk, reached, at_lock, lost, stepped, walked, at_local, walk_from, over_step, over_member, over, member_number}
 use Rattle.resolution.specs.Where.{Has, first, further, HasType, of_global, of_array, of_pool, of_final, of_field}
 use Rattle.resolution.specs.FaultLists as list
 use Rattle.resolution.specs.FaultLists.{one, one_if, unfit, no_struct, type_faults, number_faults, no_elements, no_member, no_field, step_faults, end_faults, walk_faults, path_faults, misfit, unlike, side_faults, operator_faults, expr_faults, place_faults, link_faults, wanted_faults, program_faults}
-use Rattle.resolution.proofs.Members.{In}
+use Rattle.source.specs.Leasts.{IsAmong}
 use Rattle.resolution.proofs.Members as m
 use Rattle.resolution.proofs.Named.{named_is, member_is}
+use Rattle.resolution.specs.Facts.{struct_at}
 use Rattle.resolution.proofs.Parts.{of_type}
 
 -- ---- lists with nothing in them
 
 abbrev pub NoneIn : List Mistake → Type 0
-NoneIn fs = (f : Mistake) → In f fs → ⊥
+NoneIn fs = (f : Mistake) → IsAmong f fs → ⊥
 
 pub none_left : (a b : List Mistake) → NoneIn (a ++ b) → NoneIn a
 none_left a b n f i = n f (m.in_left f a b i)
@@ -40,12 +41,6 @@ not_one c p n = n (record { code = c; start = p }) (inl refl)
 pub not_if : (b : Bool) (c : Code) (p : ℕ) → NoneIn (one_if b c p) → b ≡ false
 not_if true c p n = absurd (not_one c p n)
 not_if false c p n = refl
-
-pub lt_false : (n k : ℕ) → nat_lt n k ≡ false → k ≤ n
-lt_false n k e = grind (arith, nat_tests)
-
-pub le_true : (n k : ℕ) → n ≤ k → nat_le n k ≡ true
-le_true n k l = grind (arith, nat_tests)
 
 pub is_there : {A : Type 0} (o : Option A) → not (is_some o) ≡ false → (x : A) × (o ≡ Some x)
 is_there (Some x) e = (x, refl)
@@ -78,26 +73,6 @@ struct_has (atomic x ∷ ds) k s e = further (struct_has ds k s e)
 struct_has (thread t ∷ ds) k s e = further (struct_has ds k s e)
 
 -- ---- types
-
--- a struct is found by its number
-pub struct_at : (decls : List Decl) (n : ℕ) (s : Struct) → slice_get decls n ≡ Some (struct s) → the_struct decls (number_at decls n (struct s)) ≡ Some s
-struct_at [] n s e = cc
-struct_at (struct r ∷ ds) zero s e = let same : r ≡ s = cc in ap Some same
-struct_at (lock x ∷ ds) zero s e = cc
-struct_at (global v ∷ ds) zero s e = cc
-struct_at (array a ∷ ds) zero s e = cc
-struct_at (pool p ∷ ds) zero s e = cc
-struct_at (init j ∷ ds) zero s e = cc
-struct_at (atomic x ∷ ds) zero s e = cc
-struct_at (thread t ∷ ds) zero s e = cc
-struct_at (struct r ∷ ds) (suc n) s e = struct_at ds n s e
-struct_at (lock x ∷ ds) (suc n) s e = struct_at ds n s e
-struct_at (global v ∷ ds) (suc n) s e = struct_at ds n s e
-struct_at (array a ∷ ds) (suc n) s e = struct_at ds n s e
-struct_at (pool p ∷ ds) (suc n) s e = struct_at ds n s e
-struct_at (init j ∷ ds) (suc n) s e = struct_at ds n s e
-struct_at (atomic x ∷ ds) (suc n) s e = struct_at ds n s e
-struct_at (thread t ∷ ds) (suc n) s e = struct_at ds n s e
 
 -- a type of the program
 abbrev pub IsType : List Decl → core_type.ValueType → Type 0
@@ -271,23 +246,20 @@ IsOnWay decls (reached steps t) = IsType decls t
 IsOnWay decls at_lock = Unit {0}
 IsOnWay decls lost = ⊥
 
-on_final : (decls : List Decl) (steps : List FieldStep) (n : ℕ) (o : Option ℕ) → Found decls o → IsOnWay decls (over_final steps n o)
-on_final decls steps n o k = subst (λ (x : Option ℕ). IsOnWay decls (over_final steps n x)) (sym k.is) (k.structure, k.there)
+on_over : (decls : List Decl) (steps : List FieldStep) (s : FieldStep) (o : Option core_type.ValueType) → Typing decls o → IsOnWay decls (over_step steps s o)
+on_over decls steps s o t = subst (λ (x : Option core_type.ValueType). IsOnWay decls (over_step steps s x)) (sym t.is) t.there
 
-on_field : (decls : List Decl) (steps : List FieldStep) (n : ℕ) (o : Option core_type.ValueType) → Typing decls o → IsOnWay decls (over_field steps n o)
-on_field decls steps n o t = subst (λ (x : Option core_type.ValueType). IsOnWay decls (over_field steps n x)) (sym t.is) t.there
-
-on_member : (decls : List Decl) → Clean decls → (steps : List FieldStep) (s : Struct) → Has decls (struct s) → (p : ℕ) (o : Option (ℕ × Member)) → ((n : ℕ) (x : Member) → ◌≡◌ {A = Option (ℕ × Member)} o (Some (n, x)) → Has s.members x) → NoneIn (no_member p o) → IsOnWay decls (over_member decls steps s.members o)
-on_member decls clean steps s h p None up none = absurd (not_one UnknownName p none)
-on_member decls clean steps s h p (Some (n, lock_member x)) up none = tt
-on_member decls clean steps s h p (Some (n, final_member g)) up none = on_final decls steps (member_number s.members n (final_member g)) (struct_named decls g.target) (known_named decls clean g.target (of_final h (up n (final_member g) refl)))
-on_member decls clean steps s h p (Some (n, field_member g)) up none = on_field decls steps (member_number s.members n (field_member g)) (type_of (outside decls) g.value_type) (known decls clean (outside decls) g.value_type (of_field h (up n (field_member g) refl)))
+on_member : (decls : List Decl) → Clean decls → (steps : List FieldStep) (k : ℕ) (s : Struct) → Has decls (struct s) → (p : ℕ) (o : Option (ℕ × Member)) → ((n : ℕ) (x : Member) → ◌≡◌ {A = Option (ℕ × Member)} o (Some (n, x)) → Has s.members x) → NoneIn (no_member p o) → IsOnWay decls (over_member decls steps k s.members o)
+on_member decls clean steps k s h p None up none = absurd (not_one UnknownName p none)
+on_member decls clean steps k s h p (Some (n, lock_member x)) up none = tt
+on_member decls clean steps k s h p (Some (n, final_member g)) up none = on_over decls steps (step.Final k (member_number s.members n (final_member g))) (type_of (outside decls) (ref_type g.target)) (known decls clean (outside decls) (ref_type g.target) (of_final h (up n (final_member g) refl)))
+on_member decls clean steps k s h p (Some (n, field_member g)) up none = on_over decls steps (step.Field k (member_number s.members n (field_member g))) (type_of (outside decls) g.value_type) (known decls clean (outside decls) g.value_type (of_field h (up n (field_member g) refl)))
 
 on_struct : (decls : List Decl) → Clean decls → (steps : List FieldStep) (k : ℕ) (f : Ident) (s : Struct) → the_struct decls k ≡ Some s → NoneIn (no_field (the_struct decls k) f) → IsOnWay decls (stepped decls (reached steps (Reference k)) f)
 on_struct decls clean steps k f s is none =
     let found : NoneIn (no_member f.span.start (the_member s.members f.text)) = subst (λ (o : Option Struct). NoneIn (no_field o f)) is none in
-    subst (λ (o : Option Struct). IsOnWay decls (over decls steps o f.text)) (sym is)
-    (on_member decls clean steps s (struct_has decls k s is) f.span.start (the_member s.members f.text) (λ n x g. at_has s.members n x (member_is s.members f.text n x g).0) found)
+    subst (λ (o : Option Struct). IsOnWay decls (over decls steps k o f.text)) (sym is)
+    (on_member decls clean steps k s (struct_has decls k s is) f.span.start (the_member s.members f.text) (λ n x g. at_has s.members n x (member_is s.members f.text n x g).0) found)
 
 on_step : (decls : List Decl) → Clean decls → (p : ℕ) (w : Walk) (f : Ident) → IsOnWay decls w → NoneIn (step_faults decls p w f) → IsOnWay decls (stepped decls w f)
 on_step decls clean p (reached steps (Reference k)) f on none = on_struct decls clean steps k f on.0 on.1 none

@@ -1,4 +1,4 @@
--- In a program with no fault, each member of a pool's member has its value.
+-- IsAmong a program with no fault, each member of a pool's member has its value.
 use Rattle.std.proofs.Common.{◌≡◌, ℕ, zero, suc, ◌+◌, ◌<◌, ◌≤◌, List, [], ◌∷◌, ◌++◌, length, Option, Some, None, Bool, true, false, if◌then◌else◌, refl, sym, ap, ◌∙◌, subst, arith}
 use Rattle.std.specs.Prelude.{is_some, nat_le, slice_get, ◌&&◌}
 use Rattle.std.proofs.lemmas.Slice.Eq.{bytes_eq-Decides}
@@ -20,13 +20,14 @@ use Rattle.resolution.specs.Where.{Has, of_final, of_field}
 use Rattle.resolution.specs.Faults as fault
 use Rattle.resolution.specs.Faults.{final_missing}
 use Rattle.resolution.specs.FaultLists.{one_if, again, member_twice_faults, member_counts, lock_count, const_faults, index_faults, named_faults, null_faults, init_faults}
-use Rattle.resolution.proofs.Members.{In}
+use Rattle.source.specs.Leasts.{IsAmong}
 use Rattle.resolution.proofs.Named.{named_is, member_is}
 use Rattle.resolution.proofs.Parts.{of_decl}
 use Rattle.resolution.proofs.AllFaults.{in_member_twice, all_faults}
 use Rattle.resolution.proofs.InitTargets.{Giving, giving, names_it, initialised_is}
 use Rattle.resolution.proofs.FaultlessExpressions.{NoneIn, none_left, none_right, not_one, not_if, at_has, Clean, Found, Typing, known, known_named}
-use Rattle.resolution.proofs.FaultlessConstants.{const_is, referred_is, le_false}
+use Rattle.resolution.proofs.FaultlessConstants.{const_is, referred_is}
+use Rattle.resolution.proofs.Tests.{le_false}
 
 -- ---- names of members
 
@@ -63,7 +64,7 @@ pub first_of_name : (ms : List Member) → NoneIn (member_twice_faults [] ms) �
 first_of_name ms none n x at =
     let r = parts_at ms n x at in
     let before : place_of member_bears r.before (member_name x).text ≡ None =
-    again_none (member_name x).span.start (place_of member_bears r.before (member_name x).text) (λ f i. none f (subst (λ (ys : List Member). In f (member_twice_faults [] ys)) (sym r.parts) (in_member_twice [] r.before r.behind x f i))) in
+    again_none (member_name x).span.start (place_of member_bears r.before (member_name x).text) (λ f i. none f (subst (λ (ys : List Member). IsAmong f (member_twice_faults [] ys)) (sym r.parts) (in_member_twice [] r.before r.behind x f i))) in
     let place : place_of member_bears ms (member_name x).text ≡ Some n =
     ap (λ (ys : List Member). place_of member_bears ys (member_name x).text) r.parts ∙ place_none (λ y. member_bears y (member_name x).text) r.before r.behind x 0 before (self_bears x) ∙ ap Some (let l : length r.before ≡ n = r.place in let z : 0 + length r.before ≡ n = omega (arith, l) in z) in
     rw (place, at) refl

@@ -1,7 +1,6 @@
 -- A program with no fault is resolved.
 use Rattle.std.proofs.Common.{◌≡◌, ℕ, zero, suc, ◌+◌, ◌*◌, ◌<◌, ◌≤◌, List, [], ◌∷◌, ◌++◌, length, Option, Some, None, Bool, true, false, if◌then◌else◌, refl, sym, ap, ◌∙◌, subst, append_assoc, arith}
 use Rattle.std.specs.Prelude.{nat_le, nat_lt, slice_get}
-use Rattle.std.proofs.lemmas.Bool.Decides.{nat_tests}
 use Rattle.source.specs.declared.fault.Code.TheVariants.{LimitExceeded}
 use Rattle.syntax.specs.Returns.{ReturnsRight}
 use Rattle.syntax.specs.Trees.{ref_type, Const, Member, lock_member, final_member, field_member, Struct, Variable, Array, Pool, Decl, lock, struct, global, array, pool, init, atomic, thread}
@@ -19,16 +18,17 @@ use Rattle.resolution.specs.Constants.{members_of, members_in, default_of}
 use Rattle.resolution.specs.Annotations.{protection_of}
 use Rattle.resolution.specs.Resolution.{few_calls, typed_items, StructBuilder, lock_added, final_added, field_added, members_added, empty_struct, nothing_yet, with_class, with_struct, with_cell, with_section, with_thread, global_added, with_global, opening_of, with_elements, array_added, with_array, Slot, slot_given, final_cell, field_cell, with_members, object_added, with_object, with_objects, pool_added, with_pool, extended, resolved_from, resolved}
 use Rattle.resolution.specs.Where.{Has, first, further, of_pool, of_global, of_array, of_final, of_field}
-use Rattle.resolution.specs.FaultLists.{one_if, passes, member_twice_faults, member_counts, count_faults, total_faults, type_faults, lock_faults, opening_faults, const_faults, protection_faults, members_faults, decl_faults}
+use Rattle.resolution.specs.FaultLists.{one_if, first_too_many, member_twice_faults, member_counts, count_faults, total_faults, type_faults, lock_faults, opening_faults, const_faults, protection_faults, members_faults, decl_faults}
 use Rattle.resolution.proofs.Members.{in_right}
 use Rattle.resolution.proofs.Named.{named_is}
 use Rattle.resolution.proofs.AllFaults.{in_structs, of_structs, of_counts, of_totals, has_parts}
 use Rattle.resolution.proofs.Parts.{of_place_at}
 use Rattle.resolution.proofs.TrueStatements.{length_push}
-use Rattle.resolution.proofs.FaultlessExpressions.{NoneIn, none_left, none_right, not_if, le_true, at_has, Clean, Typing, known, known_named}
-use Rattle.resolution.proofs.FaultlessConstants.{const_is, class_is, protection_is, named_decl, and_false}
+use Rattle.resolution.proofs.FaultlessExpressions.{NoneIn, none_left, none_right, not_if, at_has, Clean, Typing, known, known_named}
+use Rattle.resolution.proofs.FaultlessConstants.{const_is, class_is, protection_is, named_decl}
 use Rattle.resolution.proofs.FaultlessSections.{section_is, items_are}
 use Rattle.resolution.proofs.FaultlessMembers.{fields_are, members_few, count_few, is_final, is_field, Ready, ready}
+use Rattle.resolution.proofs.Tests.{le_true, and_false, lt_false}
 
 -- ---- counts
 
@@ -42,18 +42,15 @@ pub total_push : (of : Decl → ℕ) (before : List Decl) (d : Decl) → total o
 total_push of [] d = omega arith
 total_push of (b ∷ before) d = omega (arith, total_push of before d)
 
-le_is_false : (n k : ℕ) → nat_lt n k ≡ false → k ≤ n
-le_is_false n k e = grind (arith, nat_tests)
-
-not_passed : (limit before own : ℕ) → passes limit before own ≡ false → before ≤ limit → before + own ≤ limit
-not_passed limit before own e le = le_is_false limit (before + own) (and_false (nat_le before limit) (nat_lt limit (before + own)) (le_true before limit le) e)
+not_passed : (limit before own : ℕ) → first_too_many limit before own ≡ false → before ≤ limit → before + own ≤ limit
+not_passed limit before own e le = lt_false limit (before + own) (and_false (nat_le before limit) (nat_lt limit (before + own)) (le_true before limit le) e)
 
 pub cells_fit : (decls before : List Decl) (d : Decl) → NoneIn (count_faults decls before d) → total (cells_of decls) before ≤ CELL_LIMIT → total (cells_of decls) before + cells_of decls d ≤ CELL_LIMIT
-cells_fit decls before (global v) none le = not_passed CELL_LIMIT (total (cells_of decls) before) 1 (not_if (passes CELL_LIMIT (total (cells_of decls) before) 1) LimitExceeded v.name.span.start none) le
-cells_fit decls before (array a) none le = not_passed CELL_LIMIT (total (cells_of decls) before) a.length.value (not_if (passes CELL_LIMIT (total (cells_of decls) before) a.length.value) LimitExceeded a.name.span.start none) le
+cells_fit decls before (global v) none le = not_passed CELL_LIMIT (total (cells_of decls) before) 1 (not_if (first_too_many CELL_LIMIT (total (cells_of decls) before) 1) LimitExceeded v.name.span.start none) le
+cells_fit decls before (array a) none le = not_passed CELL_LIMIT (total (cells_of decls) before) a.length.value (not_if (first_too_many CELL_LIMIT (total (cells_of decls) before) a.length.value) LimitExceeded a.name.span.start none) le
 cells_fit decls before (pool p) none le =
-    not_passed CELL_LIMIT (total (cells_of decls) before) (cells_of decls (pool p)) (not_if (passes CELL_LIMIT (total (cells_of decls) before) (cells_of decls (pool p))) LimitExceeded p.name.span.start
-    (none_right (one_if (passes OBJECT_LIMIT (total objects_of before) (objects_of (pool p))) LimitExceeded p.name.span.start) _ none)) le
+    not_passed CELL_LIMIT (total (cells_of decls) before) (cells_of decls (pool p)) (not_if (first_too_many CELL_LIMIT (total (cells_of decls) before) (cells_of decls (pool p))) LimitExceeded p.name.span.start
+    (none_right (one_if (first_too_many OBJECT_LIMIT (total objects_of before) (objects_of (pool p))) LimitExceeded p.name.span.start) _ none)) le
 cells_fit decls before (lock x) none le = omega (arith, le)
 cells_fit decls before (struct x) none le = omega (arith, le)
 cells_fit decls before (init x) none le = omega (arith, le)
@@ -62,8 +59,8 @@ cells_fit decls before (thread x) none le = omega (arith, le)
 
 pub objects_fit : (decls before : List Decl) (d : Decl) → NoneIn (count_faults decls before d) → total objects_of before ≤ OBJECT_LIMIT → total objects_of before + objects_of d ≤ OBJECT_LIMIT
 objects_fit decls before (pool p) none le =
-    not_passed OBJECT_LIMIT (total objects_of before) (objects_of (pool p)) (not_if (passes OBJECT_LIMIT (total objects_of before) (objects_of (pool p))) LimitExceeded p.name.span.start
-    (none_left (one_if (passes OBJECT_LIMIT (total objects_of before) (objects_of (pool p))) LimitExceeded p.name.span.start) _ none)) le
+    not_passed OBJECT_LIMIT (total objects_of before) (objects_of (pool p)) (not_if (first_too_many OBJECT_LIMIT (total objects_of before) (objects_of (pool p))) LimitExceeded p.name.span.start
+    (none_left (one_if (first_too_many OBJECT_LIMIT (total objects_of before) (objects_of (pool p))) LimitExceeded p.name.span.start) _ none)) le
 objects_fit decls before (global x) none le = omega (arith, le)
 objects_fit decls before (array x) none le = omega (arith, le)
 objects_fit decls before (lock x) none le = omega (arith, le)
@@ -74,7 +71,7 @@ objects_fit decls before (thread x) none le = omega (arith, le)
 
 calls_fit : (decls before : List Decl) (d : Decl) → NoneIn (count_faults decls before d) → total calls_of before ≤ CALL_LIMIT → total calls_of before + calls_of d ≤ CALL_LIMIT
 calls_fit decls before (thread t) none le =
-    not_passed CALL_LIMIT (total calls_of before) (calls_of (thread t)) (not_if (passes CALL_LIMIT (total calls_of before) (calls_of (thread t))) LimitExceeded t.name.span.start (none_right (one_if _ LimitExceeded t.name.span.start) _ none)) le
+    not_passed CALL_LIMIT (total calls_of before) (calls_of (thread t)) (not_if (first_too_many CALL_LIMIT (total calls_of before) (calls_of (thread t))) LimitExceeded t.name.span.start (none_right (one_if _ LimitExceeded t.name.span.start) _ none)) le
 calls_fit decls before (global x) none le = omega (arith, le)
 calls_fit decls before (array x) none le = omega (arith, le)
 calls_fit decls before (pool x) none le = omega (arith, le)
@@ -251,7 +248,7 @@ global_is decls before i v p st =
     let o = opening_faults decls (want (type_of (outside decls) v.value_type)) v.value in
     let has = at_has decls i (global v) st.at in
     let t = known decls st.clean (outside decls) v.value_type (of_global has) in
-    let c = class_is decls v.name.span.start v.protection (none_right a b (none_left (a ++ b) o st.own)) in
+    let c = class_is decls st.clean v.name.span.start v.protection (none_right a b (none_left (a ++ b) o st.own)) in
     let w = opening_is decls st.clean (type_of (outside decls) v.value_type) t v.value (none_right (a ++ b) o st.own) in
     let room : length p.cells ≤ CELL_LIMIT = (let x = st.cells in let y = st.counted.cells in omega (arith, x, y)) in
     let q = global_added p v.name.text (length p.cells) c.0 t.value_type w.0 in (
@@ -270,7 +267,7 @@ array_is decls before i a p st =
     let y = lock_faults decls a.name.span.start a.protection in
     let has = at_has decls i (array a) st.at in
     let t = known decls st.clean (outside decls) a.value_type (of_array has) in
-    let c = class_is decls a.name.span.start a.protection (none_right x y st.own) in
+    let c = class_is decls st.clean a.name.span.start a.protection (none_right x y st.own) in
     let room : length p.cells ≤ CELL_LIMIT = (let u = st.cells in let w = st.counted.cells in omega (arith, u, w)) in
     let few : a.length.value ≤ CELL_LIMIT = (let u = st.cells in omega (arith, u)) in
     let p1 = array_added p a.name.text (length p.cells) a.length.value t.value_type c.0 in

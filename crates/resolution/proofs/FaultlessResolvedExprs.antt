@@ -25,7 +25,8 @@ use Rattle.resolution.specs.Expressions.{ResolvedExpr, value, truth, fits, fitti
 use Rattle.resolution.specs.Where.{operand_want, side_want}
 use Rattle.resolution.specs.Faults.{start_of}
 use Rattle.resolution.specs.FaultLists.{one_if, number_faults, no_elements, misfit, unlike, side_faults, operator_faults, expr_faults, place_faults, link_faults, wanted_faults}
-use Rattle.resolution.proofs.FaultlessExpressions.{NoneIn, none_left, none_right, not_one, not_if, lt_false, le_true, is_there, Context, meaning_known, HasResolvedExpr, name_resolved, element_resolved, path_is, path_resolved, fit_if, fit_is, wanted_value, wanted_test}
+use Rattle.resolution.proofs.FaultlessExpressions.{NoneIn, none_left, none_right, not_one, not_if, is_there, Context, meaning_known, HasResolvedExpr, name_resolved, element_resolved, path_is, path_resolved, fit_if, fit_is, wanted_value, wanted_test}
+use Rattle.resolution.proofs.Tests.{lt_false, le_true}
 
 -- ---- numbers
 

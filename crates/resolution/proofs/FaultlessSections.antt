@@ -10,14 +10,14 @@ use Rattle.core_lang.specs.declared.tree.LocalKind.TheVariants as kind
 use Rattle.resolution.specs.Core as core
 use Rattle.resolution.specs.Limits.{PARAMETER_LIMIT}
 use Rattle.resolution.specs.Scopes as scope
-use Rattle.resolution.specs.Scopes.{◌>>=◌, Scope, outside, number_at, the_decl, type_of, bound, entered}
+use Rattle.resolution.specs.Scopes.{◌>>=◌, Scope, outside, a_decl, number_at, the_decl, type_of, bound, entered}
 use Rattle.resolution.specs.Constants.{added, typed_arguments}
 use Rattle.resolution.specs.Resolution.{result_of, ahead_of, entry, core_locals, section_with, section_of, typed_section, call_of, copies, joined, one_call, typed_item, typed_items}
 use Rattle.resolution.specs.Statements.{typed_body, Body, after_all}
 use Rattle.resolution.specs.Where.{Has, first, further}
-use Rattle.resolution.specs.FaultLists.{one, one_if, type_faults, argument_faults, local_faults, stmts_faults, param_faults, result_faults, call_faults, item_faults, items_faults}
+use Rattle.resolution.specs.FaultLists.{one, one_if, unfit, type_faults, argument_faults, local_faults, stmts_faults, param_faults, result_faults, call_faults, item_faults, items_faults}
 use Rattle.resolution.proofs.TrueStatements.{entered_same}
-use Rattle.resolution.proofs.FaultlessExpressions.{NoneIn, none_left, none_right, not_one, Clean, Typing, type_is, AllTyped, Context}
+use Rattle.resolution.proofs.FaultlessExpressions.{NoneIn, none_left, none_right, not_one, unfit_not, decl_has, decl_typed, Clean, Typing, type_is, AllTyped, Context}
 use Rattle.resolution.proofs.FaultlessStatements.{HasResult, typed_push, all_context, body_is}
 use Rattle.resolution.proofs.FaultlessConstants.{arguments_are}
 
@@ -117,16 +117,20 @@ argument_if decls clean p s number cs true e none =
     (record { section = number; arguments = vs.0 }, ap (λ (o : Option (List _)). o >>= λ ws. Some (record { section = number; arguments = ws })) vs.1)
 argument_if decls clean p s number cs false e none = absurd (not_one WrongArgumentCount p none)
 
-call_is : (decls : List Decl) → Clean decls → (p : ℕ) (o : Option (ℕ × Decl)) (cs : List Const) → NoneIn (call_faults decls p o cs) → (x : core.Call) × (call_of decls o cs ≡ Some x)
-call_is decls clean p None cs none = absurd (not_one UnknownName p none)
-call_is decls clean p (Some (n, atomic s)) cs none = argument_if decls clean p s (number_at decls n (atomic s)) cs (length cs == length s.params) refl none
-call_is decls clean p (Some (n, lock x)) cs none = absurd (not_one WrongType p none)
-call_is decls clean p (Some (n, struct x)) cs none = absurd (not_one WrongType p none)
-call_is decls clean p (Some (n, global x)) cs none = absurd (not_one WrongType p none)
-call_is decls clean p (Some (n, array x)) cs none = absurd (not_one WrongType p none)
-call_is decls clean p (Some (n, pool x)) cs none = absurd (not_one WrongType p none)
-call_is decls clean p (Some (n, init x)) cs none = absurd (not_one WrongType p none)
-call_is decls clean p (Some (n, thread x)) cs none = absurd (not_one WrongType p none)
+-- what is declared has its type, so it is told where it is no section
+no_section : (decls : List Decl) → Clean decls → (p n : ℕ) (d : Decl) → Has decls d → NoneIn (unfit decls WrongType p (a_decl n d)) → ⊥
+no_section decls clean p n d h none = unfit_not decls WrongType p (a_decl n d) (decl_typed decls clean n d h) none
+
+call_is : (decls : List Decl) → Clean decls → (p : ℕ) (o : Option (ℕ × Decl)) (cs : List Const) → ((k : ℕ) (d : Decl) → ◌≡◌ {A = Option (ℕ × Decl)} o (Some (k, d)) → Has decls d) → NoneIn (call_faults decls p o cs) → (x : core.Call) × (call_of decls o cs ≡ Some x)
+call_is decls clean p None cs up none = absurd (not_one UnknownName p none)
+call_is decls clean p (Some (n, atomic s)) cs up none = argument_if decls clean p s (number_at decls n (atomic s)) cs (length cs == length s.params) refl none
+call_is decls clean p (Some (n, lock x)) cs up none = absurd (no_section decls clean p n (lock x) (up n (lock x) refl) none)
+call_is decls clean p (Some (n, struct x)) cs up none = absurd (no_section decls clean p n (struct x) (up n (struct x) refl) none)
+call_is decls clean p (Some (n, global x)) cs up none = absurd (no_section decls clean p n (global x) (up n (global x) refl) none)
+call_is decls clean p (Some (n, array x)) cs up none = absurd (no_section decls clean p n (array x) (up n (array x) refl) none)
+call_is decls clean p (Some (n, pool x)) cs up none = absurd (no_section decls clean p n (pool x) (up n (pool x) refl) none)
+call_is decls clean p (Some (n, init x)) cs up none = absurd (no_section decls clean p n (init x) (up n (init x) refl) none)
+call_is decls clean p (Some (n, thread x)) cs up none = absurd (no_section decls clean p n (thread x) (up n (thread x) refl) none)
 
 abbrev Calls : Option (List core.Call) → Type 0
 Calls o = (xs : List core.Call) × (o ≡ Some xs)
@@ -136,7 +140,7 @@ joined_is o r a b = (a.0 ++ b.0, ap (λ (x : Option (List core.Call)). joined x 
 
 mutual
   pub item_is : (decls : List Decl) → Clean decls → (i : Item) → NoneIn (item_faults decls i) → Calls (typed_item decls i)
-  item_is decls clean (call c) none = let x = call_is decls clean c.section.span.start (the_decl decls c.section.text) c.arguments none in (x.0 ∷ [], ap one_call x.1)
+  item_is decls clean (call c) none = let x = call_is decls clean c.section.span.start (the_decl decls c.section.text) c.arguments (λ k d e. decl_has decls c.section.text k d e) none in (x.0 ∷ [], ap one_call x.1)
   item_is decls clean (repeat n is) none = let r = items_are decls clean is none in (copies n.value r.0, ap (λ (o : Option (List core.Call)). o >>= λ xs. Some (copies n.value xs)) r.1)
 
   pub items_are : (decls : List Decl) → Clean decls → (is : Items) → NoneIn (items_faults decls is) → Calls (typed_items decls is)

@@ -16,10 +16,11 @@ use Rattle.resolution.specs.Scopes.{Scope, outside, Meaning, a_local, a_decl, no
 use Rattle.resolution.specs.Expressions.{want, fitting, as_value, typed, Walk, reached, walk_from, local_path, cell_of}
 use Rattle.resolution.specs.Statements.{Target, to_local, to_global, to_element, to_field, Assignee, assignee, is_var, assignee_at, assignee_at_element, Split, last_field, field_target, assignee_along, target_of, wanted_by, first_name, Part, does, gives, binds, set_to, assigns, prints, returns, repeats, chooses_between, Body, preceded, block_of, after, after_else, after_all, typed_stmt, typed_if, typed_body}
 use Rattle.resolution.specs.Where.{of_global, of_array}
-use Rattle.resolution.specs.FaultLists.{one, type_faults, no_elements, path_faults, wanted_faults, local_faults, no_target, no_array, final_faults, target_faults, stmt_faults, else_faults, stmts_faults}
+use Rattle.resolution.specs.FaultLists.{unfit, type_faults, no_elements, path_faults, wanted_faults, local_faults, no_target, no_array, final_faults, target_faults, stmt_faults, else_faults, stmts_faults}
 use Rattle.resolution.proofs.TrueStatements.{after_same}
 use Rattle.resolution.proofs.FaultlessExpressions.{NoneIn, none_left, none_right, not_one, not_if, is_there, Clean, Typing, type_is, known, AllTyped, Context, IsKnown, meaning_known, decl_typed, unfit_not, Path, path_is}
 use Rattle.resolution.proofs.FaultlessResolvedExprs.{value_is, test_is}
+use Rattle.resolution.specs.Facts.{after_result}
 
 -- ---- the left side of an assignment
 
@@ -29,9 +30,9 @@ Assignees o = (a : Assignee) × (o ≡ Some a)
 assignee_is : (t : Target) (o : Option core_type.ValueType) (v : core_type.ValueType) → o ≡ Some v → Assignees (assignee (Some t) o)
 assignee_is t o v is = (record { target = t; value_type = v }, ap (assignee (Some t)) is)
 
-var_if : (decls : List Decl) (p n : ℕ) (l : scope.Local) (b : Bool) → Typing decls l.value_type → NoneIn (if b then [] else one NotAssignable p) → Assignees (if b then assignee (Some (to_local n)) l.value_type else None)
+var_if : (decls : List Decl) (p n : ℕ) (l : scope.Local) (b : Bool) → Typing decls l.value_type → NoneIn (if b then [] else unfit decls NotAssignable p (a_local n l)) → Assignees (if b then assignee (Some (to_local n)) l.value_type else None)
 var_if decls p n l true t none = assignee_is (to_local n) l.value_type t.value_type t.is
-var_if decls p n l false t none = absurd (not_one NotAssignable p none)
+var_if decls p n l false t none = absurd (unfit_not decls NotAssignable p (a_local n l) (ap is_some t.is) none)
 
 assignee_name : (decls : List Decl) → Clean decls → (p : ℕ) (x : Meaning) → IsKnown decls x → NoneIn (no_target decls p x) → Assignees (assignee_at decls x)
 assignee_name decls clean p (a_local n l) k none = var_if decls p n l (is_var l.kind) k none
@@ -59,7 +60,7 @@ assignee_element decls clean p (a_decl n (thread t)) index k none other = absurd
 assignee_element decls clean p nothing index k none other = absurd (not_one UnknownName p none)
 
 field_assignee : (p n : ℕ) (o : Option Split) (s : Split) (t : core_type.ValueType) → o ≡ Some s → Assignees (assignee (field_target p n o) (Some t))
-field_assignee p n o s t is = (record { target = to_field (local_path p n s.base) s.field; value_type = t }, ap (λ (x : Option Split). assignee (field_target p n x) (Some t)) is)
+field_assignee p n o s t is = (record { target = to_field (local_path p n s.base) s.structure s.field; value_type = t }, ap (λ (x : Option Split). assignee (field_target p n x) (Some t)) is)
 
 assignee_path : (decls : List Decl) (p : ℕ) (x : Meaning) (fs : List Ident) → Path decls x fs → NoneIn (final_faults p (walk_from decls x fs)) → Assignees (assignee_along p x (walk_from decls x fs))
 assignee_path decls p x fs r none =
@@ -204,16 +205,6 @@ block_is o x is = ap block_of is
 -- the result of a section, where it has one, is a type of the program
 abbrev pub HasResult : Scope → Type 0
 HasResult sc = Typing sc.decls sc.result
-
-after_result : (sc : Scope) (s : Stmt) → (after sc s).result ≡ sc.result
-after_result sc (let_local l) = refl
-after_result sc (var_local l) = refl
-after_result sc (assign p e) = refl
-after_result sc (if_then start e body close no_else) = refl
-after_result sc (if_then start e body close (else_do other end)) = refl
-after_result sc (while start e body close) = refl
-after_result sc (print start e) = refl
-after_result sc (return_value start e) = refl
 
 -- a `return` stands in what stands behind `else`
 abbrev InElse : Otherwise → ℕ → Type 0

@@ -1,25 +1,15 @@
 -- What the declarations give the members of pools.
 use Rattle.std.proofs.Common.{◌≡◌, ℕ, ◌<◌, List, Option, Some, None, Bool, true, false, refl, sym, ap, ◌∙◌, subst, if◌then◌else◌}
-use Rattle.std.specs.Prelude.{nat_lt, ◌==◌, ◌&&◌}
-use Rattle.std.proofs.lemmas.Bool.{eqb-true}
+use Rattle.std.specs.Prelude.{nat_lt}
 use Rattle.syntax.specs.Trees.{Const, Init, Pool, Member, lock_member, final_member, field_member, Decl, lock, struct, global, array, pool, init, atomic, thread}
 use Rattle.resolution.specs.declared.init_target.InitTarget.{InitTarget}
 use Rattle.resolution.specs.Scopes.{◌>>=◌, the_decl, the_member}
-use Rattle.resolution.specs.Constants.{members_of, pool_members, initialised, init_target_at, init_target_in, init_target_to, init_target_of, same_init_target, is_init_target, gives, giver, value_in, given}
+use Rattle.resolution.specs.Constants.{members_of, pool_members, initialised, init_target_at, init_target_in, init_target_to, init_target_of, is_init_target, gives, giver, value_in, given}
 use Rattle.resolution.specs.Where.{Has}
 use Rattle.resolution.proofs.Named.{named_is}
-use Rattle.resolution.proofs.TrueExpressions.{lt_of, and_left, and_right}
+use Rattle.resolution.specs.Facts.{same_is}
 use Rattle.resolution.proofs.FaultlessExpressions.{at_has}
-
-same_parts : (p i m : ℕ) (g : InitTarget) → p ≡ g.pool → i ≡ g.index → m ≡ g.member → record { pool = p; index = i; member = m } ≡ g
-same_parts p i m g a b c =
-    ap (λ (x : ℕ). record { pool = x; index = i; member = m }) a ∙ ap (λ (x : ℕ). record { pool = g.pool; index = x; member = m }) b ∙ ap (λ (x : ℕ). record { pool = g.pool; index = g.index; member = x }) c
-
-pub same_is : (g h : InitTarget) → same_init_target g h ≡ true → g ≡ h
-same_is g h e =
-    let ab = and_left ((g.pool == h.pool) && (g.index == h.index)) (g.member == h.member) e in
-    same_parts g.pool g.index g.member h (eqb-true g.pool h.pool (and_left (g.pool == h.pool) (g.index == h.index) ab)) (eqb-true g.index h.index (and_right (g.pool == h.pool) (g.index == h.index) ab))
-    (eqb-true g.member h.member (and_right ((g.pool == h.pool) && (g.index == h.index)) (g.member == h.member) e))
+use Rattle.resolution.proofs.Tests.{lt_of}
 
 init_target_is : (o : Option InitTarget) (g : InitTarget) → is_init_target o g ≡ true → o ≡ Some g
 init_target_is (Some h) g e = ap Some (same_is h g e)

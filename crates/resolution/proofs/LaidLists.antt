@@ -1,9 +1,9 @@
 -- Lists that match one another, and lists that grow.
 use Rattle.std.proofs.Common.{◌≡◌, ℕ, zero, suc, ◌+◌, ◌≤◌, List, [], ◌∷◌, ◌++◌, length, Option, Some, None, Bool, true, false, if◌then◌else◌, refl, ap, subst, arith}
 use Rattle.std.specs.Prelude.{slice_get, take, ⊤, nat_le}
-use Rattle.std.proofs.lemmas.Bool.Decides.{nat_tests}
 use Rattle.resolution.specs.Limits.{up_to}
 use Rattle.resolution.specs.Scopes.{◌>>=◌, count}
+use Rattle.resolution.proofs.Tests.{le_of}
 
 -- ---- rows: each of one list with the one at its place in another
 
@@ -86,10 +86,6 @@ pub take_front : {A : Type 0} (xs ys : List A) → take (length xs) (xs ++ ys) �
 take_front [] ys = refl
 take_front {A = A} (x ∷ xs) ys = ap (λ (zs : List A). x ∷ zs) (take_front xs ys)
 
-pub append_nil : {A : Type 0} (xs : List A) → xs ++ [] ≡ xs
-append_nil [] = refl
-append_nil {A = A} (x ∷ xs) = ap (λ (ys : List A). x ∷ ys) (append_nil xs)
-
 abbrev pub as_one : Bool → ℕ
 as_one true = 1
 as_one false = 0
@@ -111,9 +107,6 @@ count_push p (y ∷ xs) x = by_test (p y) (count_push p xs x)
 pub bind_got : {A B : Type 0} (o : Option A) (f : A → Option B) (y : B) → (o >>= f) ≡ Some y → (x : A) × (o ≡ Some x) × (f x ≡ Some y)
 bind_got (Some x) f y e = (x, refl, e)
 bind_got None f y e = cc
-
-le_of : (n k : ℕ) → nat_le n k ≡ true → n ≤ k
-le_of n k e = grind (arith, nat_tests)
 
 up_if : (limit n k : ℕ) (b : Bool) → nat_le n limit ≡ b → (if b then Some n else None) ≡ Some k → (n ≡ k) × (n ≤ limit)
 up_if limit n k true t e = (cc, le_of n limit t)

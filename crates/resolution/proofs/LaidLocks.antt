@@ -16,17 +16,19 @@ use Rattle.resolution.specs.FaultLists as list
 use Rattle.resolution.specs.FaultLists.{one_if, member_counts, count_faults, total_faults, passed_faults, along_faults, annotation_faults, protection_faults, type_faults}
 use Rattle.resolution.proofs.Members.{in_right}
 use Rattle.resolution.proofs.Named.{named_is, member_is}
+use Rattle.resolution.specs.Facts.{struct_at}
 use Rattle.resolution.proofs.Parts.{of_place_at, in_members_field}
 use Rattle.resolution.proofs.AllFaults.{of_totals}
 use Rattle.resolution.proofs.TrueStatements.{length_push}
-use Rattle.resolution.proofs.FaultlessExpressions.{NoneIn, none_left, none_right, not_if, struct_at, Clean}
-use Rattle.resolution.proofs.FaultlessConstants.{le_false}
+use Rattle.resolution.proofs.FaultlessExpressions.{NoneIn, none_left, none_right, not_if, Clean}
 use Rattle.resolution.proofs.FaultlessPrograms.{total_push}
 use Rattle.resolution.proofs.Typed.{final_in}
-use Rattle.resolution.proofs.LaidLists.{rows_left, rows_right, get_last, get_behind, get_pushed, get_parts, bind_got, append_nil}
+use Rattle.resolution.proofs.LaidLists.{rows_left, rows_right, get_last, get_behind, get_pushed, get_parts, bind_got}
 use Rattle.resolution.proofs.LaidStages.{fields_in, locks_in, lock_numbered}
 use Rattle.resolution.proofs.LaidWalk.{LockRow, ClassRow, FieldRow, shaped, elements_leave, Step, lands, walked_whole, counted_whole}
 use Rattle.resolution.proofs.LaidFacts.{struct_by_number, sound_of, under, number_landed, total_landed, keeps_globals, keeps_arrays, keeps_classes}
+use Rattle.resolution.proofs.Tests.{le_false}
+use Rattle.std.proofs.lemmas.List.{append-nil}
 
 -- ---- how many classes there are
 
@@ -61,7 +63,7 @@ classes_fit decls before (atomic x) none le = omega (arith, le)
 classes_fit decls before (thread x) none le = omega (arith, le)
 
 classes_few : (decls before ds : List Decl) → NoneIn (total_faults decls before ds) → total classes_of before ≤ CLASS_LIMIT → total classes_of (before ++ ds) ≤ CLASS_LIMIT
-classes_few decls before [] none le = subst (λ (xs : List Decl). total classes_of xs ≤ CLASS_LIMIT) (sym (append_nil before)) le
+classes_few decls before [] none le = subst (λ (xs : List Decl). total classes_of xs ≤ CLASS_LIMIT) (sym (append-nil before)) le
 classes_few decls before (d ∷ ds) none le =
     let fit = classes_fit decls before d (none_left (count_faults decls before d) (total_faults decls (before ++ d ∷ []) ds) none) le in
     let more : total classes_of (before ++ d ∷ []) ≤ CLASS_LIMIT = (let t = total_push classes_of before d in omega (arith, t, fit)) in
@@ -297,7 +299,7 @@ module _ (decls : List Decl) (clean : Clean decls) (whole : core.Program) (is : 
   over_final s st h i f m less (Some (n, thread x)) d to e = cc
   over_final s st h i f m less None d to e = cc
 
-  stepped : (s head here : ℕ) (st : AnnotationCursor) → Stood s st → (q : List ℕ) (o : Option (ℕ × Member)) → the_member st.members q ≡ o → NoneIn (passed_faults head here (length st.through) o) → (to : AnnotationCursor) → through_member decls st o ≡ Some to → Stood s to
+  stepped : (s head here : ℕ) (st : AnnotationCursor) → Stood s st → (q : List ℕ) (o : Option (ℕ × Member)) → the_member st.members q ≡ o → NoneIn (passed_faults decls head here (length st.through) o) → (to : AnnotationCursor) → through_member decls st o ≡ Some to → Stood s to
   stepped s head here st h q (Some (i, final_member f)) m none to e =
       over_final s st h i f (member_is st.members q i (final_member f) m).0 (le_false FINAL_LIMIT (length st.through) (not_if (nat_le FINAL_LIMIT (length st.through)) LimitExceeded head none)) (the_decl decls f.target.text) refl to e
   stepped s head here st h q (Some (i, lock_member x)) m none to e = cc
@@ -309,7 +311,7 @@ module _ (decls : List Decl) (clean : Clean decls) (whole : core.Program) (is : 
   along_ok s head st h y (z ∷ zs) none p e =
       let o = stepped_on decls (Some st) y in
       let t = along_there o z zs p e in
-      let a = list.passed head (Some st) y in
+      let a = list.passed decls head (Some st) y in
       let next = stepped s head y.span.start st h y.text (the_member st.members y.text) refl (none_left a (along_faults decls head o z zs) none) t.0 t.1 in
       along_ok s head t.0 next z zs (subst (λ (x : Option AnnotationCursor). NoneIn (along_faults decls head x z zs)) t.1 (none_right a (along_faults decls head o z zs) none)) p t.2
 

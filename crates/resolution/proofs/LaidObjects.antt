@@ -23,13 +23,14 @@ use Rattle.resolution.specs.Expressions.{number_value, fits_type}
 use Rattle.resolution.specs.Constants.{number_sort, reference_sort, member_sort, const_sort, object_of, member_of, const_value, if_fitting, typed_const, members_of, members_in, opened, default_of, object_in, referred}
 use Rattle.resolution.specs.Resolution.{nothing_yet, with_elements, array_added, pool_added, resolved}
 use Rattle.resolution.proofs.Named.{named_is}
-use Rattle.resolution.proofs.TrueExpressions.{lt_of}
-use Rattle.resolution.proofs.FaultlessExpressions.{Clean, lt_false, struct_at}
+use Rattle.resolution.specs.Facts.{struct_at}
+use Rattle.resolution.proofs.FaultlessExpressions.{Clean}
 use Rattle.resolution.proofs.Typed.{field_in}
 use Rattle.resolution.proofs.LaidLists.{rows_left, rows_right, get_last, get_behind, get_pushed, get_parts, bind_got}
 use Rattle.resolution.proofs.LaidStages.{fields_in, finals_in, CellOf, FinalOf, Objected, Chain, Adds, Begins, begins_on, begins_cell, begins_object}
 use Rattle.resolution.proofs.LaidWalk.{FieldRow, chain_leaves, chain_objects, elements_leave, elements_objects, elements_cells, all_objects_few, Step, walked_whole, counted_whole}
 use Rattle.resolution.proofs.LaidFacts.{struct_of_number, pool_at, under, keeps_globals, keeps_arrays, keeps_pools}
+use Rattle.resolution.proofs.Tests.{lt_of, lt_false}
 
 abbrev KeepsObjects : Decl → core.Program → core.Program → Type 0
 KeepsObjects (lock x) p q = q.objects ≡ p.objects

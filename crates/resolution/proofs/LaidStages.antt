@@ -14,7 +14,8 @@ use Rattle.resolution.specs.Scopes.{◌>>=◌, outside, type_of, struct_named, n
 use Rattle.resolution.specs.Constants.{members_of, opened, default_of, referred}
 use Rattle.resolution.specs.Annotations.{class_of, protection_of}
 use Rattle.resolution.specs.Resolution.{few_calls, typed_calls, typed_items, typed_section, StructBuilder, lock_added, final_added, field_added, member_added, members_added, empty_struct, with_class, with_struct, with_cell, with_section, with_thread, global_added, with_global, opening_of, with_elements, array_added, with_array, Slot, slot_given, final_cell, field_cell, with_members, object_added, with_object, with_objects, pool_added, with_pool, extended}
-use Rattle.resolution.proofs.LaidLists.{Rows, Grows, grows_more, bind_got, up_got, append_nil}
+use Rattle.resolution.proofs.LaidLists.{Rows, Grows, grows_more, bind_got, up_got}
+use Rattle.std.proofs.lemmas.List.{append-nil}
 
 -- ---- members by kind
 
@@ -107,7 +108,7 @@ referred_got decls None g n e = cc
 pub members_got : (decls : List Decl) (slot : Slot) (place fields n : ℕ) (p q : core.Program) (ms : List Member) → with_members decls slot place fields (Some p) ms ≡ Some q → Membered decls slot.object fields n ms p q
 members_got decls slot place fields n p q [] e =
     let s : p ≡ q = cc in
-    record { cells = []; finals = []; is = sym s ∙ ap (λ (cs : List Cell). with_parts p cs p.finals) (sym (append_nil p.cells)) ∙ ap (λ (fs : List ℕ). with_parts p (p.cells ++ []) fs) (sym (append_nil p.finals)); own = tt; refs = tt }
+    record { cells = []; finals = []; is = sym s ∙ ap (λ (cs : List Cell). with_parts p cs p.finals) (sym (append-nil p.cells)) ∙ ap (λ (fs : List ℕ). with_parts p (p.cells ++ []) fs) (sym (append-nil p.finals)); own = tt; refs = tt }
 members_got decls slot place fields n p q (lock_member x ∷ ms) e =
     let r = members_got decls slot (place + 1) fields n p q ms e in
     record { cells = r.cells; finals = r.finals; is = r.is; own = r.own; refs = r.refs }

@@ -1,7 +1,7 @@
 -- A program is resolved step by step, and where each step stands.
 use Rattle.std.proofs.Common.{◌≡◌, ℕ, zero, suc, ◌+◌, ◌*◌, ◌≤◌, List, [], ◌∷◌, ◌++◌, length, Option, Some, None, refl, sym, ap, ◌∙◌, subst, append_assoc, arith}
 use Rattle.std.specs.Prelude.{slice_get, take, ⊤}
-use Rattle.std.proofs.lemmas.List.{length-append}
+use Rattle.std.proofs.lemmas.List.{length-append, append-nil}
 use Rattle.syntax.specs.Trees.{Ident, Member, lock_member, final_member, field_member, Final, Field, Struct, Array, Pool, Section, Decl, lock, struct, global, array, pool, init, atomic, thread}
 use Rattle.core_lang.specs.declared.value.ValueType as core_type
 use Rattle.core_lang.specs.declared.typed.Owner.TheVariants as owner
@@ -19,7 +19,7 @@ use Rattle.resolution.proofs.TrueStatements.{length_push}
 use Rattle.resolution.proofs.FaultlessExpressions.{NoneIn, none_left, none_right, at_has, Clean}
 use Rattle.resolution.proofs.FaultlessMembers.{is_field, fields_are}
 use Rattle.resolution.proofs.FaultlessPrograms.{total_push, objects_fit, struct_once}
-use Rattle.resolution.proofs.LaidLists.{Rows, rows_length, get_last, get_pushed, take_front, append_nil, as_one, count_push}
+use Rattle.resolution.proofs.LaidLists.{Rows, rows_length, get_last, get_pushed, take_front, as_one, count_push}
 use Rattle.resolution.proofs.LaidStages.{fields_in, finals_in, locks_in, Objected, Chain, Adds, adds, Begins, begins_same, begins_on, begins_adds, builder_there}
 
 -- ---- a struct's parts
@@ -68,10 +68,10 @@ shaped decls k i all a b st [] to e =
       locks = [];
       finals = [];
       fields = [];
-      is_classes = ap (λ (y : StructBuilder). y.classes) (sym s) ∙ sym (append_nil st.classes);
-      is_locks = ap (λ (y : StructBuilder). y.structure.locks) (sym s) ∙ sym (append_nil st.structure.locks);
-      is_finals = ap (λ (y : StructBuilder). y.structure.finals) (sym s) ∙ sym (append_nil st.structure.finals);
-      is_fields = ap (λ (y : StructBuilder). y.structure.fields) (sym s) ∙ sym (append_nil st.structure.fields);
+      is_classes = ap (λ (y : StructBuilder). y.classes) (sym s) ∙ sym (append-nil st.classes);
+      is_locks = ap (λ (y : StructBuilder). y.structure.locks) (sym s) ∙ sym (append-nil st.structure.locks);
+      is_finals = ap (λ (y : StructBuilder). y.structure.finals) (sym s) ∙ sym (append-nil st.structure.finals);
+      is_fields = ap (λ (y : StructBuilder). y.structure.fields) (sym s) ∙ sym (append-nil st.structure.fields);
       class_rows = tt;
       lock_rows = tt;
       final_rows = tt;
@@ -394,7 +394,7 @@ pub walk : (decls : List Decl) → Clean decls → (whole : core.Program) (K : L
     (before ds : List Decl) (p : core.Program) → decls ≡ before ++ ds → Counts decls before p → K before p → resolved_from decls (length before) (Some p) ds ≡ Some whole → K decls whole × Counts decls decls whole
 walk decls clean whole K step before [] p parts n k h =
     let s : p ≡ whole = cc in
-    let e : before ≡ decls = sym (parts ∙ append_nil before) in
+    let e : before ≡ decls = sym (parts ∙ append-nil before) in
     (subst (λ (bs : List Decl). K bs whole) e (subst (K before) s k), subst (λ (bs : List Decl). Counts decls bs whole) e (subst (Counts decls before) s n))
 walk decls clean whole K step before (d ∷ ds) p parts n k h =
     let f = first_of decls before p d ds whole h in
@@ -438,7 +438,7 @@ lands decls clean whole h = walked_whole decls clean whole h (λ b p. (i : ℕ) 
 -- ---- limits
 
 pub objects_few : (decls before ds : List Decl) → NoneIn (total_faults decls before ds) → total objects_of before ≤ OBJECT_LIMIT → total objects_of (before ++ ds) ≤ OBJECT_LIMIT
-objects_few decls before [] none le = subst (λ (xs : List Decl). total objects_of xs ≤ OBJECT_LIMIT) (sym (append_nil before)) le
+objects_few decls before [] none le = subst (λ (xs : List Decl). total objects_of xs ≤ OBJECT_LIMIT) (sym (append-nil before)) le
 objects_few decls before (d ∷ ds) none le =
     let fit = objects_fit decls before d (none_left (count_faults decls before d) (total_faults decls (before ++ d ∷ []) ds) none) le in
     let more : total objects_of (before ++ d ∷ []) ≤ OBJECT_LIMIT = (let t = total_push objects_of before d in omega (arith, t, fit)) in

@@ -1,11 +1,11 @@
+pub mod Tests
+pub mod Named
 pub mod Members
-pub mod Orders
 pub mod TrueExpressions
 pub mod TrueStatements
 pub mod TrueDeclarations
 pub mod TrueFaults
 pub mod Parts
-pub mod Named
 pub mod AllFaults
 pub mod FaultlessExpressions
 pub mod FaultlessResolvedExprs

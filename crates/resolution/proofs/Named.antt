@@ -1,25 +1,10 @@
 -- The first of a name.
-use Rattle.std.proofs.Common.{◌≡◌, ℕ, suc, ◌+◌, List, [], ◌∷◌, Option, Some, None, Bool, true, false, if◌then◌else◌, refl, sym, ap, ◌∙◌, subst, arith}
+use Rattle.std.proofs.Common.{◌≡◌, ℕ, ◌+◌, List, Option, Some, None, Bool, true, refl, sym, ap, ◌∙◌, subst, arith}
 use Rattle.std.specs.Prelude.{slice_get}
 use Rattle.std.proofs.lemmas.Slice.Eq.{bytes_eq-Decides}
 use Rattle.syntax.specs.Trees.{Member}
-use Rattle.resolution.specs.Scopes.{place_from, place_of, named, member_name, member_bears, the_member}
-
--- one that passes, so many places on
-pub record Passing {A : Type 0} (p : A → Bool) (xs : List A) (n i : ℕ) : Type 0 where
-  pub by : ℕ
-  pub place : i ≡ n + by
-  pub item : A
-  pub here : slice_get xs by ≡ Some item
-  pub passed : p item ≡ true
-
-passing_if : {A : Type 0} (p : A → Bool) (x : A) (xs : List A) (n i : ℕ) (b : Bool) → p x ≡ b → (if b then Some n else place_from p (suc n) xs) ≡ Some i → (place_from p (suc n) xs ≡ Some i → Passing p xs (suc n) i) → Passing p (x ∷ xs) n i
-passing_if p x xs n i true is e rest = record { by = 0; place = (let s : n ≡ i = cc in omega (arith, s)); item = x; here = refl; passed = is }
-passing_if p x xs n i false is e rest = let r = rest e in record { by = suc r.by; place = (let s : i ≡ suc n + r.by = r.place in omega (arith, s)); item = r.item; here = r.here; passed = r.passed }
-
-pub passing : {A : Type 0} (p : A → Bool) (xs : List A) (n i : ℕ) → place_from p n xs ≡ Some i → Passing p xs n i
-passing p [] n i e = cc
-passing p (x ∷ xs) n i e = passing_if p x xs n i (p x) refl e (passing p xs (suc n) i)
+use Rattle.resolution.specs.Scopes.{place_of, named, member_name, member_bears, the_member}
+use Rattle.resolution.specs.Facts.{passing}
 
 -- what a name is found to be
 pub record IsFound {A Q : Type 0} (bears : A → Q → Bool) (xs : List A) (q : Q) (i : ℕ) (x : A) : Type 0 where

@@ -8,7 +8,7 @@ use Rattle.syntax.specs.declared.tree.Level.{Level}
 use Rattle.syntax.specs.Trees.{Ident, ValueType, ref_type, Const, element, Expr, place, paren, prefix, chain, compare, Links, no_links, link, Stmt, let_local, var_local, assign, if_then, while, print, return_value, Stmts, no_stmts, stmt, else_do, Member, lock_member, final_member, field_member, Field, Final, Param, Section, Call, call, repeat, Items, no_items, item, Decl, struct, global, array, pool, init, atomic, thread}
 use Rattle.core_lang.specs.declared.value.ValueType.TheVariants.{Integer}
 use Rattle.core_lang.specs.declared.tree.LocalKind.TheVariants as kind
-use Rattle.resolution.specs.declared.mistake.Mistake.{Mistake}
+use Rattle.source.specs.declared.mistake.Mistake.{Mistake}
 use Rattle.resolution.specs.declared.wanted.Want.{Want}
 use Rattle.resolution.specs.declared.wanted.Want.TheVariants.{Anything, Condition, Value}
 use Rattle.resolution.specs.Limits.{PARAMETER_LIMIT}
@@ -21,13 +21,13 @@ use Rattle.resolution.specs.Where as site
 use Rattle.resolution.specs.Where.{Has, first, further, HasLink, this_link, later_link, operand_want, prefix_want, side_want, Within, itself, in_parentheses, in_prefix, in_first, in_operand, in_left, in_right, in_index, Among, here, later, in_then, in_else, in_while, Asks, of_let, of_var, of_assign, of_index, of_while, of_print, of_return, HasStmt, in_section, HasExpr, in_stmt, Binds, parameter, a_let, a_var, HasType, of_global, of_array, of_pool, of_final, of_field, of_parameter, of_result, of_a_let, of_a_var, InItems, this_call, in_repeat, later_call, HasCall, in_thread, HasConst, opening, initial, argument}
 use Rattle.resolution.specs.Faults.{start_of}
 use Rattle.resolution.specs.FaultLists.{one, one_if, misfit, no_elements, no_array, operator_faults, side_faults, expr_faults, link_faults, wanted_faults, local_faults, type_faults, target_faults, stmt_faults, stmts_faults, param_faults, result_faults, const_faults, argument_faults, lock_faults, protection_faults, members_faults, opening_faults, missing_faults, index_faults, named_faults, null_faults, call_faults, item_faults, items_faults, decl_faults, each_faults, twice_faults, struct_faults, total_faults, repeated_faults, program_faults}
-use Rattle.resolution.proofs.Members.{In}
+use Rattle.source.specs.Leasts.{IsAmong}
 use Rattle.resolution.proofs.Members as m
 use Rattle.resolution.proofs.TrueStatements.{after_same, entered_same}
 
 -- ---- joined lists
 
-pub deepen : (f : Mistake) (a x y : List Mistake) → In f (x ++ y) → In f ((a ++ x) ++ y)
+pub deepen : (f : Mistake) (a x y : List Mistake) → IsAmong f (x ++ y) → IsAmong f ((a ++ x) ++ y)
 deepen f a x y i = m.both f x y (λ j. m.in_left f (a ++ x) y (m.in_right f a x j)) (λ j. m.in_right f (a ++ x) y j) i
 
 -- ---- expressions
@@ -37,22 +37,22 @@ anything sc e None = refl
 anything sc e (Some (value x s)) = refl
 anything sc e (Some (truth c)) = refl
 
-of_anything : (sc : Scope) (e : Expr) (f : Mistake) → In f (wanted_faults sc Anything e) → In f (expr_faults sc e)
+of_anything : (sc : Scope) (e : Expr) (f : Mistake) → IsAmong f (wanted_faults sc Anything e) → IsAmong f (expr_faults sc e)
 of_anything sc e f i =
-    m.both f (expr_faults sc e) (misfit Anything (start_of e) (typed sc e)) (λ j. j) (λ j. absurd (subst (In f) (anything sc e (typed sc e)) j)) i
+    m.both f (expr_faults sc e) (misfit Anything (start_of e) (typed sc e)) (λ j. j) (λ j. absurd (subst (IsAmong f) (anything sc e (typed sc e)) j)) i
 
 in_link : (sc : Scope) (level : Level) (links : Links) (o : Op) (e : Expr) → HasLink links o e → (f : Mistake) →
-    In f ((operator_faults level (start_of e) o ++ expr_faults sc e) ++ misfit (operand_want level) (start_of e) (typed sc e)) → In f (link_faults sc level links)
+    IsAmong f ((operator_faults level (start_of e) o ++ expr_faults sc e) ++ misfit (operand_want level) (start_of e) (typed sc e)) → IsAmong f (link_faults sc level links)
 in_link sc level no_links o e h f i = elim h [ ]
 in_link sc level (link o e rest) o' e' this_link f i = m.in_left f _ (link_faults sc level rest) i
 in_link sc level (link o e rest) o' e' (later_link h) f i =
     m.in_right f ((operator_faults level (start_of e) o ++ expr_faults sc e) ++ misfit (operand_want level) (start_of e) (typed sc e)) _ (in_link sc level rest o' e' h f i)
 
 pub chain_link : (sc : Scope) (level : Level) (a : Expr) (links : Links) (o : Op) (e : Expr) → HasLink links o e → (f : Mistake) →
-    In f ((operator_faults level (start_of e) o ++ expr_faults sc e) ++ misfit (operand_want level) (start_of e) (typed sc e)) → In f (expr_faults sc (chain level a links))
+    IsAmong f ((operator_faults level (start_of e) o ++ expr_faults sc e) ++ misfit (operand_want level) (start_of e) (typed sc e)) → IsAmong f (expr_faults sc (chain level a links))
 chain_link sc level a links o e h f i = m.in_right f (expr_faults sc a ++ misfit (operand_want level) (start_of a) (typed sc a)) _ (in_link sc level links o e h f i)
 
-part : (sc : Scope) (w v : Want) (e x : Expr) → Within w e v x → (f : Mistake) → In f (wanted_faults sc v x) → In f (wanted_faults sc w e)
+part : (sc : Scope) (w v : Want) (e x : Expr) → Within w e v x → (f : Mistake) → IsAmong f (wanted_faults sc v x) → IsAmong f (wanted_faults sc w e)
 part sc w v e x itself f i = i
 part sc w v (paren at e) x (in_parentheses h) f i = m.in_left f (expr_faults sc e) _ (of_anything sc e f (part sc Anything v e x h f i))
 part sc w v (prefix o at e) x (in_prefix h) f i = m.in_left f (expr_faults sc (prefix o at e)) _ (part sc (prefix_want o) v e x h f i)
@@ -76,7 +76,7 @@ part sc w v (place (element y e)) x (in_index h) f i =
 
 -- ---- statements
 
-asked : (sc : Scope) (s : Stmt) (w : Want) (e : Expr) → Asks sc s w e → (f : Mistake) → In f (wanted_faults sc w e) → In f (stmt_faults sc s)
+asked : (sc : Scope) (s : Stmt) (w : Want) (e : Expr) → Asks sc s w e → (f : Mistake) → IsAmong f (wanted_faults sc w e) → IsAmong f (stmt_faults sc s)
 asked sc (let_local l) w e of_let f i = m.in_right f (local_faults sc l.name ++ type_faults sc l.value_type) _ i
 asked sc (var_local l) w e of_var f i = m.in_right f (local_faults sc l.name ++ type_faults sc l.value_type) _ i
 asked sc (assign p e) w x of_assign f i = m.in_right f (target_faults sc p) _ i
@@ -87,7 +87,7 @@ asked sc (while start e body close) w x of_while f i = m.in_left f (wanted_fault
 asked sc (print start e) w x of_print f i = i
 asked sc (return_value start e) w x of_return f i = i
 
-among : (sc sc' : Scope) (ss : Stmts) (s : Stmt) → Among sc ss sc' s → (f : Mistake) → In f (stmt_faults sc' s) → In f (stmts_faults sc ss)
+among : (sc sc' : Scope) (ss : Stmts) (s : Stmt) → Among sc ss sc' s → (f : Mistake) → IsAmong f (stmt_faults sc' s) → IsAmong f (stmts_faults sc ss)
 among sc sc' no_stmts r h f i = elim h [ ]
 among sc sc' (stmt s rest) r here f i = m.in_left f _ (stmts_faults (after sc s) rest) i
 among sc sc' (stmt s rest) r (later h) f i = m.in_right f (stmt_faults sc s) _ (among (after sc s) sc' rest r h f i)
@@ -113,61 +113,61 @@ has_at [] x h = elim h [ ]
 has_at (y ∷ xs) x first = (0, refl)
 has_at (y ∷ xs) x (further h) = let r = has_at xs x h in (suc r.0, r.1)
 
-in_each : (decls : List Decl) (n : ℕ) (ds : List Decl) (j : ℕ) (d : Decl) → slice_get ds j ≡ Some d → (f : Mistake) → In f (decl_faults decls (n + j) d) → In f (each_faults decls n ds)
+in_each : (decls : List Decl) (n : ℕ) (ds : List Decl) (j : ℕ) (d : Decl) → slice_get ds j ≡ Some d → (f : Mistake) → IsAmong f (decl_faults decls (n + j) d) → IsAmong f (each_faults decls n ds)
 in_each decls n [] j d at f i = cc
 in_each decls n (x ∷ ds) zero d at f i =
     let same : x ≡ d = cc in
-    m.in_left f (decl_faults decls n x) (each_faults decls (n + 1) ds) (subst (λ (y : Decl). In f (decl_faults decls n y)) (sym same) (subst (λ (k : ℕ). In f (decl_faults decls k d)) (let z : n + 0 ≡ n = omega arith in z) i))
+    m.in_left f (decl_faults decls n x) (each_faults decls (n + 1) ds) (subst (λ (y : Decl). IsAmong f (decl_faults decls n y)) (sym same) (subst (λ (k : ℕ). IsAmong f (decl_faults decls k d)) (let z : n + 0 ≡ n = omega arith in z) i))
 in_each decls n (x ∷ ds) (suc j) d at f i =
-    m.in_right f (decl_faults decls n x) _ (in_each decls (n + 1) ds j d at f (subst (λ (k : ℕ). In f (decl_faults decls k d)) (let z : n + suc j ≡ n + 1 + j = omega arith in z) i))
+    m.in_right f (decl_faults decls n x) _ (in_each decls (n + 1) ds j d at f (subst (λ (k : ℕ). IsAmong f (decl_faults decls k d)) (let z : n + suc j ≡ n + 1 + j = omega arith in z) i))
 
-pub of_place_at : (decls : List Decl) (n : ℕ) (d : Decl) → slice_get decls n ≡ Some d → (f : Mistake) → In f (decl_faults decls n d) → In f (program_faults decls)
+pub of_place_at : (decls : List Decl) (n : ℕ) (d : Decl) → slice_get decls n ≡ Some d → (f : Mistake) → IsAmong f (decl_faults decls n d) → IsAmong f (program_faults decls)
 of_place_at decls n d at f i =
     m.in_right f (twice_faults [] decls ++ struct_faults decls ++ total_faults decls [] decls ++ repeated_faults decls [] decls) _
-    (in_each decls 0 decls n d at f (subst (λ (k : ℕ). In f (decl_faults decls k d)) (let z : n ≡ 0 + n = omega arith in z) i))
+    (in_each decls 0 decls n d at f (subst (λ (k : ℕ). IsAmong f (decl_faults decls k d)) (let z : n ≡ 0 + n = omega arith in z) i))
 
 -- of a declaration whose faults are the same at each place
-pub of_decl : (decls : List Decl) (d : Decl) → Has decls d → (f : Mistake) → ((n : ℕ) → slice_get decls n ≡ Some d → In f (decl_faults decls n d)) → In f (program_faults decls)
+pub of_decl : (decls : List Decl) (d : Decl) → Has decls d → (f : Mistake) → ((n : ℕ) → slice_get decls n ≡ Some d → IsAmong f (decl_faults decls n d)) → IsAmong f (program_faults decls)
 of_decl decls d h f i = let at = has_at decls d h in of_place_at decls at.0 d at.1 f (i at.0 at.1)
 
-pub of_stmt : (decls : List Decl) (sc : Scope) (s : Stmt) → HasStmt decls sc s → (f : Mistake) → In f (stmt_faults sc s) → In f (program_faults decls)
+pub of_stmt : (decls : List Decl) (sc : Scope) (s : Stmt) → HasStmt decls sc s → (f : Mistake) → IsAmong f (stmt_faults sc s) → IsAmong f (program_faults decls)
 of_stmt decls sc s (in_section {x = x} h a) f i =
     of_decl decls (atomic x) h f (λ n at. m.in_right f (result_faults decls x.result ++ param_faults (ahead_of decls x) 0 x.params) _ (among (entry decls x) sc x.body.stmts s a f i))
 
 pub stmt_decls : (decls : List Decl) (sc : Scope) (s : Stmt) → HasStmt decls sc s → sc.decls ≡ decls
 stmt_decls decls sc s (in_section {x = x} h a) = same_decls (entry decls x) sc x.body.stmts s a ∙ entered_same (ahead_of decls x) x.params
 
-pub of_wanted : (decls : List Decl) (sc : Scope) (w : Want) (e : Expr) → HasExpr decls sc w e → (f : Mistake) → In f (wanted_faults sc w e) → In f (program_faults decls)
+pub of_wanted : (decls : List Decl) (sc : Scope) (w : Want) (e : Expr) → HasExpr decls sc w e → (f : Mistake) → IsAmong f (wanted_faults sc w e) → IsAmong f (program_faults decls)
 of_wanted decls sc w e (in_stmt {s = s} {w = v} {e = whole} h asks within) f i = of_stmt decls sc s h f (asked sc s v whole asks f (part sc v w whole e within f i))
 
 pub expr_decls : (decls : List Decl) (sc : Scope) (w : Want) (e : Expr) → HasExpr decls sc w e → sc.decls ≡ decls
 expr_decls decls sc w e (in_stmt {s = s} h asks within) = stmt_decls decls sc s h
 
-pub of_expr : (decls : List Decl) (sc : Scope) (w : Want) (e : Expr) → HasExpr decls sc w e → (f : Mistake) → In f (expr_faults sc e) → In f (program_faults decls)
+pub of_expr : (decls : List Decl) (sc : Scope) (w : Want) (e : Expr) → HasExpr decls sc w e → (f : Mistake) → IsAmong f (expr_faults sc e) → IsAmong f (program_faults decls)
 of_expr decls sc w e h f i = of_wanted decls sc w e h f (m.in_left f (expr_faults sc e) (misfit w (start_of e) (typed sc e)) i)
 
 -- ---- locals
 
-in_params : (sc : Scope) (before behind : List Param) (p : Param) (n : ℕ) (f : Mistake) → In f (param_faults (entered sc before) (n + length before) (p ∷ behind)) → In f (param_faults sc n (before ++ p ∷ behind))
-in_params sc [] behind p n f i = subst (λ (k : ℕ). In f (param_faults sc k (p ∷ behind))) (let e : n + 0 ≡ n = omega arith in e) i
+in_params : (sc : Scope) (before behind : List Param) (p : Param) (n : ℕ) (f : Mistake) → IsAmong f (param_faults (entered sc before) (n + length before) (p ∷ behind)) → IsAmong f (param_faults sc n (before ++ p ∷ behind))
+in_params sc [] behind p n f i = subst (λ (k : ℕ). IsAmong f (param_faults sc k (p ∷ behind))) (let e : n + 0 ≡ n = omega arith in e) i
 in_params sc (b ∷ before) behind p n f i =
     m.in_right f (local_faults sc b.name ++ one_if (nat_le PARAMETER_LIMIT n) LimitExceeded b.name.span.start ++ type_faults (outside sc.decls) b.value_type) _
     (in_params (bound sc kind.Parameter b.name (type_of (outside sc.decls) b.value_type)) before behind p (n + 1) f
-    (subst (λ (k : ℕ). In f (param_faults (entered (bound sc kind.Parameter b.name (type_of (outside sc.decls) b.value_type)) before) k (p ∷ behind))) (let e : n + suc (length before) ≡ n + 1 + length before = omega arith in e) i))
+    (subst (λ (k : ℕ). IsAmong f (param_faults (entered (bound sc kind.Parameter b.name (type_of (outside sc.decls) b.value_type)) before) k (p ∷ behind))) (let e : n + suc (length before) ≡ n + 1 + length before = omega arith in e) i))
 
 -- what is listed for a parameter by itself
 abbrev pub own : List Decl → Section → List Param → Param → List Mistake
 own decls x before p =
     local_faults (entered (ahead_of decls x) before) p.name ++ one_if (nat_le PARAMETER_LIMIT (length before)) LimitExceeded p.name.span.start ++ type_faults (outside (entered (ahead_of decls x) before).decls) p.value_type
 
-pub of_param : (decls : List Decl) (x : Section) (before behind : List Param) (p : Param) → Has decls (atomic x) → x.params ≡ before ++ p ∷ behind → (f : Mistake) → In f (own decls x before p) → In f (program_faults decls)
+pub of_param : (decls : List Decl) (x : Section) (before behind : List Param) (p : Param) → Has decls (atomic x) → x.params ≡ before ++ p ∷ behind → (f : Mistake) → IsAmong f (own decls x before p) → IsAmong f (program_faults decls)
 of_param decls x before behind p h parts f i =
     of_decl decls (atomic x) h f (λ n at. m.in_left f (result_faults decls x.result ++ param_faults (ahead_of decls x) 0 x.params) (stmts_faults (entry decls x) x.body.stmts)
-    (m.in_right f (result_faults decls x.result) _ (subst (λ (ps : List Param). In f (param_faults (ahead_of decls x) 0 ps)) (sym parts)
-    (in_params (ahead_of decls x) before behind p 0 f (subst (λ (k : ℕ). In f (param_faults (entered (ahead_of decls x) before) k (p ∷ behind))) (let e : length before ≡ 0 + length before = omega arith in e)
+    (m.in_right f (result_faults decls x.result) _ (subst (λ (ps : List Param). IsAmong f (param_faults (ahead_of decls x) 0 ps)) (sym parts)
+    (in_params (ahead_of decls x) before behind p 0 f (subst (λ (k : ℕ). IsAmong f (param_faults (entered (ahead_of decls x) before) k (p ∷ behind))) (let e : length before ≡ 0 + length before = omega arith in e)
     (m.in_left f (own decls x before p) (param_faults (bound (entered (ahead_of decls x) before) kind.Parameter p.name (type_of (outside (entered (ahead_of decls x) before).decls) p.value_type)) (length before + 1) behind) i))))))
 
-pub of_local : (decls : List Decl) (sc : Scope) (x : Ident) → Binds decls sc x → (f : Mistake) → In f (local_faults sc x) → In f (program_faults decls)
+pub of_local : (decls : List Decl) (sc : Scope) (x : Ident) → Binds decls sc x → (f : Mistake) → IsAmong f (local_faults sc x) → IsAmong f (program_faults decls)
 of_local decls sc x (parameter {x = s} p before behind h parts) f i =
     of_param decls s before behind p h parts f (m.in_left f (local_faults (entered (ahead_of decls s) before) p.name ++ one_if (nat_le PARAMETER_LIMIT (length before)) LimitExceeded p.name.span.start) _ (m.in_left f (local_faults (entered (ahead_of decls s) before) p.name) _ i))
 of_local decls sc x (a_let {l = l} h) f i = of_stmt decls sc (let_local l) h f (m.in_left f (local_faults sc l.name ++ type_faults sc l.value_type) (wanted_faults sc (want (type_of sc l.value_type)) l.value) (m.in_left f (local_faults sc l.name) (type_faults sc l.value_type) i))
@@ -180,14 +180,14 @@ local_decls decls sc x (a_var {l = l} h) = stmt_decls decls sc (var_local l) h
 
 -- ---- types
 
-pub in_members_final : (decls : List Decl) (n : ℕ) (all ms : List Member) (g : Final) → Has ms (final_member g) → (f : Mistake) → In f (type_faults (outside decls) (ref_type g.target)) → In f (members_faults decls n all ms)
+pub in_members_final : (decls : List Decl) (n : ℕ) (all ms : List Member) (g : Final) → Has ms (final_member g) → (f : Mistake) → IsAmong f (type_faults (outside decls) (ref_type g.target)) → IsAmong f (members_faults decls n all ms)
 in_members_final decls n all [] g h f i = elim h [ ]
 in_members_final decls n all (final_member x ∷ ms) g first f i = m.in_left f _ (members_faults decls n all ms) i
 in_members_final decls n all (lock_member x ∷ ms) g (further h) f i = in_members_final decls n all ms g h f i
 in_members_final decls n all (final_member x ∷ ms) g (further h) f i = m.in_right f (type_faults (outside decls) (ref_type x.target)) _ (in_members_final decls n all ms g h f i)
 in_members_final decls n all (field_member x ∷ ms) g (further h) f i = m.in_right f (type_faults (outside decls) x.value_type ++ protection_faults decls n all x.name.span.start x.protection) _ (in_members_final decls n all ms g h f i)
 
-pub in_members_field : (decls : List Decl) (n : ℕ) (all ms : List Member) (g : Field) → Has ms (field_member g) → (f : Mistake) → In f (type_faults (outside decls) g.value_type ++ protection_faults decls n all g.name.span.start g.protection) → In f (members_faults decls n all ms)
+pub in_members_field : (decls : List Decl) (n : ℕ) (all ms : List Member) (g : Field) → Has ms (field_member g) → (f : Mistake) → IsAmong f (type_faults (outside decls) g.value_type ++ protection_faults decls n all g.name.span.start g.protection) → IsAmong f (members_faults decls n all ms)
 in_members_field decls n all [] g h f i = elim h [ ]
 in_members_field decls n all (field_member x ∷ ms) g first f i = m.in_left f _ (members_faults decls n all ms) i
 in_members_field decls n all (lock_member x ∷ ms) g (further h) f i = in_members_field decls n all ms g h f i
@@ -199,7 +199,7 @@ split_at [] x h = elim h [ ]
 split_at (y ∷ xs) x first = ([], xs, refl)
 split_at (y ∷ xs) x (further h) = let r = split_at xs x h in (y ∷ r.0, r.1, ap (λ (ys : List _). y ∷ ys) r.2)
 
-pub of_type : (decls : List Decl) (sc : Scope) (t : ValueType) → HasType decls sc t → (f : Mistake) → In f (type_faults sc t) → In f (program_faults decls)
+pub of_type : (decls : List Decl) (sc : Scope) (t : ValueType) → HasType decls sc t → (f : Mistake) → IsAmong f (type_faults sc t) → IsAmong f (program_faults decls)
 of_type decls sc t (of_global {v = v} h) f i =
     of_decl decls (global v) h f (λ n at. m.in_left f (type_faults (outside decls) v.value_type ++ lock_faults decls v.name.span.start v.protection) (opening_faults decls (want (type_of (outside decls) v.value_type)) v.value) (m.in_left f (type_faults (outside decls) v.value_type) _ i))
 of_type decls sc t (of_array {a = a} h) f i = of_decl decls (array a) h f (λ n at. m.in_left f (type_faults (outside decls) a.value_type) (lock_faults decls a.name.span.start a.protection) i)
@@ -209,43 +209,43 @@ of_type decls sc t (of_field {s = s} {f = g} h b) f i = of_decl decls (struct s)
 of_type decls sc t (of_parameter {x = x} {p = p} h b) f i =
     let r = split_at x.params p b in
     of_param decls x r.0 r.1 p h r.2 f (m.in_right f (local_faults (entered (ahead_of decls x) r.0) p.name ++ one_if (nat_le PARAMETER_LIMIT (length r.0)) LimitExceeded p.name.span.start) _
-    (subst (λ (ds : List Decl). In f (type_faults (outside ds) p.value_type)) (sym (entered_same (ahead_of decls x) r.0)) i))
+    (subst (λ (ds : List Decl). IsAmong f (type_faults (outside ds) p.value_type)) (sym (entered_same (ahead_of decls x) r.0)) i))
 of_type decls sc t (of_result {x = x} h is) f i =
     of_decl decls (atomic x) h f (λ n at. m.in_left f (result_faults decls x.result ++ param_faults (ahead_of decls x) 0 x.params) (stmts_faults (entry decls x) x.body.stmts)
-    (m.in_left f (result_faults decls x.result) (param_faults (ahead_of decls x) 0 x.params) (subst (λ (o : Option ValueType). In f (result_faults decls o)) (sym is) i)))
+    (m.in_left f (result_faults decls x.result) (param_faults (ahead_of decls x) 0 x.params) (subst (λ (o : Option ValueType). IsAmong f (result_faults decls o)) (sym is) i)))
 of_type decls sc t (of_a_let {l = l} h) f i = of_stmt decls sc (let_local l) h f (m.in_left f (local_faults sc l.name ++ type_faults sc l.value_type) (wanted_faults sc (want (type_of sc l.value_type)) l.value) (m.in_right f (local_faults sc l.name) _ i))
 of_type decls sc t (of_a_var {l = l} h) f i = of_stmt decls sc (var_local l) h f (m.in_left f (local_faults sc l.name ++ type_faults sc l.value_type) (wanted_faults sc (want (type_of sc l.value_type)) l.value) (m.in_right f (local_faults sc l.name) _ i))
 
 -- ---- calls and constants
 
-in_items : (decls : List Decl) (is : Items) (c : Call) → InItems is c → (f : Mistake) → In f (call_faults decls c.section.span.start (the_decl decls c.section.text) c.arguments) → In f (items_faults decls is)
+in_items : (decls : List Decl) (is : Items) (c : Call) → InItems is c → (f : Mistake) → IsAmong f (call_faults decls c.section.span.start (the_decl decls c.section.text) c.arguments) → IsAmong f (items_faults decls is)
 in_items decls no_items c h f i = elim h [ ]
 in_items decls (item (call b) rest) c this_call f i = m.in_left f (item_faults decls (call b)) (items_faults decls rest) i
 in_items decls (item (repeat n is) rest) c (in_repeat h) f i = m.in_left f (item_faults decls (repeat n is)) (items_faults decls rest) (in_items decls is c h f i)
 in_items decls (item x rest) c (later_call h) f i = m.in_right f (item_faults decls x) _ (in_items decls rest c h f i)
 
-pub of_call : (decls : List Decl) (c : Call) → HasCall decls c → (f : Mistake) → In f (call_faults decls c.section.span.start (the_decl decls c.section.text) c.arguments) → In f (program_faults decls)
+pub of_call : (decls : List Decl) (c : Call) → HasCall decls c → (f : Mistake) → IsAmong f (call_faults decls c.section.span.start (the_decl decls c.section.text) c.arguments) → IsAmong f (program_faults decls)
 of_call decls c (in_thread {t = t} h a) f i = of_decl decls (thread t) h f (λ n at. in_items decls t.items c a f i)
 
-in_arguments : (decls : List Decl) (ps : List Param) (cs : List Const) (k : ℕ) (p : Param) (c : Const) → slice_get ps k ≡ Some p → slice_get cs k ≡ Some c → (f : Mistake) → In f (const_faults decls (want_of decls p) c) → In f (argument_faults decls ps cs)
+in_arguments : (decls : List Decl) (ps : List Param) (cs : List Const) (k : ℕ) (p : Param) (c : Const) → slice_get ps k ≡ Some p → slice_get cs k ≡ Some c → (f : Mistake) → IsAmong f (const_faults decls (want_of decls p) c) → IsAmong f (argument_faults decls ps cs)
 in_arguments decls [] cs k p c a b f i = cc
 in_arguments decls (q ∷ ps) [] k p c a b f i = cc
 in_arguments decls (q ∷ ps) (d ∷ cs) zero p c a b f i =
     let x : q ≡ p = cc in
     let y : d ≡ c = cc in
-    m.in_left f (const_faults decls (want_of decls q) d) (argument_faults decls ps cs) (subst (λ (z : Param). In f (const_faults decls (want_of decls z) d)) (sym x) (subst (λ (z : Const). In f (const_faults decls (want_of decls p) z)) (sym y) i))
+    m.in_left f (const_faults decls (want_of decls q) d) (argument_faults decls ps cs) (subst (λ (z : Param). IsAmong f (const_faults decls (want_of decls z) d)) (sym x) (subst (λ (z : Const). IsAmong f (const_faults decls (want_of decls p) z)) (sym y) i))
 in_arguments decls (q ∷ ps) (d ∷ cs) (suc k) p c a b f i = m.in_right f (const_faults decls (want_of decls q) d) _ (in_arguments decls ps cs k p c a b f i)
 
 same_count : (n k : ℕ) → n ≡ k → (n == k) ≡ true
 same_count n k e = grind (arith, nat_tests)
 
-pub of_const : (decls : List Decl) (w : Want) (c : Const) → HasConst decls w c → (f : Mistake) → In f (const_faults decls w c) → In f (program_faults decls)
+pub of_const : (decls : List Decl) (w : Want) (c : Const) → HasConst decls w c → (f : Mistake) → IsAmong f (const_faults decls w c) → IsAmong f (program_faults decls)
 of_const decls w c (opening {v = v} h e) f i =
-    of_decl decls (global v) h f (λ n at. m.in_right f (type_faults (outside decls) v.value_type ++ lock_faults decls v.name.span.start v.protection) _ (subst (λ (o : Option Const). In f (opening_faults decls (want (type_of (outside decls) v.value_type)) o)) (sym e) i))
+    of_decl decls (global v) h f (λ n at. m.in_right f (type_faults (outside decls) v.value_type ++ lock_faults decls v.name.span.start v.protection) _ (subst (λ (o : Option Const). IsAmong f (opening_faults decls (want (type_of (outside decls) v.value_type)) o)) (sym e) i))
 of_const decls w c (initial {i = x} h) f i =
     of_decl decls (init x) h f (λ n at. m.in_left f (index_faults decls x.pool.span.start (the_decl decls x.pool.text) x.index ++ named_faults decls x.field.span.start (pool_members decls (the_decl decls x.pool.text)) x.field.text ++ const_faults decls (member_want decls (initialised decls x)) x.value) (null_faults decls (initialised decls x) x.value)
     (m.in_right f (index_faults decls x.pool.span.start (the_decl decls x.pool.text) x.index ++ named_faults decls x.field.span.start (pool_members decls (the_decl decls x.pool.text)) x.field.text) _ i))
 of_const decls w x (argument {c = c} {i = n} k {s = s} {p = p} h is len a b) f i =
-    of_call decls c h f (subst (In f)
+    of_call decls c h f (subst (IsAmong f)
     (sym (ap (λ (o : Option (ℕ × Decl)). call_faults decls c.section.span.start o c.arguments) is ∙ ap (λ (t : Bool). if t then argument_faults decls s.params c.arguments else one WrongArgumentCount c.section.span.start) (same_count (length c.arguments) (length s.params) len)))
     (in_arguments decls s.params c.arguments k p x a b f i))

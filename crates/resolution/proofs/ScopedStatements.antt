@@ -394,7 +394,7 @@ numbers_has a zero k lt = absurd (omega (arith, lt))
 numbers_has a (suc n) zero lt = subst (λ (j : ℕ). Contains (numbers_from a (suc n)) j) (let z : a ≡ a + 0 = omega arith in z) (here a (numbers_from (a + 1) n))
 numbers_has a (suc n) (suc k) lt = subst (λ (j : ℕ). Contains (numbers_from a (suc n)) j) (let z : a + 1 + k ≡ a + suc k = omega arith in z) (there a (a + 1 + k) (numbers_from (a + 1) n) (numbers_has (a + 1) n k (let z : k < n = omega (arith, lt) in z)))
 
-get_lt : {A : Type 0} (xs : List A) (n : ℕ) (x : A) → slice_get xs n ≡ Some x → n < length xs
+pub get_lt : {A : Type 0} (xs : List A) (n : ℕ) (x : A) → slice_get xs n ≡ Some x → n < length xs
 get_lt [] n x e = cc
 get_lt (y ∷ xs) zero x e = omega arith
 get_lt (y ∷ xs) (suc n) x e = let r = get_lt xs n x e in omega (arith, r)
@@ -415,7 +415,7 @@ module _ (finals : List core.Local) where
   TargetIn scope (to_local n) = Contains scope n × IsVarAt finals n
   TargetIn scope (to_global cell) = ⊤
   TargetIn scope (to_element n index) = Names scope index
-  TargetIn scope (to_field base f) = Contains scope base.local
+  TargetIn scope (to_field base k f) = Contains scope base.local
 
   abbrev AssigneeIn : List ℕ → Option Assignee → Type 0
   AssigneeIn scope None = ⊤
@@ -499,13 +499,13 @@ module _ (finals : List core.Local) where
   }
   set_done ls scope (to_global cell) e h i = plain scope finals (length ls) (core.set_global cell e) i refl refl
   set_done ls scope (to_element n index) e h i = plain scope finals (length ls) (core.set_element n index e) (h, i) refl refl
-  set_done ls scope (to_field base f) e h i = plain scope finals (length ls) (core.set_field base f e) (h, i) refl refl
+  set_done ls scope (to_field base k f) e h i = plain scope finals (length ls) (core.set_field base k f e) (h, i) refl refl
 
   behind_set : (scope : List ℕ) (g : Target) (e : core.Expr) → behind scope (set_to g e) ≡ scope
   behind_set scope (to_local n) e = refl
   behind_set scope (to_global cell) e = refl
   behind_set scope (to_element n index) e = refl
-  behind_set scope (to_field base f) e = refl
+  behind_set scope (to_field base k f) e = refl
 
   assign_done : (ls : List scopes.Local) (scope : List ℕ) (start : ℕ) (o : Option Assignee) (v : Option core.Expr) → Covers ls scope → AssigneeIn scope o → IndexIn scope v → PartDone finals ls ls scope (assigns start o v)
   assign_done ls scope start None v c h i = tt

@@ -5,40 +5,46 @@ use Rattle.std.proofs.lemmas.Bool.{eqb-true}
 use Rattle.std.proofs.lemmas.Bool.Decides.{nat_tests}
 use Rattle.source.specs.declared.fault.Code.TheVariants.{UnknownName, WrongType, WrongArgumentCount, NeitherFinalNorProtected, ProtectedByNoLock, ProtectedByPassesNonFinal, LimitExceeded, FinalWithoutOpeningValue, InitOutOfRangeOrRepeated, LockAsValue}
 use Rattle.syntax.specs.Trees.{Ident, ref_type, Const, int_const, negative, null_const, member_const, Protection, Member, lock_member, final_member, field_member, Field, Struct, Variable, Array, Pool, Init, Section, Call, Item, call, repeat, Items, no_items, item, Decl, lock, struct, global, array, pool, init, atomic, thread}
-use Rattle.resolution.specs.declared.mistake.Mistake.{Mistake}
+use Rattle.source.specs.declared.mistake.Mistake.{Mistake}
 use Rattle.resolution.specs.Limits.{FINAL_LIMIT}
-use Rattle.resolution.specs.Scopes.{outside, a_decl, place_of, the_decl, member_bears, the_member, has_type, type_of, struct_named}
+use Rattle.resolution.specs.Scopes.{outside, a_decl, place_of, the_decl, member_bears, the_member, has_type, member_has_type, type_of, struct_named}
 use Rattle.resolution.specs.Expressions.{want}
 use Rattle.resolution.specs.Constants.{members_of, pool_members, initialised, member_want, given}
 use Rattle.resolution.specs.Annotations.{AnnotationCursor, through_member, stepped_on, cursor_at}
 use Rattle.resolution.specs.Where.{Has, first, further, InItems, this_call, in_repeat, later_call, HasCall, in_thread, opening, initial, argument, of_variable, of_elements, Annotates, annotates, of_global, of_array, of_pool, of_final, of_field}
 use Rattle.resolution.specs.Faults as fault
-use Rattle.resolution.specs.Faults.{Reaches, stays, goes_on, Walks, walks, NamesGlobal, unknown, wrong_type, miscounted, without_lock, ends_at_no_lock, passes_non_final, over_limit, final_missing, out_of_range, lock_as_value}
+use Rattle.resolution.specs.Faults.{Reaches, stays, goes_on, Walks, walks, NamesGlobal, IsLockDecl, IsSection, unknown, wrong_type, miscounted, without_lock, ends_at_no_lock, passes_non_final, over_limit, final_missing, out_of_range, lock_as_value}
 use Rattle.resolution.specs.FaultLists as list
-use Rattle.resolution.specs.FaultLists.{one, one_if, index_faults, const_faults, argument_faults, type_faults, global_lock_faults, lock_faults, passed_faults, last_faults, passed, along_faults, annotation_faults, protection_faults, members_faults, opening_faults, some_lacks, is_at, is_due, lacks, missing_faults, field_faults, named_faults, null_faults, init_faults, call_faults, item_faults, items_faults, decl_faults, each_faults}
-use Rattle.resolution.proofs.Members.{In, IsTrue_of, both, of_one, of_if}
-use Rattle.resolution.proofs.TrueExpressions.{le_of, and_left, and_right, true_type, true_const, true_arguments, none_is}
+use Rattle.resolution.specs.FaultLists.{one, one_if, unfit, index_faults, const_faults, argument_faults, type_faults, global_lock_faults, lock_faults, passed_faults, last_faults, passed, along_faults, annotation_faults, protection_faults, members_faults, opening_faults, some_lacks, is_at, is_due, lacks, missing_faults, field_faults, named_faults, null_faults, init_faults, call_faults, item_faults, items_faults, decl_faults, each_faults}
+use Rattle.source.specs.Leasts.{IsAmong}
+use Rattle.resolution.proofs.Members.{IsTrue_of, both, of_one, of_if}
+use Rattle.resolution.proofs.TrueExpressions.{true_type, true_const, true_arguments, none_is}
 use Rattle.resolution.proofs.TrueStatements.{true_section}
+use Rattle.resolution.proofs.Tests.{le_of}
+use Rattle.resolution.specs.Facts.{and_left, and_right}
 
 -- ---- annotations
 
-true_global_lock : (decls : List Decl) (p : Protection) → NamesGlobal decls p → (o : Option (ℕ × Decl)) → the_decl decls p.first.text ≡ o → (ys : List Ident) → p.rest ≡ ys → (f : Mistake) → In f (global_lock_faults p.first.span.start o ys) → IsTrue_of decls f
+true_no_lock : (decls : List Decl) (p : Protection) → NamesGlobal decls p → (n : ℕ) (d : Decl) → the_decl decls p.first.text ≡ Some (n, d) → ((IsLockDecl d × (p.rest ≡ [])) → ⊥) → (f : Mistake) → IsAmong f (unfit decls ProtectedByNoLock p.first.span.start (a_decl n d)) → IsTrue_of decls f
+true_no_lock decls p h n d is not_so f i = of_if decls (has_type decls (a_decl n d)) ProtectedByNoLock p.first.span.start f (λ t. ends_at_no_lock (fault.names_no_lock h is not_so t)) i
+
+true_global_lock : (decls : List Decl) (p : Protection) → NamesGlobal decls p → (o : Option (ℕ × Decl)) → the_decl decls p.first.text ≡ o → (ys : List Ident) → p.rest ≡ ys → (f : Mistake) → IsAmong f (global_lock_faults decls p.first.span.start o ys) → IsTrue_of decls f
 true_global_lock decls p h None is ys rest f i = of_one decls UnknownName p.first.span.start f (unknown (fault.no_lock h is)) i
 true_global_lock decls p h (Some (n, lock x)) is [] rest f i = absurd i
-true_global_lock decls p h (Some (n, lock x)) is (y ∷ ys) rest f i = of_one decls ProtectedByNoLock p.first.span.start f (ends_at_no_lock (fault.names_no_lock h is (λ q. let none : p.rest ≡ [] = q.1 in absurd cc))) i
-true_global_lock decls p h (Some (n, struct s)) is ys rest f i = of_one decls ProtectedByNoLock p.first.span.start f (ends_at_no_lock (fault.names_no_lock h is (λ q. q.0))) i
-true_global_lock decls p h (Some (n, global v)) is ys rest f i = of_one decls ProtectedByNoLock p.first.span.start f (ends_at_no_lock (fault.names_no_lock h is (λ q. q.0))) i
-true_global_lock decls p h (Some (n, array a)) is ys rest f i = of_one decls ProtectedByNoLock p.first.span.start f (ends_at_no_lock (fault.names_no_lock h is (λ q. q.0))) i
-true_global_lock decls p h (Some (n, pool x)) is ys rest f i = of_one decls ProtectedByNoLock p.first.span.start f (ends_at_no_lock (fault.names_no_lock h is (λ q. q.0))) i
-true_global_lock decls p h (Some (n, init j)) is ys rest f i = of_one decls ProtectedByNoLock p.first.span.start f (ends_at_no_lock (fault.names_no_lock h is (λ q. q.0))) i
-true_global_lock decls p h (Some (n, atomic s)) is ys rest f i = of_one decls ProtectedByNoLock p.first.span.start f (ends_at_no_lock (fault.names_no_lock h is (λ q. q.0))) i
-true_global_lock decls p h (Some (n, thread t)) is ys rest f i = of_one decls ProtectedByNoLock p.first.span.start f (ends_at_no_lock (fault.names_no_lock h is (λ q. q.0))) i
+true_global_lock decls p h (Some (n, lock x)) is (y ∷ ys) rest f i = true_no_lock decls p h n (lock x) is (λ q. let none : p.rest ≡ [] = q.1 in absurd cc) f i
+true_global_lock decls p h (Some (n, struct s)) is ys rest f i = true_no_lock decls p h n (struct s) is (λ q. q.0) f i
+true_global_lock decls p h (Some (n, global v)) is ys rest f i = true_no_lock decls p h n (global v) is (λ q. q.0) f i
+true_global_lock decls p h (Some (n, array a)) is ys rest f i = true_no_lock decls p h n (array a) is (λ q. q.0) f i
+true_global_lock decls p h (Some (n, pool x)) is ys rest f i = true_no_lock decls p h n (pool x) is (λ q. q.0) f i
+true_global_lock decls p h (Some (n, init j)) is ys rest f i = true_no_lock decls p h n (init j) is (λ q. q.0) f i
+true_global_lock decls p h (Some (n, atomic s)) is ys rest f i = true_no_lock decls p h n (atomic s) is (λ q. q.0) f i
+true_global_lock decls p h (Some (n, thread t)) is ys rest f i = true_no_lock decls p h n (thread t) is (λ q. q.0) f i
 
-true_variable_lock : (decls : List Decl) (v : Variable) → Has decls (global v) → (o : Option Protection) → v.protection ≡ o → (f : Mistake) → In f (lock_faults decls v.name.span.start o) → IsTrue_of decls f
+true_variable_lock : (decls : List Decl) (v : Variable) → Has decls (global v) → (o : Option Protection) → v.protection ≡ o → (f : Mistake) → IsAmong f (lock_faults decls v.name.span.start o) → IsTrue_of decls f
 true_variable_lock decls v h None e f i = of_one decls NeitherFinalNorProtected v.name.span.start f (without_lock (fault.bare_global h e)) i
 true_variable_lock decls v h (Some p) e f i = true_global_lock decls p (fault.of_global (of_variable h e)) (the_decl decls p.first.text) refl p.rest refl f i
 
-true_array_lock : (decls : List Decl) (a : Array) → Has decls (array a) → (o : Option Protection) → a.protection ≡ o → (f : Mistake) → In f (lock_faults decls a.name.span.start o) → IsTrue_of decls f
+true_array_lock : (decls : List Decl) (a : Array) → Has decls (array a) → (o : Option Protection) → a.protection ≡ o → (f : Mistake) → IsAmong f (lock_faults decls a.name.span.start o) → IsTrue_of decls f
 true_array_lock decls a h None e f i = of_one decls NeitherFinalNorProtected a.name.span.start f (without_lock (fault.bare_array h e)) i
 true_array_lock decls a h (Some p) e f i = true_global_lock decls p (fault.of_global (of_elements h e)) (the_decl decls p.first.text) refl p.rest refl f i
 
@@ -50,52 +56,52 @@ walks_on : (decls : List Decl) (p : Protection) (st next : AnnotationCursor) (x 
 walks_on decls p st next x z zs (walks {i = i} {ms = ms} h own r) e = walks h own (reaches_on decls (cursor_at i ms) st next p.first x z p.rest zs r e)
 
 true_passed : (decls : List Decl) (p : Protection) (st : AnnotationCursor) (y z : Ident) (zs : List Ident) → Walks decls p st y (z ∷ zs) → (o : Option (ℕ × Member)) → the_member st.members y.text ≡ o →
-    (f : Mistake) → In f (passed_faults p.first.span.start y.span.start (length st.through) o) → IsTrue_of decls f
+    (f : Mistake) → IsAmong f (passed_faults decls p.first.span.start y.span.start (length st.through) o) → IsTrue_of decls f
 true_passed decls p st y z zs h None is f i = of_one decls UnknownName y.span.start f (unknown (fault.no_field_passed h is)) i
 true_passed decls p st y z zs h (Some (n, final_member g)) is f i = of_if decls (nat_le FINAL_LIMIT (length st.through)) LimitExceeded p.first.span.start f (λ e. over_limit (fault.too_many_finals h is (le_of FINAL_LIMIT (length st.through) e))) i
-true_passed decls p st y z zs h (Some (n, field_member g)) is f i = of_one decls ProtectedByPassesNonFinal y.span.start f (passes_non_final (fault.passes h is (λ q. q))) i
-true_passed decls p st y z zs h (Some (n, lock_member g)) is f i = of_one decls ProtectedByPassesNonFinal y.span.start f (passes_non_final (fault.passes h is (λ q. q))) i
+true_passed decls p st y z zs h (Some (n, field_member g)) is f i = of_if decls (member_has_type decls (field_member g)) ProtectedByPassesNonFinal y.span.start f (λ t. passes_non_final (fault.passes h is (λ q. q) t)) i
+true_passed decls p st y z zs h (Some (n, lock_member g)) is f i = of_if decls (member_has_type decls (lock_member g)) ProtectedByPassesNonFinal y.span.start f (λ t. passes_non_final (fault.passes h is (λ q. q) t)) i
 
 true_last : (decls : List Decl) (p : Protection) (st : AnnotationCursor) (y : Ident) → Walks decls p st y [] → (o : Option (ℕ × Member)) → the_member st.members y.text ≡ o →
-    (f : Mistake) → In f (last_faults p.first.span.start y.span.start o) → IsTrue_of decls f
+    (f : Mistake) → IsAmong f (last_faults decls p.first.span.start y.span.start o) → IsTrue_of decls f
 true_last decls p st y h None is f i = of_one decls UnknownName y.span.start f (unknown (fault.no_field_passed h is)) i
 true_last decls p st y h (Some (n, lock_member g)) is f i = absurd i
-true_last decls p st y h (Some (n, final_member g)) is f i = of_one decls ProtectedByNoLock p.first.span.start f (ends_at_no_lock (fault.ends_at_member h is (λ q. q))) i
-true_last decls p st y h (Some (n, field_member g)) is f i = of_one decls ProtectedByNoLock p.first.span.start f (ends_at_no_lock (fault.ends_at_member h is (λ q. q))) i
+true_last decls p st y h (Some (n, final_member g)) is f i = of_if decls (member_has_type decls (final_member g)) ProtectedByNoLock p.first.span.start f (λ t. ends_at_no_lock (fault.ends_at_member h is (λ q. q) t)) i
+true_last decls p st y h (Some (n, field_member g)) is f i = of_if decls (member_has_type decls (field_member g)) ProtectedByNoLock p.first.span.start f (λ t. ends_at_no_lock (fault.ends_at_member h is (λ q. q) t)) i
 
 next_walk : (decls : List Decl) (p : Protection) (o : Option AnnotationCursor) (y z : Ident) (zs : List Ident) → ((st : AnnotationCursor) → o ≡ Some st → Walks decls p st y (z ∷ zs)) → (next : AnnotationCursor) → stepped_on decls o y ≡ Some next → Walks decls p next z zs
 next_walk decls p None y z zs up next e = absurd cc
 next_walk decls p (Some st) y z zs up next e = walks_on decls p st next y z zs (up st refl) e
 
-passed_is : (decls : List Decl) (p : Protection) (o : Option AnnotationCursor) (y z : Ident) (zs : List Ident) → ((st : AnnotationCursor) → o ≡ Some st → Walks decls p st y (z ∷ zs)) → (f : Mistake) → In f (passed p.first.span.start o y) → IsTrue_of decls f
+passed_is : (decls : List Decl) (p : Protection) (o : Option AnnotationCursor) (y z : Ident) (zs : List Ident) → ((st : AnnotationCursor) → o ≡ Some st → Walks decls p st y (z ∷ zs)) → (f : Mistake) → IsAmong f (passed decls p.first.span.start o y) → IsTrue_of decls f
 passed_is decls p None y z zs up f i = absurd i
 passed_is decls p (Some st) y z zs up f i = true_passed decls p st y z zs (up st refl) (the_member st.members y.text) refl f i
 
-ended_is : (decls : List Decl) (p : Protection) (o : Option AnnotationCursor) (y : Ident) → ((st : AnnotationCursor) → o ≡ Some st → Walks decls p st y []) → (f : Mistake) → In f (list.ended p.first.span.start o y) → IsTrue_of decls f
+ended_is : (decls : List Decl) (p : Protection) (o : Option AnnotationCursor) (y : Ident) → ((st : AnnotationCursor) → o ≡ Some st → Walks decls p st y []) → (f : Mistake) → IsAmong f (list.ended decls p.first.span.start o y) → IsTrue_of decls f
 ended_is decls p None y up f i = absurd i
 ended_is decls p (Some st) y up f i = true_last decls p st y (up st refl) (the_member st.members y.text) refl f i
 
-true_along : (decls : List Decl) (p : Protection) (o : Option AnnotationCursor) (y : Ident) (ys : List Ident) → ((st : AnnotationCursor) → o ≡ Some st → Walks decls p st y ys) → (f : Mistake) → In f (along_faults decls p.first.span.start o y ys) → IsTrue_of decls f
+true_along : (decls : List Decl) (p : Protection) (o : Option AnnotationCursor) (y : Ident) (ys : List Ident) → ((st : AnnotationCursor) → o ≡ Some st → Walks decls p st y ys) → (f : Mistake) → IsAmong f (along_faults decls p.first.span.start o y ys) → IsTrue_of decls f
 true_along decls p o y [] up f i = ended_is decls p o y up f i
 true_along decls p o y (z ∷ zs) up f i =
-    both f (passed p.first.span.start o y) (along_faults decls p.first.span.start (stepped_on decls o y) z zs)
+    both f (passed decls p.first.span.start o y) (along_faults decls p.first.span.start (stepped_on decls o y) z zs)
     (passed_is decls p o y z zs up f) (true_along decls p (stepped_on decls o y) z zs (next_walk decls p o y z zs up) f) i
 
 first_walk : (decls : List Decl) (n : ℕ) (ms : List Member) (p : Protection) (own : ℕ × Member) → Annotates decls n ms p → the_member ms p.first.text ≡ Some own → (st : AnnotationCursor) → Some (cursor_at n ms) ≡ Some st → Walks decls p st p.first p.rest
 first_walk decls n ms p own h is st e = let same : cursor_at n ms ≡ st = cc in subst (λ (s : AnnotationCursor). Walks decls p s p.first p.rest) same (walks h is stays)
 
-true_annotation : (decls : List Decl) (n : ℕ) (ms : List Member) (p : Protection) → Annotates decls n ms p → (o : Option (ℕ × Member)) → the_member ms p.first.text ≡ o → (f : Mistake) → In f (annotation_faults decls (cursor_at n ms) p o) → IsTrue_of decls f
+true_annotation : (decls : List Decl) (n : ℕ) (ms : List Member) (p : Protection) → Annotates decls n ms p → (o : Option (ℕ × Member)) → the_member ms p.first.text ≡ o → (f : Mistake) → IsAmong f (annotation_faults decls (cursor_at n ms) p o) → IsTrue_of decls f
 true_annotation decls n ms p h (Some m) is f i = true_along decls p (Some (cursor_at n ms)) p.first p.rest (first_walk decls n ms p m h is) f i
 true_annotation decls n ms p h None is f i = true_global_lock decls p (fault.no_member h is) (the_decl decls p.first.text) refl p.rest refl f i
 
 true_protection : (decls : List Decl) (n : ℕ) (s : Struct) (g : Field) → slice_get decls n ≡ Some (struct s) → Has decls (struct s) → Has s.members (field_member g) → (o : Option Protection) → g.protection ≡ o →
-    (f : Mistake) → In f (protection_faults decls n s.members g.name.span.start o) → IsTrue_of decls f
+    (f : Mistake) → IsAmong f (protection_faults decls n s.members g.name.span.start o) → IsTrue_of decls f
 true_protection decls n s g at h m None e f i = of_one decls NeitherFinalNorProtected g.name.span.start f (without_lock (fault.bare_field h m e)) i
 true_protection decls n s g at h m (Some p) e f i = true_annotation decls n s.members p (annotates at m e) (the_member s.members p.first.text) refl f i
 
 -- ---- members
 
-true_members : (decls : List Decl) (n : ℕ) (s : Struct) → slice_get decls n ≡ Some (struct s) → Has decls (struct s) → (ms : List Member) → ((m : Member) → Has ms m → Has s.members m) → (f : Mistake) → In f (members_faults decls n s.members ms) → IsTrue_of decls f
+true_members : (decls : List Decl) (n : ℕ) (s : Struct) → slice_get decls n ≡ Some (struct s) → Has decls (struct s) → (ms : List Member) → ((m : Member) → Has ms m → Has s.members m) → (f : Mistake) → IsAmong f (members_faults decls n s.members ms) → IsTrue_of decls f
 true_members decls n s at h [] up f i = absurd i
 true_members decls n s at h (lock_member x ∷ ms) up f i = true_members decls n s at h ms (λ m b. up m (further b)) f i
 true_members decls n s at h (final_member g ∷ ms) up f i =
@@ -153,13 +159,13 @@ true_lacks decls n p all at is k (m ∷ ms) up e =
     (and_left (is_due decls all k m) (some_lacks decls n k p.length.value) a) (and_right (is_due decls all k m) (some_lacks decls n k p.length.value) a))
     (λ a. true_lacks decls n p all at is (k + 1) ms (λ j x g. subst (λ (c : ℕ). slice_get all c ≡ Some x) (let z : k + suc j ≡ k + 1 + j = omega arith in z) (up (suc j) x g)) a) e
 
-true_missing : (decls : List Decl) (n : ℕ) (p : Pool) → slice_get decls n ≡ Some (pool p) → (o : Option (List Member)) → members_of decls p.target ≡ o → (f : Mistake) → In f (missing_faults decls n p o) → IsTrue_of decls f
+true_missing : (decls : List Decl) (n : ℕ) (p : Pool) → slice_get decls n ≡ Some (pool p) → (o : Option (List Member)) → members_of decls p.target ≡ o → (f : Mistake) → IsAmong f (missing_faults decls n p o) → IsTrue_of decls f
 true_missing decls n p at None is f i = absurd i
 true_missing decls n p at (Some ms) is f i = of_if decls (lacks decls n p.length.value ms 0 ms) FinalWithoutOpeningValue p.name.span.start f (λ e. true_lacks decls n p ms at is 0 ms (λ j m g. subst (λ (c : ℕ). slice_get ms c ≡ Some m) (let z : j ≡ 0 + j = omega arith in z) g) e) i
 
 -- ---- what is given to members of pools
 
-true_init_index : (decls : List Decl) (x : Init) → Has decls (init x) → (o : Option (ℕ × Decl)) → the_decl decls x.pool.text ≡ o → (f : Mistake) → In f (index_faults decls x.pool.span.start o x.index) → IsTrue_of decls f
+true_init_index : (decls : List Decl) (x : Init) → Has decls (init x) → (o : Option (ℕ × Decl)) → the_decl decls x.pool.text ≡ o → (f : Mistake) → IsAmong f (index_faults decls x.pool.span.start o x.index) → IsTrue_of decls f
 true_init_index decls x h None is f i = of_one decls UnknownName x.pool.span.start f (unknown (fault.in_init h is)) i
 true_init_index decls x h (Some (k, pool p)) is f i =
     of_if decls (has_type decls (a_decl k (pool p)) && nat_le p.length.value x.index.value) InitOutOfRangeOrRepeated x.index.span.start f
@@ -176,17 +182,17 @@ true_init_index decls x h (Some (k, thread t)) is f i = of_if decls true WrongTy
 initialised_is : (decls : List Decl) (x : Init) (ms : List Member) → pool_members decls (the_decl decls x.pool.text) ≡ Some ms → initialised decls x ≡ the_member ms x.field.text
 initialised_is decls x ms e = rw e refl
 
-true_init_field : (decls : List Decl) (x : Init) (ms : List Member) → Has decls (init x) → pool_members decls (the_decl decls x.pool.text) ≡ Some ms → (o : Option (ℕ × Member)) → the_member ms x.field.text ≡ o → (f : Mistake) → In f (field_faults x.field.span.start o) → IsTrue_of decls f
+true_init_field : (decls : List Decl) (x : Init) (ms : List Member) → Has decls (init x) → pool_members decls (the_decl decls x.pool.text) ≡ Some ms → (o : Option (ℕ × Member)) → the_member ms x.field.text ≡ o → (f : Mistake) → IsAmong f (field_faults x.field.span.start o) → IsTrue_of decls f
 true_init_field decls x ms h is None e f i = of_one decls UnknownName x.field.span.start f (unknown (fault.no_field_initialised h is e)) i
 true_init_field decls x ms h is (Some (m, lock_member y)) e f i = of_one decls LockAsValue x.field.span.start f (lock_as_value (fault.lock_initialised h (initialised_is decls x ms is ∙ e))) i
 true_init_field decls x ms h is (Some (m, final_member y)) e f i = absurd i
 true_init_field decls x ms h is (Some (m, field_member y)) e f i = absurd i
 
-true_init_named : (decls : List Decl) (x : Init) → Has decls (init x) → (o : Option (List Member)) → pool_members decls (the_decl decls x.pool.text) ≡ o → (f : Mistake) → In f (named_faults decls x.field.span.start o x.field.text) → IsTrue_of decls f
+true_init_named : (decls : List Decl) (x : Init) → Has decls (init x) → (o : Option (List Member)) → pool_members decls (the_decl decls x.pool.text) ≡ o → (f : Mistake) → IsAmong f (named_faults decls x.field.span.start o x.field.text) → IsTrue_of decls f
 true_init_named decls x h None is f i = absurd i
 true_init_named decls x h (Some ms) is f i = true_init_field decls x ms h is (the_member ms x.field.text) refl f i
 
-true_null : (decls : List Decl) (x : Init) → Has decls (init x) → (o : Option (ℕ × Member)) → initialised decls x ≡ o → (c : Const) → x.value ≡ c → (f : Mistake) → In f (null_faults decls o c) → IsTrue_of decls f
+true_null : (decls : List Decl) (x : Init) → Has decls (init x) → (o : Option (ℕ × Member)) → initialised decls x ≡ o → (c : Const) → x.value ≡ c → (f : Mistake) → IsAmong f (null_faults decls o c) → IsTrue_of decls f
 true_null decls x h (Some (m, final_member g)) is (null_const at) e f i =
     of_if decls (is_some (struct_named decls g.target)) FinalWithoutOpeningValue at.start f (λ b. let s = some_is (struct_named decls g.target) b in final_missing (fault.given_null h is s.1 e)) i
 true_null decls x h (Some (m, final_member g)) is (int_const n) e f i = absurd i
@@ -196,7 +202,7 @@ true_null decls x h (Some (m, field_member g)) is c e f i = absurd i
 true_null decls x h (Some (m, lock_member y)) is c e f i = absurd i
 true_null decls x h None is c e f i = absurd i
 
-true_init : (decls : List Decl) (x : Init) → Has decls (init x) → (f : Mistake) → In f (init_faults decls x) → IsTrue_of decls f
+true_init : (decls : List Decl) (x : Init) → Has decls (init x) → (f : Mistake) → IsAmong f (init_faults decls x) → IsTrue_of decls f
 true_init decls x h f i =
     let a = index_faults decls x.pool.span.start (the_decl decls x.pool.text) x.index in
     let b = named_faults decls x.field.span.start (pool_members decls (the_decl decls x.pool.text)) x.field.text in
@@ -210,20 +216,23 @@ true_init decls x h f i =
 -- ---- calls
 
 true_count : (decls : List Decl) (c : Call) (n : ℕ) (s : Section) → HasCall decls c → the_decl decls c.section.text ≡ Some (n, atomic s) → (b : Bool) → (length c.arguments == length s.params) ≡ b →
-    (f : Mistake) → In f (if b then argument_faults decls s.params c.arguments else one WrongArgumentCount c.section.span.start) → IsTrue_of decls f
+    (f : Mistake) → IsAmong f (if b then argument_faults decls s.params c.arguments else one WrongArgumentCount c.section.span.start) → IsTrue_of decls f
 true_count decls c n s h is true e f i = true_arguments decls s.params c.arguments (λ k p x a b. argument k h is (eqb-true (length c.arguments) (length s.params) e) a b) f i
 true_count decls c n s h is false e f i = of_one decls WrongArgumentCount c.section.span.start f (miscounted (fault.wrong_count h is (λ same. let t : (length c.arguments == length c.arguments) ≡ false = ap (λ (k : ℕ). length c.arguments == k) same ∙ e in absurd (grind (arith, nat_tests))))) i
 
-true_call : (decls : List Decl) (c : Call) → HasCall decls c → (o : Option (ℕ × Decl)) → the_decl decls c.section.text ≡ o → (f : Mistake) → In f (call_faults decls c.section.span.start o c.arguments) → IsTrue_of decls f
+true_no_section : (decls : List Decl) (c : Call) → HasCall decls c → (n : ℕ) (d : Decl) → the_decl decls c.section.text ≡ Some (n, d) → (IsSection d → ⊥) → (f : Mistake) → IsAmong f (unfit decls WrongType c.section.span.start (a_decl n d)) → IsTrue_of decls f
+true_no_section decls c h n d is not_so f i = of_if decls (has_type decls (a_decl n d)) WrongType c.section.span.start f (λ t. wrong_type (fault.no_section h is not_so t)) i
+
+true_call : (decls : List Decl) (c : Call) → HasCall decls c → (o : Option (ℕ × Decl)) → the_decl decls c.section.text ≡ o → (f : Mistake) → IsAmong f (call_faults decls c.section.span.start o c.arguments) → IsTrue_of decls f
 true_call decls c h None is f i = of_one decls UnknownName c.section.span.start f (unknown (fault.in_call h is)) i
 true_call decls c h (Some (n, atomic s)) is f i = true_count decls c n s h is (length c.arguments == length s.params) refl f i
-true_call decls c h (Some (n, lock x)) is f i = of_one decls WrongType c.section.span.start f (wrong_type (fault.no_section h is (λ q. q))) i
-true_call decls c h (Some (n, struct s)) is f i = of_one decls WrongType c.section.span.start f (wrong_type (fault.no_section h is (λ q. q))) i
-true_call decls c h (Some (n, global v)) is f i = of_one decls WrongType c.section.span.start f (wrong_type (fault.no_section h is (λ q. q))) i
-true_call decls c h (Some (n, array a)) is f i = of_one decls WrongType c.section.span.start f (wrong_type (fault.no_section h is (λ q. q))) i
-true_call decls c h (Some (n, pool p)) is f i = of_one decls WrongType c.section.span.start f (wrong_type (fault.no_section h is (λ q. q))) i
-true_call decls c h (Some (n, init j)) is f i = of_one decls WrongType c.section.span.start f (wrong_type (fault.no_section h is (λ q. q))) i
-true_call decls c h (Some (n, thread t)) is f i = of_one decls WrongType c.section.span.start f (wrong_type (fault.no_section h is (λ q. q))) i
+true_call decls c h (Some (n, lock x)) is f i = true_no_section decls c h n (lock x) is (λ q. q) f i
+true_call decls c h (Some (n, struct s)) is f i = true_no_section decls c h n (struct s) is (λ q. q) f i
+true_call decls c h (Some (n, global v)) is f i = true_no_section decls c h n (global v) is (λ q. q) f i
+true_call decls c h (Some (n, array a)) is f i = true_no_section decls c h n (array a) is (λ q. q) f i
+true_call decls c h (Some (n, pool p)) is f i = true_no_section decls c h n (pool p) is (λ q. q) f i
+true_call decls c h (Some (n, init j)) is f i = true_no_section decls c h n (init j) is (λ q. q) f i
+true_call decls c h (Some (n, thread t)) is f i = true_no_section decls c h n (thread t) is (λ q. q) f i
 
 -- what stands in the first item stands in them all
 widened : {i : Item} {is : Items} {c : Call} → InItems (item i no_items) c → InItems (item i is) c
@@ -232,22 +241,22 @@ widened (in_repeat b) = in_repeat b
 widened (later_call b) = elim b [ ]
 
 mutual
-  true_item : (decls : List Decl) (x : Item) → ((c : Call) → InItems (item x no_items) c → HasCall decls c) → (f : Mistake) → In f (item_faults decls x) → IsTrue_of decls f
+  true_item : (decls : List Decl) (x : Item) → ((c : Call) → InItems (item x no_items) c → HasCall decls c) → (f : Mistake) → IsAmong f (item_faults decls x) → IsTrue_of decls f
   true_item decls (call c) up f i = true_call decls c (up c this_call) (the_decl decls c.section.text) refl f i
   true_item decls (repeat n is) up f i = true_items decls is (λ c b. up c (in_repeat b)) f i
 
-  true_items : (decls : List Decl) (is : Items) → ((c : Call) → InItems is c → HasCall decls c) → (f : Mistake) → In f (items_faults decls is) → IsTrue_of decls f
+  true_items : (decls : List Decl) (is : Items) → ((c : Call) → InItems is c → HasCall decls c) → (f : Mistake) → IsAmong f (items_faults decls is) → IsTrue_of decls f
   true_items decls no_items up f i = absurd i
   true_items decls (item x rest) up f i =
       both f (item_faults decls x) (items_faults decls rest) (true_item decls x (λ c b. up c (widened b)) f) (true_items decls rest (λ c b. up c (later_call b)) f) i
 
 -- ---- declarations
 
-true_opening : (decls : List Decl) (v : Variable) → Has decls (global v) → (o : Option Const) → v.value ≡ o → (f : Mistake) → In f (opening_faults decls (want (type_of (outside decls) v.value_type)) o) → IsTrue_of decls f
+true_opening : (decls : List Decl) (v : Variable) → Has decls (global v) → (o : Option Const) → v.value ≡ o → (f : Mistake) → IsAmong f (opening_faults decls (want (type_of (outside decls) v.value_type)) o) → IsTrue_of decls f
 true_opening decls v h None e f i = absurd i
 true_opening decls v h (Some c) e f i = true_const decls (want (type_of (outside decls) v.value_type)) c (opening h e) f i
 
-true_decl : (decls : List Decl) (n : ℕ) (d : Decl) → slice_get decls n ≡ Some d → Has decls d → (f : Mistake) → In f (decl_faults decls n d) → IsTrue_of decls f
+true_decl : (decls : List Decl) (n : ℕ) (d : Decl) → slice_get decls n ≡ Some d → Has decls d → (f : Mistake) → IsAmong f (decl_faults decls n d) → IsTrue_of decls f
 true_decl decls n (lock x) at h f i = absurd i
 true_decl decls n (struct s) at h f i = true_members decls n s at h s.members (λ m b. b) f i
 true_decl decls n (global v) at h f i =
@@ -266,7 +275,7 @@ true_decl decls n (init x) at h f i = true_init decls x h f i
 true_decl decls n (atomic s) at h f i = true_section decls s h f i
 true_decl decls n (thread t) at h f i = true_items decls t.items (λ c b. in_thread h b) f i
 
-pub true_each : (decls : List Decl) (n : ℕ) (ds : List Decl) → ((j : ℕ) (d : Decl) → slice_get ds j ≡ Some d → slice_get decls (n + j) ≡ Some d) → ((d : Decl) → Has ds d → Has decls d) → (f : Mistake) → In f (each_faults decls n ds) → IsTrue_of decls f
+pub true_each : (decls : List Decl) (n : ℕ) (ds : List Decl) → ((j : ℕ) (d : Decl) → slice_get ds j ≡ Some d → slice_get decls (n + j) ≡ Some d) → ((d : Decl) → Has ds d → Has decls d) → (f : Mistake) → IsAmong f (each_faults decls n ds) → IsTrue_of decls f
 true_each decls n [] at up f i = absurd i
 true_each decls n (d ∷ ds) at up f i =
     both f (decl_faults decls n d) (each_faults decls (n + 1) ds)

@@ -6,7 +6,7 @@ use Rattle.source.specs.declared.fault.Code.TheVariants.{DeclaredTwice, UnknownN
 use Rattle.syntax.specs.Trees.{Ident, ValueType, Place, lone, element, path, Expr, Stmt, let_local, var_local, assign, if_then, while, print, return_value, Stmts, no_stmts, stmt, Otherwise, no_else, else_do, Param, Section, Decl, lock, struct, global, array, pool, init, atomic, thread}
 use Rattle.core_lang.specs.declared.value.ValueType.TheVariants.{Integer}
 use Rattle.core_lang.specs.declared.tree.LocalKind.TheVariants as kind
-use Rattle.resolution.specs.declared.mistake.Mistake.{Mistake}
+use Rattle.source.specs.declared.mistake.Mistake.{Mistake}
 use Rattle.resolution.specs.declared.wanted.Want.{Want}
 use Rattle.resolution.specs.declared.wanted.Want.TheVariants.{Condition, Value}
 use Rattle.resolution.specs.Limits.{PARAMETER_LIMIT, LOCAL_LIMIT}
@@ -18,18 +18,20 @@ use Rattle.resolution.specs.Where as site
 use Rattle.resolution.specs.Where.{Has, first, further, Among, here, later, in_then, in_else, in_while, Asks, of_let, of_var, of_assign, of_index, of_while, of_print, of_return, HasStmt, in_section, HasExpr, in_stmt, HasPlace, is_written, Binds, parameter, a_let, a_var, HasType, of_parameter, of_result, of_a_let, of_a_var}
 use Rattle.resolution.specs.Faults as fault
 use Rattle.resolution.specs.Faults.{IsNoValue, declared_twice, unknown, not_assignable, over_limit, lock_as_value}
-use Rattle.resolution.specs.FaultLists.{one, one_if, unfit, no_elements, path_faults, wanted_faults, type_faults, taken, local_faults, no_target, no_array, final_faults, target_faults, stmt_faults, else_faults, stmts_faults, param_faults, result_faults}
-use Rattle.resolution.proofs.Members.{In, IsTrue_of, both, of_one, of_if}
-use Rattle.resolution.proofs.TrueExpressions.{le_of, true_type, true_elements, true_path, true_wanted, none_is}
+use Rattle.resolution.specs.FaultLists.{one_if, unfit, no_elements, path_faults, wanted_faults, type_faults, taken, local_faults, no_target, no_array, final_faults, target_faults, stmt_faults, else_faults, stmts_faults, param_faults, result_faults}
+use Rattle.source.specs.Leasts.{IsAmong}
+use Rattle.resolution.proofs.Members.{IsTrue_of, both, of_one, of_if}
+use Rattle.resolution.proofs.TrueExpressions.{true_type, true_elements, true_path, true_wanted, none_is}
+use Rattle.resolution.proofs.Tests.{le_of}
 
 -- ---- locals
 
-true_taken : (decls : List Decl) (sc : Scope) (x : Ident) → Binds decls sc x → (l : Option (ℕ × Local)) (d : Option (ℕ × Decl)) → the_local sc.locals x.text ≡ l → the_decl decls x.text ≡ d → (f : Mistake) → In f (taken x.span.start l d) → IsTrue_of decls f
+true_taken : (decls : List Decl) (sc : Scope) (x : Ident) → Binds decls sc x → (l : Option (ℕ × Local)) (d : Option (ℕ × Decl)) → the_local sc.locals x.text ≡ l → the_decl decls x.text ≡ d → (f : Mistake) → IsAmong f (taken x.span.start l d) → IsTrue_of decls f
 true_taken decls sc x h None None p q f i = absurd i
 true_taken decls sc x h None (Some d) p q f i = of_one decls DeclaredTwice x.span.start f (declared_twice (fault.top_level h q)) i
 true_taken decls sc x h (Some l) d p q f i = of_one decls DeclaredTwice x.span.start f (declared_twice (fault.two_locals h p)) i
 
-true_local : (sc : Scope) (x : Ident) → Binds sc.decls sc x → (f : Mistake) → In f (local_faults sc x) → IsTrue_of sc.decls f
+true_local : (sc : Scope) (x : Ident) → Binds sc.decls sc x → (f : Mistake) → IsAmong f (local_faults sc x) → IsTrue_of sc.decls f
 true_local sc x h f i =
     both f (taken x.span.start (the_local sc.locals x.text) (the_decl sc.decls x.text)) (one_if (nat_le LOCAL_LIMIT (length sc.locals)) LimitExceeded x.span.start)
     (true_taken sc.decls sc x h (the_local sc.locals x.text) (the_decl sc.decls x.text) refl refl f)
@@ -37,17 +39,17 @@ true_local sc x h f i =
 
 -- ---- left sides
 
-true_asked : (sc : Scope) (s : Stmt) (w : Want) (e : Expr) → HasStmt sc.decls sc s → Asks sc s w e → (f : Mistake) → In f (wanted_faults sc w e) → IsTrue_of sc.decls f
+true_asked : (sc : Scope) (s : Stmt) (w : Want) (e : Expr) → HasStmt sc.decls sc s → Asks sc s w e → (f : Mistake) → IsAmong f (wanted_faults sc w e) → IsTrue_of sc.decls f
 true_asked sc s w e h asks f i = true_wanted sc w e (λ v x within. in_stmt h asks within) f i
 
-fixed_if : (sc : Scope) (x : Ident) (e : Expr) (n : ℕ) (l : Local) → HasStmt sc.decls sc (assign (lone x) e) → meaning sc x.text ≡ a_local n l → (b : Bool) → is_var l.kind ≡ b → (f : Mistake) → In f (if b then [] else one NotAssignable x.span.start) → IsTrue_of sc.decls f
+fixed_if : (sc : Scope) (x : Ident) (e : Expr) (n : ℕ) (l : Local) → HasStmt sc.decls sc (assign (lone x) e) → meaning sc x.text ≡ a_local n l → (b : Bool) → is_var l.kind ≡ b → (f : Mistake) → IsAmong f (if b then [] else unfit sc.decls NotAssignable x.span.start (a_local n l)) → IsTrue_of sc.decls f
 fixed_if sc x e n l h is true v f i = absurd i
-fixed_if sc x e n l h is false v f i = of_one sc.decls NotAssignable x.span.start f (not_assignable (fault.to_fixed h is v)) i
+fixed_if sc x e n l h is false v f i = of_if sc.decls (has_type sc.decls (a_local n l)) NotAssignable x.span.start f (λ t. not_assignable (fault.to_fixed h is v t)) i
 
-true_no_target : (sc : Scope) (x : Ident) (e : Expr) (k : ℕ) (d : Decl) → HasStmt sc.decls sc (assign (lone x) e) → meaning sc x.text ≡ a_decl k d → IsNoValue d → (f : Mistake) → In f (unfit sc.decls NotAssignable x.span.start (a_decl k d)) → IsTrue_of sc.decls f
+true_no_target : (sc : Scope) (x : Ident) (e : Expr) (k : ℕ) (d : Decl) → HasStmt sc.decls sc (assign (lone x) e) → meaning sc x.text ≡ a_decl k d → IsNoValue d → (f : Mistake) → IsAmong f (unfit sc.decls NotAssignable x.span.start (a_decl k d)) → IsTrue_of sc.decls f
 true_no_target sc x e k d h is not_so f i = of_if sc.decls (has_type sc.decls (a_decl k d)) NotAssignable x.span.start f (λ t. not_assignable (fault.to_decl h is not_so t)) i
 
-true_target_name : (sc : Scope) (x : Ident) (e : Expr) → HasStmt sc.decls sc (assign (lone x) e) → (m : Meaning) → meaning sc x.text ≡ m → (f : Mistake) → In f (no_target sc.decls x.span.start m) → IsTrue_of sc.decls f
+true_target_name : (sc : Scope) (x : Ident) (e : Expr) → HasStmt sc.decls sc (assign (lone x) e) → (m : Meaning) → meaning sc x.text ≡ m → (f : Mistake) → IsAmong f (no_target sc.decls x.span.start m) → IsTrue_of sc.decls f
 true_target_name sc x e h (a_local n l) is f i = fixed_if sc x e n l h is (is_var l.kind) refl f i
 true_target_name sc x e h (a_decl n (global v)) is f i = absurd i
 true_target_name sc x e h (a_decl n (lock y)) is f i = of_one sc.decls LockAsValue x.span.start f (lock_as_value (fault.global_lock (is_written h) is)) i
@@ -59,7 +61,7 @@ true_target_name sc x e h (a_decl n (atomic s)) is f i = true_no_target sc x e n
 true_target_name sc x e h (a_decl n (thread t)) is f i = true_no_target sc x e n (thread t) h is tt f i
 true_target_name sc x e h nothing is f i = of_one sc.decls UnknownName x.span.start f (unknown (fault.in_place (is_written h) is)) i
 
-true_array : (sc : Scope) (x : Ident) (j e : Expr) → HasStmt sc.decls sc (assign (element x j) e) → (m : Meaning) → meaning sc x.text ≡ m → (f : Mistake) → In f (no_array sc.decls x.span.start m) → IsTrue_of sc.decls f
+true_array : (sc : Scope) (x : Ident) (j e : Expr) → HasStmt sc.decls sc (assign (element x j) e) → (m : Meaning) → meaning sc x.text ≡ m → (f : Mistake) → IsAmong f (no_array sc.decls x.span.start m) → IsTrue_of sc.decls f
 true_array sc x j e h (a_decl n (pool p)) is f i = of_if sc.decls (has_type sc.decls (a_decl n (pool p))) NotAssignable x.span.start f (λ t. not_assignable (fault.to_member h is t)) i
 true_array sc x j e h (a_decl n (lock y)) is f i = absurd i
 true_array sc x j e h (a_decl n (struct s)) is f i = absurd i
@@ -71,12 +73,12 @@ true_array sc x j e h (a_decl n (thread t)) is f i = absurd i
 true_array sc x j e h (a_local n l) is f i = absurd i
 true_array sc x j e h nothing is f i = absurd i
 
-true_final : (sc : Scope) (x : Ident) (fs : List Ident) (e : Expr) → HasStmt sc.decls sc (assign (path x fs) e) → (w : Walk) → walk_from sc.decls (meaning sc x.text) fs ≡ w → (f : Mistake) → In f (final_faults x.span.start w) → IsTrue_of sc.decls f
+true_final : (sc : Scope) (x : Ident) (fs : List Ident) (e : Expr) → HasStmt sc.decls sc (assign (path x fs) e) → (w : Walk) → walk_from sc.decls (meaning sc x.text) fs ≡ w → (f : Mistake) → IsAmong f (final_faults x.span.start w) → IsTrue_of sc.decls f
 true_final sc x fs e h (reached steps t) is f i = of_if sc.decls (not (is_some (last_field steps))) NotAssignable x.span.start f (λ b. not_assignable (fault.to_final steps t h is (none_is (last_field steps) b))) i
 true_final sc x fs e h at_lock is f i = absurd i
 true_final sc x fs e h lost is f i = absurd i
 
-true_target : (sc : Scope) (p : Place) (e : Expr) → HasStmt sc.decls sc (assign p e) → (f : Mistake) → In f (target_faults sc p) → IsTrue_of sc.decls f
+true_target : (sc : Scope) (p : Place) (e : Expr) → HasStmt sc.decls sc (assign p e) → (f : Mistake) → IsAmong f (target_faults sc p) → IsTrue_of sc.decls f
 true_target sc (lone x) e h f i = true_target_name sc x e h (meaning sc x.text) refl f i
 true_target sc (element x j) e h f i =
     both f (no_elements sc.decls x.span.start (meaning sc x.text) ++ no_array sc.decls x.span.start (meaning sc x.text)) (wanted_faults sc (Value Integer) j)
@@ -112,7 +114,7 @@ has_moved : (decls : List Decl) (sc : Scope) (s : Stmt) → sc.decls ≡ decls �
 has_moved decls sc s e h = subst (λ (ds : List Decl). HasStmt ds sc s) (sym e) h
 
 true_typed_local : (sc : Scope) (s : Stmt) (x : Ident) (t : ValueType) (e : Expr) → HasStmt sc.decls sc s → Binds sc.decls sc x → HasType sc.decls sc t → Asks sc s (want (type_of sc t)) e →
-    (f : Mistake) → In f (local_faults sc x ++ type_faults sc t ++ wanted_faults sc (want (type_of sc t)) e) → IsTrue_of sc.decls f
+    (f : Mistake) → IsAmong f (local_faults sc x ++ type_faults sc t ++ wanted_faults sc (want (type_of sc t)) e) → IsTrue_of sc.decls f
 true_typed_local sc s x t e h binds has asks f i =
     both f (local_faults sc x ++ type_faults sc t) (wanted_faults sc (want (type_of sc t)) e)
     (both f (local_faults sc x) (type_faults sc t) (true_local sc x binds f) (true_type sc.decls sc t has f))
@@ -127,7 +129,7 @@ widened (in_else a) = in_else a
 widened (in_while a) = in_while a
 
 mutual
-  true_stmt : (decls : List Decl) (sc : Scope) (s : Stmt) → HasStmt decls sc s → sc.decls ≡ decls → ((sc' : Scope) (r : Stmt) → Among sc (stmt s no_stmts) sc' r → HasStmt decls sc' r) → (f : Mistake) → In f (stmt_faults sc s) → IsTrue_of decls f
+  true_stmt : (decls : List Decl) (sc : Scope) (s : Stmt) → HasStmt decls sc s → sc.decls ≡ decls → ((sc' : Scope) (r : Stmt) → Among sc (stmt s no_stmts) sc' r → HasStmt decls sc' r) → (f : Mistake) → IsAmong f (stmt_faults sc s) → IsTrue_of decls f
   true_stmt decls sc (let_local l) h same up f i =
       let g = has_moved decls sc (let_local l) same h in
       moved decls sc f same (true_typed_local sc (let_local l) l.name l.value_type l.value g (a_let g) (of_a_let g) of_let f i)
@@ -151,11 +153,11 @@ mutual
   true_stmt decls sc (return_value start e) h same up f i = moved decls sc f same (true_asked sc (return_value start e) (want sc.result) e (has_moved decls sc (return_value start e) same h) of_return f i)
 
   true_else : (decls : List Decl) (sc : Scope) (start : Span) (e : Expr) (body : Stmts) (close : Span) (other : Otherwise) → sc.decls ≡ decls →
-      ((sc' : Scope) (r : Stmt) → Among sc (stmt (if_then start e body close other) no_stmts) sc' r → HasStmt decls sc' r) → (f : Mistake) → In f (else_faults (left sc (after_all sc body)) other) → IsTrue_of decls f
+      ((sc' : Scope) (r : Stmt) → Among sc (stmt (if_then start e body close other) no_stmts) sc' r → HasStmt decls sc' r) → (f : Mistake) → IsAmong f (else_faults (left sc (after_all sc body)) other) → IsTrue_of decls f
   true_else decls sc start e body close no_else same up f i = absurd i
   true_else decls sc start e body close (else_do block end) same up f i = true_stmts decls (left sc (after_all sc body)) block (λ sc' r a. up sc' r (in_else a)) same f i
 
-  true_stmts : (decls : List Decl) (sc : Scope) (ss : Stmts) → ((sc' : Scope) (s : Stmt) → Among sc ss sc' s → HasStmt decls sc' s) → sc.decls ≡ decls → (f : Mistake) → In f (stmts_faults sc ss) → IsTrue_of decls f
+  true_stmts : (decls : List Decl) (sc : Scope) (ss : Stmts) → ((sc' : Scope) (s : Stmt) → Among sc ss sc' s → HasStmt decls sc' s) → sc.decls ≡ decls → (f : Mistake) → IsAmong f (stmts_faults sc ss) → IsTrue_of decls f
   true_stmts decls sc no_stmts up same f i = absurd i
   true_stmts decls sc (stmt s rest) up same f i =
       both f (stmt_faults sc s) (stmts_faults (after sc s) rest)
@@ -177,7 +179,7 @@ length_push [] x = refl
 length_push (y ∷ xs) x = omega (arith, length_push xs x)
 
 true_params : (decls : List Decl) (s : Section) → Has decls (atomic s) → (before ps : List Param) (n : ℕ) → n ≡ length before → s.params ≡ before ++ ps → ((p : Param) → Has ps p → Has s.params p) →
-    (f : Mistake) → In f (param_faults (entered (ahead_of decls s) before) n ps) → IsTrue_of decls f
+    (f : Mistake) → IsAmong f (param_faults (entered (ahead_of decls s) before) n ps) → IsTrue_of decls f
 true_params decls s h before [] n len parts up f i = absurd i
 true_params decls s h before (p ∷ ps) n len parts up f i =
     let sc : Scope = entered (ahead_of decls s) before in
@@ -190,15 +192,15 @@ true_params decls s h before (p ∷ ps) n len parts up f i =
     (both f a b
     (λ j. moved decls sc f same (true_local sc p.name (subst (λ (ds : List Decl). Binds ds sc p.name) (sym same) (parameter p before ps h parts)) f j))
     (of_if decls (nat_le PARAMETER_LIMIT n) LimitExceeded p.name.span.start f (λ e. over_limit (fault.too_many_parameters p before ps h parts (let le = le_of PARAMETER_LIMIT n e in omega (arith, le, len))))))
-    (λ j. true_type decls (outside decls) p.value_type (of_parameter h (up p first)) f (subst (λ (ds : List Decl). In f (type_faults (outside ds) p.value_type)) same j)))
+    (λ j. true_type decls (outside decls) p.value_type (of_parameter h (up p first)) f (subst (λ (ds : List Decl). IsAmong f (type_faults (outside ds) p.value_type)) same j)))
     (λ j. true_params decls s h (before ++ p ∷ []) ps (n + 1) (sym (length_push before p ∙ ap (λ (k : ℕ). k + 1) (sym len))) (parts ∙ sym (append_assoc before (p ∷ []) ps)) (λ q x. up q (further x)) f
-    (subst (λ (to : Scope). In f (param_faults to (n + 1) ps)) (sym (entered_push (ahead_of decls s) before p)) j)) i
+    (subst (λ (to : Scope). IsAmong f (param_faults to (n + 1) ps)) (sym (entered_push (ahead_of decls s) before p)) j)) i
 
-true_result : (decls : List Decl) (s : Section) → Has decls (atomic s) → (o : Option ValueType) → s.result ≡ o → (f : Mistake) → In f (result_faults decls o) → IsTrue_of decls f
+true_result : (decls : List Decl) (s : Section) → Has decls (atomic s) → (o : Option ValueType) → s.result ≡ o → (f : Mistake) → IsAmong f (result_faults decls o) → IsTrue_of decls f
 true_result decls s h None e f i = absurd i
 true_result decls s h (Some t) e f i = true_type decls (outside decls) t (of_result h e) f i
 
-pub true_section : (decls : List Decl) (s : Section) → Has decls (atomic s) → (f : Mistake) → In f (result_faults decls s.result ++ param_faults (ahead_of decls s) 0 s.params ++ stmts_faults (entry decls s) s.body.stmts) → IsTrue_of decls f
+pub true_section : (decls : List Decl) (s : Section) → Has decls (atomic s) → (f : Mistake) → IsAmong f (result_faults decls s.result ++ param_faults (ahead_of decls s) 0 s.params ++ stmts_faults (entry decls s) s.body.stmts) → IsTrue_of decls f
 true_section decls s h f i =
     both f (result_faults decls s.result ++ param_faults (ahead_of decls s) 0 s.params) (stmts_faults (entry decls s) s.body.stmts)
     (both f (result_faults decls s.result) (param_faults (ahead_of decls s) 0 s.params)

@@ -125,8 +125,8 @@ module _ (p : core.Program) (locals : List ValueType) where
   abbrev pub Leads : ValueType → List FieldStep → ValueType → Type 0
   Leads from [] to = from ≡ to
   Leads Integer (f ∷ fs) to = ⊥
-  Leads (Reference s) (step.Final f ∷ fs) to = (k : ℕ) × (final_in p s f ≡ Some k) × Leads (Reference k) fs to
-  Leads (Reference s) (step.Field f ∷ fs) to = (t : ValueType) × (field_in p s f ≡ Some t) × Leads t fs to
+  Leads (Reference s) (step.Final structure f ∷ fs) to = (structure ≡ s) × (k : ℕ) × (final_in p s f ≡ Some k) × Leads (Reference k) fs to
+  Leads (Reference s) (step.Field structure f ∷ fs) to = (structure ≡ s) × (t : ValueType) × (field_in p s f ≡ Some t) × Leads t fs to
 
   abbrev pub IsPath : core.Path → ValueType → Type 0
   IsPath x t = (from : ValueType) × (slice_get locals x.local ≡ Some from) × Leads from x.fields t
@@ -179,7 +179,7 @@ module _ (p : core.Program) (locals : List ValueType) where
     Acts (core.set_local n x) = Gives n x
     Acts (core.set_global cell x) = (t : ValueType) × (global_in p cell ≡ Some t) × Is x t
     Acts (core.set_element n index x) = (t : ValueType) × (array_in p n ≡ Some t) × Is index Integer × Is x t
-    Acts (core.set_field base f x) = (s : ℕ) × IsPath base (Reference s) × ((t : ValueType) × (field_in p s f ≡ Some t) × Is x t)
+    Acts (core.set_field base s f x) = IsPath base (Reference s) × ((t : ValueType) × (field_in p s f ≡ Some t) × Is x t)
     Acts (core.print x) = Is x Integer
     Acts (core.if_true t block) = Tests t × AllAct block
     Acts (core.if_else t block other) = Tests t × AllAct block × AllAct other
@@ -201,8 +201,8 @@ module _ (program : Typed) (locals : List ValueType) where
   leads_is : (from : ValueType) (fs : List FieldStep) (to : ValueType) → Leads (core_of program) locals from fs to → LeadsTo program locals from fs to
   leads_is from [] to h = h
   leads_is Integer (f ∷ fs) to h = absurd h
-  leads_is (Reference s) (step.Final f ∷ fs) to h = (h.0, final_target_is program s f h.0 h.1, leads_is (Reference h.0) fs to h.2)
-  leads_is (Reference s) (step.Field f ∷ fs) to h = (h.0, field_type_is program s f h.0 h.1, leads_is h.0 fs to h.2)
+  leads_is (Reference s) (step.Final k f ∷ fs) to h = (h.0, h.1, final_target_is program s f h.1 h.2, leads_is (Reference h.1) fs to h.3)
+  leads_is (Reference s) (step.Field k f ∷ fs) to h = (h.0, h.1, field_type_is program s f h.1 h.2, leads_is h.1 fs to h.3)
 
   mutual
     expr_is : (x : e.Expr) (t : ValueType) → Is (core_of program) locals (core_expr x) t → IsOf program locals x t
@@ -249,7 +249,7 @@ module _ (program : Typed) (locals : List ValueType) where
     action_is (SetLocal n x) h = (h.0, h.1, expr_is x h.0 h.2)
     action_is (SetGlobal cell x) h = (h.0, global_type_is program cell h.0 h.1, expr_is x h.0 h.2)
     action_is (SetElement n index x) h = (h.0, array_type_is program n h.0 h.1, expr_is index Integer h.2, expr_is x h.0 h.3)
-    action_is (SetField base f x) h = (h.0, (h.1.0, h.1.1, leads_is h.1.0 base.fields.items (Reference h.0) h.1.2), (h.2.0, field_type_is program h.0 f h.2.0 h.2.1, expr_is x h.2.0 h.2.2))
+    action_is (SetField base s f x) h = ((h.0.0, h.0.1, leads_is h.0.0 base.fields.items (Reference s) h.0.2), (h.1.0, field_type_is program s f h.1.0 h.1.1, expr_is x h.1.0 h.1.2))
     action_is (Print x) h = expr_is x Integer h
     action_is (If' t _ block) h = (test_is t h.0, stmts_are block h.1)
     action_is (IfElse' t _ block _ other) h = (test_is t h.0, stmts_are block h.1, stmts_are other h.2)

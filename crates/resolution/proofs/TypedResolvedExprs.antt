@@ -6,7 +6,7 @@ use Rattle.syntax.specs.declared.tree.Level.TheVariants.{Term, Sum, Conjunction,
 use Rattle.syntax.specs.declared.tree.Prefix.TheVariants.{Negate, Not}
 use Rattle.syntax.specs.declared.tree.Comparison as written
 use Rattle.syntax.specs.declared.tree.Comparison.TheVariants as sign
-use Rattle.syntax.specs.Trees.{Ident, Place, lone, element, path, Expr, int, null, place, paren, prefix, chain, compare, Links, no_links, link, Member, lock_member, final_member, field_member, Final, Field, Struct, Variable, Array, Pool, Decl, lock, struct, global, array, pool, init, atomic, thread}
+use Rattle.syntax.specs.Trees.{ref_type, Ident, Place, lone, element, path, Expr, int, null, place, paren, prefix, chain, compare, Links, no_links, link, Member, lock_member, final_member, field_member, Final, Field, Struct, Variable, Array, Pool, Decl, lock, struct, global, array, pool, init, atomic, thread}
 use Rattle.core_lang.specs.declared.value.ValueType.{ValueType}
 use Rattle.core_lang.specs.declared.value.ValueType.TheVariants.{Integer, Reference}
 use Rattle.core_lang.specs.declared.tree.Operator.{Operator}
@@ -18,8 +18,8 @@ use Rattle.resolution.specs.declared.wanted.Sort.{Sort}
 use Rattle.resolution.specs.declared.wanted.Sort.TheVariants as sort
 use Rattle.resolution.specs.declared.wanted.Want.TheVariants.{Value}
 use Rattle.resolution.specs.Core as core
-use Rattle.resolution.specs.Scopes.{Scope, Local, outside, Meaning, a_local, a_decl, nothing, meaning, declared_as, local_or, local_bears, number_at, the_decl, the_local, the_struct, the_member, type_of, struct_named}
-use Rattle.resolution.specs.Expressions.{ResolvedExpr, value, truth, fits_type, fitting, as_value, number_resolved, test_resolved, alike_sorts, number_value, literal, value_of, local_path, cell_of, named_value, member_value, element_value, Walk, reached, at_lock, lost, over_final, over_field, over_member, over, member_number, stepped, walked, at_local, walk_from, path_value, operator_of, negated, not_so, parenthesised, chained, linked, Tests, one_test, tested, all_hold, one_holds, ordered, equated, compared, typed, typed_place, typed_links, typed_tests}
+use Rattle.resolution.specs.Scopes.{◌>>=◌, Scope, Local, outside, Meaning, a_local, a_decl, nothing, meaning, declared_as, local_or, local_bears, number_at, the_decl, the_local, the_struct, the_member, type_of, struct_named}
+use Rattle.resolution.specs.Expressions.{ResolvedExpr, value, truth, fits_type, fitting, as_value, number_resolved, test_resolved, alike_sorts, number_value, literal, value_of, local_path, cell_of, named_value, member_value, element_value, Walk, reached, at_lock, lost, over_step, over_member, over, member_number, stepped, walked, at_local, walk_from, path_value, operator_of, negated, not_so, parenthesised, chained, linked, Tests, one_test, tested, all_hold, one_holds, ordered, equated, compared, typed, typed_place, typed_links, typed_tests}
 use Rattle.resolution.proofs.Named.{named_is, member_is}
 use Rattle.resolution.proofs.FaultlessExpressions.{IsMeant, meant}
 use Rattle.resolution.proofs.Typed as well
@@ -146,24 +146,28 @@ module _ (sc : Scope) (p : core.Program) (types : List ValueType) (sound : Sound
   leads_more : (from mid to : ValueType) (steps : List FieldStep) (s : FieldStep) → Leads p types from steps mid → Leads p types mid (s ∷ []) to → Leads p types from (steps ++ s ∷ []) to
   leads_more from mid to [] s h g = subst (λ (t : ValueType). Leads p types t (s ∷ []) to) (sym h) g
   leads_more Integer mid to (r ∷ rs) s h g = absurd h
-  leads_more (Reference k) mid to (step.Final f ∷ rs) s h g = (h.0, h.1, leads_more (Reference h.0) mid to rs s h.2 g)
-  leads_more (Reference k) mid to (step.Field f ∷ rs) s h g = (h.0, h.1, leads_more h.0 mid to rs s h.2 g)
+  leads_more (Reference k) mid to (step.Final structure f ∷ rs) s h g = (h.0, h.1, h.2, leads_more (Reference h.1) mid to rs s h.3 g)
+  leads_more (Reference k) mid to (step.Field structure f ∷ rs) s h g = (h.0, h.1, h.2, leads_more h.1 mid to rs s h.3 g)
 
-  final_good : (from : ValueType) (steps : List FieldStep) (s n : ℕ) (o : Option ℕ) → Leads p types from steps (Reference s) → ((k : ℕ) → o ≡ Some k → final_in p s n ≡ Some k) → GoodWalk from (over_final steps n o)
-  final_good from steps s n None h f = tt
-  final_good from steps s n (Some k) h f = leads_more from (Reference s) (Reference k) steps (step.Final n) h (k, f k refl, refl)
+  step_over : (from : ValueType) (steps : List FieldStep) (s : ℕ) (r : FieldStep) (o : Option ValueType) → Leads p types from steps (Reference s) → ((t : ValueType) → o ≡ Some t → Leads p types (Reference s) (r ∷ []) t) → GoodWalk from (over_step steps r o)
+  step_over from steps s r None h f = tt
+  step_over from steps s r (Some t) h f = leads_more from (Reference s) t steps r h (f t refl)
 
-  field_good : (from : ValueType) (steps : List FieldStep) (s n : ℕ) (o : Option ValueType) → Leads p types from steps (Reference s) → ((t : ValueType) → o ≡ Some t → field_in p s n ≡ Some t) → GoodWalk from (over_field steps n o)
-  field_good from steps s n None h f = tt
-  field_good from steps s n (Some t) h f = leads_more from (Reference s) t steps (step.Field n) h (t, f t refl, refl)
+  -- a final reference's type is one to the struct that it names
+  final_leads : (s n : ℕ) (o : Option ℕ) (t : ValueType) → ((k : ℕ) → o ≡ Some k → final_in p s n ≡ Some k) → (o >>= λ k. Some (Reference k)) ≡ Some t → Leads p types (Reference s) (step.Final s n ∷ []) t
+  final_leads s n None t f e = cc
+  final_leads s n (Some k) t f e = (refl, k, f k refl, (let same : Reference k ≡ t = cc in same))
 
-  member_walk : (from : ValueType) (steps : List FieldStep) (s : ℕ) (x : Struct) → the_struct sc.decls s ≡ Some x → Leads p types from steps (Reference s) → (o : Option (ℕ × Member)) → ((n : ℕ) (m : Member) → ◌≡◌ {A = Option (ℕ × Member)} o (Some (n, m)) → slice_get x.members n ≡ Some m) → GoodWalk from (over_member sc.decls steps x.members o)
+  member_walk : (from : ValueType) (steps : List FieldStep) (s : ℕ) (x : Struct) → the_struct sc.decls s ≡ Some x → Leads p types from steps (Reference s) → (o : Option (ℕ × Member)) → ((n : ℕ) (m : Member) → ◌≡◌ {A = Option (ℕ × Member)} o (Some (n, m)) → slice_get x.members n ≡ Some m) → GoodWalk from (over_member sc.decls steps s x.members o)
   member_walk from steps s x is h None at = tt
   member_walk from steps s x is h (Some (n, lock_member y)) at = tt
-  member_walk from steps s x is h (Some (n, final_member f)) at = final_good from steps s (member_number x.members n (final_member f)) (struct_named sc.decls f.target) h (λ k e. sound.final s x n f k is (at n (final_member f) refl) e)
-  member_walk from steps s x is h (Some (n, field_member f)) at = field_good from steps s (member_number x.members n (field_member f)) (type_of (outside sc.decls) f.value_type) h (λ t e. sound.field s x n f t is (at n (field_member f) refl) e)
+  member_walk from steps s x is h (Some (n, final_member f)) at =
+      step_over from steps s (step.Final s (member_number x.members n (final_member f))) (type_of (outside sc.decls) (ref_type f.target)) h
+      (λ t e. final_leads s (member_number x.members n (final_member f)) (struct_named sc.decls f.target) t (λ k g. sound.final s x n f k is (at n (final_member f) refl) g) e)
+  member_walk from steps s x is h (Some (n, field_member f)) at =
+      step_over from steps s (step.Field s (member_number x.members n (field_member f))) (type_of (outside sc.decls) f.value_type) h (λ t e. (refl, t, sound.field s x n f t is (at n (field_member f) refl) e, refl))
 
-  struct_walk : (from : ValueType) (steps : List FieldStep) (s : ℕ) (q : List ℕ) (o : Option Struct) → the_struct sc.decls s ≡ o → Leads p types from steps (Reference s) → GoodWalk from (over sc.decls steps o q)
+  struct_walk : (from : ValueType) (steps : List FieldStep) (s : ℕ) (q : List ℕ) (o : Option Struct) → the_struct sc.decls s ≡ o → Leads p types from steps (Reference s) → GoodWalk from (over sc.decls steps s o q)
   struct_walk from steps s q None is h = tt
   struct_walk from steps s q (Some x) is h = member_walk from steps s x is h (the_member x.members q) (λ n m e. (member_is x.members q n m e).0)
 

@@ -22,6 +22,7 @@ use Rattle.resolution.proofs.FaultlessSections.{entered_result}
 use Rattle.resolution.proofs.Typed as well
 use Rattle.resolution.proofs.Typed.{global_in, array_in, pool_in, final_in, field_in, Leads, IsPath, Is, Gives, Acts, AllAct, Returns, get_map}
 use Rattle.resolution.proofs.TypedResolvedExprs.{Sound, Have, IsLocal, meant_local, GoodValue, GoodTest, GoodPath, local_walk, value_good_of, test_good_of}
+use Rattle.resolution.specs.Facts.{after_result}
 
 -- ---- locals stay
 
@@ -104,7 +105,7 @@ module _ (decls : List Decl) (p : core.Program) (types : List core_type.ValueTyp
   AssigneesAt (to_local n) t = slice_get types n ≡ Some t
   AssigneesAt (to_global cell) t = global_in p cell ≡ Some t
   AssigneesAt (to_element n index) t = (array_in p n ≡ Some t) × Is p types index Integer
-  AssigneesAt (to_field base f) t = (s : ℕ) × IsPath p types base (Reference s) × (field_in p s f ≡ Some t)
+  AssigneesAt (to_field base s f) t = IsPath p types base (Reference s) × (field_in p s f ≡ Some t)
 
   abbrev GoodAim : Option Assignee → Type 0
   GoodAim None = ⊤
@@ -144,36 +145,41 @@ module _ (decls : List Decl) (p : core.Program) (types : List core_type.ValueTyp
   element_assignee sc so nothing (Some index) at i = tt
 
   -- the last step goes over a field of where those ahead of it lead
-  splits : (from : core_type.ValueType) (steps : List FieldStep) (t : core_type.ValueType) (q : Split) → Leads p types from steps t → last_field steps ≡ Some q → (s : ℕ) × Leads p types from q.base (Reference s) × (field_in p s q.field ≡ Some t)
+  abbrev IsSplit : core_type.ValueType → core_type.ValueType → Split → Type 0
+  IsSplit from t q = Leads p types from q.base (Reference q.structure) × (field_in p q.structure q.field ≡ Some t)
+
+  splits : (from : core_type.ValueType) (steps : List FieldStep) (t : core_type.ValueType) (q : Split) → Leads p types from steps t → last_field steps ≡ Some q → IsSplit from t q
   splits from [] t q h e = cc
   splits Integer (r ∷ rs) t q h e = absurd h
-  splits (Reference s) (step.Field n ∷ []) t q h e =
-      let same : record { base = []; field = n } ≡ q = cc in
-      let f : field_in p s n ≡ Some t = h.1 ∙ ap Some h.2 in
-      (s, subst (λ (x : Split). Leads p types (Reference s) x.base (Reference s)) same refl, subst (λ (x : Split). field_in p s x.field ≡ Some t) same f)
-  splits (Reference s) (step.Final n ∷ []) t q h e = cc
-  splits (Reference s) (step.Field n ∷ r ∷ rs) t q h e = split_field s n r rs t q h (last_field (r ∷ rs)) refl e (λ w x. splits h.0 (r ∷ rs) t w h.2 x)
+  splits (Reference s) (step.Field k n ∷ []) t q h e =
+      let same : record { base = []; structure = k; field = n } ≡ q = cc in
+      let f : field_in p s n ≡ Some t = h.2 ∙ ap Some h.3 in
+      let g : field_in p k n ≡ Some t = subst (λ (x : ℕ). field_in p x n ≡ Some t) (sym h.0) f in
+      let from_is : ◌≡◌ {A = core_type.ValueType} (Reference s) (Reference k) = ap (λ (x : ℕ). Reference x) (sym h.0) in
+      subst (IsSplit (Reference s) t) same (from_is, g)
+  splits (Reference s) (step.Final k n ∷ []) t q h e = cc
+  splits (Reference s) (step.Field k n ∷ r ∷ rs) t q h e = split_field s k n r rs t q h (last_field (r ∷ rs)) refl e (λ w x. splits h.1 (r ∷ rs) t w h.3 x)
     where
-      split_field : (s n : ℕ) (r : FieldStep) (rs : List FieldStep) (t : core_type.ValueType) (q : Split) (h : Leads p types (Reference s) (step.Field n ∷ r ∷ rs) t) (o : Option Split) → last_field (r ∷ rs) ≡ o → (o >>= λ w. Some (behind (step.Field n) w)) ≡ Some q →
-          ((w : Split) → last_field (r ∷ rs) ≡ Some w → (k : ℕ) × Leads p types h.0 w.base (Reference k) × (field_in p k w.field ≡ Some t)) → (k : ℕ) × Leads p types (Reference s) q.base (Reference k) × (field_in p k q.field ≡ Some t)
-      split_field s n r rs t q h None is e rec = cc
-      split_field s n r rs t q h (Some w) is e rec =
-          let same : behind (step.Field n) w ≡ q = cc in
+      split_field : (s k n : ℕ) (r : FieldStep) (rs : List FieldStep) (t : core_type.ValueType) (q : Split) (h : Leads p types (Reference s) (step.Field k n ∷ r ∷ rs) t) (o : Option Split) → last_field (r ∷ rs) ≡ o → (o >>= λ w. Some (behind (step.Field k n) w)) ≡ Some q →
+          ((w : Split) → last_field (r ∷ rs) ≡ Some w → IsSplit h.1 t w) → IsSplit (Reference s) t q
+      split_field s k n r rs t q h None is e rec = cc
+      split_field s k n r rs t q h (Some w) is e rec =
+          let same : behind (step.Field k n) w ≡ q = cc in
           let x = rec w is in
-          (x.0, subst (λ (z : Split). Leads p types (Reference s) z.base (Reference x.0)) same (h.0, h.1, x.1), subst (λ (z : Split). field_in p x.0 z.field ≡ Some t) same x.2)
-  splits (Reference s) (step.Final n ∷ r ∷ rs) t q h e = split_final s n r rs t q h (last_field (r ∷ rs)) refl e (λ w x. splits (Reference h.0) (r ∷ rs) t w h.2 x)
+          subst (IsSplit (Reference s) t) same ((h.0, h.1, h.2, x.0), x.1)
+  splits (Reference s) (step.Final k n ∷ r ∷ rs) t q h e = split_final s k n r rs t q h (last_field (r ∷ rs)) refl e (λ w x. splits (Reference h.1) (r ∷ rs) t w h.3 x)
     where
-      split_final : (s n : ℕ) (r : FieldStep) (rs : List FieldStep) (t : core_type.ValueType) (q : Split) (h : Leads p types (Reference s) (step.Final n ∷ r ∷ rs) t) (o : Option Split) → last_field (r ∷ rs) ≡ o → (o >>= λ w. Some (behind (step.Final n) w)) ≡ Some q →
-          ((w : Split) → last_field (r ∷ rs) ≡ Some w → (k : ℕ) × Leads p types (Reference h.0) w.base (Reference k) × (field_in p k w.field ≡ Some t)) → (k : ℕ) × Leads p types (Reference s) q.base (Reference k) × (field_in p k q.field ≡ Some t)
-      split_final s n r rs t q h None is e rec = cc
-      split_final s n r rs t q h (Some w) is e rec =
-          let same : behind (step.Final n) w ≡ q = cc in
+      split_final : (s k n : ℕ) (r : FieldStep) (rs : List FieldStep) (t : core_type.ValueType) (q : Split) (h : Leads p types (Reference s) (step.Final k n ∷ r ∷ rs) t) (o : Option Split) → last_field (r ∷ rs) ≡ o → (o >>= λ w. Some (behind (step.Final k n) w)) ≡ Some q →
+          ((w : Split) → last_field (r ∷ rs) ≡ Some w → IsSplit (Reference h.1) t w) → IsSplit (Reference s) t q
+      split_final s k n r rs t q h None is e rec = cc
+      split_final s k n r rs t q h (Some w) is e rec =
+          let same : behind (step.Final k n) w ≡ q = cc in
           let x = rec w is in
-          (x.0, subst (λ (z : Split). Leads p types (Reference s) z.base (Reference x.0)) same (h.0, h.1, x.1), subst (λ (z : Split). field_in p x.0 z.field ≡ Some t) same x.2)
+          subst (IsSplit (Reference s) t) same ((h.0, h.1, h.2, x.0), x.1)
 
   field_assignee : (start n : ℕ) (steps : List FieldStep) (t : core_type.ValueType) → (from : core_type.ValueType) → slice_get types n ≡ Some from → Leads p types from steps t → (o : Option Split) → last_field steps ≡ o → GoodAim (assignee (field_target start n o) (Some t))
   field_assignee start n steps t from at h None e = tt
-  field_assignee start n steps t from at h (Some q) e = let x = splits from steps t q h e in (x.0, (from, at, x.1), x.2)
+  field_assignee start n steps t from at h (Some q) e = let x = splits from steps t q h e in ((from, at, x.0), x.1)
 
   along_assignee : (sc : Scope) (so : Sound sc.decls p) (have : Have sc.locals types) (start n : ℕ) (l : scope.Local) (w : Walk) → GoodPath sc p types so have n w → GoodAim (assignee_along start (a_local n l) w)
   along_assignee sc so have start n l (reached steps t) h = field_assignee start n steps t h.0 h.1 h.2 (last_field steps) refl
@@ -263,7 +269,7 @@ module _ (decls : List Decl) (p : core.Program) (types : List core_type.ValueTyp
   set_good (to_local n) t x h i = (t, h, i)
   set_good (to_global cell) t x h i = (t, h, i)
   set_good (to_element n index) t x h i = (t, h.0, h.1, i)
-  set_good (to_field base f) t x h i = (h.0, h.1, (t, h.2, i))
+  set_good (to_field base s f) t x h i = (h.0, (t, h.1, i))
 
   assign_good : (result : Option core_type.ValueType) (start : ℕ) (o : Option Assignee) (v : Option core.Expr) → GoodAim o → ((a : Assignee) → o ≡ Some a → IfValue a.value_type v) → GoodPart result (assigns start o v)
   assign_good result start None v h g = tt
@@ -307,16 +313,6 @@ module _ (decls : List Decl) (p : core.Program) (types : List core_type.ValueTyp
 
   assigned_good : (sc : Scope) (so : Sound sc.decls p) (have : Have sc.locals types) (q : Place) (e : Expr) (a : Assignee) → target_of sc q ≡ Some a → IfValue a.value_type (as_value (fitting (wanted_by (target_of sc q)) (typed sc e)))
   assigned_good sc so have q e a is = subst (λ (o : Option Assignee). IfValue a.value_type (as_value (fitting (wanted_by o) (typed sc e)))) (sym is) (if_value sc so have a.value_type (as_value (fitting (Value a.value_type) (typed sc e))) (value_good_of sc p types so have a.value_type e))
-
-  after_result : (sc : Scope) (s : Stmt) → (after sc s).result ≡ sc.result
-  after_result sc (let_local l) = refl
-  after_result sc (var_local l) = refl
-  after_result sc (assign q e) = refl
-  after_result sc (if_then start e body close no_else) = refl
-  after_result sc (if_then start e body close (else_do other end)) = refl
-  after_result sc (while start e body close) = refl
-  after_result sc (print start e) = refl
-  after_result sc (return_value start e) = refl
 
   left_before : (a b : List scope.Local) (n : ℕ) → Have (hidden_from n b) types → Have b types
   left_before a b n h = have_before b (hidden_from n b) types (kept_hidden n b) h

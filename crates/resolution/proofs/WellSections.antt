@@ -21,7 +21,7 @@ use Rattle.resolution.proofs.Typed.{AllAct, Returns, get_map, body_typed, result
 use Rattle.resolution.proofs.TypedResolvedExprs.{Sound}
 use Rattle.resolution.proofs.TypedStatements.{all_front, types_of, locals_got, section_typed}
 use Rattle.resolution.proofs.Scoped.{Names, StmtsName, behind_all, all_binding, all_assigning, body_scoped, body_behind, body_binding, body_assigning, result_scoped}
-use Rattle.resolution.proofs.ScopedStatements.{IsVarAt, Become, BodyDone, ReturnDone, numbers_cover, body_done}
+use Rattle.resolution.proofs.ScopedStatements.{IsVarAt, Become, BodyDone, ReturnDone, numbers_cover, body_done, get_lt}
 
 -- ---- well typed
 
@@ -110,11 +110,6 @@ entered_length sc (p ∷ ps) =
     let r = entered_length (bound sc kind.Parameter p.name (type_of (outside sc.decls) p.value_type)) ps in
     let l = push_length sc.locals x in
     omega (arith, r, l)
-
-get_lt : {A : Type 0} (xs : List A) (n : ℕ) (x : A) → slice_get xs n ≡ Some x → n < length xs
-get_lt [] n x e = cc
-get_lt (y ∷ xs) zero x e = omega arith
-get_lt (y ∷ xs) (suc n) x e = let r = get_lt xs n x e in omega (arith, r)
 
 get_some : {A : Type 0} (xs : List A) (n : ℕ) → n < length xs → (x : A) × (slice_get xs n ≡ Some x)
 get_some [] n lt = absurd (omega (arith, lt))

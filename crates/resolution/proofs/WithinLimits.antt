@@ -1,7 +1,7 @@
 -- A program with no fault is within the limits of the language.
 use Rattle.std.proofs.Common.{◌≡◌, ℕ, zero, suc, ◌+◌, ◌*◌, ◌<◌, ◌≤◌, List, [], ◌∷◌, ◌++◌, length, Some, true, false, refl, sym, ap, ◌∙◌, subst, append_assoc, arith}
 use Rattle.std.specs.Prelude.{nat_le, slice_get, take, map}
-use Rattle.std.proofs.lemmas.List.{length-append, length-map}
+use Rattle.std.proofs.lemmas.List.{length-append, length-map, append-nil}
 use Rattle.source.specs.declared.fault.Code.TheVariants.{LimitExceeded}
 use Rattle.syntax.specs.Trees.{Ident, Stmt, let_local, var_local, assign, if_then, while, print, return_value, Stmts, no_stmts, stmt, Otherwise, no_else, else_do, Param, Item, call, repeat, Items, no_items, item, Member, lock_member, final_member, field_member, Thread, Decl, lock, struct, global, array, pool, init, atomic, thread}
 use Rattle.core_lang.specs.declared.tree.LocalKind.TheVariants as kind
@@ -25,24 +25,24 @@ use Rattle.resolution.proofs.Parts.{of_place_at}
 use Rattle.resolution.proofs.AllFaults.{of_counts, of_totals}
 use Rattle.resolution.proofs.TrueStatements.{length_push}
 use Rattle.resolution.proofs.FaultlessExpressions.{NoneIn, none_left, none_right, not_if, struct_has, Clean}
-use Rattle.resolution.proofs.FaultlessConstants.{le_false}
 use Rattle.resolution.proofs.FaultlessMembers.{parts_at}
 use Rattle.resolution.proofs.FaultlessPrograms.{total_push, cells_fit, calls_few, struct_few}
 use Rattle.resolution.proofs.Typed.{get_map}
 use Rattle.resolution.proofs.ScopedStatements.{hidden_length}
 use Rattle.resolution.proofs.WellSections.{entered_length, locals_length}
-use Rattle.resolution.proofs.LaidLists.{rows_length, take_front, append_nil, as_one, count_push, bind_got}
+use Rattle.resolution.proofs.LaidLists.{rows_length, take_front, as_one, count_push, bind_got}
 use Rattle.resolution.proofs.LaidStages.{fields_in, finals_in, locks_in}
 use Rattle.resolution.proofs.LaidWalk.{LockRow, FinalRow, FieldRow, Step, walked_whole, counted_whole}
 use Rattle.resolution.proofs.LaidFacts.{keeps_structs, keeps_sections, keeps_threads, struct_by_number, sections_of}
 use Rattle.resolution.proofs.LaidLocks.{few_classes}
 use Rattle.resolution.proofs.LaidObjects.{few_objects}
 use Rattle.resolution.proofs.LaidScripts.{one_got, joined_got, sectioned}
+use Rattle.resolution.proofs.Tests.{le_false}
 
 -- ---- cells
 
 cells_few : (decls before ds : List Decl) → NoneIn (total_faults decls before ds) → total (cells_of decls) before ≤ CELL_LIMIT → total (cells_of decls) (before ++ ds) ≤ CELL_LIMIT
-cells_few decls before [] none le = subst (λ (xs : List Decl). total (cells_of decls) xs ≤ CELL_LIMIT) (sym (append_nil before)) le
+cells_few decls before [] none le = subst (λ (xs : List Decl). total (cells_of decls) xs ≤ CELL_LIMIT) (sym (append-nil before)) le
 cells_few decls before (d ∷ ds) none le =
     let fit = cells_fit decls before d (none_left (count_faults decls before d) (total_faults decls (before ++ d ∷ []) ds) none) le in
     let more : total (cells_of decls) (before ++ d ∷ []) ≤ CELL_LIMIT = (let t = total_push (cells_of decls) before d in omega (arith, t, fit)) in

@@ -1,6 +1,6 @@
 -- Which lock an annotation names.
 use Rattle.std.specs.Prelude.{ℕ, ◌+◌, min, List, [], ◌∷◌, ◌++◌, Option, Some, None}
-use Rattle.syntax.specs.Trees.{Ident, Protection, Decl, lock, struct, global, array, pool, init, atomic, thread, Member, lock_member, final_member, field_member}
+use Rattle.syntax.specs.Trees.{Ident, Protection, Decl, lock, struct, Member, lock_member, final_member}
 use Rattle.resolution.specs.Core as core
 use Rattle.resolution.specs.Limits.{CLASS_LIMIT}
 use Rattle.resolution.specs.Scopes.{◌>>=◌, the_decl, the_member, number_in}
@@ -14,15 +14,7 @@ class_number decls i n = min (classes_ahead decls i + n) CLASS_LIMIT
 -- the class of a global lock that is named alone
 abbrev pub class_in : List Decl → Option (ℕ × Decl) → List Ident → Option ℕ
 class_in decls (Some (i, lock x)) [] = Some (class_number decls i 0)
-class_in decls (Some (i, lock x)) (y ∷ ys) = None
-class_in decls (Some (i, struct s)) ys = None
-class_in decls (Some (i, global v)) ys = None
-class_in decls (Some (i, array a)) ys = None
-class_in decls (Some (i, pool p)) ys = None
-class_in decls (Some (i, init j)) ys = None
-class_in decls (Some (i, atomic s)) ys = None
-class_in decls (Some (i, thread t)) ys = None
-class_in decls None ys = None
+class_in decls _ ys = None
 
 -- the class of a global's lock
 abbrev pub class_of : List Decl → Option Protection → Option ℕ
@@ -37,21 +29,12 @@ pub record AnnotationCursor : Type 0 where
 
 abbrev pub at_struct : List ℕ → ℕ → Option (ℕ × Decl) → Option AnnotationCursor
 at_struct through n (Some (i, struct s)) = Some (record { structure = i; members = s.members; through = through ++ n ∷ [] })
-at_struct through n (Some (i, lock x)) = None
-at_struct through n (Some (i, global v)) = None
-at_struct through n (Some (i, array a)) = None
-at_struct through n (Some (i, pool p)) = None
-at_struct through n (Some (i, init j)) = None
-at_struct through n (Some (i, atomic s)) = None
-at_struct through n (Some (i, thread t)) = None
-at_struct through n None = None
+at_struct through n _ = None
 
 -- over a final reference to its struct; nothing else leads on
 abbrev pub through_member : List Decl → AnnotationCursor → Option (ℕ × Member) → Option AnnotationCursor
 through_member decls st (Some (i, final_member f)) = at_struct st.through (member_number st.members i (final_member f)) (the_decl decls f.target.text)
-through_member decls st (Some (i, lock_member x)) = None
-through_member decls st (Some (i, field_member f)) = None
-through_member decls st None = None
+through_member decls st _ = None
 
 abbrev pub stepped_on : List Decl → Option AnnotationCursor → Ident → Option AnnotationCursor
 stepped_on decls (Some st) y = through_member decls st (the_member st.members y.text)
@@ -60,9 +43,7 @@ stepped_on decls None y = None
 -- the walk's end: a lock field
 abbrev pub ended_at : List Decl → AnnotationCursor → Option (ℕ × Member) → Option core.Protection
 ended_at decls st (Some (i, lock_member x)) = Some (record { through = st.through; class = class_number decls st.structure (number_in st.members i (lock_member x)) })
-ended_at decls st (Some (i, final_member f)) = None
-ended_at decls st (Some (i, field_member f)) = None
-ended_at decls st None = None
+ended_at decls st _ = None
 
 abbrev pub ended : List Decl → Option AnnotationCursor → Ident → Option core.Protection
 ended decls (Some st) y = ended_at decls st (the_member st.members y.text)

@@ -1,6 +1,6 @@
 -- Constants, and what the declarations give the members of pools.
 use Rattle.std.specs.Prelude.{ℕ, ◌+◌, ℤ, pos, neg_ℤ, nat_lt, min, ◌==◌, ◌&&◌, Bool, false, List, [], ◌∷◌, Option, Some, None, if◌then◌else◌}
-use Rattle.syntax.specs.Trees.{Ident, ref_type, Const, int_const, negative, null_const, member_const, Decl, lock, struct, global, array, pool, init, atomic, thread, Member, lock_member, final_member, field_member, Init, Param}
+use Rattle.syntax.specs.Trees.{Ident, ref_type, Const, int_const, negative, null_const, member_const, Decl, struct, pool, init, Member, lock_member, final_member, field_member, Init, Param}
 use Rattle.core_lang.specs.declared.value.Value.{Value}
 use Rattle.core_lang.specs.declared.value.Value.TheVariants.{Int, Ref}
 use Rattle.core_lang.specs.declared.value.ValueType as core_type
@@ -28,14 +28,7 @@ reference_sort None = None
 -- a member of what the name means: of a pool whose struct has no fault
 abbrev pub member_sort : List Decl → Option (ℕ × Decl) → Option Sort
 member_sort decls (Some (i, pool p)) = reference_sort (struct_named decls p.target)
-member_sort decls (Some (i, lock x)) = None
-member_sort decls (Some (i, struct s)) = None
-member_sort decls (Some (i, global v)) = None
-member_sort decls (Some (i, array a)) = None
-member_sort decls (Some (i, init j)) = None
-member_sort decls (Some (i, atomic s)) = None
-member_sort decls (Some (i, thread t)) = None
-member_sort decls None = None
+member_sort decls _ = None
 
 -- what a constant is, if it has a type
 abbrev pub const_sort : List Decl → Const → Option Sort
@@ -51,14 +44,7 @@ object_of decls i n = min (objects_ahead decls i + n) OBJECT_LIMIT
 -- the member of this index of what the name means, if there is one
 abbrev pub member_of : List Decl → Option (ℕ × Decl) → ℕ → Option Value
 member_of decls (Some (i, pool p)) n = if nat_lt n p.length.value then Some (Ref (Some (object_of decls i n))) else None
-member_of decls (Some (i, lock x)) n = None
-member_of decls (Some (i, struct s)) n = None
-member_of decls (Some (i, global v)) n = None
-member_of decls (Some (i, array a)) n = None
-member_of decls (Some (i, init j)) n = None
-member_of decls (Some (i, atomic s)) n = None
-member_of decls (Some (i, thread t)) n = None
-member_of decls None n = None
+member_of decls _ n = None
 
 abbrev pub const_value : List Decl → Const → Option Value
 const_value decls (int_const n) = number_value n >>= λ z. Some (Int z)
@@ -96,14 +82,7 @@ typed_arguments decls (p ∷ ps) (c ∷ cs) = added (typed_const decls (want_of 
 
 abbrev pub members_in : Option (ℕ × Decl) → Option (List Member)
 members_in (Some (i, struct s)) = Some s.members
-members_in (Some (i, lock x)) = None
-members_in (Some (i, global v)) = None
-members_in (Some (i, array a)) = None
-members_in (Some (i, pool p)) = None
-members_in (Some (i, init j)) = None
-members_in (Some (i, atomic s)) = None
-members_in (Some (i, thread t)) = None
-members_in None = None
+members_in _ = None
 
 -- the members of the struct that is named
 abbrev pub members_of : List Decl → Ident → Option (List Member)
@@ -112,14 +91,7 @@ members_of decls x = members_in (the_decl decls x.text)
 -- those of the members of a pool that is named
 abbrev pub pool_members : List Decl → Option (ℕ × Decl) → Option (List Member)
 pool_members decls (Some (i, pool p)) = members_of decls p.target
-pool_members decls (Some (i, lock x)) = None
-pool_members decls (Some (i, struct s)) = None
-pool_members decls (Some (i, global v)) = None
-pool_members decls (Some (i, array a)) = None
-pool_members decls (Some (i, init j)) = None
-pool_members decls (Some (i, atomic s)) = None
-pool_members decls (Some (i, thread t)) = None
-pool_members decls None = None
+pool_members decls _ = None
 
 -- the field that an `init` names
 abbrev pub initialised : List Decl → Init → Option (ℕ × Member)
@@ -145,14 +117,7 @@ init_target_in p index None q = None
 
 abbrev pub init_target_to : List Decl → Option (ℕ × Decl) → ℕ → List ℕ → Option InitTarget
 init_target_to decls (Some (i, pool p)) index q = if nat_lt index p.length.value then init_target_in i index (members_of decls p.target) q else None
-init_target_to decls (Some (i, lock x)) index q = None
-init_target_to decls (Some (i, struct s)) index q = None
-init_target_to decls (Some (i, global v)) index q = None
-init_target_to decls (Some (i, array a)) index q = None
-init_target_to decls (Some (i, init j)) index q = None
-init_target_to decls (Some (i, atomic s)) index q = None
-init_target_to decls (Some (i, thread t)) index q = None
-init_target_to decls None index q = None
+init_target_to decls _ index q = None
 
 -- what an `init` gives a value to, if there is such a thing
 abbrev pub init_target_of : List Decl → Init → Option InitTarget
@@ -168,13 +133,7 @@ is_init_target None g = false
 -- whether a declaration gives it a value
 abbrev pub gives : List Decl → Decl → InitTarget → Bool
 gives decls (init i) g = is_init_target (init_target_of decls i) g
-gives decls (lock x) g = false
-gives decls (struct s) g = false
-gives decls (global v) g = false
-gives decls (array a) g = false
-gives decls (pool p) g = false
-gives decls (atomic s) g = false
-gives decls (thread t) g = false
+gives decls _ g = false
 
 -- the first of these declarations that gives it a value, and its place
 abbrev pub giver : List Decl → List Decl → InitTarget → Option (ℕ × Decl)
@@ -182,14 +141,7 @@ giver decls ds g = named (gives decls) ds g
 
 abbrev pub value_in : Option (ℕ × Decl) → Option Const
 value_in (Some (i, init j)) = Some j.value
-value_in (Some (i, lock x)) = None
-value_in (Some (i, struct s)) = None
-value_in (Some (i, global v)) = None
-value_in (Some (i, array a)) = None
-value_in (Some (i, pool p)) = None
-value_in (Some (i, atomic s)) = None
-value_in (Some (i, thread t)) = None
-value_in None = None
+value_in _ = None
 
 -- the constant that it is given
 abbrev pub given : List Decl → InitTarget → Option Const
@@ -209,9 +161,7 @@ opened decls t (Some c) = typed_const decls (wanted.Value t) c
 
 abbrev pub object_in : Option Value → Option ℕ
 object_in (Some (Ref (Some o))) = Some o
-object_in (Some (Ref None)) = None
-object_in (Some (Int z)) = None
-object_in None = None
+object_in _ = None
 
 -- the object that a final reference to an object of the struct is given
 abbrev pub referred : List Decl → Option ℕ → Option Const → Option ℕ

@@ -51,7 +51,7 @@ mutual
     set_local : (local : ℕ) → Expr → Action
     set_global : (cell : ℕ) → Expr → Action
     set_element : (array : ℕ) → Expr → Expr → Action
-    set_field : Path → (field : ℕ) → Expr → Action
+    set_field : Path → (structure field : ℕ) → Expr → Action
     print : Expr → Action
     if_true : Condition → Stmts → Action
     if_else : Condition → Stmts → Stmts → Action

@@ -67,7 +67,7 @@ abbrev mutual
   core_action (SetLocal local e) = set_local local (core_expr e)
   core_action (SetGlobal cell e) = set_global cell (core_expr e)
   core_action (SetElement array index e) = set_element array (core_expr index) (core_expr e)
-  core_action (SetField base f e) = set_field (core_path base) f (core_expr e)
+  core_action (SetField base structure field e) = set_field (core_path base) structure field (core_expr e)
   core_action (Print e) = print (core_expr e)
   core_action (If' c _ block) = if_true (core_condition c) (core_stmts_row block)
   core_action (IfElse' c _ block _ otherwise) = if_else (core_condition c) (core_stmts_row block) (core_stmts_row otherwise)

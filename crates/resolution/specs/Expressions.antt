@@ -8,7 +8,7 @@ use Rattle.syntax.specs.declared.tree.Level.TheVariants.{Term, Sum, Conjunction,
 use Rattle.syntax.specs.declared.tree.Prefix.TheVariants.{Negate, Not}
 use Rattle.syntax.specs.declared.tree.Comparison as written
 use Rattle.syntax.specs.declared.tree.Comparison.TheVariants as sign
-use Rattle.syntax.specs.Trees.{Ident, Place, lone, element, path, Expr, int, null, place, paren, prefix, chain, compare, Links, no_links, link, Decl, lock, struct, global, array, pool, init, atomic, thread, Member, lock_member, final_member, field_member, Struct}
+use Rattle.syntax.specs.Trees.{Ident, ref_type, Place, lone, element, path, Expr, int, null, place, paren, prefix, chain, compare, Links, no_links, link, Decl, lock, struct, global, array, pool, init, atomic, thread, Member, lock_member, final_member, field_member, Struct}
 use Rattle.core_lang.specs.declared.value.ValueType as core_type
 use Rattle.core_lang.specs.declared.value.ValueType.TheVariants.{Integer, Reference}
 use Rattle.core_lang.specs.declared.tree.Operator.{Operator}
@@ -105,14 +105,7 @@ cell_of decls i = min (cells_ahead decls i) CELL_LIMIT
 abbrev pub named_value : List Decl → ℕ → Meaning → Option ResolvedExpr
 named_value decls start (a_local i l) = value_of (core.place (local_path start i [])) l.value_type
 named_value decls start (a_decl i (global v)) = value_of (core.global start (cell_of decls i)) (type_of (outside decls) v.value_type)
-named_value decls start (a_decl i (lock x)) = None
-named_value decls start (a_decl i (struct s)) = None
-named_value decls start (a_decl i (array a)) = None
-named_value decls start (a_decl i (pool p)) = None
-named_value decls start (a_decl i (init j)) = None
-named_value decls start (a_decl i (atomic s)) = None
-named_value decls start (a_decl i (thread t)) = None
-named_value decls start nothing = None
+named_value decls start _ = None
 
 -- a member of a pool of a struct
 abbrev pub member_value : ℕ → core.Expr → Option ℕ → Option ResolvedExpr
@@ -145,29 +138,25 @@ pub data Walk : Type 0 where
 abbrev pub member_number : List Member → ℕ → Member → ℕ
 member_number ms i m = min (number_in ms i m) MEMBER_LIMIT
 
--- over a final reference of this number to its struct
-abbrev pub over_final : List FieldStep → ℕ → Option ℕ → Walk
-over_final steps n (Some s) = reached (steps ++ step.Final n ∷ []) (Reference s)
-over_final steps n None = lost
+-- over a step that leads to a value, if its type has no fault
+abbrev pub over_step : List FieldStep → FieldStep → Option core_type.ValueType → Walk
+over_step steps s (Some t) = reached (steps ++ s ∷ []) t
+over_step steps s None = lost
 
--- over a field of this number to its value
-abbrev pub over_field : List FieldStep → ℕ → Option core_type.ValueType → Walk
-over_field steps n (Some t) = reached (steps ++ step.Field n ∷ []) t
-over_field steps n None = lost
+-- over a member of the struct k, which has these members
+abbrev pub over_member : List Decl → List FieldStep → ℕ → List Member → Option (ℕ × Member) → Walk
+over_member decls steps k ms (Some (i, lock_member x)) = at_lock
+over_member decls steps k ms (Some (i, final_member f)) = over_step steps (step.Final k (member_number ms i (final_member f))) (type_of (outside decls) (ref_type f.target))
+over_member decls steps k ms (Some (i, field_member f)) = over_step steps (step.Field k (member_number ms i (field_member f))) (type_of (outside decls) f.value_type)
+over_member decls steps k ms None = lost
 
-abbrev pub over_member : List Decl → List FieldStep → List Member → Option (ℕ × Member) → Walk
-over_member decls steps ms (Some (i, lock_member x)) = at_lock
-over_member decls steps ms (Some (i, final_member f)) = over_final steps (member_number ms i (final_member f)) (struct_named decls f.target)
-over_member decls steps ms (Some (i, field_member f)) = over_field steps (member_number ms i (field_member f)) (type_of (outside decls) f.value_type)
-over_member decls steps ms None = lost
-
-abbrev pub over : List Decl → List FieldStep → Option Struct → List ℕ → Walk
-over decls steps (Some s) q = over_member decls steps s.members (the_member s.members q)
-over decls steps None q = lost
+abbrev pub over : List Decl → List FieldStep → ℕ → Option Struct → List ℕ → Walk
+over decls steps k (Some s) q = over_member decls steps k s.members (the_member s.members q)
+over decls steps k None q = lost
 
 -- over one field
 abbrev pub stepped : List Decl → Walk → Ident → Walk
-stepped decls (reached steps (Reference s)) f = over decls steps (the_struct decls s) f.text
+stepped decls (reached steps (Reference k)) f = over decls steps k (the_struct decls k) f.text
 stepped decls (reached steps Integer) f = lost
 stepped decls at_lock f = lost
 stepped decls lost f = lost

@@ -9,23 +9,23 @@ use Rattle.syntax.specs.declared.tree.Level.{Level}
 use Rattle.syntax.specs.declared.tree.Level.TheVariants.{Term, Sum, Conjunction, Disjunction}
 use Rattle.syntax.specs.declared.tree.Comparison as written
 use Rattle.syntax.specs.declared.tree.Comparison.TheVariants as sign
-use Rattle.syntax.specs.Trees.{Ident, ValueType, int_type, ref_type, Const, int_const, negative, null_const, member_const, Place, lone, element, path, Expr, int, null, place, paren, prefix, chain, compare, Links, no_links, link, Stmt, let_local, var_local, assign, if_then, while, print, return_value, Stmts, no_stmts, stmt, Otherwise, no_else, else_do, Protection, Member, lock_member, final_member, field_member, Struct, Pool, Init, Param, Item, call, repeat, Items, no_items, item, Decl, lock, struct, global, array, pool, init, atomic, thread}
+use Rattle.syntax.specs.Trees as tree
+use Rattle.syntax.specs.Trees.{Ident, ValueType, int_type, ref_type, Const, int_const, negative, null_const, member_const, Place, lone, element, path, Expr, int, null, place, paren, prefix, chain, compare, Links, no_links, link, Stmt, let_local, var_local, assign, if_then, while, print, return_value, Stmts, no_stmts, stmt, Otherwise, no_else, else_do, Protection, Member, lock_member, final_member, field_member, Struct, Variable, Array, Pool, Init, Param, Section, Item, call, repeat, Items, no_items, item, Decl, lock, struct, global, array, pool, init, atomic, thread}
 use Rattle.core_lang.specs.declared.value.ValueType.TheVariants.{Integer, Reference}
 use Rattle.core_lang.specs.declared.tree.LocalKind.TheVariants.{Parameter}
 use Rattle.resolution.specs.declared.init_target.InitTarget.{InitTarget}
-use Rattle.resolution.specs.declared.mistake.Mistake.{Mistake}
+use Rattle.source.specs.declared.mistake.Mistake.{Mistake}
 use Rattle.resolution.specs.declared.wanted.Sort.{Sort}
 use Rattle.resolution.specs.declared.wanted.Want.{Want}
 use Rattle.resolution.specs.declared.wanted.Want.TheVariants.{Condition, Value}
 use Rattle.resolution.specs.Limits.{STRUCT_LIMIT, MEMBER_LIMIT, FINAL_LIMIT, CLASS_LIMIT, OBJECT_LIMIT, CELL_LIMIT, SECTION_LIMIT, THREAD_LIMIT, PARAMETER_LIMIT, LOCAL_LIMIT, CALL_LIMIT}
-use Rattle.resolution.specs.Scopes.{Scope, Local, outside, Meaning, a_local, a_decl, nothing, meaning, place_of, count, declared, bears, the_decl, alike, the_struct, member_name, member_bears, the_member, the_local, type_of, has_type, struct_named, bound, left}
+use Rattle.resolution.specs.Scopes.{Scope, Local, outside, Meaning, a_local, a_decl, nothing, meaning, place_of, count, declared, bears, the_decl, alike, the_struct, member_name, member_bears, the_member, the_local, type_of, has_type, member_has_type, struct_named, bound, left}
 use Rattle.resolution.specs.Numbers.{is_lock, classes_of, objects_of, cells_of, calls_of, total}
 use Rattle.resolution.specs.Expressions.{ResolvedExpr, value, truth, fits, fits_sort, alike_sorts, want, typed, operator_of, Walk, reached, at_lock, lost, stepped, at_local, walk_from}
 use Rattle.resolution.specs.Statements.{is_var, last_field, target_of, wanted_by, after, after_all}
 use Rattle.resolution.specs.Constants.{const_sort, want_of, members_of, pool_members, member_want, initialised, init_target_of, giver, given}
 use Rattle.resolution.specs.Annotations.{AnnotationCursor, stepped_on, cursor_at}
 use Rattle.resolution.specs.Resolution.{ahead_of, entry}
-use Rattle.resolution.specs.Order.{lesser}
 use Rattle.resolution.specs.Where.{operand_want, prefix_want, side_want}
 use Rattle.resolution.specs.Faults.{start_of, const_start}
 
@@ -42,16 +42,9 @@ one_if b code start = if b then one code start else []
 
 -- a type's name that names no struct
 abbrev pub no_struct : ℕ → Meaning → List Mistake
-no_struct start (a_local i l) = one WrongType start
 no_struct start (a_decl i (struct s)) = []
-no_struct start (a_decl i (lock x)) = one WrongType start
-no_struct start (a_decl i (global v)) = one WrongType start
-no_struct start (a_decl i (array a)) = one WrongType start
-no_struct start (a_decl i (pool p)) = one WrongType start
-no_struct start (a_decl i (init j)) = one WrongType start
-no_struct start (a_decl i (atomic s)) = one WrongType start
-no_struct start (a_decl i (thread t)) = one WrongType start
 no_struct start nothing = one UnknownName start
+no_struct start m = one WrongType start
 
 abbrev pub type_faults : Scope → ValueType → List Mistake
 type_faults sc int_type = []
@@ -60,6 +53,10 @@ type_faults sc (ref_type x) = no_struct x.span.start (meaning sc x.text)
 -- a declaration that can't stand here, unless its type has a fault
 abbrev pub unfit : List Decl → Code → ℕ → Meaning → List Mistake
 unfit decls code start m = one_if (has_type decls m) code start
+
+-- a member that can't
+abbrev pub unfit_member : List Decl → Code → ℕ → Member → List Mistake
+unfit_member decls code start m = one_if (member_has_type decls m) code start
 
 -- ---- constants
 
@@ -70,13 +67,7 @@ number_faults n = one_if (nat_lt NUMBER_LIMIT n.value) NumberTooLarge n.span.sta
 abbrev pub index_faults : List Decl → ℕ → Option (ℕ × Decl) → Number → List Mistake
 index_faults decls start None n = one UnknownName start
 index_faults decls start (Some (i, pool p)) n = one_if (has_type decls (a_decl i (pool p)) && nat_le p.length.value n.value) InitOutOfRangeOrRepeated n.span.start
-index_faults decls start (Some (i, lock x)) n = unfit decls WrongType start (a_decl i (lock x))
-index_faults decls start (Some (i, struct s)) n = unfit decls WrongType start (a_decl i (struct s))
-index_faults decls start (Some (i, global v)) n = unfit decls WrongType start (a_decl i (global v))
-index_faults decls start (Some (i, array a)) n = unfit decls WrongType start (a_decl i (array a))
-index_faults decls start (Some (i, init j)) n = unfit decls WrongType start (a_decl i (init j))
-index_faults decls start (Some (i, atomic s)) n = unfit decls WrongType start (a_decl i (atomic s))
-index_faults decls start (Some (i, thread t)) n = unfit decls WrongType start (a_decl i (thread t))
+index_faults decls start (Some (i, d)) n = unfit decls WrongType start (a_decl i d)
 
 -- a constant by itself
 abbrev pub own_faults : List Decl → Const → List Mistake
@@ -106,26 +97,15 @@ abbrev pub no_value : List Decl → ℕ → Meaning → List Mistake
 no_value decls start (a_local i l) = []
 no_value decls start (a_decl i (global v)) = []
 no_value decls start (a_decl i (lock x)) = one LockAsValue start
-no_value decls start (a_decl i (struct s)) = unfit decls WrongType start (a_decl i (struct s))
-no_value decls start (a_decl i (array a)) = unfit decls WrongType start (a_decl i (array a))
-no_value decls start (a_decl i (pool p)) = unfit decls WrongType start (a_decl i (pool p))
-no_value decls start (a_decl i (init j)) = unfit decls WrongType start (a_decl i (init j))
-no_value decls start (a_decl i (atomic s)) = unfit decls WrongType start (a_decl i (atomic s))
-no_value decls start (a_decl i (thread t)) = unfit decls WrongType start (a_decl i (thread t))
+no_value decls start (a_decl i d) = unfit decls WrongType start (a_decl i d)
 no_value decls start nothing = one UnknownName start
 
 -- a name that takes no index
 abbrev pub no_elements : List Decl → ℕ → Meaning → List Mistake
-no_elements decls start (a_local i l) = unfit decls WrongType start (a_local i l)
 no_elements decls start (a_decl i (array a)) = []
 no_elements decls start (a_decl i (pool p)) = []
-no_elements decls start (a_decl i (lock x)) = unfit decls WrongType start (a_decl i (lock x))
-no_elements decls start (a_decl i (struct s)) = unfit decls WrongType start (a_decl i (struct s))
-no_elements decls start (a_decl i (global v)) = unfit decls WrongType start (a_decl i (global v))
-no_elements decls start (a_decl i (init j)) = unfit decls WrongType start (a_decl i (init j))
-no_elements decls start (a_decl i (atomic s)) = unfit decls WrongType start (a_decl i (atomic s))
-no_elements decls start (a_decl i (thread t)) = unfit decls WrongType start (a_decl i (thread t))
 no_elements decls start nothing = one UnknownName start
+no_elements decls start m = unfit decls WrongType start m
 
 -- a field that is none
 abbrev pub no_member : ℕ → Option (ℕ × Member) → List Mistake
@@ -177,10 +157,7 @@ unlike a b None t = []
 abbrev pub side_faults : written.Comparison → ℕ → ℕ → Option ResolvedExpr → Option ResolvedExpr → List Mistake
 side_faults sign.Equal a b s t = unlike a b s t
 side_faults sign.NotEqual a b s t = unlike a b s t
-side_faults sign.Less a b s t = []
-side_faults sign.LessOrEqual a b s t = []
-side_faults sign.Greater a b s t = []
-side_faults sign.GreaterOrEqual a b s t = []
+side_faults _ a b s t = []
 
 -- an operator that can't stand in the chain
 abbrev pub operator_faults : Level → ℕ → Op → List Mistake
@@ -231,29 +208,16 @@ local_faults sc x =
 
 -- a name that can't stand on the left
 abbrev pub no_target : List Decl → ℕ → Meaning → List Mistake
-no_target decls start (a_local i l) = if is_var l.kind then [] else one NotAssignable start
+no_target decls start (a_local i l) = if is_var l.kind then [] else unfit decls NotAssignable start (a_local i l)
 no_target decls start (a_decl i (global v)) = []
 no_target decls start (a_decl i (lock x)) = one LockAsValue start
-no_target decls start (a_decl i (struct s)) = unfit decls NotAssignable start (a_decl i (struct s))
-no_target decls start (a_decl i (array a)) = unfit decls NotAssignable start (a_decl i (array a))
-no_target decls start (a_decl i (pool p)) = unfit decls NotAssignable start (a_decl i (pool p))
-no_target decls start (a_decl i (init j)) = unfit decls NotAssignable start (a_decl i (init j))
-no_target decls start (a_decl i (atomic s)) = unfit decls NotAssignable start (a_decl i (atomic s))
-no_target decls start (a_decl i (thread t)) = unfit decls NotAssignable start (a_decl i (thread t))
+no_target decls start (a_decl i d) = unfit decls NotAssignable start (a_decl i d)
 no_target decls start nothing = one UnknownName start
 
 -- a pool's member on the left
 abbrev pub no_array : List Decl → ℕ → Meaning → List Mistake
 no_array decls start (a_decl i (pool p)) = unfit decls NotAssignable start (a_decl i (pool p))
-no_array decls start (a_decl i (lock x)) = []
-no_array decls start (a_decl i (struct s)) = []
-no_array decls start (a_decl i (global v)) = []
-no_array decls start (a_decl i (array a)) = []
-no_array decls start (a_decl i (init j)) = []
-no_array decls start (a_decl i (atomic s)) = []
-no_array decls start (a_decl i (thread t)) = []
-no_array decls start (a_local i l) = []
-no_array decls start nothing = []
+no_array decls start _ = []
 
 -- a path that ends at no field that can be assigned to
 abbrev pub final_faults : ℕ → Walk → List Mistake
@@ -266,10 +230,14 @@ target_faults sc (lone x) = no_target sc.decls x.span.start (meaning sc x.text)
 target_faults sc (element x e) = no_elements sc.decls x.span.start (meaning sc x.text) ++ no_array sc.decls x.span.start (meaning sc x.text) ++ wanted_faults sc (Value Integer) e
 target_faults sc (path x fs) = path_faults sc.decls x.span.start (meaning sc x.text) fs ++ final_faults x.span.start (walk_from sc.decls (meaning sc x.text) fs)
 
+-- a local that is bound
+abbrev pub binding_faults : Scope → tree.Local → List Mistake
+binding_faults sc l = local_faults sc l.name ++ type_faults sc l.value_type ++ wanted_faults sc (want (type_of sc l.value_type)) l.value
+
 abbrev mutual
   pub stmt_faults : Scope → Stmt → List Mistake
-  stmt_faults sc (let_local l) = local_faults sc l.name ++ type_faults sc l.value_type ++ wanted_faults sc (want (type_of sc l.value_type)) l.value
-  stmt_faults sc (var_local l) = local_faults sc l.name ++ type_faults sc l.value_type ++ wanted_faults sc (want (type_of sc l.value_type)) l.value
+  stmt_faults sc (let_local l) = binding_faults sc l
+  stmt_faults sc (var_local l) = binding_faults sc l
   stmt_faults sc (assign p e) = target_faults sc p ++ wanted_faults sc (wanted_by (target_of sc p)) e
   stmt_faults sc (if_then start e body close other) = wanted_faults sc Condition e ++ stmts_faults sc body ++ else_faults (left sc (after_all sc body)) other
   stmt_faults sc (while start e body close) = wanted_faults sc Condition e ++ stmts_faults sc body
@@ -298,53 +266,48 @@ result_faults decls (Some t) = type_faults (outside decls) t
 -- ---- annotations
 
 -- one that is to name a global lock
-abbrev pub global_lock_faults : ℕ → Option (ℕ × Decl) → List Ident → List Mistake
-global_lock_faults start None ys = one UnknownName start
-global_lock_faults start (Some (i, lock x)) [] = []
-global_lock_faults start (Some (i, lock x)) (y ∷ ys) = one ProtectedByNoLock start
-global_lock_faults start (Some (i, struct s)) ys = one ProtectedByNoLock start
-global_lock_faults start (Some (i, global v)) ys = one ProtectedByNoLock start
-global_lock_faults start (Some (i, array a)) ys = one ProtectedByNoLock start
-global_lock_faults start (Some (i, pool p)) ys = one ProtectedByNoLock start
-global_lock_faults start (Some (i, init j)) ys = one ProtectedByNoLock start
-global_lock_faults start (Some (i, atomic s)) ys = one ProtectedByNoLock start
-global_lock_faults start (Some (i, thread t)) ys = one ProtectedByNoLock start
+abbrev pub global_lock_faults : List Decl → ℕ → Option (ℕ × Decl) → List Ident → List Mistake
+global_lock_faults decls start None ys = one UnknownName start
+global_lock_faults decls start (Some (i, lock x)) [] = []
+global_lock_faults decls start (Some (i, d)) ys = unfit decls ProtectedByNoLock start (a_decl i d)
+
+-- of these names
+abbrev pub named_lock_faults : List Decl → Ident → List Ident → List Mistake
+named_lock_faults decls x ys = global_lock_faults decls x.span.start (the_decl decls x.text) ys
 
 -- a global's or an array's of this name
 abbrev pub lock_faults : List Decl → ℕ → Option Protection → List Mistake
 lock_faults decls name None = one NeitherFinalNorProtected name
-lock_faults decls name (Some p) = global_lock_faults p.first.span.start (the_decl decls p.first.text) p.rest
+lock_faults decls name (Some p) = named_lock_faults decls p.first p.rest
 
 -- a name that others follow, after n final references
-abbrev pub passed_faults : ℕ → ℕ → ℕ → Option (ℕ × Member) → List Mistake
-passed_faults first here n None = one UnknownName here
-passed_faults first here n (Some (i, final_member f)) = one_if (nat_le FINAL_LIMIT n) LimitExceeded first
-passed_faults first here n (Some (i, field_member f)) = one ProtectedByPassesNonFinal here
-passed_faults first here n (Some (i, lock_member x)) = one ProtectedByPassesNonFinal here
+abbrev pub passed_faults : List Decl → ℕ → ℕ → ℕ → Option (ℕ × Member) → List Mistake
+passed_faults decls first here n None = one UnknownName here
+passed_faults decls first here n (Some (i, final_member f)) = one_if (nat_le FINAL_LIMIT n) LimitExceeded first
+passed_faults decls first here n (Some (i, m)) = unfit_member decls ProtectedByPassesNonFinal here m
 
 -- the last name
-abbrev pub last_faults : ℕ → ℕ → Option (ℕ × Member) → List Mistake
-last_faults first here None = one UnknownName here
-last_faults first here (Some (i, lock_member x)) = []
-last_faults first here (Some (i, final_member f)) = one ProtectedByNoLock first
-last_faults first here (Some (i, field_member f)) = one ProtectedByNoLock first
+abbrev pub last_faults : List Decl → ℕ → ℕ → Option (ℕ × Member) → List Mistake
+last_faults decls first here None = one UnknownName here
+last_faults decls first here (Some (i, lock_member x)) = []
+last_faults decls first here (Some (i, m)) = unfit_member decls ProtectedByNoLock first m
 
-abbrev pub passed : ℕ → Option AnnotationCursor → Ident → List Mistake
-passed first (Some st) y = passed_faults first y.span.start (length st.through) (the_member st.members y.text)
-passed first None y = []
+abbrev pub passed : List Decl → ℕ → Option AnnotationCursor → Ident → List Mistake
+passed decls first (Some st) y = passed_faults decls first y.span.start (length st.through) (the_member st.members y.text)
+passed decls first None y = []
 
-abbrev pub ended : ℕ → Option AnnotationCursor → Ident → List Mistake
-ended first (Some st) y = last_faults first y.span.start (the_member st.members y.text)
-ended first None y = []
+abbrev pub ended : List Decl → ℕ → Option AnnotationCursor → Ident → List Mistake
+ended decls first (Some st) y = last_faults decls first y.span.start (the_member st.members y.text)
+ended decls first None y = []
 
 -- a walk along names, the first of all of which starts there
 abbrev pub along_faults : List Decl → ℕ → Option AnnotationCursor → Ident → List Ident → List Mistake
-along_faults decls first st y [] = ended first st y
-along_faults decls first st y (z ∷ zs) = passed first st y ++ along_faults decls first (stepped_on decls st y) z zs
+along_faults decls first st y [] = ended decls first st y
+along_faults decls first st y (z ∷ zs) = passed decls first st y ++ along_faults decls first (stepped_on decls st y) z zs
 
 abbrev pub annotation_faults : List Decl → AnnotationCursor → Protection → Option (ℕ × Member) → List Mistake
 annotation_faults decls own p (Some m) = along_faults decls p.first.span.start (Some own) p.first p.rest
-annotation_faults decls own p None = global_lock_faults p.first.span.start (the_decl decls p.first.text) p.rest
+annotation_faults decls own p None = named_lock_faults decls p.first p.rest
 
 -- a field's of this name, of the struct at this place
 abbrev pub protection_faults : List Decl → ℕ → List Member → ℕ → Option Protection → List Mistake
@@ -353,13 +316,15 @@ protection_faults decls i ms name (Some p) = annotation_faults decls (cursor_at 
 
 -- ---- declarations
 
--- members of the struct at this place
+-- a member of the struct at this place
+abbrev pub member_faults : List Decl → ℕ → List Member → Member → List Mistake
+member_faults decls i all (lock_member x) = []
+member_faults decls i all (final_member f) = type_faults (outside decls) (ref_type f.target)
+member_faults decls i all (field_member f) = type_faults (outside decls) f.value_type ++ protection_faults decls i all f.name.span.start f.protection
+
 abbrev pub members_faults : List Decl → ℕ → List Member → List Member → List Mistake
 members_faults decls i all [] = []
-members_faults decls i all (lock_member x ∷ ms) = members_faults decls i all ms
-members_faults decls i all (final_member f ∷ ms) = type_faults (outside decls) (ref_type f.target) ++ members_faults decls i all ms
-members_faults decls i all (field_member f ∷ ms) =
-    type_faults (outside decls) f.value_type ++ protection_faults decls i all f.name.span.start f.protection ++ members_faults decls i all ms
+members_faults decls i all (m ∷ ms) = member_faults decls i all m ++ members_faults decls i all ms
 
 abbrev pub opening_faults : List Decl → Want → Option Const → List Mistake
 opening_faults decls w None = []
@@ -377,8 +342,7 @@ is_at n None = false
 -- a final reference, the first of its name, whose struct is known
 abbrev pub is_due : List Decl → List Member → ℕ → Member → Bool
 is_due decls all n (final_member f) = is_at n (place_of member_bears all f.name.text) && is_some (struct_named decls f.target)
-is_due decls all n (lock_member x) = false
-is_due decls all n (field_member f) = false
+is_due decls all n _ = false
 
 -- of the members from a place on, some final reference isn't given
 abbrev pub lacks : List Decl → ℕ → ℕ → List Member → ℕ → List Member → Bool
@@ -401,20 +365,18 @@ abbrev pub named_faults : List Decl → ℕ → Option (List Member) → List �
 named_faults decls start None q = []
 named_faults decls start (Some ms) q = field_faults start (the_member ms q)
 
+abbrev pub init_field_faults : List Decl → Init → List Mistake
+init_field_faults decls j = named_faults decls j.field.span.start (pool_members decls (the_decl decls j.pool.text)) j.field.text
+
 -- null for a final reference
 abbrev pub null_faults : List Decl → Option (ℕ × Member) → Const → List Mistake
 null_faults decls (Some (m, final_member f)) (null_const at) = one_if (is_some (struct_named decls f.target)) FinalWithoutOpeningValue at.start
-null_faults decls (Some (m, final_member f)) (int_const n) = []
-null_faults decls (Some (m, final_member f)) (negative sign n) = []
-null_faults decls (Some (m, final_member f)) (member_const p n) = []
-null_faults decls (Some (m, field_member f)) c = []
-null_faults decls (Some (m, lock_member x)) c = []
-null_faults decls None c = []
+null_faults decls _ c = []
 
 abbrev pub init_faults : List Decl → Init → List Mistake
 init_faults decls j =
     index_faults decls j.pool.span.start (the_decl decls j.pool.text) j.index
-    ++ named_faults decls j.field.span.start (pool_members decls (the_decl decls j.pool.text)) j.field.text
+    ++ init_field_faults decls j
     ++ const_faults decls (member_want decls (initialised decls j)) j.value
     ++ null_faults decls (initialised decls j) j.value
 
@@ -422,13 +384,7 @@ init_faults decls j =
 abbrev pub call_faults : List Decl → ℕ → Option (ℕ × Decl) → List Const → List Mistake
 call_faults decls start None cs = one UnknownName start
 call_faults decls start (Some (i, atomic s)) cs = if length cs == length s.params then argument_faults decls s.params cs else one WrongArgumentCount start
-call_faults decls start (Some (i, lock x)) cs = one WrongType start
-call_faults decls start (Some (i, struct s)) cs = one WrongType start
-call_faults decls start (Some (i, global v)) cs = one WrongType start
-call_faults decls start (Some (i, array a)) cs = one WrongType start
-call_faults decls start (Some (i, pool p)) cs = one WrongType start
-call_faults decls start (Some (i, init j)) cs = one WrongType start
-call_faults decls start (Some (i, thread t)) cs = one WrongType start
+call_faults decls start (Some (i, d)) cs = unfit decls WrongType start (a_decl i d)
 
 abbrev mutual
   pub item_faults : List Decl → Item → List Mistake
@@ -439,15 +395,25 @@ abbrev mutual
   items_faults decls no_items = []
   items_faults decls (item i rest) = item_faults decls i ++ items_faults decls rest
 
+abbrev pub global_faults : List Decl → Variable → List Mistake
+global_faults decls v =
+    type_faults (outside decls) v.value_type ++ lock_faults decls v.name.span.start v.protection ++ opening_faults decls (want (type_of (outside decls) v.value_type)) v.value
+
+abbrev pub array_faults : List Decl → Array → List Mistake
+array_faults decls a = type_faults (outside decls) a.value_type ++ lock_faults decls a.name.span.start a.protection
+
+abbrev pub section_faults : List Decl → Section → List Mistake
+section_faults decls s = result_faults decls s.result ++ param_faults (ahead_of decls s) 0 s.params ++ stmts_faults (entry decls s) s.body.stmts
+
 -- of the declaration at this place by itself
 abbrev pub decl_faults : List Decl → ℕ → Decl → List Mistake
 decl_faults decls i (lock x) = []
 decl_faults decls i (struct s) = members_faults decls i s.members s.members
-decl_faults decls i (global v) = type_faults (outside decls) v.value_type ++ lock_faults decls v.name.span.start v.protection ++ opening_faults decls (want (type_of (outside decls) v.value_type)) v.value
-decl_faults decls i (array a) = type_faults (outside decls) a.value_type ++ lock_faults decls a.name.span.start a.protection
+decl_faults decls i (global v) = global_faults decls v
+decl_faults decls i (array a) = array_faults decls a
 decl_faults decls i (pool p) = type_faults (outside decls) (ref_type p.target) ++ missing_faults decls i p (members_of decls p.target)
 decl_faults decls i (init j) = init_faults decls j
-decl_faults decls i (atomic s) = result_faults decls s.result ++ param_faults (ahead_of decls s) 0 s.params ++ stmts_faults (entry decls s) s.body.stmts
+decl_faults decls i (atomic s) = section_faults decls s
 decl_faults decls i (thread t) = items_faults decls t.items
 
 -- of declarations from a place on
@@ -477,17 +443,11 @@ member_twice_faults before (m ∷ ms) = again (member_name m).span.start (place_
 abbrev pub struct_faults : List Decl → List Mistake
 struct_faults [] = []
 struct_faults (struct s ∷ ds) = member_twice_faults [] s.members ++ struct_faults ds
-struct_faults (lock x ∷ ds) = struct_faults ds
-struct_faults (global v ∷ ds) = struct_faults ds
-struct_faults (array a ∷ ds) = struct_faults ds
-struct_faults (pool p ∷ ds) = struct_faults ds
-struct_faults (init i ∷ ds) = struct_faults ds
-struct_faults (atomic s ∷ ds) = struct_faults ds
-struct_faults (thread t ∷ ds) = struct_faults ds
+struct_faults (d ∷ ds) = struct_faults ds
 
 -- so many before, and so many more by which there are first too many
-abbrev pub passes : ℕ → ℕ → ℕ → Bool
-passes limit before own = nat_le before limit && nat_lt limit (before + own)
+abbrev pub first_too_many : ℕ → ℕ → ℕ → Bool
+first_too_many limit before own = nat_le before limit && nat_lt limit (before + own)
 
 abbrev pub lock_count : Bool → ℕ
 lock_count true = 1
@@ -505,23 +465,23 @@ member_counts classes n (m ∷ ms) =
 abbrev pub count_faults : List Decl → List Decl → Decl → List Mistake
 count_faults decls before (lock x) = one_if (nat_le CLASS_LIMIT (total classes_of before)) LimitExceeded x.span.start
 count_faults decls before (struct s) = one_if (nat_le STRUCT_LIMIT (count (alike (struct s)) before)) LimitExceeded s.name.span.start ++ member_counts (total classes_of before) 0 s.members
-count_faults decls before (global v) = one_if (passes CELL_LIMIT (total (cells_of decls) before) (cells_of decls (global v))) LimitExceeded v.name.span.start
-count_faults decls before (array a) = one_if (passes CELL_LIMIT (total (cells_of decls) before) (cells_of decls (array a))) LimitExceeded a.name.span.start
+count_faults decls before (global v) = one_if (first_too_many CELL_LIMIT (total (cells_of decls) before) (cells_of decls (global v))) LimitExceeded v.name.span.start
+count_faults decls before (array a) = one_if (first_too_many CELL_LIMIT (total (cells_of decls) before) (cells_of decls (array a))) LimitExceeded a.name.span.start
 count_faults decls before (pool p) =
-    one_if (passes OBJECT_LIMIT (total objects_of before) (objects_of (pool p))) LimitExceeded p.name.span.start
-    ++ one_if (passes CELL_LIMIT (total (cells_of decls) before) (cells_of decls (pool p))) LimitExceeded p.name.span.start
+    one_if (first_too_many OBJECT_LIMIT (total objects_of before) (objects_of (pool p))) LimitExceeded p.name.span.start
+    ++ one_if (first_too_many CELL_LIMIT (total (cells_of decls) before) (cells_of decls (pool p))) LimitExceeded p.name.span.start
 count_faults decls before (init i) = []
 count_faults decls before (atomic s) = one_if (nat_le SECTION_LIMIT (count (alike (atomic s)) before)) LimitExceeded s.name.span.start
 count_faults decls before (thread t) =
     one_if (nat_le THREAD_LIMIT (count (alike (thread t)) before)) LimitExceeded t.name.span.start
-    ++ one_if (passes CALL_LIMIT (total calls_of before) (calls_of (thread t))) LimitExceeded t.name.span.start
+    ++ one_if (first_too_many CALL_LIMIT (total calls_of before) (calls_of (thread t))) LimitExceeded t.name.span.start
 
 abbrev pub total_faults : List Decl → List Decl → List Decl → List Mistake
 total_faults decls before [] = []
 total_faults decls before (d ∷ ds) = count_faults decls before d ++ total_faults decls (before ++ d ∷ []) ds
 
 -- what an `init` gives, with the one before that gives it
-abbrev pub given_before : ℕ → Option (ℕ × Decl) → List Mistake
+abbrev pub given_before : {A : Type 0} → ℕ → Option A → List Mistake
 given_before start None = []
 given_before start (Some d) = one InitOutOfRangeOrRepeated start
 
@@ -531,13 +491,7 @@ init_target_again decls before start None = []
 
 abbrev pub repeated : List Decl → List Decl → Decl → List Mistake
 repeated decls before (init j) = init_target_again decls before j.start.start (init_target_of decls j)
-repeated decls before (lock x) = []
-repeated decls before (struct s) = []
-repeated decls before (global v) = []
-repeated decls before (array a) = []
-repeated decls before (pool p) = []
-repeated decls before (atomic s) = []
-repeated decls before (thread t) = []
+repeated decls before _ = []
 
 abbrev pub repeated_faults : List Decl → List Decl → List Decl → List Mistake
 repeated_faults decls before [] = []
@@ -547,9 +501,3 @@ repeated_faults decls before (d ∷ ds) = repeated decls before d ++ repeated_fa
 
 abbrev pub program_faults : List Decl → List Mistake
 program_faults decls = twice_faults [] decls ++ struct_faults decls ++ total_faults decls [] decls ++ repeated_faults decls [] decls ++ each_faults decls 0 decls
-
--- ---- the least
-
-abbrev pub least_of : Option Mistake → List Mistake → Option Mistake
-least_of f [] = f
-least_of f (g ∷ gs) = least_of (lesser f g) gs

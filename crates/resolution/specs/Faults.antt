@@ -1,4 +1,5 @@
--- Where each fault of names and types stands.
+-- Where each fault of names and types stands. A name whose declaration has a fault in its type causes none of its own (`has_type`,
+-- `member_has_type`), but as the name of a type or of a pool's struct: there two such names could silence each other.
 use Rattle.std.specs.Prelude.{◌≡◌, ℕ, ◌+◌, ◌≤◌, ◌<◌, List, [], ◌∷◌, ◌++◌, length, slice_get, Option, Some, None, true, false, string_bytes}
 use Rattle.source.specs.declared.span.Span.{Span}
 use Rattle.source.specs.Texts.{NUMBER_LIMIT}
@@ -21,7 +22,7 @@ use Rattle.resolution.specs.declared.wanted.Sort.{Sort}
 use Rattle.resolution.specs.declared.wanted.Want.{Want}
 use Rattle.resolution.specs.Core as core
 use Rattle.resolution.specs.Limits.{STRUCT_LIMIT, MEMBER_LIMIT, FINAL_LIMIT, CLASS_LIMIT, OBJECT_LIMIT, CELL_LIMIT, SECTION_LIMIT, THREAD_LIMIT, PARAMETER_LIMIT, LOCAL_LIMIT, CALL_LIMIT}
-use Rattle.resolution.specs.Scopes.{Scope, Local, Meaning, a_local, a_decl, nothing, meaning, place_of, count, declared, bears, the_decl, alike, the_struct, member_name, member_bears, the_member, the_local, has_type, struct_named}
+use Rattle.resolution.specs.Scopes.{Scope, Local, Meaning, a_local, a_decl, nothing, meaning, place_of, count, declared, bears, the_decl, alike, the_struct, member_name, member_bears, the_member, the_local, has_type, member_has_type, struct_named}
 use Rattle.resolution.specs.Numbers.{is_lock, total, classes_of, objects_of, cells_of, calls_of}
 use Rattle.resolution.specs.Expressions.{ResolvedExpr, value, truth, fits, fits_sort, alike_sorts, typed, operator_of, Walk, reached, at_lock, walk_from}
 use Rattle.resolution.specs.Statements.{is_var, last_field, first_name}
@@ -167,7 +168,7 @@ pub data IsWrongType (decls : List Decl) : ℕ → Type 0 where
   field_of_declaration : {sc : Scope} {x : Ident} {fs : List Ident} {i : ℕ} {d : Decl} → HasPlace decls sc (path x fs) → meaning sc x.text ≡ a_decl i d → has_type decls (a_decl i d) ≡ true → IsWrongType decls x.span.start
   no_reference : {sc : Scope} {x : Ident} {fs : List Ident} (before behind : List Ident) (f : Ident) → HasPlace decls sc (path x fs) → fs ≡ before ++ f ∷ behind → IsNoReference (walk_from decls (meaning sc x.text) before) → IsWrongType decls x.span.start
   no_struct : {sc : Scope} {x : Ident} → HasType decls sc (ref_type x) → IsNoStruct (meaning sc x.text) → IsWrongType decls x.span.start
-  no_section : {c : Call} {i : ℕ} {d : Decl} → HasCall decls c → the_decl decls c.section.text ≡ Some (i, d) → (IsSection d → ⊥) → IsWrongType decls c.section.span.start
+  no_section : {c : Call} {i : ℕ} {d : Decl} → HasCall decls c → the_decl decls c.section.text ≡ Some (i, d) → (IsSection d → ⊥) → has_type decls (a_decl i d) ≡ true → IsWrongType decls c.section.span.start
   no_pool : {w : Want} {p : Ident} {n : Number} {i : ℕ} {d : Decl} → HasConst decls w (member_const p n) → the_decl decls p.text ≡ Some (i, d) → (IsPool d → ⊥) → has_type decls (a_decl i d) ≡ true → IsWrongType decls p.span.start
   no_pool_initialised : {j : Init} {i : ℕ} {d : Decl} → Has decls (init j) → the_decl decls j.pool.text ≡ Some (i, d) → (IsPool d → ⊥) → has_type decls (a_decl i d) ≡ true → IsWrongType decls j.pool.span.start
   -- an operator of conditions in a chain of numbers; no tree of tokens has one
@@ -181,7 +182,7 @@ pub data IsWrongCount (decls : List Decl) : ℕ → Type 0 where
 -- ---- E09: what can't be assigned to
 
 pub data IsNotAssignable (decls : List Decl) : ℕ → Type 0 where
-  to_fixed : {sc : Scope} {x : Ident} {e : Expr} {i : ℕ} {l : Local} → HasStmt decls sc (assign (lone x) e) → meaning sc x.text ≡ a_local i l → is_var l.kind ≡ false → IsNotAssignable decls x.span.start
+  to_fixed : {sc : Scope} {x : Ident} {e : Expr} {i : ℕ} {l : Local} → HasStmt decls sc (assign (lone x) e) → meaning sc x.text ≡ a_local i l → is_var l.kind ≡ false → has_type decls (a_local i l) ≡ true → IsNotAssignable decls x.span.start
   to_decl : {sc : Scope} {x : Ident} {e : Expr} {i : ℕ} {d : Decl} → HasStmt decls sc (assign (lone x) e) → meaning sc x.text ≡ a_decl i d → IsNoValue d → has_type decls (a_decl i d) ≡ true → IsNotAssignable decls x.span.start
   to_member : {sc : Scope} {x : Ident} {j e : Expr} {i : ℕ} {p : Pool} → HasStmt decls sc (assign (element x j) e) → meaning sc x.text ≡ a_decl i (pool p) → has_type decls (a_decl i (pool p)) ≡ true → IsNotAssignable decls x.span.start
   to_final : {sc : Scope} {x : Ident} {fs : List Ident} {e : Expr} (steps : List FieldStep) (t : core_type.ValueType) → HasStmt decls sc (assign (path x fs) e) → walk_from decls (meaning sc x.text) fs ≡ reached steps t → last_field steps ≡ None → IsNotAssignable decls x.span.start
@@ -195,12 +196,12 @@ pub data IsUnprotected (decls : List Decl) : ℕ → Type 0 where
 
 -- at its end stands a field that is no lock; or it names something else than a global lock, and that alone
 pub data EndsAtNoLock (decls : List Decl) : ℕ → Type 0 where
-  ends_at_member : {p : Protection} {st : AnnotationCursor} {y : Ident} {i : ℕ} {m : Member} → Walks decls p st y [] → the_member st.members y.text ≡ Some (i, m) → (IsLockMember m → ⊥) → EndsAtNoLock decls p.first.span.start
-  names_no_lock : {p : Protection} {i : ℕ} {d : Decl} → NamesGlobal decls p → the_decl decls p.first.text ≡ Some (i, d) → ((IsLockDecl d × (p.rest ≡ [])) → ⊥) → EndsAtNoLock decls p.first.span.start
+  ends_at_member : {p : Protection} {st : AnnotationCursor} {y : Ident} {i : ℕ} {m : Member} → Walks decls p st y [] → the_member st.members y.text ≡ Some (i, m) → (IsLockMember m → ⊥) → member_has_type decls m ≡ true → EndsAtNoLock decls p.first.span.start
+  names_no_lock : {p : Protection} {i : ℕ} {d : Decl} → NamesGlobal decls p → the_decl decls p.first.text ≡ Some (i, d) → ((IsLockDecl d × (p.rest ≡ [])) → ⊥) → has_type decls (a_decl i d) ≡ true → EndsAtNoLock decls p.first.span.start
 
 -- a name that isn't the last is a field, and no final reference
 pub data PassesNonFinal (decls : List Decl) : ℕ → Type 0 where
-  passes : {p : Protection} {st : AnnotationCursor} {y z : Ident} {zs : List Ident} {i : ℕ} {m : Member} → Walks decls p st y (z ∷ zs) → the_member st.members y.text ≡ Some (i, m) → (IsFinalMember m → ⊥) → PassesNonFinal decls y.span.start
+  passes : {p : Protection} {st : AnnotationCursor} {y z : Ident} {zs : List Ident} {i : ℕ} {m : Member} → Walks decls p st y (z ∷ zs) → the_member st.members y.text ≡ Some (i, m) → (IsFinalMember m → ⊥) → member_has_type decls m ≡ true → PassesNonFinal decls y.span.start
 
 -- ---- E15
 
@@ -209,11 +210,7 @@ abbrev pub limit_of : Decl → Option ℕ
 limit_of (struct s) = Some STRUCT_LIMIT
 limit_of (atomic s) = Some SECTION_LIMIT
 limit_of (thread t) = Some THREAD_LIMIT
-limit_of (lock x) = None
-limit_of (global v) = None
-limit_of (array a) = None
-limit_of (pool p) = None
-limit_of (init i) = None
+limit_of _ = None
 
 pub data IsOverLimit (decls : List Decl) : ℕ → Type 0 where
   too_many : (before behind : List Decl) (d : Decl) {x : Ident} (n : ℕ) → decls ≡ before ++ d ∷ behind → declared d ≡ Some x → limit_of d ≡ Some n → n ≤ count (alike d) before → IsOverLimit decls x.span.start

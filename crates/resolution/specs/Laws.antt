@@ -5,13 +5,13 @@ use Rattle.syntax.specs.Trees.{Decl}
 use Rattle.syntax.specs.Returns.{ReturnsRight}
 use Rattle.core_lang.specs.declared.typed.Typed.{Typed}
 use Rattle.core_lang.specs.WellFormed.{IsWellFormed}
-use Rattle.resolution.specs.declared.mistake.Mistake.{Mistake}
+use Rattle.source.specs.declared.mistake.Mistake.{Mistake}
+use Rattle.source.specs.Mistakes.{goes_before, least_of}
 use Rattle.resolution.specs.Core as core
 use Rattle.resolution.specs.Resolution.{resolved}
 use Rattle.resolution.specs.Resolved.{Resolves}
-use Rattle.resolution.specs.Order.{goes_before}
 use Rattle.resolution.specs.Faults.{IsFault, HasNoFault}
-use Rattle.resolution.specs.FaultLists.{program_faults, least_of}
+use Rattle.resolution.specs.FaultLists.{program_faults}
 
 -- the least fault of the program's list, if there is one
 abbrev pub the_least : List Decl → Option Mistake
@@ -21,10 +21,17 @@ the_least decls = least_of None (program_faults decls)
 abbrev pub TheLeastIsAFault : Type 0
 TheLeastIsAFault = (decls : List Decl) (f : Mistake) → the_least decls ≡ Some f → IsFault decls f.code f.start
 
--- and no fault of the program goes before it
+-- no fault of the program goes before this one
+abbrev pub IsFirst : List Decl → Mistake → Type 0
+IsFirst decls f = (code : Code) (p : ℕ) → IsFault decls code p → goes_before (record { code = code; start = p }) f ≡ false
+
+-- none goes before the least
 abbrev pub NoneGoesBeforeTheLeast : Type 0
-NoneGoesBeforeTheLeast =
-    (decls : List Decl) (f : Mistake) → the_least decls ≡ Some f → (code : Code) (p : ℕ) → IsFault decls code p → goes_before (record { code = code; start = p }) f ≡ false
+NoneGoesBeforeTheLeast = (decls : List Decl) (f : Mistake) → the_least decls ≡ Some f → IsFirst decls f
+
+-- two faults of a program before which none goes are the same
+abbrev pub HaveAtMostOneLeast : Type 0
+HaveAtMostOneLeast = (decls : List Decl) (f g : Mistake) → IsFault decls f.code f.start → IsFault decls g.code g.start → IsFirst decls f → IsFirst decls g → f ≡ g
 
 -- where there is none, the program has no fault
 abbrev pub NoLeastIsNoFault : Type 0

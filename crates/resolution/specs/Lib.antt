@@ -9,9 +9,12 @@ pub mod Constants
 pub mod Annotations
 pub mod Resolution
 pub mod Resolved
-pub mod Order
 pub mod Where
 pub mod Faults
-pub mod Leasts
 pub mod FaultLists
 pub mod Laws
+pub mod Facts
+-- what the public clauses cite
+pub use Rattle.resolution.specs.Resolved.{Resolves}
+pub use Rattle.resolution.specs.Faults.{IsFault, IsRefusal, HasNoFault}
+pub use Rattle.resolution.specs.Laws.{TheLeastIsAFault, NoneGoesBeforeTheLeast, NoLeastIsNoFault, HaveAtMostOneLeast, FaultlessAreResolved, ResolvedAreWellFormed}

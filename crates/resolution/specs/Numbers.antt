@@ -1,41 +1,28 @@
 -- Where declarations have their lock classes, objects and cells.
 use Rattle.std.specs.Prelude.{ℕ, ◌+◌, ◌*◌, List, [], ◌∷◌, ◌++◌, take, Option, Some, None, Bool, true, false}
-use Rattle.syntax.specs.Trees.{Decl, lock, struct, global, array, pool, init, atomic, thread, Member, lock_member, final_member, field_member, Item, call, repeat, Items, no_items, item}
+use Rattle.syntax.specs.Trees.{Decl, lock, struct, global, array, pool, thread, Member, lock_member, field_member, Item, call, repeat, Items, no_items, item}
 use Rattle.resolution.specs.Scopes.{place_of, count, the_decl, member_name, member_bears}
 
 abbrev pub is_lock : Member → Bool
 is_lock (lock_member x) = true
-is_lock (final_member f) = false
-is_lock (field_member f) = false
+is_lock _ = false
 
 -- the lock classes that a declaration adds
 abbrev pub classes_of : Decl → ℕ
 classes_of (lock x) = 1
 classes_of (struct s) = count is_lock s.members
-classes_of (global v) = 0
-classes_of (array a) = 0
-classes_of (pool p) = 0
-classes_of (init i) = 0
-classes_of (atomic s) = 0
-classes_of (thread t) = 0
+classes_of _ = 0
 
 -- the objects
 abbrev pub objects_of : Decl → ℕ
-objects_of (lock x) = 0
-objects_of (struct s) = 0
-objects_of (global v) = 0
-objects_of (array a) = 0
 objects_of (pool p) = p.length.value
-objects_of (init i) = 0
-objects_of (atomic s) = 0
-objects_of (thread t) = 0
+objects_of _ = 0
 
 -- a field is one that no member before it bears the name of
 abbrev pub new_field : Option ℕ → Member → ℕ
 new_field (Some i) m = 0
-new_field None (lock_member x) = 0
-new_field None (final_member f) = 0
 new_field None (field_member f) = 1
+new_field None m = 0
 
 -- the fields among members, with those before them
 abbrev pub fields_from : List Member → List Member → ℕ
@@ -45,25 +32,14 @@ fields_from before (m ∷ ms) = new_field (place_of member_bears before (member_
 -- the cells of an object of a struct
 abbrev pub width : Option (ℕ × Decl) → ℕ
 width (Some (i, struct s)) = fields_from [] s.members
-width (Some (i, lock x)) = 0
-width (Some (i, global v)) = 0
-width (Some (i, array a)) = 0
-width (Some (i, pool p)) = 0
-width (Some (i, init j)) = 0
-width (Some (i, atomic s)) = 0
-width (Some (i, thread t)) = 0
-width None = 0
+width _ = 0
 
 -- the cells
 abbrev pub cells_of : List Decl → Decl → ℕ
-cells_of decls (lock x) = 0
-cells_of decls (struct s) = 0
 cells_of decls (global v) = 1
 cells_of decls (array a) = a.length.value
 cells_of decls (pool p) = p.length.value * width (the_decl decls p.target.text)
-cells_of decls (init i) = 0
-cells_of decls (atomic s) = 0
-cells_of decls (thread t) = 0
+cells_of decls _ = 0
 
 -- the calls of what a thread does, each `repeat` multiplied out
 abbrev mutual
@@ -77,14 +53,8 @@ abbrev mutual
 
 -- the calls
 abbrev pub calls_of : Decl → ℕ
-calls_of (lock x) = 0
-calls_of (struct s) = 0
-calls_of (global v) = 0
-calls_of (array a) = 0
-calls_of (pool p) = 0
-calls_of (init i) = 0
-calls_of (atomic s) = 0
 calls_of (thread t) = calls_in_all t.items
+calls_of _ = 0
 
 -- how much declarations add together
 abbrev pub total : (Decl → ℕ) → List Decl → ℕ

@@ -1,6 +1,6 @@
 -- The program that a tree stands for.
 use Rattle.std.specs.Prelude.{ℕ, zero, suc, ◌+◌, nat_le, Bool, List, [], ◌∷◌, ◌++◌, length, Option, Some, None, if◌then◌else◌}
-use Rattle.syntax.specs.Trees.{ValueType, Const, Section, Item, call, repeat, Items, no_items, item, Member, lock_member, final_member, field_member, Decl, lock, struct, global, array, pool, init, atomic, thread}
+use Rattle.syntax.specs.Trees.{ValueType, Const, Variable, Array, Section, Item, call, repeat, Items, no_items, item, Member, lock_member, final_member, field_member, Decl, lock, struct, global, array, pool, init, atomic, thread}
 use Rattle.core_lang.specs.declared.value.Value.{Value}
 use Rattle.core_lang.specs.declared.value.ValueType as core_type
 use Rattle.core_lang.specs.declared.typed.Owner.{Owner}
@@ -58,14 +58,7 @@ typed_section decls s =
 -- a call of a section, with a fitting argument for each of its parameters
 abbrev pub call_of : List Decl → Option (ℕ × Decl) → List Const → Option core.Call
 call_of decls (Some (i, atomic s)) cs = typed_arguments decls s.params cs >>= λ vs. Some (record { section = number_at decls i (atomic s); arguments = vs })
-call_of decls (Some (i, lock x)) cs = None
-call_of decls (Some (i, struct s)) cs = None
-call_of decls (Some (i, global v)) cs = None
-call_of decls (Some (i, array a)) cs = None
-call_of decls (Some (i, pool p)) cs = None
-call_of decls (Some (i, init j)) cs = None
-call_of decls (Some (i, thread t)) cs = None
-call_of decls None cs = None
+call_of decls _ cs = None
 
 -- a list so many times over
 abbrev pub copies : {A : Type 0} → ℕ → List A → List A
@@ -175,6 +168,9 @@ abbrev pub opening_of : List Decl → Option core_type.ValueType → Option Cons
 opening_of decls (Some t) c = opened decls t c
 opening_of decls None c = None
 
+abbrev pub global_with : List Decl → core.Program → Variable → Option core.Program
+global_with decls p v = with_global p v.name.text (class_of decls v.protection) (type_of (outside decls) v.value_type) (opening_of decls (type_of (outside decls) v.value_type) v.value)
+
 -- with so many elements of the array of number a
 abbrev pub with_elements : core.Program → ℕ → core_type.ValueType → ℕ → core.Program
 with_elements p a t zero = p
@@ -188,6 +184,9 @@ abbrev pub with_array : core.Program → List ℕ → Option ℕ → Option core
 with_array p name (Some class) (Some t) n = cell_at (length p.cells) >>= λ first. cell_at n >>= λ count. Some (with_elements (array_added p name first count t class) (length p.arrays) t count)
 with_array p name (Some class) None n = None
 with_array p name None t n = None
+
+abbrev pub array_with : List Decl → core.Program → Array → Option core.Program
+array_with decls p a = with_array p a.name.text (class_of decls a.protection) (type_of (outside decls) a.value_type) a.length.value
 
 -- a member of the pool at a place, and the object that it is
 pub record Slot : Type 0 where
@@ -247,8 +246,8 @@ with_pool decls place p name None ms n = None
 abbrev pub extended : List Decl → ℕ → core.Program → Decl → Option core.Program
 extended decls i p (lock x) = Some (with_class p (core.global_lock x.text))
 extended decls i p (struct s) = with_struct p (members_added decls (length p.structs) i s.members (Some (record { structure = empty_struct s.name.text; classes = p.classes })) s.members)
-extended decls i p (global v) = with_global p v.name.text (class_of decls v.protection) (type_of (outside decls) v.value_type) (opening_of decls (type_of (outside decls) v.value_type) v.value)
-extended decls i p (array a) = with_array p a.name.text (class_of decls a.protection) (type_of (outside decls) a.value_type) a.length.value
+extended decls i p (global v) = global_with decls p v
+extended decls i p (array a) = array_with decls p a
 extended decls i p (pool q) = with_pool decls i p q.name.text (struct_named decls q.target) (members_of decls q.target) q.length.value
 extended decls i p (init j) = Some p
 extended decls i p (atomic s) = with_section p (typed_section decls s)

@@ -75,13 +75,7 @@ number_at decls i d = count (alike d) (take i decls)
 abbrev pub structs_in : List Decl → List Struct
 structs_in [] = []
 structs_in (struct s ∷ ds) = s ∷ structs_in ds
-structs_in (lock x ∷ ds) = structs_in ds
-structs_in (global v ∷ ds) = structs_in ds
-structs_in (array a ∷ ds) = structs_in ds
-structs_in (pool p ∷ ds) = structs_in ds
-structs_in (init i ∷ ds) = structs_in ds
-structs_in (atomic s ∷ ds) = structs_in ds
-structs_in (thread t ∷ ds) = structs_in ds
+structs_in (d ∷ ds) = structs_in ds
 
 abbrev pub the_struct : List Decl → ℕ → Option Struct
 the_struct decls k = slice_get (structs_in decls) k
@@ -161,15 +155,7 @@ meaning sc q = local_or (the_local sc.locals q) (declared_as (the_decl sc.decls 
 -- the number of the struct that is meant
 abbrev pub struct_meant : List Decl → Meaning → Option ℕ
 struct_meant decls (a_decl i (struct s)) = Some (number_at decls i (struct s))
-struct_meant decls (a_decl i (lock x)) = None
-struct_meant decls (a_decl i (global v)) = None
-struct_meant decls (a_decl i (array a)) = None
-struct_meant decls (a_decl i (pool p)) = None
-struct_meant decls (a_decl i (init j)) = None
-struct_meant decls (a_decl i (atomic s)) = None
-struct_meant decls (a_decl i (thread t)) = None
-struct_meant decls (a_local i l) = None
-struct_meant decls nothing = None
+struct_meant decls _ = None
 
 -- the type that is written, if its name names a struct
 abbrev pub type_of : Scope → ValueType → Option core_type.ValueType
@@ -180,18 +166,20 @@ type_of sc (ref_type x) = struct_meant sc.decls (meaning sc x.text) >>= λ k. So
 abbrev pub struct_named : List Decl → Ident → Option ℕ
 struct_named decls x = struct_meant decls (meaning (outside decls) x.text)
 
--- the name's declaration has no fault in its type
+-- the name's declaration has no fault in its type. One that has is silent: wherever its name can't stand, it causes no fault of its own
 abbrev pub has_type : List Decl → Meaning → Bool
 has_type decls (a_local i l) = is_some l.value_type
 has_type decls (a_decl i (global v)) = is_some (type_of (outside decls) v.value_type)
 has_type decls (a_decl i (array a)) = is_some (type_of (outside decls) a.value_type)
 has_type decls (a_decl i (pool p)) = is_some (struct_named decls p.target)
-has_type decls (a_decl i (lock x)) = true
-has_type decls (a_decl i (struct s)) = true
-has_type decls (a_decl i (init j)) = true
-has_type decls (a_decl i (atomic s)) = true
-has_type decls (a_decl i (thread t)) = true
+has_type decls (a_decl i d) = true
 has_type decls nothing = true
+
+-- the same of a member's
+abbrev pub member_has_type : List Decl → Member → Bool
+member_has_type decls (lock_member x) = true
+member_has_type decls (final_member f) = is_some (struct_named decls f.target)
+member_has_type decls (field_member f) = is_some (type_of (outside decls) f.value_type)
 
 -- ---- locals come and go
 

@@ -1,6 +1,6 @@
 -- Statements with each name replaced by the number of what it means, where everything in them has a type.
 use Rattle.std.specs.Prelude.{ℕ, Bool, true, false, List, [], ◌∷◌, length, Option, Some, None, if◌then◌else◌}
-use Rattle.syntax.specs.Trees.{Ident, Place, lone, element, path, Stmt, let_local, var_local, assign, if_then, while, print, return_value, Stmts, no_stmts, stmt, Otherwise, no_else, else_do, Decl, lock, struct, global, array, pool, init, atomic, thread}
+use Rattle.syntax.specs.Trees.{Ident, Place, lone, element, path, Local, Stmt, let_local, var_local, assign, if_then, while, print, return_value, Stmts, no_stmts, stmt, Otherwise, no_else, else_do, Decl, lock, struct, global, array, pool, init, atomic, thread}
 use Rattle.core_lang.specs.declared.value.ValueType as core_type
 use Rattle.core_lang.specs.declared.tree.FieldStep.{FieldStep}
 use Rattle.core_lang.specs.declared.tree.FieldStep.TheVariants as step
@@ -19,7 +19,7 @@ pub data Target : Type 0 where
   to_local : (local : ℕ) → Target
   to_global : (cell : ℕ) → Target
   to_element : (number : ℕ) → (index : core.Expr) → Target
-  to_field : (base : core.Path) → (field : ℕ) → Target
+  to_field : (base : core.Path) → (structure field : ℕ) → Target
 
 -- what is assigned to, and its type
 pub record Assignee : Type 0 where
@@ -40,14 +40,7 @@ is_var Parameter = false
 abbrev pub assignee_at : List Decl → Meaning → Option Assignee
 assignee_at decls (a_local i l) = if is_var l.kind then assignee (Some (to_local i)) l.value_type else None
 assignee_at decls (a_decl i (global v)) = assignee (Some (to_global (cell_of decls i))) (type_of (outside decls) v.value_type)
-assignee_at decls (a_decl i (lock x)) = None
-assignee_at decls (a_decl i (struct s)) = None
-assignee_at decls (a_decl i (array a)) = None
-assignee_at decls (a_decl i (pool p)) = None
-assignee_at decls (a_decl i (init j)) = None
-assignee_at decls (a_decl i (atomic s)) = None
-assignee_at decls (a_decl i (thread t)) = None
-assignee_at decls nothing = None
+assignee_at decls _ = None
 
 -- a name with an index
 abbrev pub assignee_at_element : List Decl → Meaning → Option core.Expr → Option Assignee
@@ -63,22 +56,23 @@ assignee_at_element decls (a_local i l) (Some index) = None
 assignee_at_element decls nothing (Some index) = None
 assignee_at_element decls m None = None
 
--- the steps ahead of the last, and the last one's number, if it goes over a field that isn't final
+-- the steps ahead of the last, and what that goes over, if it is a field that isn't final: of which struct, and which
 pub record Split : Type 0 where
   pub base : List FieldStep
+  pub structure : ℕ
   pub field : ℕ
 
 abbrev pub behind : FieldStep → Split → Split
-behind s p = record { base = s ∷ p.base; field = p.field }
+behind s p = record p { base = s ∷ p.base }
 
 abbrev pub last_field : List FieldStep → Option Split
 last_field [] = None
-last_field (step.Field n ∷ []) = Some (record { base = []; field = n })
-last_field (step.Final n ∷ []) = None
+last_field (step.Field k n ∷ []) = Some (record { base = []; structure = k; field = n })
+last_field (step.Final k n ∷ []) = None
 last_field (s ∷ r ∷ rs) = last_field (r ∷ rs) >>= λ p. Some (behind s p)
 
 abbrev pub field_target : ℕ → ℕ → Option Split → Option Target
-field_target start i (Some p) = Some (to_field (local_path start i p.base) p.field)
+field_target start i (Some p) = Some (to_field (local_path start i p.base) p.structure p.field)
 field_target start i None = None
 
 -- a local and fields
@@ -125,7 +119,7 @@ abbrev pub set_to : Target → core.Expr → core.Action
 set_to (to_local i) e = core.set_local i e
 set_to (to_global cell) e = core.set_global cell e
 set_to (to_element number index) e = core.set_element number index e
-set_to (to_field base field) e = core.set_field base field e
+set_to (to_field base structure field) e = core.set_field base structure field e
 
 abbrev pub assigns : ℕ → Option Assignee → Option core.Expr → Option Part
 assigns start (Some a) (Some e) = acts start (set_to a.target e)
@@ -202,11 +196,15 @@ abbrev mutual
   after_all sc no_stmts = sc
   after_all sc (stmt s rest) = after_all (after sc s) rest
 
+-- a local with its first value
+abbrev pub local_bound : Scope → Local → Option Part
+local_bound sc l = binds l.start.start (length sc.locals) (type_of sc l.value_type) (as_value (fitting (want (type_of sc l.value_type)) (typed sc l.value)))
+
 abbrev mutual
   -- a statement resolved, if everything in it has a type
   pub typed_stmt : Scope → Stmt → Option Part
-  typed_stmt sc (let_local l) = binds l.start.start (length sc.locals) (type_of sc l.value_type) (as_value (fitting (want (type_of sc l.value_type)) (typed sc l.value)))
-  typed_stmt sc (var_local l) = binds l.start.start (length sc.locals) (type_of sc l.value_type) (as_value (fitting (want (type_of sc l.value_type)) (typed sc l.value)))
+  typed_stmt sc (let_local l) = local_bound sc l
+  typed_stmt sc (var_local l) = local_bound sc l
   typed_stmt sc (assign p e) = assigns (first_name p).span.start (target_of sc p) (as_value (fitting (wanted_by (target_of sc p)) (typed sc e)))
   typed_stmt sc (if_then start e body close other) = typed_if (left sc (after_all sc body)) start.start (test_resolved (typed sc e)) (block_of (typed_body sc body)) other
   typed_stmt sc (while start e body close) = repeats start.start (test_resolved (typed sc e)) (block_of (typed_body sc body))

@@ -1,6 +1,6 @@
 //! What holds of resolution and of faults: functions that do nothing, and whose contracts are the laws.
 
-ghost use Rattle.resolution.specs.Laws.{TheLeastIsAFault, NoneGoesBeforeTheLeast, NoLeastIsNoFault, FaultlessAreResolved, ResolvedAreWellFormed};
+ghost use Rattle.resolution.specs.Laws.{TheLeastIsAFault, NoneGoesBeforeTheLeast, NoLeastIsNoFault, HaveAtMostOneLeast, FaultlessAreResolved, ResolvedAreWellFormed};
 
 /// The least fault of the list is a fault of the program, and no fault of the program goes before it; and where the
 /// list is empty, the program has no fault.
@@ -8,6 +8,11 @@ pub fn least_fault()
     ensures fault { TheLeastIsAFault }
     ensures least { NoneGoesBeforeTheLeast }
     ensures none { NoLeastIsNoFault }
+{}
+
+/// A program has at most one least fault: two faults before which none goes are the same.
+pub fn one_least()
+    ensures { HaveAtMostOneLeast }
 {}
 
 /// A program with no fault is resolved.

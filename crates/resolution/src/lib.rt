@@ -4,5 +4,4 @@
 
 pub mod init_target;
 pub mod laws;
-pub mod mistake;
 pub mod wanted;

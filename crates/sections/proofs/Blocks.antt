@@ -3,16 +3,16 @@ use Rattle.std.proofs.Common.{◌≡◌, ℕ, ◌+◌, ◌<◌, List, [], ◌∷
 use Rattle.std.specs.Prelude.{option_map, map, nat_le}
 use Rattle.source.specs.declared.fault.Code.TheVariants.{LimitExceeded}
 use Rattle.source.specs.declared.span.Span.{Span}
-use Rattle.resolution.specs.declared.mistake.Mistake.{Mistake}
+use Rattle.source.specs.declared.mistake.Mistake.{Mistake}
 use Rattle.syntax.specs.declared.tree.Expr as tree
 use Rattle.syntax.specs.declared.tree.Stmt as tree_stmt
 use Rattle.syntax.specs.declared.tree.Stmt.{While, If}
 use Rattle.syntax.specs.declared.tree.Block as tree_block
 use Rattle.syntax.specs.declared.tree.Param as tree_param
 use Rattle.syntax.specs.Views.{expr_of, stmt_of, stmts_of, else_of, param_of}
-use Rattle.syntax.specs.Trees.{Decl, Expr, Stmt, let_local, var_local, assign, if_then, while, print, return_value, Stmts, no_stmts, stmt, Otherwise, no_else, else_do}
+use Rattle.syntax.specs.Trees.{Decl, Expr, if_then, while, Stmts, no_stmts, stmt, Otherwise}
 use Rattle.core_lang.specs.declared.value.ValueType as core_type
-use Rattle.syntax.proofs.Rows.{stmt_of_While, stmt_of_If}
+use Rattle.syntax.specs.Rows.{stmt_of_While, stmt_of_If}
 use Rattle.core_lang.specs.declared.tree.LocalKind.TheVariants.{Parameter}
 use Rattle.core_lang.specs.declared.tree.Stmt as r
 use Rattle.resolution.specs.Core as core
@@ -24,8 +24,10 @@ use Rattle.resolution.specs.Limits.{PARAMETER_LIMIT}
 use Rattle.resolution.specs.Scopes.{Local, Scope, hidden_from, bound, entered, outside, type_of, left}
 use Rattle.resolution.specs.Expressions.{typed, test_resolved}
 use Rattle.resolution.specs.Statements.{Part, does, gives, Body, given_back, preceded, typed_body, typed_stmt, typed_if, after, after_else, after_all, block_of}
-use Rattle.resolution.specs.FaultLists.{least_of, one_if, local_faults, type_faults, param_faults, stmt_faults, stmts_faults, wanted_faults, else_faults}
-use Rattle.symbols.proofs.Steps.{step, noted_one, noted_two, noted_three}
+use Rattle.source.specs.Mistakes.{least_of}
+use Rattle.resolution.specs.FaultLists.{one_if, local_faults, type_faults, param_faults, stmt_faults, stmts_faults, wanted_faults, else_faults}
+use Rattle.symbols.specs.Steps.{step, noted_one, noted_two, noted_three}
+use Rattle.resolution.specs.Facts.{after_result}
 
 -- ---- bodies
 
@@ -144,19 +146,6 @@ param_scope_step sc sc' whole items i item lt is behind before =
     step (λ ps. entered sc (map param_of ps)) (λ ps. entered sc' (map param_of ps)) items i item whole lt is (ap (λ (z : Scope). entered z (map param_of (drop (i + 1) items))) behind) before
 
 -- ---- blocks
-
-after_else_result : (sc : Scope) (o : Otherwise) → (after_else sc o).result ≡ sc.result
-after_else_result sc no_else = refl
-after_else_result sc (else_do body close) = refl
-
-after_result : (sc : Scope) (s : Stmt) → (after sc s).result ≡ sc.result
-after_result sc (let_local l) = refl
-after_result sc (var_local l) = refl
-after_result sc (assign p e) = refl
-after_result sc (if_then start e body close other) = after_else_result (left sc (after_all sc body)) other
-after_result sc (while start e body close) = refl
-after_result sc (print start e) = refl
-after_result sc (return_value start e) = refl
 
 after_all_result : (sc : Scope) (ss : Stmts) → (after_all sc ss).result ≡ sc.result
 after_all_result sc no_stmts = refl

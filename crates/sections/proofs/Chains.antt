@@ -2,7 +2,7 @@
 use Rattle.std.proofs.Common.{◌≡◌, ℕ, ◌+◌, ◌<◌, List, [], ◌∷◌, ◌++◌, Option, Some, None, Vec, Global, length, drop, get_or, refl, sym, ap, ◌∙◌, inl, inr}
 use Rattle.std.specs.Prelude.{option_map, ◌⊎◌}
 use Rattle.syntax.specs.declared.tree.Op.{Op}
-use Rattle.resolution.specs.declared.mistake.Mistake.{Mistake}
+use Rattle.source.specs.declared.mistake.Mistake.{Mistake}
 use Rattle.syntax.specs.declared.tree.Level.{Level}
 use Rattle.syntax.specs.declared.tree.Level.TheVariants.{Term, Sum, Conjunction, Disjunction}
 use Rattle.syntax.specs.declared.tree.Expr as tree
@@ -15,19 +15,20 @@ use Rattle.core_lang.specs.declared.tree.Operation as o
 use Rattle.core_lang.specs.declared.tree.Expr as r
 use Rattle.core_lang.specs.declared.tree.Condition as rc
 use Rattle.syntax.specs.Views.{expr_of, joined_of, links_of}
-use Rattle.syntax.proofs.Rows.{joined_of-Chain}
+use Rattle.syntax.specs.Rows.{joined_of-Chain}
 use Rattle.resolution.specs.Core as core
 use Rattle.resolution.specs.CoreViews.{core_expr, core_condition, core_operations, core_conditions}
 use Rattle.resolution.specs.Scopes.{Scope}
 use Rattle.resolution.specs.Expressions.{ResolvedExpr, Tests, tested, typed, typed_links, typed_tests, chained, linked, operator_of, number_resolved, test_resolved, all_hold, one_holds}
 use Rattle.resolution.specs.Faults.{start_of}
 use Rattle.resolution.specs.Where.{operand_want}
-use Rattle.resolution.specs.FaultLists.{least_of, expr_faults, link_faults, operator_faults, misfit, wanted_faults}
+use Rattle.source.specs.Mistakes.{least_of}
+use Rattle.resolution.specs.FaultLists.{expr_faults, link_faults, operator_faults, misfit, wanted_faults}
 use Rattle.sections.specs.Parts.{pushed, link_with, operation_with, SoFar, so_far, tests_with, first_test}
 use Rattle.sections.specs.ResolvedExprs.{tests_of, holds}
 use Rattle.sections.specs.declared.resolved_expr.Tests as the_tests
 use Rattle.resolution.specs.declared.wanted.Want.{Want}
-use Rattle.symbols.proofs.Steps.{step, noted_one, noted_three}
+use Rattle.symbols.specs.Steps.{step, noted_one, noted_three}
 
 -- ---- operations
 

@@ -14,12 +14,6 @@ pushed (Some xs) (Some x) = Some (xs ++ x ∷ [])
 pushed (Some xs) None = None
 pushed None x = None
 
--- what there is, and then the rest
-abbrev pub joined : {A : Type 0} → Option (List A) → Option (List A) → Option (List A)
-joined (Some xs) (Some rest) = Some (xs ++ rest)
-joined (Some xs) None = None
-joined None rest = None
-
 abbrev pub operation_with : Option Operator → Option the_expr.Expr → Option the_operation.Operation
 operation_with (Some o) (Some x) = Some (record { operator = o; operand = x })
 operation_with (Some o) None = None

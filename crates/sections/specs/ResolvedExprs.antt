@@ -1,7 +1,5 @@
 -- What expressions and places that the checker's values stand for are.
-use Rattle.std.specs.Prelude.{List, [], ◌∷◌, ◌++◌, Option, Some, None}
-use Rattle.core_lang.specs.declared.value.ValueType as core_type
-use Rattle.core_lang.specs.declared.tree.FieldStep.{FieldStep}
+use Rattle.std.specs.Prelude.{Option, Some, None}
 use Rattle.syntax.specs.declared.tree.Level.{Level}
 use Rattle.syntax.specs.declared.tree.Level.TheVariants.{Term, Sum, Conjunction, Disjunction}
 use Rattle.syntax.specs.declared.tree.Prefix.{Prefix}
@@ -38,8 +36,3 @@ holds Term (Some ts) = None
 holds Sum (Some ts) = None
 holds Conjunction (Some ts) = all_hold (Some ts)
 holds Disjunction (Some ts) = one_holds (Some ts)
-
--- over a step that leads to a value, if its type has no fault
-abbrev pub over_step : List FieldStep → FieldStep → Option core_type.ValueType → Walk
-over_step steps x (Some t) = reached (steps ++ x ∷ []) t
-over_step steps x None = lost

@@ -1,15 +1,8 @@
 -- What the checker's values of statements stand for.
-use Rattle.std.specs.Prelude.{ℕ, List, [], ◌∷◌, ◌++◌, length, Option, Some, None, map, option_map}
-use Rattle.syntax.specs.Trees.{Local, Section, Decl}
-use Rattle.resolution.specs.declared.mistake.Mistake.{Mistake}
-use Rattle.resolution.specs.Scopes.{Scope, type_of}
-use Rattle.resolution.specs.Expressions.{want, fitting, as_value, typed}
-use Rattle.resolution.specs.Resolution.{ahead_of, entry}
-use Rattle.resolution.specs.FaultLists.{local_faults, type_faults, wanted_faults, result_faults, param_faults, stmts_faults}
-use Rattle.core_lang.specs.declared.tree.FieldStep.{FieldStep}
+use Rattle.std.specs.Prelude.{List, [], ◌∷◌, ◌++◌, Option, Some, None, map, option_map}
 use Rattle.resolution.specs.Core as core
 use Rattle.resolution.specs.CoreViews.{core_expr, core_path, core_stmt, core_stmts, core_return}
-use Rattle.resolution.specs.Statements.{Target, to_local, to_global, to_element, to_field, Assignee, last_field, Split, Part, does, gives, Body, binds}
+use Rattle.resolution.specs.Statements.{Target, to_local, to_global, to_element, to_field, Assignee, Part, does, gives, Body}
 use Rattle.sections.specs.declared.target.Target as t
 use Rattle.sections.specs.declared.target.Target.TheVariants as v
 use Rattle.sections.specs.declared.target.Assignee as the_assignee
@@ -21,18 +14,10 @@ abbrev pub target_seen : t.Target → Target
 target_seen (v.Local i) = to_local i
 target_seen (v.Global cell) = to_global cell
 target_seen (v.Element number index) = to_element number (core_expr index)
-target_seen (v.Field base field) = to_field (core_path base) field
+target_seen (v.Field base structure field) = to_field (core_path base) structure field
 
 abbrev pub assignee_of : the_assignee.Assignee → Assignee
 assignee_of a = record { target = target_seen a.target; value_type = a.value_type }
-
-abbrev pub number_behind : Option Split → Option ℕ
-number_behind (Some p) = Some p.field
-number_behind None = None
-
--- the number of the field that the last step goes over, if it isn't final
-abbrev pub field_behind : List FieldStep → Option ℕ
-field_behind steps = number_behind (last_field steps)
 
 abbrev pub part_of : the_part.Part → Part
 part_of (part.Does x) = does (core_stmt x)
@@ -60,16 +45,3 @@ abbrev pub body_pushed : Option Row → Option Part → Option Row
 body_pushed (Some b) (Some p) = pushed_to b.stmts b.result p
 body_pushed (Some b) None = None
 body_pushed None p = None
-
--- ---- locals
-
--- what the statement of a local is, and its faults
-abbrev pub local_bound : Scope → Local → Option Part
-local_bound sc l = binds l.start.start (length sc.locals) (type_of sc l.value_type) (as_value (fitting (want (type_of sc l.value_type)) (typed sc l.value)))
-
-abbrev pub binding_faults : Scope → Local → List Mistake
-binding_faults sc l = local_faults sc l.name ++ type_faults sc l.value_type ++ wanted_faults sc (want (type_of sc l.value_type)) l.value
-
--- the faults of a section
-abbrev pub section_faults : List Decl → Section → List Mistake
-section_faults decls s = result_faults decls s.result ++ param_faults (ahead_of decls s) 0 s.params ++ stmts_faults (entry decls s) s.body.stmts

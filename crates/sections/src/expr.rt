@@ -9,9 +9,9 @@ ghost use Rattle.resolution.specs.CoreViews.{core_expr, core_condition, core_ope
 ghost use Rattle.resolution.specs.Statements.{first_name};
 ghost use Rattle.resolution.specs.Expressions.{typed, typed_place, typed_links, typed_tests, fitting, as_value, number_resolved, test_resolved};
 ghost use Rattle.resolution.specs.Faults.{start_of};
-ghost use Rattle.resolution.specs.FaultLists.{least_of, expr_faults, place_faults, link_faults, wanted_faults};
-ghost use Rattle.symbols.specs.Programs.{program_of, IsProgram};
-ghost use Rattle.symbols.specs.Scoped.{scope_of, AreLocals};
+ghost use Rattle.source.specs.Mistakes.{least_of};
+ghost use Rattle.resolution.specs.FaultLists.{expr_faults, place_faults, link_faults, wanted_faults};
+ghost use Rattle.symbols.specs.{program_of, IsProgram, scope_of, AreLocals};
 ghost use Rattle.sections.specs.ResolvedExprs.{resolved_expr_of, tests_of};
 
 use crate::place::{
@@ -25,8 +25,8 @@ use crate::resolved_expr::{
 use crate::wanted::{note_number, number};
 use core_lang::tree::{Condition, Expr, Operation};
 use core_lang::value::ValueType;
-use resolution::mistake::Mistake;
 use resolution::wanted::{Sort, Want};
+use source::mistake::Mistake;
 use std::alloc::{AllocError, Global};
 use symbols::scope::{Locals, meaning_at};
 use symbols::table::Program;
@@ -65,7 +65,7 @@ fn start_of(e: &tree::Expr) -> usize
 
 /// An expression, resolved, if it has a type.
 #[cycle(judge)]
-#[tactic(auto, using(symbols::proofs::Least::least_append))]
+#[tactic(auto, using(source::specs::Leasts::least_append))]
 fn judge(
     alloc: Global,
     program: &Program,
@@ -101,7 +101,7 @@ fn judge(
 
 /// An expression of which something is wanted.
 #[cycle(judge)]
-#[tactic(auto, using(symbols::proofs::Least::least_append))]
+#[tactic(auto, using(source::specs::Leasts::least_append))]
 fn wanted(
     alloc: Global,
     program: &Program,
@@ -122,7 +122,7 @@ fn wanted(
 
 /// Operands with operators between them, resolved, if they have a type.
 #[cycle(judge)]
-#[tactic(auto, using(symbols::proofs::Least::least_append))]
+#[tactic(auto, using(source::specs::Leasts::least_append))]
 fn judge_joined(
     alloc: Global,
     program: &Program,
@@ -161,7 +161,7 @@ fn judge_joined(
 }
 
 /// A name as a value.
-#[tactic(auto, using(symbols::proofs::Least::least_append))]
+#[tactic(auto, using(source::specs::Leasts::least_append))]
 fn judge_name(
     alloc: Global,
     program: &Program,
@@ -182,7 +182,7 @@ fn judge_name(
 
 /// An element as a value.
 #[cycle(judge)]
-#[tactic(auto, using(symbols::proofs::Least::least_append))]
+#[tactic(auto, using(source::specs::Leasts::least_append))]
 fn judge_element(
     alloc: Global,
     program: &Program,
@@ -204,7 +204,7 @@ fn judge_element(
 }
 
 /// A path as a value.
-#[tactic(auto, using(symbols::proofs::Least::least_append))]
+#[tactic(auto, using(source::specs::Leasts::least_append))]
 fn judge_path(
     alloc: Global,
     program: &Program,
@@ -225,7 +225,7 @@ fn judge_path(
 
 /// The further operands of a chain of numbers.
 #[cycle(judge)]
-#[tactic(auto, using(symbols::proofs::Least::least_append))]
+#[tactic(auto, using(source::specs::Leasts::least_append))]
 fn judge_links(
     alloc: Global,
     program: &Program,
@@ -252,7 +252,7 @@ fn judge_links(
 
 /// The further operands of a chain of conditions, behind the first.
 #[cycle(judge)]
-#[tactic(auto, using(symbols::proofs::Least::least_append))]
+#[tactic(auto, using(source::specs::Leasts::least_append))]
 fn judge_tests(
     alloc: Global,
     program: &Program,

@@ -6,22 +6,21 @@ ghost use Rattle.core_lang.specs.declared.tree.FieldStep.TheVariants as step;
 ghost use Rattle.syntax.specs.Views.{ident, member_of};
 ghost use Rattle.resolution.specs.CoreViews.{core_expr, core_path};
 ghost use Rattle.resolution.specs.Scopes.{the_struct, the_member};
-ghost use Rattle.resolution.specs.Expressions.{local_path, named_value, element_value, over, stepped, walked, at_local, walk_from, path_value};
-ghost use Rattle.resolution.specs.FaultLists.{least_of, no_value, no_elements, no_member, no_field, step_faults, end_faults, walk_faults, path_faults};
-ghost use Rattle.symbols.specs.Views.{declared_by, AreDeclarations};
-ghost use Rattle.symbols.specs.Programs.{program_of, IsProgram};
-ghost use Rattle.symbols.specs.Scoped.{meaning_of};
-ghost use Rattle.sections.specs.ResolvedExprs.{resolved_expr_of, walk_of, over_step};
+ghost use Rattle.resolution.specs.Expressions.{local_path, named_value, element_value, over_step, over, stepped, walked, at_local, walk_from, path_value};
+ghost use Rattle.source.specs.Mistakes.{least_of};
+ghost use Rattle.resolution.specs.FaultLists.{no_value, no_elements, no_member, no_field, step_faults, end_faults, walk_faults, path_faults};
+ghost use Rattle.symbols.specs.{declared_by, AreDeclarations, program_of, IsProgram, meaning_of};
+ghost use Rattle.sections.specs.ResolvedExprs.{resolved_expr_of, walk_of};
 
 use crate::resolved_expr::{ResolvedExpr, value_of};
 use core_lang::tree::{Expr, FieldStep, Path};
 use core_lang::value::ValueType;
-use resolution::mistake::Mistake;
 use resolution::wanted::Sort;
 use source::fault::Code;
+use source::mistake::{Mistake, note};
 use std::alloc::{AllocError, Global};
 use symbols::declarations::Declarations;
-use symbols::note::{note, note_if};
+use symbols::note::note_if;
 use symbols::scope::{Meaning, note_unfit, struct_named, type_outside};
 use symbols::table::Program;
 use syntax::tree::{Decl, Member, Name};
@@ -83,14 +82,7 @@ pub fn note_no_value(decls: &Declarations, start: usize, m: Meaning, least: &mut
     match m {
         Meaning::Local(_, _) | Meaning::Decl(_, Decl::Global(_)) => {}
         Meaning::Decl(_, Decl::Lock(_)) => note(least, Code::LockAsValue, start),
-        Meaning::Decl(_, Decl::Struct(_))
-        | Meaning::Decl(_, Decl::Array(_))
-        | Meaning::Decl(_, Decl::Pool(_))
-        | Meaning::Decl(_, Decl::Init(_))
-        | Meaning::Decl(_, Decl::Atomic(_))
-        | Meaning::Decl(_, Decl::Thread(_)) => {
-            note_unfit(decls, Code::WrongType, start, m, least);
-        }
+        Meaning::Decl(_, _) => note_unfit(decls, Code::WrongType, start, m, least),
         Meaning::Nothing => note(least, Code::UnknownName, start),
     }
 }
@@ -154,16 +146,8 @@ pub fn note_no_elements(decls: &Declarations, start: usize, m: Meaning, least: &
 {
     match m {
         Meaning::Decl(_, Decl::Array(_)) | Meaning::Decl(_, Decl::Pool(_)) => {}
-        Meaning::Local(_, _)
-        | Meaning::Decl(_, Decl::Lock(_))
-        | Meaning::Decl(_, Decl::Struct(_))
-        | Meaning::Decl(_, Decl::Global(_))
-        | Meaning::Decl(_, Decl::Init(_))
-        | Meaning::Decl(_, Decl::Atomic(_))
-        | Meaning::Decl(_, Decl::Thread(_)) => {
-            note_unfit(decls, Code::WrongType, start, m, least);
-        }
         Meaning::Nothing => note(least, Code::UnknownName, start),
+        _ => note_unfit(decls, Code::WrongType, start, m, least),
     }
 }
 
@@ -187,19 +171,19 @@ fn with_step(
 fn over(
     decls: &Declarations,
     steps: Vec<FieldStep>,
-    number: usize,
+    structure: usize,
     f: &Name,
 ) -> Result<Walk, AllocError>
     requires { AreDeclarations decls.now }
-    ensures { IfOk result (λ r. walk_of r ≡ over (declared_by decls.now) steps.items (the_struct (declared_by decls.now) number) (ident f.now).text) }
+    ensures { IfOk result (λ r. walk_of r ≡ over (declared_by decls.now) steps.items structure (the_struct (declared_by decls.now) structure) (ident f.now).text) }
 {
-    let Some(structure) = decls.structure(number) else {
+    let Some(members) = decls.structure(structure) else {
         return Ok(Walk::Lost);
     };
-    let Some((place, m)) = structure.find(f.text.as_str()) else {
+    let Some((place, m)) = members.find(f.text.as_str()) else {
         return Ok(Walk::Lost);
     };
-    let number = structure.step(place, m);
+    let number = members.step(place, m);
     match m {
         Member::Lock(_) => Ok(Walk::AtLock),
         Member::Final(reference) => {
@@ -207,11 +191,11 @@ fn over(
                 Some(target) => Some(ValueType::Reference(target)),
                 None => None,
             };
-            with_step(steps, FieldStep::Final(number), t)
+            with_step(steps, FieldStep::Final { structure, number }, t)
         }
         Member::Field(field) => {
             let t = type_outside(decls, &field.value_type);
-            with_step(steps, FieldStep::Field(number), t)
+            with_step(steps, FieldStep::Field { structure, number }, t)
         }
     }
 }
@@ -265,7 +249,7 @@ fn note_end(start: usize, w: &Walk, least: &mut Option<Mistake>)
 }
 
 /// Over fields, one after another, of a path that starts there.
-#[tactic(auto, using(symbols::proofs::Least::least_append))]
+#[tactic(auto, using(source::specs::Leasts::least_append))]
 fn walked(
     decls: &Declarations,
     start: usize,

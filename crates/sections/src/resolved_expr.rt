@@ -3,7 +3,8 @@
 ghost use Rattle.std.specs.Prelude.{◌≡◌, IfOk, option_map};
 ghost use Rattle.resolution.specs.CoreViews.{core_expr, core_condition, core_operations};
 ghost use Rattle.resolution.specs.Expressions.{fits, fitting, as_value, number_resolved, test_resolved, alike_sorts, literal, value_of, parenthesised, negated, not_so, operator_of, chained, all_hold, one_holds, ordered, equated, compared};
-ghost use Rattle.resolution.specs.FaultLists.{least_of, misfit, unlike, side_faults, operator_faults};
+ghost use Rattle.source.specs.Mistakes.{least_of};
+ghost use Rattle.resolution.specs.FaultLists.{misfit, unlike, side_faults, operator_faults};
 ghost use Rattle.resolution.specs.Where.{operand_want, prefix_want, side_want};
 ghost use Rattle.sections.specs.ResolvedExprs.{resolved_expr_of, tests_of, prefixed, holds};
 ghost use Rattle.sections.specs.Parts.{pushed, link_with, so_far, first_test, tests_with};
@@ -11,11 +12,11 @@ ghost use Rattle.sections.specs.Parts.{pushed, link_with, so_far, first_test, te
 use crate::wanted::{fits_sort, fits_type};
 use core_lang::tree::{Comparison, Condition, Expr, Operation, Operator};
 use core_lang::value::ValueType;
-use resolution::mistake::Mistake;
 use resolution::wanted::{Sort, Want};
 use source::fault::Code;
+use source::mistake::{Mistake, note};
 use std::alloc::{AllocError, Global};
-use symbols::note::{note, note_if};
+use symbols::note::note_if;
 use syntax::tree;
 use syntax::tree::{Level, Op, Prefix};
 

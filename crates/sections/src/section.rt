@@ -6,19 +6,18 @@ ghost use Rattle.resolution.specs.CoreViews as core;
 ghost use Rattle.resolution.specs.CoreViews.{core_section};
 ghost use Rattle.resolution.specs.Scopes.{entered};
 ghost use Rattle.resolution.specs.Resolution.{core_locals, core_local, result_of, section_with, section_of, typed_section};
-ghost use Rattle.resolution.specs.FaultLists.{least_of, param_faults, result_faults};
+ghost use Rattle.source.specs.Mistakes.{least_of};
+ghost use Rattle.resolution.specs.FaultLists.{param_faults, result_faults, section_faults};
 ghost use Rattle.sections.specs.Parts.{pushed};
-ghost use Rattle.symbols.specs.Views.{declared_by, AreDeclarations};
-ghost use Rattle.symbols.specs.Programs.{program_of, IsProgram};
-ghost use Rattle.symbols.specs.Scoped.{scope_of, local_seen, AreLocals};
-ghost use Rattle.sections.specs.Targets.{body_of, section_faults};
+ghost use Rattle.symbols.specs.{declared_by, AreDeclarations, program_of, IsProgram, scope_of, local_seen, AreLocals};
+ghost use Rattle.sections.specs.Targets.{body_of};
 
 use crate::stmt::{Body, judge_body, note_name};
 use core_lang::tree;
 use core_lang::tree::{LocalKind, Return, Section, Stmt};
 use core_lang::value::ValueType;
-use resolution::mistake::Mistake;
 use source::fault::Code;
+use source::mistake::Mistake;
 use std::alloc::{AllocError, Global};
 use symbols::declarations::Declarations;
 use symbols::note::note_if;
@@ -31,7 +30,7 @@ use syntax::tree::Param;
 const PARAMETER_LIMIT: usize = 8;
 
 /// Declares a section's parameters, and notes what is wrong with them.
-#[tactic(auto, using(symbols::proofs::Least::least_append))]
+#[tactic(auto, using(source::specs::Leasts::least_append))]
 fn judge_params(
     alloc: Global,
     program: &Program,
@@ -180,7 +179,7 @@ fn note_result(decls: &Declarations, t: &Option<written::ValueType>, least: &mut
 /// The section that a tree stands for: each name replaced by the number of what it means, every expression typed.
 /// `None` where something in it has no type, or its result and its `return` don't agree. What is wrong with it is
 /// noted. The one error is a refused growth.
-#[tactic(auto, using(symbols::proofs::Least::least_append))]
+#[tactic(auto, using(source::specs::Leasts::least_append))]
 pub fn judge_section(
     alloc: Global,
     program: &Program,

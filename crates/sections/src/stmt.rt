@@ -5,22 +5,22 @@ ghost use Rattle.syntax.specs.Trees.{assign, while, print, return_value};
 ghost use Rattle.syntax.specs.Views.{ident, expr_of, place_of, stmt_of, stmts_of, local_of, else_of};
 ghost use Rattle.resolution.specs.CoreViews.{core_expr, core_condition, core_stmt, core_stmts, core_action};
 ghost use Rattle.resolution.specs.Scopes.{the_local, the_decl, bound, left, type_of};
-ghost use Rattle.resolution.specs.Statements.{does, acts, binds, assigns, prints, returns, repeats, chooses, chooses_between, block_of, after, after_else, after_all, typed_stmt, typed_if, typed_body};
-ghost use Rattle.resolution.specs.FaultLists.{least_of, taken, local_faults, stmt_faults, else_faults, stmts_faults};
-ghost use Rattle.symbols.specs.Programs.{program_of, IsProgram};
-ghost use Rattle.symbols.specs.Scoped.{scope_of, locals_seen, AreLocals};
-ghost use Rattle.sections.specs.Targets.{assignee_of, part_of, body_of, row_of, pushed_to, body_pushed, local_bound, binding_faults};
+ghost use Rattle.resolution.specs.Statements.{does, acts, local_bound, binds, assigns, prints, returns, repeats, chooses, chooses_between, block_of, after, after_else, after_all, typed_stmt, typed_if, typed_body};
+ghost use Rattle.source.specs.Mistakes.{least_of};
+ghost use Rattle.resolution.specs.FaultLists.{taken, local_faults, binding_faults, stmt_faults, else_faults, stmts_faults};
+ghost use Rattle.symbols.specs.{program_of, IsProgram, scope_of, locals_seen, AreLocals};
+ghost use Rattle.sections.specs.Targets.{assignee_of, part_of, body_of, row_of, pushed_to, body_pushed};
 
 use crate::expr::{first_name, judge_number, judge_test, judge_value};
 use crate::target::{Assignee, Target, judge_target, wanted_by};
 use crate::wanted::want;
 use core_lang::tree::{Action, Condition, Expr, LocalKind, Return, Stmt};
 use core_lang::value::ValueType;
-use resolution::mistake::Mistake;
 use source::fault::Code;
+use source::mistake::{Mistake, note};
 use source::span::Span;
 use std::alloc::{AllocError, Global};
-use symbols::note::{note, note_if};
+use symbols::note::note_if;
 use symbols::scope::{Locals, note_local_type, type_at};
 use symbols::table::Program;
 use syntax::tree;
@@ -65,7 +65,7 @@ fn note_taken(program: &Program, locals: &Locals, name: &Name, least: &mut Optio
 }
 
 /// Notes what is wrong with a local's name.
-#[tactic(auto, using(symbols::proofs::Least::least_append))]
+#[tactic(auto, using(source::specs::Leasts::least_append))]
 pub fn note_name(program: &Program, locals: &Locals, name: &Name, least: &mut Option<Mistake>)
     requires program { IsProgram program.now }
     requires locals { AreLocals locals.now }
@@ -119,7 +119,15 @@ fn assign(start: usize, assignee: Option<Assignee>, value: Option<Expr>) -> Opti
                 value,
             },
         ),
-        Target::Field(base, field) => act(start, Action::SetField { base, field, value }),
+        Target::Field(base, structure, field) => act(
+            start,
+            Action::SetField {
+                base,
+                structure,
+                field,
+                value,
+            },
+        ),
     }
 }
 
@@ -199,7 +207,7 @@ fn block_of(body: Option<Body>) -> Option<Vec<Stmt>>
 }
 
 /// A `let` or `var`.
-#[tactic(auto, using(symbols::proofs::Least::least_append))]
+#[tactic(auto, using(source::specs::Leasts::least_append))]
 fn judge_local(
     alloc: Global,
     program: &Program,
@@ -225,7 +233,7 @@ fn judge_local(
 }
 
 /// An assignment, resolved, if its place and its value have types that fit.
-#[tactic(auto, using(symbols::proofs::Least::least_append))]
+#[tactic(auto, using(source::specs::Leasts::least_append))]
 fn judge_assign(
     alloc: Global,
     program: &Program,
@@ -325,7 +333,7 @@ fn judge_stmt(
 /// A loop, resolved, if its condition and everything in its block have types. The block comes ahead
 /// of the condition, since the recursion goes down the first tree that is passed.
 #[cycle(judge)]
-#[tactic(auto, using(symbols::proofs::Least::least_append))]
+#[tactic(auto, using(source::specs::Leasts::least_append))]
 fn judge_while(
     alloc: Global,
     program: &Program,
@@ -349,7 +357,7 @@ fn judge_while(
 
 /// A choice, by its condition, its block and what stands behind `else`.
 #[cycle(judge)]
-#[tactic(auto, using(symbols::proofs::Least::least_append))]
+#[tactic(auto, using(source::specs::Leasts::least_append))]
 fn judge_else(
     alloc: Global,
     program: &Program,
@@ -445,7 +453,7 @@ fn with_part(body: Option<Body>, part: Option<Part>) -> Result<Option<Body>, All
 
 /// Statements, one after another.
 #[cycle(judge)]
-#[tactic(auto, using(symbols::proofs::Least::least_append))]
+#[tactic(auto, using(source::specs::Leasts::least_append))]
 pub fn judge_body(
     alloc: Global,
     program: &Program,

@@ -1,26 +1,25 @@
 //! The left sides of assignments.
 
-ghost use Rattle.std.specs.Prelude.{◌≡◌, OnOk, IfOk, option_map, Some};
+ghost use Rattle.std.specs.Prelude.{◌≡◌, OnOk, IfOk, option_map, is_some, Some};
 ghost use Rattle.syntax.specs.Views.{place_of};
 ghost use Rattle.resolution.specs.CoreViews.{core_expr};
-ghost use Rattle.resolution.specs.Statements.{assignee, assignee_at, assignee_at_element, assignee_along, target_of, wanted_by};
-ghost use Rattle.resolution.specs.FaultLists.{least_of, no_target, no_array, final_faults, target_faults};
-ghost use Rattle.symbols.specs.Views.{declared_by, AreDeclarations};
-ghost use Rattle.symbols.specs.Programs.{program_of, IsProgram};
-ghost use Rattle.symbols.specs.Scoped.{scope_of, AreLocals, meaning_of};
+ghost use Rattle.resolution.specs.Statements.{assignee, assignee_at, assignee_at_element, assignee_along, last_field, target_of, wanted_by};
+ghost use Rattle.source.specs.Mistakes.{least_of};
+ghost use Rattle.resolution.specs.FaultLists.{no_target, no_array, final_faults, target_faults};
+ghost use Rattle.symbols.specs.{declared_by, AreDeclarations, program_of, IsProgram, scope_of, AreLocals, meaning_of};
 ghost use Rattle.sections.specs.ResolvedExprs.{walk_of};
-ghost use Rattle.sections.specs.Targets.{target_seen, assignee_of, field_behind};
+ghost use Rattle.sections.specs.Targets.{target_seen, assignee_of};
 
 use crate::expr::judge_number;
 use crate::place::{Walk, local_path, note_no_elements, walk_from};
 use core_lang::tree::{Expr, FieldStep, LocalKind, Path};
 use core_lang::value::ValueType;
-use resolution::mistake::Mistake;
 use resolution::wanted::Want;
 use source::fault::Code;
+use source::mistake::{Mistake, note};
 use std::alloc::{AllocError, Global};
 use symbols::declarations::Declarations;
-use symbols::note::{note, note_if};
+use symbols::note::note_if;
 use symbols::scope::{Locals, Meaning, meaning_at, note_unfit, type_outside};
 use symbols::table::Program;
 use syntax::tree::{Decl, Place};
@@ -34,8 +33,8 @@ pub enum Target {
     Global(u32),
     /// An element of an array, by the array's number and the index.
     Element(usize, Expr),
-    /// A field, by what leads to the object and the field's number.
-    Field(Path, u32),
+    /// A field, by what leads to the object, the object's struct and the field's number there.
+    Field(Path, usize, u32),
 }
 
 /// What is assigned to, and its type.
@@ -86,18 +85,13 @@ fn note_no_target(decls: &Declarations, start: usize, m: Meaning, least: &mut Op
     match m {
         Meaning::Local(_, local) => match local.kind {
             LocalKind::Var => {}
-            LocalKind::Let | LocalKind::Parameter => note(least, Code::NotAssignable, start),
+            LocalKind::Let | LocalKind::Parameter => {
+                note_unfit(decls, Code::NotAssignable, start, m, least);
+            }
         },
         Meaning::Decl(_, Decl::Global(_)) => {}
         Meaning::Decl(_, Decl::Lock(_)) => note(least, Code::LockAsValue, start),
-        Meaning::Decl(_, Decl::Struct(_))
-        | Meaning::Decl(_, Decl::Array(_))
-        | Meaning::Decl(_, Decl::Pool(_))
-        | Meaning::Decl(_, Decl::Init(_))
-        | Meaning::Decl(_, Decl::Atomic(_))
-        | Meaning::Decl(_, Decl::Thread(_)) => {
-            note_unfit(decls, Code::NotAssignable, start, m, least);
-        }
+        Meaning::Decl(_, _) => note_unfit(decls, Code::NotAssignable, start, m, least),
         Meaning::Nothing => note(least, Code::UnknownName, start),
     }
 }
@@ -140,17 +134,14 @@ fn note_no_array(decls: &Declarations, start: usize, m: Meaning, least: &mut Opt
     }
 }
 
-/// The number of the field that the last step goes over, if it isn't final.
-fn field_behind(steps: &Vec<FieldStep>) -> Option<u32>
-    ensures { result ≡ field_behind steps.now.items }
+/// Whether the last step goes over a field that isn't final.
+fn ends_at_field(steps: &Vec<FieldStep>) -> bool
+    ensures { result ≡ is_some (last_field steps.now.items) }
 {
     match steps.last() {
-        Some(FieldStep::Field(number)) => Some(*number),
-        Some(FieldStep::Final(number)) => {
-            let _number = *number;
-            None
-        }
-        None => None,
+        Some(FieldStep::Field { structure, number }) => true,
+        Some(FieldStep::Final { structure, number }) => false,
+        None => false,
     }
 }
 
@@ -165,13 +156,11 @@ fn assignee_along(start: usize, m: Meaning, w: Walk) -> Option<Assignee>
         return None;
     };
     match steps.pop() {
-        Some(FieldStep::Field(field)) => {
-            assignee_of_type(Target::Field(local_path(start, i, steps), field), Some(t))
+        Some(FieldStep::Field { structure, number }) => {
+            let base = local_path(start, i, steps);
+            assignee_of_type(Target::Field(base, structure, number), Some(t))
         }
-        Some(FieldStep::Final(number)) => {
-            let _number = number;
-            None
-        }
+        Some(FieldStep::Final { structure, number }) => None,
         None => None,
     }
 }
@@ -182,19 +171,14 @@ fn note_final(start: usize, w: &Walk, least: &mut Option<Mistake>)
 {
     match w {
         Walk::Reached(steps, _) => {
-            note_if(
-                field_behind(steps).is_none(),
-                Code::NotAssignable,
-                start,
-                least,
-            );
+            note_if(!ends_at_field(steps), Code::NotAssignable, start, least);
         }
         Walk::AtLock | Walk::Lost => {}
     }
 }
 
 /// The left side of an assignment, if it is one.
-#[tactic(auto, using(symbols::proofs::Least::least_append))]
+#[tactic(auto, using(source::specs::Leasts::least_append))]
 pub fn judge_target(
     alloc: Global,
     program: &Program,

@@ -2,12 +2,13 @@
 
 ghost use Rattle.std.specs.Prelude.{◌≡◌};
 ghost use Rattle.resolution.specs.Expressions.{number_value, fits_type, fits_sort, want};
-ghost use Rattle.resolution.specs.FaultLists.{least_of, number_faults};
+ghost use Rattle.source.specs.Mistakes.{least_of};
+ghost use Rattle.resolution.specs.FaultLists.{number_faults};
 
 use core_lang::value::ValueType;
-use resolution::mistake::Mistake;
 use resolution::wanted::{Sort, Want};
 use source::fault::Code;
+use source::mistake::Mistake;
 use source::token::Number;
 use symbols::note::note_if;
 

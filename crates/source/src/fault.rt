@@ -3,6 +3,7 @@
 ghost use Rattle.std.specs.Prelude.{◌≡◌, [], string_bytes};
 ghost use Rattle.source.specs.declared.fault.Refusal.TheVariants.{NoMemory};
 ghost use Rattle.source.specs.Codes.{code_name, code_text};
+ghost use Rattle.source.specs.Mistakes.{code_number};
 
 use std::alloc::{AllocError, AllocFailed, Global};
 use std::fmt;
@@ -79,6 +80,34 @@ impl Code {
             Code::MisplacedReturn => "E18",
             Code::LockAsValue => "E19",
             Code::RecursiveHelper => "E20",
+        }
+    }
+
+    /// The number in the code's printed name, 1 to 20.
+    pub fn number(self) -> u8
+        ensures { result ≡ code_number self }
+    {
+        match self {
+            Code::BadCharacter => 1,
+            Code::NumberTooLarge => 2,
+            Code::UnexpectedToken => 3,
+            Code::NestedTooDeep => 4,
+            Code::DeclaredTwice => 5,
+            Code::UnknownName => 6,
+            Code::WrongType => 7,
+            Code::WrongArgumentCount => 8,
+            Code::NotAssignable => 9,
+            Code::NeitherFinalNorProtected => 10,
+            Code::ProtectedByNoLock => 11,
+            Code::ProtectedByPassesNonFinal => 12,
+            Code::UnstableBase => 13,
+            Code::LockOrderCycle => 14,
+            Code::LimitExceeded => 15,
+            Code::FinalWithoutOpeningValue => 16,
+            Code::InitOutOfRangeOrRepeated => 17,
+            Code::MisplacedReturn => 18,
+            Code::LockAsValue => 19,
+            Code::RecursiveHelper => 20,
         }
     }
 

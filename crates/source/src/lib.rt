@@ -6,6 +6,7 @@
 //!   `HasTokens` of `specs/Texts.antt`.
 //! - [`fault::Code`], [`fault::Fault`], [`fault::Refusal`]: what is wrong, where, and why a pass
 //!   gives no answer.
+//! - [`mistake::Mistake`]: a fault by code and place; which of two is told, as `specs/Mistakes.antt` defines it.
 //! - [`line::fault_line`]: `FILE:LINE:COL: CODE TEXT`, as `specs/Faults.antt` defines it.
 //! - [`memory::NoMemory`]: the one error of calls that can only be refused memory.
 #![tactic(auto)]
@@ -13,5 +14,6 @@
 pub mod fault;
 pub mod line;
 pub mod memory;
+pub mod mistake;
 pub mod span;
 pub mod token;

@@ -2,8 +2,8 @@
 use Rattle.std.proofs.Common.{◌≡◌, ℕ, zero, suc, ◌+◌, List, [], ◌∷◌, ◌++◌, Option, Some, None, Bool, true, false, length, take, refl, sym, ap, ◌∙◌, arith, if◌then◌else◌}
 use Rattle.std.specs.Prelude.{slice_get, nat_le}
 use Rattle.std.proofs.lemmas.Bool.Decides.{nat_tests}
-use Rattle.syntax.specs.Trees.{Decl, lock, struct, global, array, pool, init, atomic, thread, Member, lock_member, final_member, field_member, Struct}
-use Rattle.resolution.specs.Scopes.{◌>>=◌, place_of, bears, count, alike, number_at, the_decl, the_struct, members_alike, number_in}
+use Rattle.syntax.specs.Trees.{Decl, lock, struct, global, array, pool, init, atomic, thread, Member, lock_member, final_member, field_member}
+use Rattle.resolution.specs.Scopes.{count, alike, number_at, members_alike, number_in}
 use Rattle.symbols.specs.declared.declarations.Counts.{Counts}
 use Rattle.symbols.specs.declared.members.MemberCounts.{MemberCounts}
 use Rattle.symbols.specs.Found.{or_else, AreAhead}
@@ -194,46 +194,3 @@ member_counts_none ds x = let a = member_counts_are no_members ds x in let b = n
 
 pub member_number_is : (ms : List Member) (ahead : List MemberCounts) (all c : MemberCounts) (place : ℕ) (m : Member) → AreAhead (member_counts_from no_members) ms ahead all → c ≡ or_else (slice_get ahead place) all → member_count c m ≡ number_in ms place m
 member_number_is ms ahead all c place m table is = ap (λ (k : MemberCounts). member_count k m) (is ∙ table place) ∙ member_counts_none (take place ms) m
-
--- ---- structs by number
-
-abbrev first_of : {A : Type 0} → ℕ → Option (ℕ × A) → ℕ
-first_of d (Some u) = u.0
-first_of d None = d
-
-abbrev second_of : {A : Type 0} → A → Option (ℕ × A) → A
-second_of d (Some u) = u.1
-second_of d None = d
-
-found_get : {A : Type 0} (o : Option ℕ) (get : ℕ → Option A) (j : ℕ) (y : A) → ◌>>=◌ {B = ℕ × A} o (λ i. ◌>>=◌ {B = ℕ × A} (get i) (λ x. Some (i, x))) ≡ Some (j, y) → get j ≡ Some y
-found_get {A} None get j y e = absurd (cc)
-found_get {A} (Some i) get j y e = inner (get i) refl e
-  where
-    inner : (g : Option A) → get i ≡ g → ◌>>=◌ {B = ℕ × A} g (λ x. Some (i, x)) ≡ Some (j, y) → get j ≡ Some y
-    inner None is e = absurd (cc)
-    inner (Some x) is e = let h : ◌≡◌ {A = Option (ℕ × A)} (Some (i, x)) (Some (j, y)) = e in let p : i ≡ j = ap (first_of i) h in let q : x ≡ y = ap (second_of x) h in sym (ap get p) ∙ is ∙ ap Some q
-
-pub decl_get : (decls : List Decl) (q : List ℕ) (place : ℕ) (d : Decl) → the_decl decls q ≡ Some (place, d) → slice_get decls place ≡ Some d
-decl_get decls q place d e = found_get (place_of bears decls q) (slice_get decls) place d e
-
-pub struct_number : (decls : List Decl) (i : ℕ) (s : Struct) → slice_get decls i ≡ Some (struct s) → the_struct decls (number_at decls i (struct s)) ≡ Some s
-struct_number [] i s e = absurd (cc)
-struct_number (lock r ∷ ds) zero s e = absurd (cc)
-struct_number (lock r ∷ ds) (suc i) s e = struct_number ds i s e
-struct_number (struct r ∷ ds) zero s e = cc
-struct_number (struct r ∷ ds) (suc i) s e = struct_number ds i s e
-struct_number (global r ∷ ds) zero s e = absurd (cc)
-struct_number (global r ∷ ds) (suc i) s e = struct_number ds i s e
-struct_number (array r ∷ ds) zero s e = absurd (cc)
-struct_number (array r ∷ ds) (suc i) s e = struct_number ds i s e
-struct_number (pool r ∷ ds) zero s e = absurd (cc)
-struct_number (pool r ∷ ds) (suc i) s e = struct_number ds i s e
-struct_number (init r ∷ ds) zero s e = absurd (cc)
-struct_number (init r ∷ ds) (suc i) s e = struct_number ds i s e
-struct_number (atomic r ∷ ds) zero s e = absurd (cc)
-struct_number (atomic r ∷ ds) (suc i) s e = struct_number ds i s e
-struct_number (thread r ∷ ds) zero s e = absurd (cc)
-struct_number (thread r ∷ ds) (suc i) s e = struct_number ds i s e
-
-pub struct_here : (decls : List Decl) (q : List ℕ) (place : ℕ) (s : Struct) → the_decl decls q ≡ Some (place, struct s) → the_struct decls (number_at decls place (struct s)) ≡ Some s
-struct_here decls q place s e = struct_number decls place s (decl_get decls q place (struct s) e)

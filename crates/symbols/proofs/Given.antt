@@ -1,24 +1,11 @@
 -- One thing more that is given.
-use Rattle.std.proofs.Common.{◌≡◌, ℕ, List, [], ◌∷◌, Option, Some, None, Bool, true, false, refl, sym, ap, ◌∙◌, arith, if◌then◌else◌}
-use Rattle.std.specs.Prelude.{◌==◌, ◌&&◌, cond}
+use Rattle.std.proofs.Common.{◌≡◌, ℕ, List, [], ◌∷◌, Option, Some, None, Bool, true, false, refl, sym, ap, ◌∙◌, if◌then◌else◌}
+use Rattle.std.specs.Prelude.{◌&&◌, cond}
 use Rattle.std.specs.Option.{option_or}
 use Rattle.std.specs.Map.{lookup}
-use Rattle.std.proofs.lemmas.Bool.Decides.{nat_tests}
 use Rattle.resolution.specs.declared.init_target.InitTarget.{InitTarget}
 use Rattle.resolution.specs.Constants.{same_init_target}
-
-same_parts : (g h : InitTarget) (a b d : Bool) → (g.pool == h.pool) ≡ a → (g.index == h.index) ≡ b → (g.member == h.member) ≡ d → (a && b && d) ≡ true → g ≡ h
-same_parts g h true true true ea eb ed e =
-    let p : g.pool ≡ h.pool = grind (arith, nat_tests) in
-    let q : g.index ≡ h.index = grind (arith, nat_tests) in
-    let r : g.member ≡ h.member = grind (arith, nat_tests) in
-    ap (λ (n : ℕ). record { pool = n; index = g.index; member = g.member }) p ∙ ap (λ (n : ℕ). record { pool = h.pool; index = n; member = g.member }) q ∙ ap (λ (n : ℕ). record { pool = h.pool; index = h.index; member = n }) r
-same_parts g h true true false ea eb ed e = absurd (cc)
-same_parts g h true false d ea eb ed e = absurd (cc)
-same_parts g h false b d ea eb ed e = absurd (cc)
-
-same_is : (g h : InitTarget) → same_init_target g h ≡ true → g ≡ h
-same_is g h e = same_parts g h (g.pool == h.pool) (g.index == h.index) (g.member == h.member) refl refl refl e
+use Rattle.resolution.specs.Facts.{same_is}
 
 pub and_is : (a b d : Bool) → (a && (b && d)) ≡ (a && b && d)
 and_is true b d = refl

@@ -1,7 +1,5 @@
-pub mod Least
 pub mod Tables
 pub mod Ahead
-pub mod Steps
 pub mod Hiding
 pub mod Declared
 pub mod Sums

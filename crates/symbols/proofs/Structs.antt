@@ -1,6 +1,6 @@
 -- Structs among declarations, and their members, one after another.
 use Rattle.std.proofs.Common.{◌≡◌, ℕ, zero, suc, ◌≤◌, List, [], ◌∷◌, ◌++◌, Option, Some, None, Bool, true, false, refl, sym, ap, ◌∙◌, arith, subst, inl, inr}
-use Rattle.std.proofs.lemmas.List.{map-append}
+use Rattle.std.proofs.lemmas.List.{map-append, append-nil}
 use Rattle.std.specs.Prelude.{slice_get, is_some, not, ◌⊎◌}
 use Rattle.source.specs.declared.fault.Code.TheVariants.{DeclaredTwice}
 use Rattle.syntax.specs.declared.tree.Decl as rust
@@ -84,10 +84,6 @@ no_faults (variant.Init x) ds h = refl
 no_faults (variant.Atomic x) ds h = refl
 no_faults (variant.Thread x) ds h = refl
 
-nil_right : {A : Type 0} (xs : List A) → xs ++ [] ≡ xs
-nil_right [] = refl
-nil_right (x ∷ xs) = ap (λ (l : List _). x ∷ l) (nil_right xs)
-
 pub structures_same : (ds : List Decl) (d : rust.Decl) (ss : List Structure) → ((x : rust_struct.Struct) → d ≡ variant.Struct x → ⊥) → AreStructures ds ss → AreStructures (ds ++ decl_of d ∷ []) ss
 structures_same ds d ss other all =
-    (all.0 ∙ sym (structs_push ds (decl_of d) ∙ ap (λ (l : List Struct). structs_in ds ++ l) (none_struct d other) ∙ nil_right (structs_in ds)), all.1)
+    (all.0 ∙ sym (structs_push ds (decl_of d) ∙ ap (λ (l : List Struct). structs_in ds ++ l) (none_struct d other) ∙ append-nil (structs_in ds)), all.1)

@@ -4,7 +4,7 @@ use Rattle.std.specs.Prelude.{min, nat_le, nat_lt, ◌&&◌}
 use Rattle.std.proofs.lemmas.Bool.Decides.{nat_tests}
 use Rattle.source.specs.declared.fault.Code.TheVariants.{LimitExceeded}
 use Rattle.syntax.specs.Trees.{Decl, lock, struct, global, array, pool, init, atomic, thread, Member}
-use Rattle.resolution.specs.declared.mistake.Mistake.{Mistake}
+use Rattle.source.specs.declared.mistake.Mistake.{Mistake}
 use Rattle.resolution.specs.Limits.{CLASS_LIMIT, OBJECT_LIMIT, CELL_LIMIT, CALL_LIMIT}
 use Rattle.resolution.specs.Scopes.{count, alike, member_name}
 use Rattle.resolution.specs.Numbers.{is_lock, classes_of, objects_of, cells_of, calls_of, total}

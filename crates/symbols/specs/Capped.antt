@@ -1,11 +1,11 @@
 -- Sums in which all past a limit count alike.
-use Rattle.std.specs.Prelude.{ℕ, ◌≤◌, ◌+◌, ◌&&◌, nat_le, nat_lt, min, List, [], ◌++◌, Bool}
+use Rattle.std.specs.Prelude.{ℕ, ◌≤◌, ◌+◌, nat_le, min, List, [], ◌++◌}
 use Rattle.source.specs.declared.fault.Code.TheVariants.{LimitExceeded}
 use Rattle.syntax.specs.Trees.{Decl, lock, struct, global, array, pool, init, atomic, thread}
-use Rattle.resolution.specs.declared.mistake.Mistake.{Mistake}
+use Rattle.source.specs.declared.mistake.Mistake.{Mistake}
 use Rattle.resolution.specs.Limits.{STRUCT_LIMIT, CLASS_LIMIT, OBJECT_LIMIT, CELL_LIMIT, SECTION_LIMIT, THREAD_LIMIT, CALL_LIMIT}
 use Rattle.resolution.specs.Numbers.{classes_of, objects_of, cells_of, calls_of, total}
-use Rattle.resolution.specs.FaultLists.{one_if, member_counts}
+use Rattle.resolution.specs.FaultLists.{one_if, first_too_many, member_counts}
 use Rattle.symbols.specs.declared.totals.Totals.{Totals}
 
 abbrev pub capped : ℕ → ℕ → ℕ
@@ -38,9 +38,6 @@ both_totals a b = record {
 -- none is further past its limit than by one
 abbrev pub AreCapped : Totals → Type 0
 AreCapped t = (t.classes ≤ CLASS_LIMIT + 1) × (t.objects ≤ OBJECT_LIMIT + 1) × (t.cells ≤ CELL_LIMIT + 1) × (t.calls ≤ CALL_LIMIT + 1)
-
-abbrev pub first_too_many : ℕ → ℕ → ℕ → Bool
-first_too_many limit before own = nat_le before limit && nat_lt limit (before + own)
 
 -- the faults of a declaration with this number of its kind, by what stands ahead of it and what it adds
 abbrev pub faults_by : ℕ → Totals → Totals → Decl → List Mistake

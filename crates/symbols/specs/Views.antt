@@ -3,7 +3,7 @@ use Rattle.std.specs.Prelude.{◌≡◌, ℕ, List, [], map, Option, Some, None,
 use Rattle.std.specs.Borrow.{Bor}
 use Rattle.syntax.specs.declared.tree.Decl as the_decl
 use Rattle.syntax.specs.declared.tree.Name as the_name
-use Rattle.syntax.specs.Trees.{Ident, Decl, lock, struct, global, array, pool, init, atomic, thread, Member, Struct}
+use Rattle.syntax.specs.Trees.{Ident, Decl, struct, Member, Struct}
 use Rattle.syntax.specs.Views.{ident, decl_of, struct_of}
 use Rattle.resolution.specs.Scopes.{bears, member_bears, structs_in}
 use Rattle.resolution.specs.Numbers.{fields_from}
@@ -53,11 +53,4 @@ AreDeclarations d =
 -- the struct that is found
 abbrev pub struct_in : Option (ℕ × Decl) → Option (ℕ × Struct)
 struct_in (Some (i, struct s)) = Some (i, s)
-struct_in (Some (i, lock x)) = None
-struct_in (Some (i, global v)) = None
-struct_in (Some (i, array a)) = None
-struct_in (Some (i, pool p)) = None
-struct_in (Some (i, init j)) = None
-struct_in (Some (i, atomic s)) = None
-struct_in (Some (i, thread t)) = None
-struct_in None = None
+struct_in _ = None

@@ -5,18 +5,20 @@ ghost use Rattle.syntax.specs.Views.{ident, protection_of as protection_view, op
 ghost use Rattle.resolution.specs.CoreViews.{core_protection};
 ghost use Rattle.resolution.specs.Scopes.{the_decl, the_member};
 ghost use Rattle.resolution.specs.Annotations.{class_in, class_of, at_struct, stepped_on, ended, along, protection_of};
-ghost use Rattle.resolution.specs.FaultLists.{least_of, global_lock_faults, lock_faults, passed_faults, last_faults, passed, ended as end_faults, along_faults, protection_faults};
+ghost use Rattle.source.specs.Mistakes.{least_of};
+ghost use Rattle.resolution.specs.FaultLists.{lock_faults, along_faults, protection_faults};
 ghost use Rattle.symbols.specs.Views.{declared_by, structure_of, members_seen, IsStructure, AreDeclarations};
 ghost use Rattle.symbols.specs.Programs.{program_of, IsProgram};
-ghost use Rattle.symbols.specs.AnnotationCursors.{cursor_of, IsAnnotationCursor};
+ghost use Rattle.symbols.specs.AnnotationCursors.{cursor_of, IsAnnotationCursor, lock_name_faults, passed_at, ended_at};
 
 use crate::declarations::Declarations;
 use crate::members::Structure;
-use crate::note::{note, note_if};
+use crate::note::note_if;
+use crate::scope::{Meaning, note_unfit, note_unfit_member};
 use crate::table::Program;
 use core_lang::typed::Protection;
-use resolution::mistake::Mistake;
 use source::fault::Code;
+use source::mistake::{Mistake, note};
 use std::alloc::{AllocError, Global};
 use syntax::tree;
 use syntax::tree::{Decl, Member, Name};
@@ -67,7 +69,7 @@ pub fn class_of(program: &Program, p: &Option<tree::Protection>) -> Option<usize
 /// Notes what is wrong with an annotation that is to name a global lock.
 fn note_global_lock(decls: &Declarations, first: &Name, rest: &[Name], least: &mut Option<Mistake>)
     requires { AreDeclarations decls.now }
-    ensures { least.new ≡ least_of least.old (global_lock_faults (ident first.now).span.start (the_decl (declared_by decls.now) (ident first.now).text) (map ident rest.now)) }
+    ensures { least.new ≡ least_of least.old (lock_name_faults decls.now first.now rest.now) }
 {
     let start = first.start as usize;
     match decls.find(first.text.as_str()) {
@@ -77,13 +79,10 @@ fn note_global_lock(decls: &Declarations, first: &Name, rest: &[Name], least: &m
                 note(least, Code::ProtectedByNoLock, start);
             }
         }
-        Some((_, Decl::Struct(_)))
-        | Some((_, Decl::Global(_)))
-        | Some((_, Decl::Array(_)))
-        | Some((_, Decl::Pool(_)))
-        | Some((_, Decl::Init(_)))
-        | Some((_, Decl::Atomic(_)))
-        | Some((_, Decl::Thread(_))) => note(least, Code::ProtectedByNoLock, start),
+        Some((place, d)) => {
+            let meant = Meaning::Decl(place, d);
+            note_unfit(decls, Code::ProtectedByNoLock, start, meant, least);
+        }
     }
 }
 
@@ -225,13 +224,15 @@ pub fn protection_of<'a, 't>(
 
 /// Notes what is wrong with a name that others follow.
 fn note_passed(
+    decls: &Declarations,
     start: usize,
     cursor: &Option<AnnotationCursor>,
     y: &Name,
     least: &mut Option<Mistake>,
 )
-    requires { IsAnnotationCursor cursor.now }
-    ensures { least.new ≡ least_of least.old (passed start (option_map cursor_of cursor.now) (ident y.now)) }
+    requires decls { AreDeclarations decls.now }
+    requires cursor { IsAnnotationCursor cursor.now }
+    ensures { least.new ≡ least_of least.old (passed_at decls.now start cursor.now y.now) }
 {
     let Some(cursor) = cursor else {
         return;
@@ -242,16 +243,24 @@ fn note_passed(
             let is_over = FINAL_LIMIT <= cursor.through.len();
             note_if(is_over, Code::LimitExceeded, start, least);
         }
-        Some((_, Member::Field(_))) | Some((_, Member::Lock(_))) => {
-            note(least, Code::ProtectedByPassesNonFinal, y.start as usize);
+        Some((_, m)) => {
+            let code = Code::ProtectedByPassesNonFinal;
+            note_unfit_member(decls, code, y.start as usize, m, least);
         }
     }
 }
 
 /// Notes what is wrong with the last name.
-fn note_last(start: usize, cursor: &Option<AnnotationCursor>, y: &Name, least: &mut Option<Mistake>)
-    requires { IsAnnotationCursor cursor.now }
-    ensures { least.new ≡ least_of least.old (end_faults start (option_map cursor_of cursor.now) (ident y.now)) }
+fn note_last(
+    decls: &Declarations,
+    start: usize,
+    cursor: &Option<AnnotationCursor>,
+    y: &Name,
+    least: &mut Option<Mistake>,
+)
+    requires decls { AreDeclarations decls.now }
+    requires cursor { IsAnnotationCursor cursor.now }
+    ensures { least.new ≡ least_of least.old (ended_at decls.now start cursor.now y.now) }
 {
     let Some(cursor) = cursor else {
         return;
@@ -259,14 +268,12 @@ fn note_last(start: usize, cursor: &Option<AnnotationCursor>, y: &Name, least: &
     match cursor.structure.find(y.text.as_str()) {
         None => note(least, Code::UnknownName, y.start as usize),
         Some((_, Member::Lock(_))) => {}
-        Some((_, Member::Final(_))) | Some((_, Member::Field(_))) => {
-            note(least, Code::ProtectedByNoLock, start);
-        }
+        Some((_, m)) => note_unfit_member(decls, Code::ProtectedByNoLock, start, m, least),
     }
 }
 
 /// Notes what is wrong along names, of which the first of all starts there.
-#[tactic(auto, using(crate::proofs::Least::least_append))]
+#[tactic(auto, using(source::specs::Leasts::least_append))]
 fn note_along<'a, 't>(
     decls: &'a Declarations<'t>,
     start: usize,
@@ -282,11 +289,11 @@ fn note_along<'a, 't>(
     let mut cursor = cursor;
     let mut y = first;
     for z in rest {
-        note_passed(start, &cursor, y, least);
+        note_passed(decls, start, &cursor, y, least);
         cursor = stepped_on(decls, cursor, y)?;
         y = z;
     }
-    note_last(start, &cursor, y, least);
+    note_last(decls, start, &cursor, y, least);
     Ok(())
 }
 

@@ -3,16 +3,16 @@
 ghost use Rattle.std.specs.Prelude.{◌≡◌, ◌<◌, ◌+◌, ◌++◌, ◌^◌, [], OnOk, IfOk, IfSome, option_map, take};
 ghost use Rattle.syntax.specs.Views.{ident, decl_of};
 ghost use Rattle.resolution.specs.Scopes.{declared, bears, the_decl, number_at, the_struct};
-ghost use Rattle.resolution.specs.FaultLists.{least_of, twice_faults, struct_faults};
+ghost use Rattle.source.specs.Mistakes.{least_of};
+ghost use Rattle.resolution.specs.FaultLists.{twice_faults, struct_faults};
 ghost use Rattle.symbols.specs.Found.{IsTableOf, IsTableWith, declared_in, AreAhead};
 ghost use Rattle.symbols.specs.Counted.{count_of, counted, counts_from, no_counts};
 ghost use Rattle.symbols.specs.Views.{decls_of, declared_by, name_seen, structure_of, struct_in, IsStructure, AreStructures, AreDeclarations};
 
 use crate::members::Structure;
 use crate::names::Names;
-use crate::note::note;
-use resolution::mistake::Mistake;
 use source::fault::Code;
+use source::mistake::{Mistake, note};
 use std::alloc::{AllocError, Global};
 use syntax::tree::{Decl, Name};
 
@@ -154,7 +154,7 @@ fn add_name(
 }
 
 /// The names of declarations, and how many of each kind stand ahead of each and are in all.
-#[tactic(auto, using(crate::proofs::Least::least_append))]
+#[tactic(auto, using(source::specs::Leasts::least_append))]
 fn judge_names(
     alloc: Global,
     decls: &[Decl],
@@ -178,7 +178,7 @@ fn judge_names(
 }
 
 /// The structs among declarations, by number, with tables of their members.
-#[tactic(auto, using(crate::proofs::Least::least_append))]
+#[tactic(auto, using(source::specs::Leasts::least_append))]
 fn judge_structs<'t>(
     alloc: Global,
     decls: &'t [Decl],
@@ -199,7 +199,7 @@ fn judge_structs<'t>(
 
 impl<'t> Declarations<'t> {
     /// The declarations with their tables. Names that are declared twice are noted. The one error is a refused growth.
-    #[tactic(auto, using(crate::proofs::Least::least_append))]
+    #[tactic(auto, using(source::specs::Leasts::least_append))]
     pub(crate) fn new(
         alloc: Global,
         items: &'t [Decl],

@@ -6,17 +6,17 @@ ghost use Rattle.syntax.specs.Views.{decl_of, init_of, ident, pool_of, member_of
 ghost use Rattle.resolution.specs.declared.init_target.InitTarget as the_init_target;
 ghost use Rattle.resolution.specs.Scopes.{the_decl};
 ghost use Rattle.resolution.specs.Constants.{init_target_of, gives, same_init_target, initialised, pool_members};
-ghost use Rattle.resolution.specs.FaultLists.{least_of, repeated_faults};
+ghost use Rattle.source.specs.Mistakes.{least_of};
+ghost use Rattle.resolution.specs.FaultLists.{repeated_faults};
 ghost use Rattle.symbols.specs.Given.{init_target_found, IsInitTargetTable, again_given, repeated_in, pool_in, struct_of_pool};
 ghost use Rattle.symbols.specs.Views.{declared_by, structure_of, members_seen, IsStructure, AreDeclarations};
 
 use crate::declarations::Declarations;
 use crate::members::Structure;
-use crate::note::note;
 use indexmap::IndexMap;
 use resolution::init_target::InitTarget;
-use resolution::mistake::Mistake;
 use source::fault::Code;
+use source::mistake::{Mistake, note};
 use std::alloc::{AllocError, Global};
 use syntax::tree::{Decl, Init, Member, Pool};
 
@@ -151,7 +151,7 @@ fn judge_decl(
 }
 
 /// What `init`s give. Notes those that give what is given already. The one error is a refused growth.
-#[tactic(auto, using(crate::proofs::Least::least_append))]
+#[tactic(auto, using(source::specs::Leasts::least_append))]
 pub(crate) fn judge_first_inits(
     alloc: Global,
     decls: &Declarations,

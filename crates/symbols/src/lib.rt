@@ -8,7 +8,7 @@
 //!   the tables.
 //! - [`scope`]: what a name means, in a section or outside of sections, and the types that are written.
 //! - [`annotation`]: which lock protects a global, an array or a field.
-//! - [`note::note`]: keeps the least of the faults.
+//! - [`note::note_if`]: notes a fault where there is one.
 //!
 //! Which data a value of the tables is stands in `specs/Views.antt`, `Found.antt`, `Programs.antt`, `Scoped.antt` and
 //! `AnnotationCursors.antt`; how sums past a limit are capped in `Capped.antt`. What names mean and where faults stand is

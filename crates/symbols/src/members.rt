@@ -5,14 +5,14 @@ ghost use Rattle.syntax.specs.Views.{ident, member_of, struct_of};
 ghost use Rattle.source.specs.declared.fault.Code.TheVariants.{DeclaredTwice};
 ghost use Rattle.resolution.specs.Scopes.{member_name, member_bears, the_member, number_in};
 ghost use Rattle.resolution.specs.Expressions.{member_number};
-ghost use Rattle.resolution.specs.FaultLists.{least_of, one_if, member_twice_faults};
+ghost use Rattle.source.specs.Mistakes.{least_of};
+ghost use Rattle.resolution.specs.FaultLists.{one_if, member_twice_faults};
 ghost use Rattle.symbols.specs.Counted.{member_count, member_counted, member_counts_from, no_members, field_if};
 ghost use Rattle.symbols.specs.Views.{structure_of, members_seen, IsStructure};
 
 use crate::names::Names;
-use crate::note::note;
-use resolution::mistake::Mistake;
 use source::fault::Code;
+use source::mistake::{Mistake, note};
 use std::alloc::{AllocError, Global};
 use syntax::tree::{Member, Name, Struct};
 
@@ -113,7 +113,7 @@ fn note_again(is_first: bool, start: usize, least: &mut Option<Mistake>)
 
 impl<'t> Structure<'t> {
     /// A struct with its tables. Names that two members bear are noted. The one error is a refused growth.
-    #[tactic(auto, using(crate::proofs::Least::least_append))]
+    #[tactic(auto, using(source::specs::Leasts::least_append))]
     pub(crate) fn new(
         alloc: Global,
         item: &'t Struct,

@@ -1,24 +1,25 @@
 //! What names mean, and the types that are written.
 
 ghost use Rattle.std.specs.Prelude.{◌≡◌, [], List, OnOk};
-ghost use Rattle.syntax.specs.Views.{ident, type_of as type_seen};
+ghost use Rattle.syntax.specs.Views.{ident, member_of, type_of as type_seen};
 ghost use Rattle.syntax.specs.Trees as trees;
 ghost use Rattle.syntax.specs.Trees.{ref_type};
-ghost use Rattle.resolution.specs.Scopes.{meaning, outside, bound, hidden_from, struct_meant, struct_named, type_of, has_type};
-ghost use Rattle.resolution.specs.FaultLists.{least_of, no_struct, type_faults, unfit};
+ghost use Rattle.resolution.specs.Scopes.{meaning, outside, bound, hidden_from, struct_meant, struct_named, type_of, has_type, member_has_type};
+ghost use Rattle.source.specs.Mistakes.{least_of};
+ghost use Rattle.resolution.specs.FaultLists.{no_struct, type_faults, unfit, unfit_member};
 ghost use Rattle.symbols.specs.Views.{declared_by, AreDeclarations};
 ghost use Rattle.symbols.specs.Scoped.{locals_seen, scope_of, AreLocals, meaning_of};
 
 use crate::declarations::Declarations;
 use crate::names::Names;
-use crate::note::{note, note_if};
+use crate::note::note_if;
 use core_lang::tree::LocalKind;
 use core_lang::value::ValueType;
-use resolution::mistake::Mistake;
 use source::fault::Code;
+use source::mistake::{Mistake, note};
 use std::alloc::{AllocError, Global};
 use syntax::tree;
-use syntax::tree::{Decl, Name};
+use syntax::tree::{Decl, Member, Name};
 
 /// A local: its type, unless that is faulty, and whether it is in scope.
 #[derive(Drop)]
@@ -139,13 +140,7 @@ fn struct_meant(decls: &Declarations, m: Meaning) -> Option<usize>
     match m {
         Meaning::Decl(place, d) => match d {
             Decl::Struct(_) => Some(decls.number(place, d)),
-            Decl::Lock(_)
-            | Decl::Global(_)
-            | Decl::Array(_)
-            | Decl::Pool(_)
-            | Decl::Init(_)
-            | Decl::Atomic(_)
-            | Decl::Thread(_) => None,
+            _ => None,
         },
         Meaning::Local(_, _) | Meaning::Nothing => None,
     }
@@ -198,16 +193,11 @@ fn has_type(decls: &Declarations, m: Meaning) -> bool
         Meaning::Decl(_, Decl::Global(v)) => type_outside(decls, &v.value_type).is_some(),
         Meaning::Decl(_, Decl::Array(a)) => type_outside(decls, &a.value_type).is_some(),
         Meaning::Decl(_, Decl::Pool(p)) => struct_named(decls, &p.target).is_some(),
-        Meaning::Decl(_, Decl::Lock(_))
-        | Meaning::Decl(_, Decl::Struct(_))
-        | Meaning::Decl(_, Decl::Init(_))
-        | Meaning::Decl(_, Decl::Atomic(_))
-        | Meaning::Decl(_, Decl::Thread(_))
-        | Meaning::Nothing => true,
+        Meaning::Decl(_, _) | Meaning::Nothing => true,
     }
 }
 
-/// Notes at `start` the fault of a thing that can't stand there, unless its type has a fault, which is noted elsewhere.
+/// Notes at `start` the fault of a thing that can't stand there, unless its type has a fault.
 pub fn note_unfit(
     decls: &Declarations,
     code: Code,
@@ -221,6 +211,32 @@ pub fn note_unfit(
     note_if(has_type(decls, m), code, start, least);
 }
 
+/// Whether a member has no fault in its type.
+fn member_has_type(decls: &Declarations, m: &Member) -> bool
+    requires { AreDeclarations decls.now }
+    ensures { result ≡ member_has_type (declared_by decls.now) (member_of m.now) }
+{
+    match m {
+        Member::Lock(_) => true,
+        Member::Final(f) => struct_named(decls, &f.target).is_some(),
+        Member::Field(f) => type_outside(decls, &f.value_type).is_some(),
+    }
+}
+
+/// Notes at `start` the fault of a member that can't stand there, unless its type has a fault.
+pub(crate) fn note_unfit_member(
+    decls: &Declarations,
+    code: Code,
+    start: usize,
+    m: &Member,
+    least: &mut Option<Mistake>,
+)
+    requires { AreDeclarations decls.now }
+    ensures { least.new ≡ least_of least.old (unfit_member (declared_by decls.now) code start (member_of m.now)) }
+{
+    note_if(member_has_type(decls, m), code, start, least);
+}
+
 /// Notes a type's name that names no struct.
 fn note_no_struct(start: usize, m: Meaning, least: &mut Option<Mistake>)
     ensures { least.new ≡ least_of least.old (no_struct start (meaning_of m.entry)) }
@@ -228,14 +244,7 @@ fn note_no_struct(start: usize, m: Meaning, least: &mut Option<Mistake>)
     match m {
         Meaning::Decl(_, Decl::Struct(_)) => {}
         Meaning::Nothing => note(least, Code::UnknownName, start),
-        Meaning::Local(_, _)
-        | Meaning::Decl(_, Decl::Lock(_))
-        | Meaning::Decl(_, Decl::Global(_))
-        | Meaning::Decl(_, Decl::Array(_))
-        | Meaning::Decl(_, Decl::Pool(_))
-        | Meaning::Decl(_, Decl::Init(_))
-        | Meaning::Decl(_, Decl::Atomic(_))
-        | Meaning::Decl(_, Decl::Thread(_)) => note(least, Code::WrongType, start),
+        _ => note(least, Code::WrongType, start),
     }
 }
 

@@ -6,7 +6,8 @@ ghost use Rattle.resolution.specs.Expressions.{cell_of};
 ghost use Rattle.resolution.specs.Constants.{object_of, given};
 ghost use Rattle.resolution.specs.Annotations.{class_number};
 ghost use Rattle.resolution.specs.Resolution.{few_calls};
-ghost use Rattle.resolution.specs.FaultLists.{least_of, twice_faults, struct_faults, total_faults, repeated_faults};
+ghost use Rattle.source.specs.Mistakes.{least_of};
+ghost use Rattle.resolution.specs.FaultLists.{twice_faults, struct_faults, total_faults, repeated_faults};
 ghost use Rattle.symbols.specs.Capped.{totals_of};
 ghost use Rattle.symbols.specs.Views.{decls_of};
 ghost use Rattle.symbols.specs.Programs.{program_of, IsProgram};
@@ -15,7 +16,7 @@ use crate::declarations::Declarations;
 use crate::first_inits::{FirstInits, judge_first_inits};
 use crate::totals::{CALL_LIMIT, CELL_LIMIT, CLASS_LIMIT, OBJECT_LIMIT, Totals, judge_totals};
 use resolution::init_target::InitTarget;
-use resolution::mistake::Mistake;
+use source::mistake::Mistake;
 use std::alloc::{AllocError, Global};
 use syntax::tree::{Const, Decl};
 
@@ -35,7 +36,7 @@ pub struct Program<'t> {
 impl<'t> Program<'t> {
     /// The declarations with all their tables. What is wrong with names, counts and repeated `init`s is noted. The one
     /// error is a refused growth.
-    #[tactic(auto, using(crate::proofs::Least::least_append))]
+    #[tactic(auto, using(source::specs::Leasts::least_append))]
     pub fn new(
         alloc: Global,
         items: &'t [Decl],

@@ -6,16 +6,17 @@ ghost use Rattle.syntax.specs.Views.{decl_of, member_of, struct_of, pool_of, ite
 ghost use Rattle.syntax.specs.Trees.{struct, pool};
 ghost use Rattle.resolution.specs.Limits.{CLASS_LIMIT, CELL_LIMIT, CALL_LIMIT};
 ghost use Rattle.resolution.specs.Numbers.{is_lock, calls_in, calls_in_all, classes_of, cells_of};
-ghost use Rattle.resolution.specs.FaultLists.{least_of, one_if, lock_count, member_counts, total_faults};
+ghost use Rattle.source.specs.Mistakes.{least_of};
+ghost use Rattle.resolution.specs.FaultLists.{one_if, first_too_many, lock_count, member_counts, total_faults};
 ghost use Rattle.symbols.specs.Found.{AreAhead};
-ghost use Rattle.symbols.specs.Capped.{capped, totals_of, no_totals, added_by, both_totals, AreCapped, first_too_many, faults_by};
+ghost use Rattle.symbols.specs.Capped.{capped, totals_of, no_totals, added_by, both_totals, AreCapped, faults_by};
 ghost use Rattle.symbols.specs.Views.{declared_by, AreDeclarations};
 
 use crate::declarations::Declarations;
 use crate::members::{MEMBER_LIMIT, name_of};
 use crate::note::note_if;
-use resolution::mistake::Mistake;
 use source::fault::Code;
+use source::mistake::Mistake;
 use std::alloc::{AllocError, Global};
 use syntax::tree::{Decl, Item, Member, Pool, Struct};
 
@@ -193,7 +194,7 @@ fn passes(limit: usize, before: usize, own: usize) -> bool
 }
 
 /// Notes the members by which there are too many of a struct, or too many lock classes.
-#[tactic(auto, using(crate::proofs::Least::least_append))]
+#[tactic(auto, using(source::specs::Leasts::least_append))]
 fn note_members(classes: usize, members: &[Member], least: &mut Option<Mistake>)
     requires { classes ≤ CLASS_LIMIT + 1 }
     ensures { least.new ≡ least_of least.old (member_counts classes 0 (map member_of members.now)) }
@@ -222,7 +223,7 @@ fn note_lock(classes: usize, m: &Member, start: usize, least: &mut Option<Mistak
 }
 
 /// Notes a declaration by which there are too many of something.
-#[tactic(auto, using(crate::proofs::Least::least_append))]
+#[tactic(auto, using(source::specs::Leasts::least_append))]
 fn note_decl(number: usize, ahead: Totals, own: Totals, d: &Decl, least: &mut Option<Mistake>)
     requires ahead { AreCapped ahead }
     requires own { AreCapped own }
@@ -266,7 +267,7 @@ fn note_decl(number: usize, ahead: Totals, own: Totals, d: &Decl, least: &mut Op
 
 /// How much stands ahead of each declaration and is in all. Notes where there are too many. The one error is a refused
 /// growth.
-#[tactic(auto, using(crate::proofs::Least::least_append))]
+#[tactic(auto, using(source::specs::Leasts::least_append))]
 pub(crate) fn judge_totals(
     alloc: Global,
     decls: &Declarations,

@@ -18,7 +18,7 @@ use Rattle.syntax.specs.declared.tree.Item as the_item
 use Rattle.syntax.specs.declared.tree.Item.{Repeat}
 use Rattle.syntax.specs.Views.{expr_of, joined_of, links_of, stmt_of, stmts_of, else_of, item_of, items_of}
 use Rattle.syntax.specs.Printing.{expr_text, links_text, indent, deeper, stmt_text, stmts_text, else_text, item_text, items_text}
-use Rattle.syntax.proofs.Rows.{joined_of-Chain, stmt_of_While, stmt_of_If, item_of_Repeat}
+use Rattle.syntax.specs.Rows.{joined_of-Chain, stmt_of_While, stmt_of_If, item_of_Repeat}
 
 pub chain_out : (old mid new : List ℕ) (j : the_joined.Joined) (k : Level) (first : the_expr.Expr) (links : Vec the_link.Link Global) → j ≡ Chain k first links → mid ≡ old ++ expr_text (expr_of first) → new ≡ mid ++ links_text (links_of links.items) → new ≡ old ++ expr_text (joined_of j)
 chain_out old mid new j k first links is p q =

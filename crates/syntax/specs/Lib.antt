@@ -5,3 +5,12 @@ pub mod Returns
 pub mod Faults
 pub mod Printing
 pub mod Bare
+pub mod Rows
+-- what public clauses cite
+pub use Rattle.syntax.specs.Trees.{Decl}
+pub use Rattle.syntax.specs.Views.{tree_of}
+pub use Rattle.syntax.specs.Grammar.{HasTree}
+pub use Rattle.syntax.specs.Returns.{ReturnsRight}
+pub use Rattle.syntax.specs.Faults.{HasRightTree, IsMisplaced, IsRefusal, IsTooDeep, IsUnexpected}
+pub use Rattle.syntax.specs.Printing.{tree_text}
+pub use Rattle.syntax.specs.Bare.{HasTextOf}

@@ -1,14 +1,14 @@
 -- The passes together.
 use Rattle.std.proofs.Common.{◌≡◌, List, [], ◌∷◌, ◌++◌, Option, Some, None, Bool, true, false, refl, sym, ap, ◌∙◌, if◌then◌else◌}
-use Rattle.resolution.specs.declared.mistake.Mistake.{Mistake}
+use Rattle.source.specs.declared.mistake.Mistake.{Mistake}
 use Rattle.syntax.specs.Trees.{Decl}
 use Rattle.resolution.specs.Core as core
-use Rattle.resolution.specs.Order.{goes_before}
+use Rattle.source.specs.Mistakes.{goes_before, least_of}
+use Rattle.source.specs.Leasts.{least_append}
 use Rattle.resolution.specs.Resolution.{resolved, resolved_from}
-use Rattle.resolution.specs.FaultLists.{least_of, twice_faults, struct_faults, total_faults, repeated_faults, each_faults}
+use Rattle.resolution.specs.FaultLists.{twice_faults, struct_faults, total_faults, repeated_faults, each_faults}
 use Rattle.resolution.specs.Laws.{the_least}
 use Rattle.types.specs.Whole.{unless}
-use Rattle.symbols.proofs.Least.{least_append}
 
 -- the least after the passes over all declarations
 abbrev pub least_after : Option Mistake → List Decl → Option Mistake

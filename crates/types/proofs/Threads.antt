@@ -1,19 +1,20 @@
 -- What threads do, one thing after another.
 use Rattle.std.proofs.Common.{◌≡◌, ℕ, zero, suc, List, [], ◌++◌, Option, Some, None, true, false, Vec, Global, refl, sym, ap, ◌∙◌, append_assoc}
 use Rattle.std.specs.Prelude.{is_some}
-use Rattle.resolution.specs.declared.mistake.Mistake.{Mistake}
+use Rattle.source.specs.declared.mistake.Mistake.{Mistake}
 use Rattle.source.specs.declared.token.Number.{Number}
 use Rattle.syntax.specs.declared.tree.Item as tree
 use Rattle.syntax.specs.declared.tree.Item.{Repeat}
 use Rattle.syntax.specs.Trees.{Decl}
 use Rattle.syntax.specs.Views.{item_of, items_of}
-use Rattle.syntax.proofs.Rows.{item_of_Repeat}
+use Rattle.syntax.specs.Rows.{item_of_Repeat}
 use Rattle.resolution.specs.Core as core
 use Rattle.resolution.specs.Scopes.{◌>>=◌}
 use Rattle.resolution.specs.Resolution.{copies, typed_item, typed_items}
-use Rattle.resolution.specs.FaultLists.{least_of, item_faults, items_faults}
+use Rattle.source.specs.Mistakes.{least_of}
+use Rattle.resolution.specs.FaultLists.{item_faults, items_faults}
 use Rattle.types.specs.Calls.{repeated_calls}
-use Rattle.symbols.proofs.Steps.{nil_right}
+use Rattle.std.proofs.lemmas.List.{append-nil}
 
 pub repeat_faults : (decls : List Decl) (x : tree.Item) (n : Number) (vec : Vec tree.Item Global) (items : List tree.Item) (f g : Option Mistake) → x ≡ Repeat n vec → items ≡ vec.items → g ≡ least_of f (items_faults decls (items_of items)) → g ≡ least_of f (item_faults decls (item_of x))
 repeat_faults decls x n vec items f g is all hg = hg ∙ ap (λ ys. least_of f (items_faults decls (items_of ys))) all ∙ ap (λ y. least_of f (item_faults decls y)) (sym (ap item_of is ∙ item_of_Repeat n vec))
@@ -55,5 +56,5 @@ copies_none zero calls is = refl
 copies_none (suc n) calls is = ap (λ (xs : List core.Call). xs ++ copies n calls) is ∙ copies_none n calls is
 
 pub copies_snoc : (n : ℕ) (xs : List core.Call) → copies n xs ++ xs ≡ xs ++ copies n xs
-copies_snoc zero xs = sym (nil_right xs)
+copies_snoc zero xs = sym (append-nil xs)
 copies_snoc (suc n) xs = append_assoc xs (copies n xs) xs ∙ ap (λ (ys : List core.Call). xs ++ ys) (copies_snoc n xs)

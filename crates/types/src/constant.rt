@@ -5,20 +5,20 @@ ghost use Rattle.syntax.specs.Views.{ident, const_of, option_of, param_of};
 ghost use Rattle.resolution.specs.Scopes.{the_decl};
 ghost use Rattle.resolution.specs.Constants.{const_sort, const_value, typed_const, want_of, typed_arguments, opened, default_of, member_sort, member_of};
 ghost use Rattle.resolution.specs.Faults.{const_start};
-ghost use Rattle.resolution.specs.FaultLists.{least_of, index_faults, own_faults, sort_misfit, const_faults, argument_faults, opening_faults};
+ghost use Rattle.source.specs.Mistakes.{least_of};
+ghost use Rattle.resolution.specs.FaultLists.{index_faults, own_faults, sort_misfit, const_faults, argument_faults, opening_faults};
 ghost use Rattle.sections.specs.Parts.{pushed};
-ghost use Rattle.symbols.specs.Views.{declared_by, AreDeclarations};
-ghost use Rattle.symbols.specs.Programs.{program_of, IsProgram};
+ghost use Rattle.symbols.specs.{declared_by, AreDeclarations, program_of, IsProgram};
 
 use core_lang::value::{Value, ValueType};
-use resolution::mistake::Mistake;
 use resolution::wanted::{Sort, Want};
 use sections::wanted::{fits_sort, note_number, number, want};
 use source::fault::Code;
+use source::mistake::{Mistake, note};
 use source::token::Number;
 use std::alloc::{AllocError, Global};
 use symbols::declarations::Declarations;
-use symbols::note::{note, note_if};
+use symbols::note::note_if;
 use symbols::scope::{Meaning, note_unfit, struct_named, type_outside};
 use symbols::table::Program;
 use syntax::tree::{Const, Decl, Name, Param};
@@ -192,7 +192,7 @@ fn note_sort(w: Want, start: usize, s: Option<Sort>, least: &mut Option<Mistake>
 }
 
 /// Notes what is wrong with a constant of which something is wanted.
-#[tactic(auto, using(symbols::proofs::Least::least_append))]
+#[tactic(auto, using(source::specs::Leasts::least_append))]
 pub fn note_const(decls: &Declarations, w: Want, c: &Const, least: &mut Option<Mistake>)
     requires { AreDeclarations decls.now }
     ensures { least.new ≡ least_of least.old (const_faults (declared_by decls.now) w (const_of c.now)) }
@@ -220,7 +220,7 @@ fn want_of(decls: &Declarations, p: &Param) -> Want
 }
 
 /// Notes what is wrong with arguments.
-#[tactic(auto, using(symbols::proofs::Least::least_append))]
+#[tactic(auto, using(source::specs::Leasts::least_append))]
 pub fn note_arguments(
     decls: &Declarations,
     params: &[Param],

@@ -5,10 +5,8 @@ ghost use Rattle.syntax.specs.Trees.{struct};
 ghost use Rattle.syntax.specs.Views.{ident, array_of, variable_of};
 ghost use Rattle.resolution.specs.CoreViews.{core_of, core_struct, core_section, core_call};
 ghost use Rattle.resolution.specs.Core.{global_lock};
-ghost use Rattle.resolution.specs.Resolution.{with_class, empty_struct, with_section, with_thread, extended, with_elements};
-ghost use Rattle.symbols.specs.Views.{structure_of, IsStructure};
-ghost use Rattle.symbols.specs.Programs.{program_of, IsProgram};
-ghost use Rattle.types.specs.Whole.{global_with, array_with};
+ghost use Rattle.resolution.specs.Resolution.{with_class, empty_struct, global_with, array_with, with_section, with_thread, extended, with_elements};
+ghost use Rattle.symbols.specs.{structure_of, IsStructure, program_of, IsProgram};
 
 use crate::constant::{default_of, opened};
 use crate::pool::{cell_at, with_cell};

@@ -3,19 +3,19 @@
 ghost use Rattle.std.specs.Prelude.{◌≡◌, option_map};
 ghost use Rattle.syntax.specs.Views.{init_of, const_of, member_of};
 ghost use Rattle.resolution.specs.Constants.{member_want};
-ghost use Rattle.resolution.specs.FaultLists.{least_of, null_faults, init_faults};
-ghost use Rattle.symbols.specs.Views.{declared_by, AreDeclarations};
-ghost use Rattle.types.specs.Whole.{init_field_faults};
+ghost use Rattle.source.specs.Mistakes.{least_of};
+ghost use Rattle.resolution.specs.FaultLists.{init_field_faults, null_faults, init_faults};
+ghost use Rattle.symbols.specs.{declared_by, AreDeclarations};
 
 use crate::constant::{note_const, note_index};
 use core_lang::value::ValueType;
-use resolution::mistake::Mistake;
 use resolution::wanted::Want;
 use sections::wanted::want;
 use source::fault::Code;
+use source::mistake::{Mistake, note};
 use symbols::declarations::Declarations;
 use symbols::first_inits::{initialised, structure_given};
-use symbols::note::{note, note_if};
+use symbols::note::note_if;
 use symbols::scope::{struct_named, type_outside};
 use syntax::tree::{Const, Init, Member};
 
@@ -71,7 +71,7 @@ fn note_null(
 }
 
 /// Notes what is wrong with an `init`.
-#[tactic(auto, using(symbols::proofs::Least::least_append))]
+#[tactic(auto, using(source::specs::Leasts::least_append))]
 pub fn note_init(decls: &Declarations, i: &Init, least: &mut Option<Mistake>)
     requires { AreDeclarations decls.now }
     ensures { least.new ≡ least_of least.old (init_faults (declared_by decls.now) (init_of i.now)) }

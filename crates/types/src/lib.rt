@@ -5,7 +5,7 @@
 //!   `sections`; here stand constants, structs, pools with their objects, threads, and the program that
 //!   grows by one declaration after another.
 //! - `specs/Resolution.antt` of `resolution`: the program that a tree stands for; `specs/Scopes.antt`: what names mean.
-//! - `specs/Faults.antt` of `resolution`: where each fault stands; `specs/Leasts.antt`: which one is given.
+//! - `specs/Faults.antt` of `resolution`: where each fault stands; `specs/Mistakes.antt` of `source`: which one is given.
 #![tactic(auto)]
 
 mod constant;

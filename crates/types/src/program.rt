@@ -8,13 +8,11 @@ ghost use Rattle.core_lang.specs.WellFormed.{IsWellFormed};
 ghost use Rattle.resolution.specs.CoreViews.{core_of};
 ghost use Rattle.resolution.specs.Resolution.{resolved_from, nothing_yet};
 ghost use Rattle.resolution.specs.Resolved.{Resolves};
-ghost use Rattle.resolution.specs.Faults.{IsRefusal, HasNoFault};
-ghost use Rattle.resolution.specs.FaultLists.{least_of, decl_faults, each_faults, items_faults};
-ghost use Rattle.sections.specs.Targets.{section_faults};
-ghost use Rattle.resolution.specs.Leasts.{IsLeast};
-ghost use Rattle.symbols.specs.Programs.{program_of, IsProgram};
-ghost use Rattle.symbols.specs.Views.{structure_of, IsStructure};
-ghost use Rattle.types.specs.Whole.{unless, extended_if, global_if, array_if, section_if, thread_if, global_faults, array_faults};
+ghost use Rattle.resolution.specs.Faults.{IsFault, IsRefusal, HasNoFault};
+ghost use Rattle.source.specs.Mistakes.{least_of, IsLeastOf};
+ghost use Rattle.resolution.specs.FaultLists.{global_faults, array_faults, section_faults, decl_faults, each_faults, items_faults};
+ghost use Rattle.symbols.specs.{structure_of, IsStructure, program_of, IsProgram};
+ghost use Rattle.types.specs.Whole.{unless, extended_if, global_if, array_if, section_if, thread_if};
 
 use crate::constant::note_opening;
 use crate::grown::{with_array, with_global, with_lock, with_section, with_struct, with_thread};
@@ -26,10 +24,10 @@ use core_lang::shape::Shape;
 use core_lang::typed::Typed;
 use core_lang::{shape, typed};
 use resolution::laws;
-use resolution::mistake::Mistake;
 use sections::section::judge_section;
 use sections::wanted::want;
 use source::fault::{Fault, Refusal};
+use source::mistake::Mistake;
 use std::alloc::{AllocError, Global};
 use symbols::annotation::note_lock;
 use symbols::members::Structure;
@@ -38,7 +36,7 @@ use symbols::table::Program;
 use syntax::tree::{Array, Decl, Pool, Section, Thread, Tree, Variable};
 
 /// The program with a struct more, which has this place, if everything in it is right.
-#[tactic(auto, using(symbols::proofs::Least::least_append))]
+#[tactic(auto, using(source::specs::Leasts::least_append))]
 fn judge_struct<'a, 't>(
     alloc: Global,
     program: &'a Program<'t>,
@@ -61,7 +59,7 @@ fn judge_struct<'a, 't>(
 }
 
 /// The program with a global more, if everything in it is right.
-#[tactic(auto, using(symbols::proofs::Least::least_append))]
+#[tactic(auto, using(source::specs::Leasts::least_append))]
 fn judge_global(
     alloc: Global,
     program: &Program,
@@ -85,7 +83,7 @@ fn judge_global(
 }
 
 /// The program with an array more, if everything in it is right.
-#[tactic(auto, using(symbols::proofs::Least::least_append))]
+#[tactic(auto, using(source::specs::Leasts::least_append))]
 fn judge_array(
     alloc: Global,
     program: &Program,
@@ -107,7 +105,7 @@ fn judge_array(
 }
 
 /// The program with a pool more, which has this place, if everything in it is right.
-#[tactic(auto, using(symbols::proofs::Least::least_append))]
+#[tactic(auto, using(source::specs::Leasts::least_append))]
 fn judge_pool(
     alloc: Global,
     program: &Program,
@@ -168,7 +166,7 @@ fn judge_thread(
 }
 
 /// The program with one more declaration, which has this place, if everything in it is right.
-#[tactic(auto, using(symbols::proofs::Least::least_append))]
+#[tactic(auto, using(source::specs::Leasts::least_append))]
 fn judge_decl(
     alloc: Global,
     program: &Program,
@@ -237,7 +235,7 @@ fn unless(alloc: Global, least: &Option<Mistake>) -> Option<Typed>
 }
 
 /// The program with its declarations, one after another.
-#[tactic(auto, using(symbols::proofs::Least::least_append))]
+#[tactic(auto, using(source::specs::Leasts::least_append))]
 fn judge_decls(
     alloc: Global,
     program: &Program,
@@ -271,7 +269,7 @@ pub fn check(alloc: Global, tree: &Tree) -> Result<Typed, Refusal>
     // A fault is a fault of the tree.
     ensures fault { IfErr result (IsRefusal (tree_of tree.now)) }
     // No fault of the tree goes before it.
-    ensures least { IfErr result (IsLeast (tree_of tree.now)) }
+    ensures least { IfErr result (IsLeastOf (IsFault (tree_of tree.now))) }
 {
     laws::least_fault();
     laws::faultless_are_resolved();

@@ -4,14 +4,14 @@ ghost use Rattle.std.specs.Prelude.{◌≡◌, ◌++◌, OnOk, IfOk, option_map,
 ghost use Rattle.syntax.specs.Views.{ident, member_of};
 ghost use Rattle.resolution.specs.CoreViews.{core_protection};
 ghost use Rattle.resolution.specs.Resolution.{lock_added, final_added, field_added, member_added, members_added};
-ghost use Rattle.resolution.specs.FaultLists.{least_of, members_faults};
-ghost use Rattle.symbols.specs.Views.{declared_by, members_seen, IsStructure, AreDeclarations};
-ghost use Rattle.symbols.specs.Programs.{program_of, IsProgram};
-ghost use Rattle.types.specs.StructBuilders.{builder_of, member_faults};
+ghost use Rattle.source.specs.Mistakes.{least_of};
+ghost use Rattle.resolution.specs.FaultLists.{member_faults, members_faults};
+ghost use Rattle.symbols.specs.{declared_by, members_seen, IsStructure, AreDeclarations, program_of, IsProgram};
+ghost use Rattle.types.specs.StructBuilders.{builder_of};
 
 use core_lang::typed::{Field, FinalField, LockClass, LockField, Protection, Struct};
 use core_lang::value::ValueType;
-use resolution::mistake::Mistake;
+use source::mistake::Mistake;
 use std::alloc::{AllocError, Global};
 use symbols::annotation::{note_protection, protection_of};
 use symbols::declarations::Declarations;
@@ -147,7 +147,7 @@ pub fn with_members<'a, 't>(
 }
 
 /// Notes what is wrong with a member of the struct at a place.
-#[tactic(auto, using(symbols::proofs::Least::least_append))]
+#[tactic(auto, using(source::specs::Leasts::least_append))]
 fn note_member<'a, 't>(
     alloc: Global,
     decls: &'a Declarations<'t>,
@@ -182,7 +182,7 @@ fn note_member<'a, 't>(
 }
 
 /// Notes what is wrong with members of the struct at a place.
-#[tactic(auto, using(symbols::proofs::Least::least_append))]
+#[tactic(auto, using(source::specs::Leasts::least_append))]
 pub fn note_members<'a, 't>(
     alloc: Global,
     decls: &'a Declarations<'t>,

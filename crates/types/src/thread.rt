@@ -5,20 +5,19 @@ ghost use Rattle.syntax.specs.Views.{const_of, call_of as call_view, item_of, it
 ghost use Rattle.syntax.specs.Trees.{call};
 ghost use Rattle.resolution.specs.CoreViews.{core_call};
 ghost use Rattle.resolution.specs.Scopes.{the_decl};
-ghost use Rattle.resolution.specs.Resolution.{call_of, one_call, copies, typed_item, typed_items, typed_calls};
-ghost use Rattle.resolution.specs.FaultLists.{least_of, item_faults, items_faults};
-ghost use Rattle.sections.specs.Parts.{joined};
+ghost use Rattle.resolution.specs.Resolution.{call_of, one_call, copies, joined, typed_item, typed_items, typed_calls};
+ghost use Rattle.source.specs.Mistakes.{least_of};
+ghost use Rattle.resolution.specs.FaultLists.{item_faults, items_faults};
 ghost use Rattle.types.specs.Calls.{repeated_calls};
-ghost use Rattle.symbols.specs.Views.{declared_by, AreDeclarations};
-ghost use Rattle.symbols.specs.Programs.{program_of, IsProgram};
+ghost use Rattle.symbols.specs.{declared_by, AreDeclarations, program_of, IsProgram};
 
 use crate::constant::{are_typed, note_arguments, typed_arguments};
 use core_lang::typed::Call;
-use resolution::mistake::Mistake;
 use source::fault::Code;
+use source::mistake::{Mistake, note};
 use std::alloc::{AllocError, Global};
 use symbols::declarations::Declarations;
-use symbols::note::note;
+use symbols::scope::{Meaning, note_unfit};
 use symbols::table::Program;
 use syntax::tree;
 use syntax::tree::{Decl, Item};
@@ -37,13 +36,10 @@ fn note_call(decls: &Declarations, c: &tree::Call, least: &mut Option<Mistake>)
                 note(least, Code::WrongArgumentCount, start);
             }
         }
-        Some((_, Decl::Lock(_)))
-        | Some((_, Decl::Struct(_)))
-        | Some((_, Decl::Global(_)))
-        | Some((_, Decl::Array(_)))
-        | Some((_, Decl::Pool(_)))
-        | Some((_, Decl::Init(_)))
-        | Some((_, Decl::Thread(_))) => note(least, Code::WrongType, start),
+        Some((place, d)) => {
+            let meant = Meaning::Decl(place, d);
+            note_unfit(decls, Code::WrongType, start, meant, least);
+        }
         None => note(least, Code::UnknownName, start),
     }
 }
@@ -62,7 +58,7 @@ fn note_item(decls: &Declarations, item: &Item, least: &mut Option<Mistake>)
 
 /// Notes what is wrong with what a thread does.
 #[cycle(faults)]
-#[tactic(auto, using(symbols::proofs::Least::least_append))]
+#[tactic(auto, using(source::specs::Leasts::least_append))]
 pub fn note_items(decls: &Declarations, items: &[Item], least: &mut Option<Mistake>)
     requires { AreDeclarations decls.now }
     ensures { least.new ≡ least_of least.old (items_faults (declared_by decls.now) (items_of items.now)) }

@@ -44,10 +44,10 @@ fn reads_lines(rt: HostRuntime) -> Result<(), Fail> {
     judge(
         rt.alloc(),
         "
-autolock serial F => Serial(\"F\", 1000000)
-autolock serial --turns 7 F => Serial(\"F\", 7)
-autolock serial --turns=0 F => Serial(\"F\", 0)
-autolock serial --turns 1000000000 F => Serial(\"F\", 1000000000)
+autolock serial F => Serial { file: \"F\", turns: 1000000 }
+autolock serial --turns 7 F => Serial { file: \"F\", turns: 7 }
+autolock serial --turns=0 F => Serial { file: \"F\", turns: 0 }
+autolock serial --turns 1000000000 F => Serial { file: \"F\", turns: 1000000000 }
 ",
     )
 }
@@ -60,6 +60,8 @@ fn refuses_words(rt: HostRuntime) -> Result<(), Fail> {
 autolock => MissingSubcommand
 autolock --help => DisplayHelp
 autolock serial --help => DisplayHelp
+autolock --version => DisplayVersion
+autolock serial --version => UnknownArgument
 autolock walk => InvalidSubcommand
 autolock serial => MissingRequiredArgument
 autolock serial F G => UnknownArgument

@@ -107,16 +107,20 @@ F:2:20: E18 misplaced or missing return
     )
 }
 
+/// Puts so many copies of a piece at the end of a text.
+fn push_times(text: &mut String, piece: &str, times: usize) -> Result<(), AllocError> {
+    for _time in 0..times {
+        text.push_str(piece)?;
+    }
+    Ok(())
+}
+
 /// A section that returns 1 inside so many parentheses.
 fn in_parentheses(alloc: Global, pairs: usize) -> Result<String, Fail> {
     let mut text = String::from_str(alloc, "atomic f() : int { return ")?;
-    for _pair in 0..pairs {
-        text.push_str("(")?;
-    }
+    push_times(&mut text, "(", pairs)?;
     text.push_str("1")?;
-    for _pair in 0..pairs {
-        text.push_str(")")?;
-    }
+    push_times(&mut text, ")", pairs)?;
     text.push_str("; }\nthread t { f(); }\n")?;
     Ok(text)
 }
@@ -188,41 +192,48 @@ impl Write for FailingWriter {
     }
 }
 
-/// Judges the answer for `LOST_UPDATE` where reading it fails at the call after `calls` others.
-fn judge_read(alloc: Global, calls: usize, kind: ErrorKind, want: &str) -> Result<(), Fail> {
+/// Judges the answer for a text where reading it fails at the call after `calls` others.
+fn judge_read(
+    alloc: Global,
+    text: &[u8],
+    calls: usize,
+    kind: ErrorKind,
+    want: &str,
+) -> Result<(), Fail> {
     let mut source = SourceText::new(FailingReader {
-        bytes: LOST_UPDATE.as_bytes(),
+        bytes: text,
         calls,
         kind,
     });
-    let mut out = Sink::new(room(alloc)?);
-    let mut err = Sink::new(room(alloc)?);
+    let mut out = Sink::new(room(alloc, text)?);
+    let mut err = Sink::new(room(alloc, text)?);
     let status = serial(alloc, &mut source, "F", 0, &mut out, &mut err);
     let out = out.into_writer();
     let err = err.into_writer();
     judge_answer(alloc, status, out.as_slice(), err.as_slice(), want)
 }
 
+const UNREAD: &str = "3 err\nautolock: cannot read F\n";
+
 #[test]
 fn a_failing_reader(rt: HostRuntime) -> Result<(), Fail> {
     let alloc = rt.alloc();
     let whole = format!(in alloc; "0 out\n{HISTORY}")?;
+    let text = LOST_UPDATE.as_bytes();
     for calls in 0..30 {
         // The text has 106 bytes, so 16 calls give it, and one more its end.
-        let want = if calls < 17 {
-            "3 err\nautolock: cannot read F\n"
-        } else {
-            whole.as_str()
-        };
-        judge_read(alloc, calls, ErrorKind::BrokenPipe, want)?;
+        let want = if calls < 17 { UNREAD } else { whole.as_str() };
+        judge_read(alloc, text, calls, ErrorKind::BrokenPipe, want)?;
     }
-    Ok(())
+    // However much was read.
+    let long = vec![in alloc; b' '; 1_100_000]?;
+    judge_read(alloc, &long, 150_000, ErrorKind::BrokenPipe, UNREAD)
 }
 
 /// A writer that has been called for nothing.
 fn writer(alloc: Global, calls: usize) -> Result<FailingWriter, AllocError> {
     Ok(FailingWriter {
-        taken: room(alloc)?,
+        taken: room(alloc, &[])?,
         calls,
         failures: 0,
     })
@@ -234,7 +245,7 @@ fn writer(alloc: Global, calls: usize) -> Result<FailingWriter, AllocError> {
 fn judge_written(alloc: Global, calls: usize, want: &str) -> Result<(), Fail> {
     let mut source = SourceText::new(LOST_UPDATE.as_bytes());
     let mut out = Sink::new(writer(alloc, calls)?);
-    let mut err = Sink::new(room(alloc)?);
+    let mut err = Sink::new(room(alloc, &[])?);
     let status = serial(alloc, &mut source, "F", 0, &mut out, &mut err);
     let FailingWriter {
         taken,
@@ -271,7 +282,7 @@ fn a_failing_standard_error(rt: HostRuntime) -> Result<(), Fail> {
     let alloc = rt.alloc();
     for calls in 0..8 {
         let mut source = SourceText::new(b"lock G".as_slice());
-        let mut out = Sink::new(room(alloc)?);
+        let mut out = Sink::new(room(alloc, &[])?);
         let mut err = Sink::new(writer(alloc, calls)?);
         let status = serial(alloc, &mut source, "F", 0, &mut out, &mut err);
         let out = out.into_writer();
@@ -284,7 +295,7 @@ fn a_failing_standard_error(rt: HostRuntime) -> Result<(), Fail> {
 fn a_standard_error_that_failed_before(rt: HostRuntime) -> Result<(), Fail> {
     let alloc = rt.alloc();
     let mut source = SourceText::new(LOST_UPDATE.as_bytes());
-    let mut out = Sink::new(room(alloc)?);
+    let mut out = Sink::new(room(alloc, &[])?);
     let mut err = Sink::new(writer(alloc, 0)?);
     err.put(b"a message".as_slice());
     assert!(rt; err.has_failed());
@@ -297,12 +308,9 @@ fn a_standard_error_that_failed_before(rt: HostRuntime) -> Result<(), Fail> {
 #[test]
 fn a_reader_without_memory(rt: HostRuntime) -> Result<(), Fail> {
     let alloc = rt.alloc();
-    judge_read(
-        alloc,
-        3,
-        ErrorKind::OutOfMemory,
-        "4 err\nautolock: no memory\n",
-    )
+    let text = LOST_UPDATE.as_bytes();
+    let want = "4 err\nautolock: no memory\n";
+    judge_read(alloc, text, 3, ErrorKind::OutOfMemory, want)
 }
 
 /// Judges `LOST_UPDATE` with as many blanks behind it as make a text of this length.
@@ -319,4 +327,19 @@ fn long_texts(rt: HostRuntime) -> Result<(), Fail> {
     let want = format!(in alloc; "0 out\n{HISTORY}")?;
     judge_long(alloc, 1_048_576, want.as_str())?;
     judge_long(alloc, 1_048_577, "1 err\nF:1:1: E15 limit exceeded\n")
+}
+
+/// As many calls as there may be: a source of over a million bytes and of 400,000 tokens, and a text of over two million.
+#[test]
+fn many_calls(rt: HostRuntime) -> Result<(), Fail> {
+    let alloc = rt.alloc();
+    let mut text = String::from_str(alloc, "atomic section() { }\nthread t {")?;
+    push_times(&mut text, "section();", 100_000)?;
+    text.push_str("}")?;
+    let mut want = String::from_str(alloc, "0 out\nhistory 1\n")?;
+    for step in 0..100_000u32 {
+        write!(want, "call 0 {step} section() ends\n")?;
+    }
+    want.push_str("cells\nend\n")?;
+    judge_one(alloc, text.as_bytes(), 0, want.as_str())
 }

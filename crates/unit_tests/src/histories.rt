@@ -7,9 +7,10 @@ use source::memory::NoMemory;
 use std::alloc::{AllocError, Global};
 use std::test::Fail;
 
-/// Room for all that a test writes, so that a refused growth is never a failed write.
-pub fn room(alloc: Global) -> Result<Vec<u8>, AllocError> {
-    Vec::with_capacity(alloc, 8192)
+/// Room for all that is written of a text, so that a refused growth is never a failed write.
+pub fn room(alloc: Global, text: &[u8]) -> Result<Vec<u8>, AllocError> {
+    let room = text.len().saturating_mul(4).saturating_add(8192);
+    Vec::with_capacity(alloc, room)
 }
 
 /// An answer in words: the exit status, which of the two outputs has something, `out` where neither has, and what it is.
@@ -43,8 +44,8 @@ pub fn judge_answer(
 /// Judges what `serial` answers for the text, within so many turns of each execution of a loop.
 pub fn judge_one(alloc: Global, text: &[u8], turns: u64, want: &str) -> Result<(), Fail> {
     let mut source = SourceText::new(text);
-    let mut out = Sink::new(room(alloc)?);
-    let mut err = Sink::new(room(alloc)?);
+    let mut out = Sink::new(room(alloc, text)?);
+    let mut err = Sink::new(room(alloc, text)?);
     let status = serial(alloc, &mut source, "F", turns, &mut out, &mut err);
     let out = out.into_writer();
     let err = err.into_writer();
@@ -71,7 +72,8 @@ fn runs_programs(rt: HostRuntime) -> Result<(), Fail> {
     judge(alloc, 1_000_000, MANY_TURNS)?;
     judge(alloc, 1_000, THOUSAND_TURNS)?;
     judge(alloc, 3, THREE_TURNS)?;
-    judge(alloc, 2, TWO_TURNS)
+    judge(alloc, 2, TWO_TURNS)?;
+    judge(alloc, 0, NO_TURNS)
 }
 
 /// Programs that end within a million turns.
@@ -358,6 +360,19 @@ call 1 0 count(2) ends
 print 30
 print 40
 unsettled 1 1
+";
+
+/// Programs of which some calls need no turns, and one needs some.
+const NO_TURNS: &str = "
+lock G;
+global int n protected_by(G);
+atomic f(int k) { while (n < k) { n = n + 1; } }
+thread t { f(0); f(-1); f(1); f(0); }
+=> 7 out
+history 1
+call 0 0 f(0) ends
+call 0 1 f(-1) ends
+unsettled 0 2
 ";
 
 /// Any byte may stand in a comment, and none of them outside of it.

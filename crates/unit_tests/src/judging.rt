@@ -1,13 +1,8 @@
-//! What is said of a case against what is wanted of it, and programs of texts.
+//! What is said of a case against what is wanted of it.
 
 use crate::verdict::is_wanted;
-use core_lang::typed::Typed;
-use lexer::lex;
-use parser::parse;
-use source::fault::Refusal;
 use std::alloc::Global;
 use std::test::Fail;
-use types::program::check;
 
 /// Fails where what is said is not what is wanted.
 pub fn compare(alloc: Global, said: &str, want: &str) -> Result<(), Fail> {
@@ -15,11 +10,4 @@ pub fn compare(alloc: Global, said: &str, want: &str) -> Result<(), Fail> {
         return Ok(());
     }
     Err(Fail::new(format!(in alloc; "{said}, and not {want}")?))
-}
-
-/// The program of the text.
-pub fn program_of(alloc: Global, text: &str) -> Result<Typed, Refusal> {
-    let tokens = lex(alloc, text.as_bytes())?;
-    let tree = parse(alloc, &tokens)?;
-    check(alloc, &tree)
 }

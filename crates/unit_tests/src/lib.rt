@@ -18,5 +18,6 @@ mod judging;
 #[cfg(test)]
 mod section_runs;
 #[cfg(test)]
+#[cfg(test)]
 mod tokens;
 pub mod verdict;

@@ -1,9 +1,10 @@
 //! Tests of the crate `meaning`: worked examples. The values wanted are those of the language's own examples.
 
-use crate::judging::{compare, program_of};
+use crate::judging::compare;
 use core_lang::calls::can_call;
 use core_lang::typed::Typed;
 use core_lang::value::Value;
+use driver::program_of;
 use meaning::heap::Heap;
 use meaning::run::{End, run_whole};
 use source::memory::NoMemory;
@@ -25,7 +26,7 @@ impl Machine {
             struct S {{ lock l; int x protected_by(l); }} pool S p[1];
             {sections}"
         )?;
-        let program = program_of(alloc, text.as_str())?;
+        let program = program_of(alloc, text.as_bytes())?;
         let heap = Heap::open(alloc, &program)?;
         Ok(Machine { program, heap })
     }
@@ -57,11 +58,7 @@ impl Machine {
 
     /// What cell 0 holds.
     fn number(&self) -> Option<Value> {
-        if self.heap.has_cells_of(&self.program) && !self.program.cells.is_empty() {
-            Some(self.heap.get(0))
-        } else {
-            None
-        }
+        self.heap.cells().first().copied()
     }
 
     /// Judges how the call ends, what it prints, and what cell 0 holds then, or that it is no call of the program.

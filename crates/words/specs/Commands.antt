@@ -30,9 +30,17 @@ with_turns app = with_rule app turns_rule
 abbrev pub needs_subcommand : App → App
 needs_subcommand app = record app { top = record app.top { subcommand_required = true } }
 
+-- a command that tells its version
+abbrev pub with_version : App → App
+with_version app = record app { top = record app.top { has_version = true } }
+
+-- the program's own name, a version, and a subcommand that must be there
+abbrev pub program : App
+program = needs_subcommand (with_version (new_app (codes "autolock")))
+
 -- the whole command line: autolock serial [--turns N] FILE
 abbrev pub autolock : App
-autolock = with_subcommand (needs_subcommand (new_app (codes "autolock"))) (with_turns (with_file (codes "serial"))).top
+autolock = with_subcommand program (with_turns (with_file (codes "serial"))).top
 
 -- the command is that one, and has no global argument
 abbrev pub IsCommand : App → Command → Type 0

@@ -8,6 +8,9 @@ use clap::builder::ValueParser;
 use clap::{Arg, Command};
 use std::alloc::{AllocError, Global};
 
+/// The version that `--version` prints behind the program's name.
+const VERSION: &str = "0.1.0";
+
 /// An argument that must be given, and stands for itself.
 fn file_argument<'a>(alloc: Global, id: &'a str) -> Arg<'a>
     ensures rule { rule_of result ≡ file_rule id.entry.now }
@@ -45,6 +48,7 @@ pub fn command<'a>(alloc: Global) -> Result<Command<'a>, AllocError>
     let about = "Run all calls one after another, and write the history";
     let serial = file_command(alloc, "serial", about)?.arg(turns_argument(alloc))?;
     Command::new(alloc, "autolock")
+        .version(VERSION)
         .about("Programs with atomic sections: locks inferred from protected_by annotations")
         .subcommand_required(true)
         .subcommand(serial)

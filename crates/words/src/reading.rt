@@ -32,7 +32,10 @@ fn line<'a>(command: &str, matches: &ArgMatches<'a>) -> Option<Line<'a>>
 {
     let file = name(matches, "FILE");
     match command {
-        "serial" => Some(Line::Serial(file, turns(matches))),
+        "serial" => Some(Line::Serial {
+            file,
+            turns: turns(matches),
+        }),
         _ => None,
     }
 }

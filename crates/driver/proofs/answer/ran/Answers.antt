@@ -1,10 +1,12 @@
+use Rattle.std.proofs.Common.{◌∙◌, List, map, ap}
+use Rattle.report.specs.{entry_of, unsettled_of}
+use Rattle.report.specs.Entry.{Entry}
+use Rattle.driver.proofs.SerialLemmas.{stop_told}
 use Rattle.driver.proofs.answer.ran.Goals as goal
 
-pub values-requires : goal.values-requires
-values-requires c = cc (c.len.ensures, c.in_ok-ran.ensures.cells)
-
-pub history_text-requires : goal.history_text-requires
-history_text-requires c =
-    let whole = c.in_ok-ran.ensures.cells in
-    let size = c.args.program.now.cells.ok.0 in
-    rw (c.deref-in-None.ensures.value, c.in_ok-values-in-None.ensures) (cc)
+pub returns : goal.returns
+returns c =
+    let ran = c.in_ok-ran.ensures.ran in
+    let texts = λ (es : List Entry). unsettled_of c.args.program.now es c.in-Some.thread c.in-Some.step in
+    stop_told c.settled_are_serial.ensures c.args.turns c.args.program.now c.in-Some.thread c.in-Some.step _ _ (rw c.in-Some.is at ran.stop)
+    (c.in_ok-unsettled_text-in-Some.ensures ∙ ap texts (ap (map entry_of) c.deref-in-Some.ensures.value ∙ ran.records)) c.new-err.ensures.bytes

@@ -1,9 +1,10 @@
-use Rattle.std.proofs.Common.{◌≡◌, ◌∙◌, map, sym, subst}
+use Rattle.std.proofs.Common.{◌≡◌, ◌∙◌, map, take, sym, subst}
 use Rattle.std.proofs.lemmas.List.{map-append}
 use Rattle.core_lang.specs.Serial.{Scheduled, all_calls}
 use Rattle.core_lang.specs.WellFormed.{CanCall}
 use Rattle.driver.specs.Running.{scheduled_of}
-use Rattle.driver.proofs.CameLemmas.{Each, Each-at, can_call_all, drop_next, settled_step, unsettled_step}
+use Rattle.driver.proofs.CallLemmas.{Each, Each-at, can_call_all, drop_next, map_parts}
+use Rattle.driver.proofs.RunningLemmas.{goes_further, goes_beyond}
 use Rattle.driver.proofs.running.run_scripts.Goals as goal
 
 pub run_whole-requires-clause-call : goal.run_whole-requires-clause-call
@@ -14,27 +15,24 @@ run_whole-requires-clause-call c =
     (Each-at scheduled_of (λ (s : Scheduled). CanCall c.args.typed.now s.call.section s.call.arguments) c.deref-next-items.result.now c.loop-next.next-index c.next-item.result
     can c.loop-next-test.true c.next-item.is)
 
-pub returns-in_default-clause-came : goal.returns-in_default-clause-came
-returns-in_default-clause-came c =
-    let next = drop_next scheduled_of c.deref-next-items.result.now c.loop-next.next-index c.next-item.result c.loop-next-test.true c.next-item.is in
+pub returns-in_default-clause-ran : goal.returns-in_default-clause-ran
+returns-in_default-clause-ran c =
+    let items = c.deref-next-items.result.now in
+    let all : map scheduled_of items ≡ all_calls c.args.typed.now = rw c.deref-next-items.ensures.value c.in_ok-calls.ensures in
+    let next = drop_next scheduled_of items c.loop-next.next-index c.next-item.result c.loop-next-test.true c.next-item.is in
+    let parts = sym all ∙ map_parts scheduled_of items c.loop-next.next-index c.next-item.result c.loop-next-test.true c.next-item.is in
     let same = rw c.in_default.is at c.in_ok-run.ensures.answer in
     let beyond = rw (c.in_default.is, c.deref.ensures.value) at (c.in_ok-run.ensures.beyond c.requires c.loop-next.invariant.typed) in
-    let step = unsettled_step _ _ _ _ (scheduled_of c.next-item.result) _ _ (rw next at c.loop-next.invariant.came) beyond in
-    (step.0, same.1 ∙ step.1, step.2)
-
-pub returns-in_default-clause-beyond : goal.returns-in_default-clause-beyond
-returns-in_default-clause-beyond c =
-    let next = drop_next scheduled_of c.deref-next-items.result.now c.loop-next.next-index c.next-item.result c.loop-next-test.true c.next-item.is in
-    let beyond = rw (c.in_default.is, c.deref.ensures.value) at (c.in_ok-run.ensures.beyond c.requires c.loop-next.invariant.typed) in
-    (unsettled_step _ _ _ _ (scheduled_of c.next-item.result) _ _ (rw next at c.loop-next.invariant.came) beyond).3
+    let stop = goes_beyond _ _ _ _ (map scheduled_of (take c.loop-next.next-index items)) (scheduled_of c.next-item.result) _ (rw next at c.loop-next.invariant.goes) parts beyond in
+    record { records = stop.0; heap = same.1 ∙ stop.1; stop = stop.2 }
 
 pub loop-next-preserved : goal.loop-next-preserved
 loop-next-preserved c =
     let next = drop_next scheduled_of c.deref-next-items.result.now c.loop-next.next-index c.next-item.result c.loop-next-test.true c.next-item.is in
     let over = rw (c.in-Some.is, c.deref.ensures.value) at c.in_ok-run.ensures.answer in
-    let step = settled_step _ _ _ _ (scheduled_of c.next-item.result) _ _ _ (rw next at c.loop-next.invariant.came) over in
+    let further = goes_further _ _ _ _ (scheduled_of c.next-item.result) _ _ (rw next at c.loop-next.invariant.goes) over in
     record {
-      came = rw (c.in_ok-push.ensures.items, map-append, c.in_ok-record_of.ensures) step;
+      goes = rw (c.in_ok-push.ensures.items, map-append, c.in_ok-record_of.ensures) further;
       cells = c.in_ok-run.ensures.cells;
       typed = c.in_ok-run.ensures.typed c.requires c.loop-next.invariant.typed;
     }

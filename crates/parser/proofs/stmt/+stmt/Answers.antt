@@ -1,6 +1,6 @@
 use Rattle.std.proofs.Common.{sym, ◌∙◌}
 use Rattle.parser.proofs.Behind.{while_done, if_done}
-use Rattle.syntax.proofs.Rows.{stmt_of_While, stmt_of_If}
+use Rattle.syntax.specs.Rows.{stmt_of_While, stmt_of_If}
 use Rattle.std.proofs.lemmas.Result.{err_from_is_err_and}
 use Rattle.source.specs.Tokens.{seen}
 use Rattle.syntax.specs.Views.{stmt_of}

@@ -1,6 +1,6 @@
 use Rattle.std.proofs.Common.{sym, ◌∙◌}
 use Rattle.parser.proofs.Behind.{repeat_done}
-use Rattle.syntax.proofs.Rows.{item_of_Repeat}
+use Rattle.syntax.specs.Rows.{item_of_Repeat}
 use Rattle.std.proofs.lemmas.Result.{err_from_is_err_and}
 use Rattle.source.specs.Tokens.{seen}
 use Rattle.syntax.specs.Views.{item_of}

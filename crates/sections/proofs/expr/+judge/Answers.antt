@@ -8,7 +8,7 @@ use Rattle.sections.specs.Parts.{so_far}
 use Rattle.symbols.specs.Programs.{program_of}
 use Rattle.symbols.specs.Scoped.{scope_of}
 use Rattle.sections.specs.ResolvedExprs.{resolved_expr_of}
-use Rattle.symbols.proofs.Least.{on_ok}
+use Rattle.symbols.specs.Steps.{on_ok}
 use Rattle.sections.proofs.Chains.{operations_joined, operations_end, tests_joined, tests_first, tests_end, link_step, link_fault_step, test_step, numbers_value, tests_value, chain_faults}
 use Rattle.sections.proofs.expr.+judge.Goals as goal
 

@@ -3,7 +3,8 @@ use Rattle.std.specs.Prelude.{option_map}
 use Rattle.syntax.specs.Views.{links_of}
 use Rattle.resolution.specs.CoreViews.{core_condition}
 use Rattle.resolution.specs.Expressions.{typed_links, typed_tests}
-use Rattle.resolution.specs.FaultLists.{least_of, link_faults}
+use Rattle.source.specs.Mistakes.{least_of}
+use Rattle.resolution.specs.FaultLists.{link_faults}
 use Rattle.symbols.specs.Programs.{program_of}
 use Rattle.symbols.specs.Scoped.{scope_of}
 use Rattle.sections.specs.Parts.{so_far}

@@ -4,10 +4,11 @@ use Rattle.std.specs.Prelude.{map}
 use Rattle.syntax.specs.declared.tree.Name.{Name}
 use Rattle.syntax.specs.Views.{ident}
 use Rattle.resolution.specs.Expressions.{walked}
-use Rattle.resolution.specs.FaultLists.{least_of, step_faults, walk_faults}
+use Rattle.source.specs.Mistakes.{least_of}
+use Rattle.resolution.specs.FaultLists.{step_faults, walk_faults}
 use Rattle.symbols.specs.Views.{declared_by}
 use Rattle.sections.specs.ResolvedExprs.{walk_of}
-use Rattle.symbols.proofs.Steps.{step, noted_one}
+use Rattle.symbols.specs.Steps.{step, noted_one}
 use Rattle.sections.proofs.place.walked.Goals as goal
 
 pub loop-f-preserved : goal.loop-f-preserved

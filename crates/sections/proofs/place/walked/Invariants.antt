@@ -2,7 +2,8 @@ use Rattle.std.proofs.Common.{◌≡◌, drop}
 use Rattle.std.specs.Prelude.{map}
 use Rattle.syntax.specs.Views.{ident}
 use Rattle.resolution.specs.Expressions.{walked}
-use Rattle.resolution.specs.FaultLists.{least_of, walk_faults}
+use Rattle.source.specs.Mistakes.{least_of}
+use Rattle.resolution.specs.FaultLists.{walk_faults}
 use Rattle.symbols.specs.Views.{declared_by}
 use Rattle.sections.specs.ResolvedExprs.{walk_of}
 use Rattle.sections.proofs.place.walked.Given as goal

@@ -2,7 +2,8 @@ use Rattle.std.proofs.Common.{◌≡◌, drop}
 use Rattle.std.specs.Prelude.{map}
 use Rattle.syntax.specs.Views.{param_of}
 use Rattle.resolution.specs.Scopes.{entered}
-use Rattle.resolution.specs.FaultLists.{least_of, param_faults}
+use Rattle.source.specs.Mistakes.{least_of}
+use Rattle.resolution.specs.FaultLists.{param_faults}
 use Rattle.symbols.specs.Programs.{program_of}
 use Rattle.symbols.specs.Scoped.{scope_of, AreLocals}
 use Rattle.sections.proofs.section.judge_params.Given as goal

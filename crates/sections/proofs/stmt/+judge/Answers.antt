@@ -6,12 +6,13 @@ use Rattle.syntax.specs.declared.tree.Stmt as tree
 use Rattle.syntax.specs.Trees.{Stmt}
 use Rattle.syntax.specs.Views.{expr_of, stmts_of, else_of}
 use Rattle.resolution.specs.Statements.{typed_body, typed_stmt, after, after_all}
-use Rattle.resolution.specs.FaultLists.{least_of, stmt_faults}
+use Rattle.source.specs.Mistakes.{least_of}
+use Rattle.resolution.specs.FaultLists.{stmt_faults}
 use Rattle.resolution.specs.Scopes.{left}
 use Rattle.symbols.specs.Programs.{program_of}
 use Rattle.symbols.specs.Scoped.{scope_of, locals_seen}
 use Rattle.sections.specs.Targets.{row_of, part_of}
-use Rattle.symbols.proofs.Least.{on_ok_by}
+use Rattle.symbols.specs.Steps.{on_ok_by}
 use Rattle.sections.proofs.Blocks.{body_joined, body_end, stmt_step, stmt_fault_step, stmt_scope_step, left_is, while_is, if_is, if_value, if_faults, if_scope}
 use Rattle.sections.proofs.stmt.+judge.Goals as goal
 

@@ -2,7 +2,8 @@ use Rattle.std.proofs.Common.{◌≡◌, drop}
 use Rattle.std.specs.Prelude.{option_map}
 use Rattle.syntax.specs.Views.{stmts_of}
 use Rattle.resolution.specs.Statements.{typed_body, after_all}
-use Rattle.resolution.specs.FaultLists.{least_of, stmts_faults}
+use Rattle.source.specs.Mistakes.{least_of}
+use Rattle.resolution.specs.FaultLists.{stmts_faults}
 use Rattle.symbols.specs.Programs.{program_of}
 use Rattle.symbols.specs.Scoped.{scope_of, AreLocals}
 use Rattle.sections.specs.Targets.{row_of}

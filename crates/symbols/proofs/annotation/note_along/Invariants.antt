@@ -1,7 +1,8 @@
 use Rattle.std.proofs.Common.{◌≡◌, drop}
 use Rattle.std.specs.Prelude.{map, option_map}
 use Rattle.syntax.specs.Views.{ident}
-use Rattle.resolution.specs.FaultLists.{least_of, along_faults}
+use Rattle.source.specs.Mistakes.{least_of}
+use Rattle.resolution.specs.FaultLists.{along_faults}
 use Rattle.symbols.specs.Views.{declared_by}
 use Rattle.symbols.specs.AnnotationCursors.{cursor_of, IsAnnotationCursor}
 use Rattle.symbols.proofs.annotation.note_along.Given as goal

@@ -3,14 +3,15 @@ use Rattle.std.proofs.lemmas.Grind.{common_steps}
 use Rattle.syntax.specs.Trees.{Decl}
 use Rattle.syntax.specs.Views.{decl_of}
 use Rattle.resolution.specs.Scopes.{alike, count, bears, declared}
-use Rattle.resolution.specs.FaultLists.{least_of, twice, twice_faults}
+use Rattle.source.specs.Mistakes.{least_of}
+use Rattle.resolution.specs.FaultLists.{twice, twice_faults}
 use Rattle.symbols.specs.declared.declarations.Counts.{Counts}
 use Rattle.symbols.specs.Found.{IsTableOf, AreAhead}
 use Rattle.symbols.specs.Counted.{count_of, counted, counts_from, no_counts}
 use Rattle.symbols.specs.Views.{decls_of, name_seen}
 use Rattle.symbols.proofs.Ahead.{ahead_more, counts_append, counts_none}
 use Rattle.symbols.proofs.Declared.{take-here, taken_length, names_more, twice_is, count_le}
-use Rattle.symbols.proofs.Steps.{step, noted_one}
+use Rattle.symbols.specs.Steps.{step, noted_one}
 use Rattle.symbols.proofs.declarations.judge_names.Goals as goal
 
 pub count-requires : goal.count-requires

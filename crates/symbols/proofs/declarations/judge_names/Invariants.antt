@@ -1,6 +1,7 @@
 use Rattle.std.proofs.Common.{◌≡◌, [], take, drop, length}
 use Rattle.resolution.specs.Scopes.{bears}
-use Rattle.resolution.specs.FaultLists.{least_of, twice_faults}
+use Rattle.source.specs.Mistakes.{least_of}
+use Rattle.resolution.specs.FaultLists.{twice_faults}
 use Rattle.symbols.specs.Found.{IsTableOf, AreAhead}
 use Rattle.symbols.specs.Counted.{counts_from, no_counts}
 use Rattle.symbols.specs.Views.{decls_of}

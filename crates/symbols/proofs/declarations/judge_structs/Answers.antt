@@ -1,12 +1,13 @@
 use Rattle.std.proofs.Common.{◌≡◌, ◌+◌, ◌∷◌, ◌++◌, [], ap, sym, subst, ◌∙◌, List, take, drop}
 use Rattle.syntax.specs.Trees.{Decl, struct}
 use Rattle.syntax.specs.Views.{decl_of, struct_of}
-use Rattle.resolution.specs.FaultLists.{least_of, member_twice_faults, struct_faults}
+use Rattle.source.specs.Mistakes.{least_of}
+use Rattle.resolution.specs.FaultLists.{member_twice_faults, struct_faults}
 use Rattle.symbols.specs.Views.{decls_of, AreStructures}
 use Rattle.symbols.specs.declared.members.Structure.{Structure}
 use Rattle.symbols.proofs.Declared.{take-here}
 use Rattle.symbols.proofs.Structs.{structures_more, structures_same, no_faults}
-use Rattle.symbols.proofs.Steps.{step, noted_one}
+use Rattle.symbols.specs.Steps.{step, noted_one}
 use Rattle.symbols.proofs.declarations.judge_structs.Goals as goal
 use Rattle.symbols.proofs.declarations.judge_structs.Goals.{in-Struct+in_ok-structure+in_ok-push, in_default}
 

@@ -1,5 +1,6 @@
 use Rattle.std.proofs.Common.{◌≡◌, take, drop}
-use Rattle.resolution.specs.FaultLists.{least_of, struct_faults}
+use Rattle.source.specs.Mistakes.{least_of}
+use Rattle.resolution.specs.FaultLists.{struct_faults}
 use Rattle.symbols.specs.Views.{decls_of, AreStructures}
 use Rattle.symbols.proofs.declarations.judge_structs.Given as goal
 

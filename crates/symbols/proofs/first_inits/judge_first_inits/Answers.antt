@@ -1,12 +1,13 @@
 use Rattle.std.proofs.Common.{◌+◌, ◌∷◌, ◌++◌, [], ap, sym, subst, ◌∙◌, List, take, drop}
 use Rattle.syntax.specs.Trees.{Decl}
 use Rattle.syntax.specs.Views.{decl_of}
-use Rattle.resolution.specs.FaultLists.{least_of, repeated, repeated_faults}
+use Rattle.source.specs.Mistakes.{least_of}
+use Rattle.resolution.specs.FaultLists.{repeated, repeated_faults}
 use Rattle.symbols.specs.Given.{IsInitTargetTable}
 use Rattle.symbols.specs.Views.{decls_of, declared_by}
 use Rattle.symbols.proofs.Declared.{take-here, taken_length}
 use Rattle.symbols.proofs.Giving.{init_targets_more, repeated_is}
-use Rattle.symbols.proofs.Steps.{step, noted_one}
+use Rattle.symbols.specs.Steps.{step, noted_one}
 use Rattle.symbols.proofs.first_inits.judge_first_inits.Goals as goal
 
 pub loop-place-preserved : goal.loop-place-preserved

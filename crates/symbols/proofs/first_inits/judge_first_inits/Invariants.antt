@@ -1,5 +1,6 @@
 use Rattle.std.proofs.Common.{◌≡◌, [], take, drop}
-use Rattle.resolution.specs.FaultLists.{least_of, repeated_faults}
+use Rattle.source.specs.Mistakes.{least_of}
+use Rattle.resolution.specs.FaultLists.{repeated_faults}
 use Rattle.symbols.specs.Given.{IsInitTargetTable}
 use Rattle.symbols.specs.Views.{decls_of, declared_by}
 use Rattle.symbols.proofs.first_inits.judge_first_inits.Given as goal

@@ -1,6 +1,6 @@
 use Rattle.std.proofs.Common.{ℕ, ◌*◌, ◌∙◌, ap, sym}
 use Rattle.syntax.specs.Views.{item_of, items_of}
-use Rattle.syntax.proofs.Rows.{item_of_Repeat}
+use Rattle.syntax.specs.Rows.{item_of_Repeat}
 use Rattle.resolution.specs.Limits.{CALL_LIMIT}
 use Rattle.resolution.specs.Numbers.{calls_in, calls_in_all}
 use Rattle.symbols.specs.Capped.{capped}

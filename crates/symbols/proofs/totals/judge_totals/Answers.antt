@@ -3,7 +3,8 @@ use Rattle.std.proofs.lemmas.Grind.{common_steps}
 use Rattle.syntax.specs.Trees.{Decl}
 use Rattle.syntax.specs.Views.{decl_of}
 use Rattle.resolution.specs.Scopes.{alike, count}
-use Rattle.resolution.specs.FaultLists.{least_of, count_faults, total_faults}
+use Rattle.source.specs.Mistakes.{least_of}
+use Rattle.resolution.specs.FaultLists.{count_faults, total_faults}
 use Rattle.symbols.specs.declared.totals.Totals.{Totals}
 use Rattle.symbols.specs.Found.{AreAhead}
 use Rattle.symbols.specs.Capped.{both_totals, totals_of, faults_by}
@@ -11,7 +12,7 @@ use Rattle.symbols.specs.Views.{decls_of, declared_by}
 use Rattle.symbols.proofs.Ahead.{ahead_more}
 use Rattle.symbols.proofs.Declared.{take-here, taken_length, take_map}
 use Rattle.symbols.proofs.Sums.{totals_push, faults_are}
-use Rattle.symbols.proofs.Steps.{step, noted_one}
+use Rattle.symbols.specs.Steps.{step, noted_one}
 use Rattle.symbols.proofs.totals.judge_totals.Goals as goal
 
 pub loop-place-preserved : goal.loop-place-preserved

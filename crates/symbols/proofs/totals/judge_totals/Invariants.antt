@@ -1,5 +1,6 @@
 use Rattle.std.proofs.Common.{◌≡◌, [], take, drop, length}
-use Rattle.resolution.specs.FaultLists.{least_of, total_faults}
+use Rattle.source.specs.Mistakes.{least_of}
+use Rattle.resolution.specs.FaultLists.{total_faults}
 use Rattle.symbols.specs.Found.{AreAhead}
 use Rattle.symbols.specs.Capped.{totals_of}
 use Rattle.symbols.specs.Views.{decls_of, declared_by}

@@ -2,7 +2,8 @@ use Rattle.std.proofs.Common.{◌≡◌, ◌≤◌, ◌+◌, drop}
 use Rattle.std.specs.Prelude.{map}
 use Rattle.syntax.specs.Views.{member_of}
 use Rattle.resolution.specs.Limits.{CLASS_LIMIT}
-use Rattle.resolution.specs.FaultLists.{least_of, member_counts}
+use Rattle.source.specs.Mistakes.{least_of}
+use Rattle.resolution.specs.FaultLists.{member_counts}
 use Rattle.symbols.proofs.totals.note_members.Given as goal
 
 abbrev pub invariant-loop-place : goal.invariant-loop-place

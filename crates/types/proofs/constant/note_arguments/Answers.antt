@@ -1,7 +1,7 @@
 use Rattle.std.proofs.Common.{◌≤◌, sym, ap, ◌∙◌, arith, length}
 use Rattle.std.proofs.lemmas.Grind.{common_steps}
 use Rattle.std.specs.Prelude.{min}
-use Rattle.resolution.specs.FaultLists.{least_of}
+use Rattle.source.specs.Mistakes.{least_of}
 use Rattle.symbols.specs.Views.{declared_by}
 use Rattle.types.proofs.Arguments.{arguments_end}
 use Rattle.types.proofs.constant.note_arguments.Goals as goal

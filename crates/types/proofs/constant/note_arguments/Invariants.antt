@@ -1,7 +1,8 @@
 use Rattle.std.proofs.Common.{◌≡◌, drop}
 use Rattle.std.specs.Prelude.{map}
 use Rattle.syntax.specs.Views.{param_of, const_of}
-use Rattle.resolution.specs.FaultLists.{least_of, argument_faults}
+use Rattle.source.specs.Mistakes.{least_of}
+use Rattle.resolution.specs.FaultLists.{argument_faults}
 use Rattle.symbols.specs.Views.{declared_by}
 use Rattle.types.proofs.constant.note_arguments.Given as goal
 

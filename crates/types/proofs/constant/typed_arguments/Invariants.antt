@@ -2,7 +2,7 @@ use Rattle.std.proofs.Common.{◌≡◌, drop}
 use Rattle.std.specs.Prelude.{map, option_map}
 use Rattle.syntax.specs.Views.{param_of, const_of}
 use Rattle.resolution.specs.Constants.{typed_arguments}
-use Rattle.sections.specs.Parts.{joined}
+use Rattle.resolution.specs.Resolution.{joined}
 use Rattle.symbols.specs.Programs.{program_of}
 use Rattle.types.proofs.constant.typed_arguments.Given as goal
 

@@ -3,7 +3,8 @@ use Rattle.std.specs.Prelude.{option_map}
 use Rattle.syntax.specs.Trees.{Decl, struct}
 use Rattle.syntax.specs.Views.{struct_of, decl_of}
 use Rattle.resolution.specs.CoreViews.{core_of}
-use Rattle.resolution.specs.FaultLists.{least_of, decl_faults}
+use Rattle.source.specs.Mistakes.{least_of}
+use Rattle.resolution.specs.FaultLists.{decl_faults}
 use Rattle.symbols.specs.Views.{structure_of}
 use Rattle.symbols.specs.Programs.{program_of}
 use Rattle.types.specs.Whole.{extended_if}

@@ -3,10 +3,11 @@ use Rattle.std.specs.Prelude.{option_map}
 use Rattle.syntax.specs.Views.{decl_of}
 use Rattle.resolution.specs.CoreViews.{core_of}
 use Rattle.resolution.specs.Resolution.{resolved_from}
-use Rattle.resolution.specs.FaultLists.{least_of, decl_faults, each_faults}
+use Rattle.source.specs.Mistakes.{least_of}
+use Rattle.resolution.specs.FaultLists.{decl_faults, each_faults}
 use Rattle.symbols.specs.Views.{decls_of}
 use Rattle.symbols.specs.Programs.{program_of}
-use Rattle.symbols.proofs.Steps.{step, noted_one}
+use Rattle.symbols.specs.Steps.{step, noted_one}
 use Rattle.types.proofs.program.judge_decls.Goals as goal
 
 pub loop-place-preserved : goal.loop-place-preserved

@@ -2,7 +2,8 @@ use Rattle.std.proofs.Common.{◌≡◌, drop}
 use Rattle.std.specs.Prelude.{option_map}
 use Rattle.resolution.specs.CoreViews.{core_of}
 use Rattle.resolution.specs.Resolution.{resolved_from}
-use Rattle.resolution.specs.FaultLists.{least_of, each_faults}
+use Rattle.source.specs.Mistakes.{least_of}
+use Rattle.resolution.specs.FaultLists.{each_faults}
 use Rattle.symbols.specs.Views.{decls_of}
 use Rattle.symbols.specs.Programs.{program_of}
 use Rattle.types.proofs.program.judge_decls.Given as goal

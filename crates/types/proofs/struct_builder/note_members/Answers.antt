@@ -1,11 +1,11 @@
 use Rattle.std.proofs.Common.{◌+◌, ◌∙◌, ap, sym, drop}
 use Rattle.std.specs.Prelude.{map}
 use Rattle.syntax.specs.Views.{member_of}
-use Rattle.resolution.specs.FaultLists.{least_of, members_faults}
+use Rattle.source.specs.Mistakes.{least_of}
+use Rattle.resolution.specs.FaultLists.{member_faults, members_faults}
 use Rattle.symbols.specs.Views.{declared_by, members_seen}
-use Rattle.types.specs.StructBuilders.{member_faults}
 use Rattle.types.proofs.Shapes.{members_one}
-use Rattle.symbols.proofs.Steps.{step, noted_one}
+use Rattle.symbols.specs.Steps.{step, noted_one}
 use Rattle.types.proofs.struct_builder.note_members.Goals as goal
 
 pub loop-m-preserved : goal.loop-m-preserved

@@ -1,7 +1,8 @@
 use Rattle.std.proofs.Common.{◌≡◌, drop}
 use Rattle.std.specs.Prelude.{map}
 use Rattle.syntax.specs.Views.{member_of}
-use Rattle.resolution.specs.FaultLists.{least_of, members_faults}
+use Rattle.source.specs.Mistakes.{least_of}
+use Rattle.resolution.specs.FaultLists.{members_faults}
 use Rattle.symbols.specs.Views.{declared_by, members_seen}
 use Rattle.types.proofs.struct_builder.note_members.Given as goal
 

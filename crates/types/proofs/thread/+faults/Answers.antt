@@ -1,8 +1,9 @@
 use Rattle.std.proofs.Common.{◌+◌, drop}
 use Rattle.syntax.specs.Views.{item_of, items_of}
-use Rattle.resolution.specs.FaultLists.{least_of, item_faults, items_faults}
+use Rattle.source.specs.Mistakes.{least_of}
+use Rattle.resolution.specs.FaultLists.{item_faults, items_faults}
 use Rattle.symbols.specs.Views.{declared_by}
-use Rattle.symbols.proofs.Steps.{step, noted_one}
+use Rattle.symbols.specs.Steps.{step, noted_one}
 use Rattle.types.proofs.Threads.{repeat_faults}
 use Rattle.types.proofs.thread.+faults.Goals as goal
 

@@ -1,6 +1,7 @@
 use Rattle.std.proofs.Common.{◌≡◌, drop}
 use Rattle.syntax.specs.Views.{items_of}
-use Rattle.resolution.specs.FaultLists.{least_of, items_faults}
+use Rattle.source.specs.Mistakes.{least_of}
+use Rattle.resolution.specs.FaultLists.{items_faults}
 use Rattle.symbols.specs.Views.{declared_by}
 use Rattle.types.proofs.thread.+faults.Given as goal
 

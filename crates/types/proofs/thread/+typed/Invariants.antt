@@ -3,7 +3,7 @@ use Rattle.std.specs.Prelude.{option_map, map}
 use Rattle.syntax.specs.Views.{items_of}
 use Rattle.resolution.specs.CoreViews.{core_call}
 use Rattle.resolution.specs.Resolution.{typed_items}
-use Rattle.sections.specs.Parts.{joined}
+use Rattle.resolution.specs.Resolution.{joined}
 use Rattle.symbols.specs.Programs.{program_of}
 use Rattle.types.proofs.thread.+typed.Given as goal
 

@@ -8,7 +8,8 @@ use Rattle.syntax.specs.Trees.{Ident, Member}
 use Rattle.syntax.specs.Views.{member_of, ident}
 use Rattle.resolution.specs.Scopes.{members_alike, count, member_bears, member_name, place_of}
 use Rattle.resolution.specs.Numbers.{fields_from, new_field}
-use Rattle.resolution.specs.FaultLists.{least_of, one_if, again, member_twice_faults}
+use Rattle.source.specs.Mistakes.{least_of}
+use Rattle.resolution.specs.FaultLists.{one_if, again, member_twice_faults}
 use Rattle.source.specs.declared.fault.Code.TheVariants.{DeclaredTwice}
 use Rattle.symbols.specs.declared.members.MemberCounts.{MemberCounts}
 use Rattle.symbols.specs.Found.{IsTableOf, AreAhead, found}
@@ -17,7 +18,7 @@ use Rattle.symbols.proofs.Ahead.{ahead_more, member_counts_append, member_counts
 use Rattle.symbols.proofs.Declared.{take-here, taken_length, count_le}
 use Rattle.symbols.proofs.Structs.{again_if, field_is, field_le}
 use Rattle.symbols.proofs.Tables.{table-more}
-use Rattle.symbols.proofs.Steps.{step, noted_one}
+use Rattle.symbols.specs.Steps.{step, noted_one}
 use Rattle.symbols.proofs.members.Structure.new.Goals as goal
 
 pub count-requires : goal.count-requires

@@ -3,7 +3,8 @@ use Rattle.std.specs.Prelude.{map}
 use Rattle.syntax.specs.Views.{member_of, struct_of}
 use Rattle.resolution.specs.Scopes.{member_bears}
 use Rattle.resolution.specs.Numbers.{fields_from}
-use Rattle.resolution.specs.FaultLists.{least_of, member_twice_faults}
+use Rattle.source.specs.Mistakes.{least_of}
+use Rattle.resolution.specs.FaultLists.{member_twice_faults}
 use Rattle.symbols.specs.Found.{IsTableOf, AreAhead}
 use Rattle.symbols.specs.Counted.{member_counts_from, no_members}
 use Rattle.symbols.proofs.members.Structure.new.Given as goal

@@ -1,0 +1,50 @@
+-- Which of two faults is told: the order of faults, and the least of several.
+use Rattle.std.specs.Prelude.{◌≡◌, ℕ, nat_lt, ◌==◌, ◌&&◌, ◌||◌, Bool, false, if◌then◌else◌, List, [], ◌∷◌, Option, Some, None}
+use Rattle.source.specs.declared.fault.Code.{Code}
+use Rattle.source.specs.declared.fault.Code.TheVariants.{BadCharacter, NumberTooLarge, UnexpectedToken, NestedTooDeep, DeclaredTwice, UnknownName, WrongType, WrongArgumentCount, NotAssignable, NeitherFinalNorProtected, ProtectedByNoLock, ProtectedByPassesNonFinal, UnstableBase, LockOrderCycle, LimitExceeded, FinalWithoutOpeningValue, InitOutOfRangeOrRepeated, MisplacedReturn, LockAsValue, RecursiveHelper}
+use Rattle.source.specs.declared.fault.Refusal.{Refusal}
+use Rattle.source.specs.declared.fault.Refusal.TheVariants as refusal
+use Rattle.source.specs.declared.mistake.Mistake.{Mistake}
+
+-- the number in a code's name
+abbrev pub code_number : Code → ℕ
+code_number BadCharacter = 1
+code_number NumberTooLarge = 2
+code_number UnexpectedToken = 3
+code_number NestedTooDeep = 4
+code_number DeclaredTwice = 5
+code_number UnknownName = 6
+code_number WrongType = 7
+code_number WrongArgumentCount = 8
+code_number NotAssignable = 9
+code_number NeitherFinalNorProtected = 10
+code_number ProtectedByNoLock = 11
+code_number ProtectedByPassesNonFinal = 12
+code_number UnstableBase = 13
+code_number LockOrderCycle = 14
+code_number LimitExceeded = 15
+code_number FinalWithoutOpeningValue = 16
+code_number InitOutOfRangeOrRepeated = 17
+code_number MisplacedReturn = 18
+code_number LockAsValue = 19
+code_number RecursiveHelper = 20
+
+-- the one that starts first goes first; at one start the lower code
+abbrev pub goes_before : Mistake → Mistake → Bool
+goes_before f g = nat_lt f.start g.start || (f.start == g.start) && nat_lt (code_number f.code) (code_number g.code)
+
+-- the lesser of a fault, if there is one, and another
+abbrev pub lesser : Option Mistake → Mistake → Option Mistake
+lesser None g = Some g
+lesser (Some f) g = if goes_before g f then Some g else Some f
+
+-- the least of a fault, if there is one, and further ones
+abbrev pub least_of : Option Mistake → List Mistake → Option Mistake
+least_of f [] = f
+least_of f (g ∷ gs) = least_of (lesser f g) gs
+
+-- of the faults of a relation, by code and place, none goes before the one that is given
+abbrev pub IsLeastOf : (Code → ℕ → Type 0) → Refusal → Type 0
+IsLeastOf IsFault refusal.NoMemory = Unit {0}
+IsLeastOf IsFault (refusal.Fault f) =
+    (code : Code) (start : ℕ) → IsFault code start → goes_before (record { code = code; start = start }) (record { code = f.code; start = f.start }) ≡ false
