@@ -18,6 +18,7 @@ mod judging;
 #[cfg(test)]
 mod section_runs;
 #[cfg(test)]
+mod skeletons;
 #[cfg(test)]
 mod tokens;
 pub mod verdict;

@@ -1,0 +1,49 @@
+-- A normal form ends at the object at which its path ends.
+use Rattle.std.proofs.Common.{◌≡◌, ℕ, List, [], ◌∷◌, Option, inl, inr, refl, sym, ap, ◌∙◌, subst}
+use Rattle.std.specs.List.{Contains}
+use Rattle.core_lang.specs.declared.value.Value.{Value}
+use Rattle.core_lang.specs.declared.shape.Shape.{Shape}
+use Rattle.core_lang.specs.declared.tree.Section.{Section}
+use Rattle.core_lang.specs.Typing.{lookup}
+use Rattle.core_lang.specs.Scopes.{NamesOnly, IsWellScoped}
+use Rattle.locks.specs.Locks.{led_to}
+use Rattle.locks.specs.LockPaths.{StablePath, Binding, bindings, replaced, all_replaced, normal_form, object_at, IsLet, LetsAgree}
+use Rattle.locks.proofs.Lists.{in_first, in_rest}
+use Rattle.locks.proofs.Scoped.{bound_behind}
+use Rattle.locks.proofs.Normal.{IsFixed, IsRoot, Replaces, other, no_path, by_path, replaces, all_roots, fixed_kinds}
+use Rattle.locks.proofs.Finals.{object_append}
+
+module _ (section : Section) (well : IsWellScoped section) (scope : List ℕ) (shape : Shape) (locals : List Value)
+    (closed : (b : Binding) → Contains (bindings section) b → Contains scope b.local → NamesOnly scope b.value)
+    (agree : LetsAgree section scope shape locals) where
+  abbrev pub ends : StablePath → Option ℕ
+  ends path = object_at shape locals path.root path.finals
+
+  -- what is bound and fixed is a `let`
+  is_let : (b : Binding) → Contains (bindings section) b → IsFixed section b.local → IsLet section b.local
+  is_let b among fixed =
+      let kind = well.kinds b.local fixed.0 fixed.1 in
+      (fixed.0, fixed.1, elim (fixed_kinds fixed.0.kind fixed.2) [ inl is ↦ absurd (kind.1 (bound_behind section well b among) is) | inr is ↦ is ])
+
+  one_same : (b : Binding) (path path' : StablePath) → Contains (bindings section) b → IsRoot section scope path.root → Replaces section b path path' → ends path' ≡ ends path
+  one_same b path path' among root (other n) = refl
+  one_same b path path' among root (no_path same none) = refl
+  one_same b path path' among root (by_path q same is) =
+      let in_scope : Contains scope b.local = subst (λ k. Contains scope k) (sym same) root.in_scope in
+      let fixed : IsFixed section b.local = subst (IsFixed section) (sym same) root.fixed in
+      let agrees = agree b q among in_scope (is_let b among fixed) is in
+      let go : ℕ → Option ℕ = λ n. led_to shape n path.finals in
+      object_append shape locals q.root q.finals path.finals ∙ ap (λ r. lookup r go) (sym agrees)
+      ∙ sym (object_append shape locals b.local [] path.finals) ∙ ap (λ k. object_at shape locals k path.finals) same
+
+  all_same : (bs : List Binding) (path : StablePath) → ((b : Binding) → Contains bs b → Contains (bindings section) b) → IsRoot section scope path.root →
+      ends (all_replaced section bs path) ≡ ends path
+  all_same [] path sub root = refl
+  all_same (x ∷ bs) path sub root =
+      let rest : (b : Binding) → Contains bs b → Contains (bindings section) b = λ b c. sub b (in_rest x b bs c) in
+      let path' = all_replaced section bs path in
+      one_same x path' (replaced section x path') (sub x (in_first x bs)) (all_roots section scope (bindings section) closed bs path rest root) (replaces section x path')
+      ∙ all_same bs path rest root
+
+  pub normal_same : (path : StablePath) → IsRoot section scope path.root → ends (normal_form section path) ≡ ends path
+  normal_same path root = all_same (bindings section) path (λ b c. c) root
