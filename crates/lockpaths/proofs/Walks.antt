@@ -1,0 +1,31 @@
+-- Final references gathered from the fields of a path.
+use Rattle.std.proofs.Common.{◌≡◌, ℕ, ◌+◌, ◌<◌, List, [], ◌∷◌, ◌++◌, length, drop, get_or, Option, Some, None, refl, sym, ap, ◌∙◌, append_assoc, add-one}
+use Rattle.std.proofs.Math.Seq.{drop-cons}
+use Rattle.std.specs.Option.{option_map}
+use Rattle.core_lang.specs.declared.tree.FieldStep.{FieldStep}
+use Rattle.core_lang.specs.declared.tree.FieldStep.TheVariants.{Final, Field}
+use Rattle.locks.specs.LockPaths.{all_final}
+
+-- numbers behind others, if there are any
+abbrev pub behind_all : List ℕ → Option (List ℕ) → Option (List ℕ)
+behind_all ns rest = option_map (λ ms. ns ++ ms) rest
+
+one_more : (ns ms : List ℕ) (f : ℕ) (rest : Option (List ℕ)) → ms ≡ ns ++ f ∷ [] → behind_all ms rest ≡ behind_all ns (option_map (λ rest. f ∷ rest) rest)
+one_more ns ms f None e = refl
+one_more ns ms f (Some rest) e = ap Some (ap (λ l. l ++ rest) e ∙ append_assoc ns (f ∷ []) rest)
+
+split : (fields : List FieldStep) (i : ℕ) (step : FieldStep) → step ≡ get_or fields i step → i < length fields → drop i fields ≡ step ∷ drop (i + 1) fields
+split fields i step is h =
+    let e : drop i fields ≡ get_or fields i step ∷ drop (i + 1) fields = rw (add-one, drop-cons fields i step) in
+    e ∙ ap (λ x. x ∷ drop (i + 1) fields) (sym is)
+
+pub final_turn : (fields : List FieldStep) (i : ℕ) (step : FieldStep) (s f : ℕ) (ns ms : List ℕ) → step ≡ get_or fields i step → i < length fields → step ≡ Final s f → ms ≡ ns ++ f ∷ [] →
+    behind_all ms (all_final (drop (i + 1) fields)) ≡ behind_all ns (all_final (drop i fields))
+final_turn fields i step s f ns ms is h final e =
+    one_more ns ms f (all_final (drop (i + 1) fields)) e
+    ∙ ap (λ l. behind_all ns (all_final l)) (ap (λ x. x ∷ drop (i + 1) fields) (sym final) ∙ sym (split fields i step is h))
+
+pub field_turn : (fields : List FieldStep) (i : ℕ) (step : FieldStep) (s f : ℕ) (ns : List ℕ) → step ≡ get_or fields i step → i < length fields → step ≡ Field s f →
+    behind_all ns (all_final (drop i fields)) ≡ None
+field_turn fields i step s f ns is h field =
+    ap (λ l. behind_all ns (all_final l)) (split fields i step is h ∙ ap (λ x. x ∷ drop (i + 1) fields) field)

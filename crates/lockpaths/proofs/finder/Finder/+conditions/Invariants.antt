@@ -1,0 +1,7 @@
+use Rattle.std.proofs.Common.{◌≡◌, drop}
+use Rattle.lockpaths.specs.Finding.{over, in_all}
+use Rattle.lockpaths.proofs.finder.Finder.+conditions.Given as goal
+
+abbrev pub invariant-conditions-loop-condition : goal.invariant-conditions-loop-condition
+invariant-conditions-loop-condition l =
+    over l.self l.found (in_all (drop l.condition-index l.conditions)) ≡ over l.self l.initial.found (in_all l.conditions)

@@ -1,0 +1,139 @@
+//! The lock paths of a program.
+
+ghost use Rattle.std.specs.Prelude.{◌≡◌, ◌<◌, length, None, IfErr, IfOk, OnOk};
+ghost use Rattle.std.specs.List.{All, AllZip};
+ghost use Rattle.source.specs.Mistakes.{least_of};
+ghost use Rattle.core_lang.specs.WellFormed.{IsWellFormed};
+ghost use Rattle.locks.specs.Faults.{HasNoFault, IsLeast, IsRefusal};
+ghost use Rattle.lockpaths.specs.Gathering.{gathered_in};
+ghost use Rattle.lockpaths.specs.Faulted.{faults_of};
+ghost use Rattle.lockpaths.specs.Numbers.{IsSetOf, cut, AreRising, IsComplete, IsFinished, AreEach};
+ghost use Rattle.lockpaths.specs.Paths.{ArePaths};
+
+use crate::finder::Finder;
+use crate::forms::Forms;
+use crate::found::Found;
+use crate::table::{Paths, SectionPaths};
+use core_lang::tree::Section;
+use core_lang::typed::Typed;
+use flow::points::points_of;
+use locks::path_set::PathSet;
+use source::fault::{Fault, Refusal};
+use source::memory::NoMemory;
+use source::mistake::Mistake;
+use std::alloc::Global;
+
+// What is found of a section, behind the least fault of those before it.
+fn found_in(
+    alloc: Global,
+    program: &Typed,
+    section: &Section,
+    least: Option<Mistake>,
+) -> Result<Found, NoMemory>
+    ensures { IfOk result (λ found. found ≡ gathered_in program.now section.now least) }
+{
+    let points = points_of(alloc, section)?;
+    let forms = Forms::of(alloc, section, &points)?;
+    let finder = Finder {
+        alloc,
+        program,
+        forms,
+    };
+    let mut found = Found {
+        paths: Vec::new(alloc),
+        numbers: Vec::new(alloc),
+        ends: Vec::new(alloc),
+        least,
+    };
+    finder.points(&points, &mut found)?;
+    Ok(found)
+}
+
+// The set of these numbers.
+fn set_of(numbers: &[u8]) -> PathSet
+    requires { All (λ n. n < 64) numbers.now }
+    ensures { IsSetOf result numbers.now }
+{
+    let mut set = PathSet::empty();
+    for number in numbers {
+        set = set.with(*number as usize);
+    }
+    set
+}
+
+// A set for each point, whose numbers end where the next point's begin.
+fn sets_of(alloc: Global, numbers: &[u8], ends: &[usize]) -> Result<Vec<PathSet>, NoMemory>
+    requires small { All (λ n. n < 64) numbers.now }
+    requires rising { AreRising 0 (length numbers.now) ends.now }
+    ensures { IfOk result (λ sets. AllZip IsSetOf sets.items (cut 0 numbers.now ends.now)) }
+{
+    let mut sets = Vec::with_capacity(alloc, ends.len())?;
+    let mut start = 0;
+    for end in ends {
+        let set = set_of(&numbers[start..*end]);
+        sets.push(set)?;
+        start = *end;
+    }
+    Ok(sets)
+}
+
+// What is found of a section without a fault, with a set for each point.
+fn section_paths(alloc: Global, found: Found) -> Result<SectionPaths, NoMemory>
+    requires { IsComplete found }
+    ensures { IfOk result (IsFinished found) }
+{
+    let used = sets_of(alloc, &found.numbers, &found.ends)?;
+    Ok(SectionPaths {
+        paths: found.paths,
+        used,
+        of_access: found.numbers,
+    })
+}
+
+// What is found of each section while there is no fault, and the least fault of all.
+fn gather(alloc: Global, program: &Typed) -> Result<(Vec<SectionPaths>, Option<Mistake>), NoMemory>
+    ensures least { IfOk result (λ r. r.1 ≡ least_of None (faults_of program.now)) }
+    ensures found { IfOk result (λ r. r.1 ≡ None → AreEach program.now program.now.sections.items r.0.items) }
+{
+    // The law tells that the sets' numbers stand for one path each.
+    locks::laws::each_path_once();
+    let mut sections = Vec::with_capacity(alloc, program.sections.len())?;
+    let mut least = None;
+    for section in &program.sections {
+        let found = found_in(alloc, program, section, least)?;
+        least = found.least;
+        if least.is_none() {
+            let paths = section_paths(alloc, found)?;
+            sections.push(paths)?;
+        }
+    }
+    Ok((sections, least))
+}
+
+/// The lock paths of a program's sections; or the least fault of them.
+///
+/// - `E13`, at the first name of an access under an object's lock through a base that can change;
+/// - `E15`, at the first name of the access by which a section has its 65th lock path;
+/// - or memory ran out.
+pub fn paths(alloc: Global, program: &Typed) -> Result<Paths, Refusal>
+    requires { IsWellFormed program.now }
+    // What is answered are the lock paths of each section, of each point and of each access.
+    ensures paths { IfOk result (ArePaths program.now) }
+    // A program with a fault is never accepted.
+    ensures faultless { OnOk result (HasNoFault program.now) }
+    // A fault is a fault of the program.
+    ensures fault { IfErr result (IsRefusal program.now) }
+    // No fault of the program goes before it.
+    ensures least { IfErr result (IsLeast program.now) }
+{
+    // The law tells that a path which is not found again is a new one, and so may be one too many.
+    locks::laws::each_path_once();
+    let (sections, least) = match gather(alloc, program) {
+        Ok(found) => found,
+        Err(NoMemory) => return Err(Refusal::NoMemory),
+    };
+    match least {
+        Some(fault) => Err(Refusal::Fault(Fault::at(alloc, fault.code, fault.start))),
+        None => Ok(Paths { sections }),
+    }
+}
