@@ -7,8 +7,11 @@ use Rattle.source.specs.Texts as text
 use Rattle.syntax.specs.Trees.{Decl}
 use Rattle.syntax.specs.Faults as grammar
 use Rattle.resolution.specs.Faults as names
+use Rattle.resolution.specs.Resolved.{Resolves}
+use Rattle.core_lang.specs.declared.typed.Typed.{Typed}
+use Rattle.locks.specs.Faults as paths
 use Rattle.source.specs.Mistakes.{IsLeastOf}
-use Rattle.driver.specs.Programs.{IsRefusal, HasNoTextFault, HasNoTokenFault, in_text, in_tokens, in_tree}
+use Rattle.driver.specs.Programs.{IsRefusal, HasNoTextFault, HasNoTokenFault, in_text, in_tokens, in_tree, in_paths}
 
 pub text_refused : (source : List ℕ) (e : Refusal) → text.IsRefusal source e → IsRefusal source e
 text_refused source NoMemory refused = tt
@@ -25,3 +28,10 @@ pub tree_refused : (source : List ℕ) (tokens : List Tok) (tree : List Decl) (e
 tree_refused source tokens tree NoMemory no_text has no_token right refused least = tt
 tree_refused source tokens tree (Fault fault) no_text has no_token right refused least =
     in_tree tokens tree no_text has no_token right refused least
+
+pub paths_refused : (source : List ℕ) (tokens : List Tok) (tree : List Decl) (program : Typed) (e : Refusal) → HasNoTextFault source
+    → text.HasTokens source tokens → HasNoTokenFault tokens → grammar.HasRightTree tokens tree → names.HasNoFault tree
+    → Resolves tree program → paths.IsRefusal program e → paths.IsLeast program e → IsRefusal source e
+paths_refused source tokens tree program NoMemory no_text has no_token right no_name means refused least = tt
+paths_refused source tokens tree program (Fault fault) no_text has no_token right no_name means refused least =
+    in_paths tokens tree program no_text has no_token right no_name means refused least

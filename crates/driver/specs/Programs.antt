@@ -12,13 +12,16 @@ use Rattle.syntax.specs.Faults as grammar
 use Rattle.resolution.specs.Faults as names
 use Rattle.source.specs.Mistakes.{IsLeastOf}
 use Rattle.resolution.specs.Resolved.{Resolves}
+use Rattle.locks.specs.Faults as paths
 
--- a fault of the text; of the tokens of a text that has some; of the tree of tokens that have one
+-- a fault of the text; of the tokens of a text that has some; of the tree of tokens that have one; of the program that a tree means
 pub data HasFault (source : List ℕ) (fault : the_fault.Fault) : Type 0 where
   of_text : text.IsRefusal source (Fault fault) → HasFault source fault
   of_tokens : (tokens : List Tok) → text.HasTokens source tokens → grammar.IsRefusal tokens (Fault fault) → HasFault source fault
   of_tree : (tokens : List Tok) (tree : List Decl) → text.HasTokens source tokens → grammar.HasRightTree tokens tree
       → names.IsRefusal tree (Fault fault) → HasFault source fault
+  of_paths : (tokens : List Tok) (tree : List Decl) (program : Typed) → text.HasTokens source tokens → grammar.HasRightTree tokens tree
+      → Resolves tree program → paths.IsRefusal program (Fault fault) → HasFault source fault
 
 -- the text has these tokens, the tokens this tree, and the program is what the tree means; and the text has no fault
 pub record Accepts (source : List ℕ) (program : Typed) : Type 0 where
@@ -36,7 +39,8 @@ HasNoTextFault source = (code : Code) (start : ℕ) → text.IsFault source code
 abbrev pub HasNoTokenFault : List Tok → Type 0
 HasNoTokenFault tokens = (code : Code) (start : ℕ) → grammar.IsFault tokens code start → ⊥
 
--- a true fault of the first pass that has any: of a text, which has one fault of its own at most; of its tokens; or of its tree, and there the least
+-- a true fault of the first pass that has any: of a text, which has one fault of its own at most; of its tokens; of its tree, and there
+-- the least; or of the lock paths of the program that the tree means, and there the least
 pub data IsOfFirstPass (source : List ℕ) (fault : the_fault.Fault) : Type 0 where
   in_text : text.IsRefusal source (Fault fault) → IsOfFirstPass source fault
   in_tokens : (tokens : List Tok) → HasNoTextFault source → text.HasTokens source tokens
@@ -44,6 +48,9 @@ pub data IsOfFirstPass (source : List ℕ) (fault : the_fault.Fault) : Type 0 wh
   in_tree : (tokens : List Tok) (tree : List Decl) → HasNoTextFault source → text.HasTokens source tokens
       → HasNoTokenFault tokens → grammar.HasRightTree tokens tree
       → names.IsRefusal tree (Fault fault) → IsLeastOf (names.IsFault tree) (Fault fault) → IsOfFirstPass source fault
+  in_paths : (tokens : List Tok) (tree : List Decl) (program : Typed) → HasNoTextFault source → text.HasTokens source tokens
+      → HasNoTokenFault tokens → grammar.HasRightTree tokens tree → names.HasNoFault tree → Resolves tree program
+      → paths.IsRefusal program (Fault fault) → paths.IsLeast program (Fault fault) → IsOfFirstPass source fault
 
 -- a text was refused for such a fault, or for want of memory
 abbrev pub IsRefusal : List ℕ → Refusal → Type 0

@@ -6,6 +6,7 @@ ghost use Rattle.driver.specs.Programs.{Accepts, IsRefusal};
 
 use core_lang::typed::Typed;
 use lexer::lex;
+use lockpaths::paths;
 use parser::parse;
 use source::fault::Refusal;
 use std::alloc::Global;
@@ -19,5 +20,7 @@ pub fn program_of(alloc: Global, text: &[u8]) -> Result<Typed, Refusal>
 {
     let tokens = lex(alloc, text)?;
     let tree = parse(alloc, &tokens)?;
-    check(alloc, &tree)
+    let program = check(alloc, &tree)?;
+    paths(alloc, &program)?;
+    Ok(program)
 }

@@ -52,13 +52,17 @@ final_field program s f = lookup (slice_get program.structs.items s) (λ (x : St
 abbrev pub final_name : Option FinalField → List ℕ
 final_name final = or_nothing (lookup final (λ (x : FinalField). Some (string_bytes x.name)))
 
+-- the struct of what it names
+abbrev pub final_target : Option FinalField → Option ℕ
+final_target final = lookup final (λ (x : FinalField). Some x.target)
+
 -- final references from a struct on, each with a dot behind it
 abbrev pub finals_text : Typed → Option ℕ → List ℕ → List ℕ
 finals_text program s [] = []
 finals_text program None (f ∷ fs) = []
 finals_text program (Some s) (f ∷ fs) =
     let final = final_field program s f in
-    final_name final ++ codes "." ++ finals_text program (lookup final (λ (x : FinalField). Some x.target)) fs
+    final_name final ++ codes "." ++ finals_text program (final_target final) fs
 
 abbrev pub struct_if_reference : ValueType → Option ℕ
 struct_if_reference Integer = None
@@ -69,11 +73,14 @@ root_text program None finals = []
 root_text program (Some local) finals =
     string_bytes local.name ++ codes "." ++ finals_text program (struct_if_reference local.value_type) finals
 
+-- a path that begins at a local
+abbrev pub local_path_text : Typed → Option Local → LockPath → List ℕ
+local_path_text program local path = root_text program local path.finals ++ last_name program path.class
+
 -- a path: its names joined by dots
 abbrev pub text_from : Typed → Section → Root → LockPath → List ℕ
 text_from program section GlobalLock path = class_name program path.class
-text_from program section (AtLocal k) path =
-    root_text program (slice_get section.locals.items k) path.finals ++ last_name program path.class
+text_from program section (AtLocal k) path = local_path_text program (slice_get section.locals.items k) path
 
 abbrev pub path_text : Typed → Section → LockPath → List ℕ
 path_text program section path = text_from program section path.root path

@@ -1,0 +1,55 @@
+-- The bits of sets, one at a time.
+use Rattle.std.proofs.Common.{◌≡◌, ℕ, ◌*◌, ◌%◌, ◌^◌, ◌<◌, max, Bool, true, false, not, ◌||◌, ◌&&◌, inl, inr, refl, sym, ap, ◌∙◌, arith, w64}
+use Rattle.std.specs.Prelude.{◌==◌, bit_or}
+use Rattle.std.specs.Int.{bit_at, trailing_zeros, Width}
+use Rattle.std.specs.Bool.{Decides}
+use mir.Val.{bits}
+use Rattle.std.proofs.lemmas.Nat.Bits.{bit_at_or, bit_at-lt, bit_at-zero, bit_at_set_same, bit_at_set_other, bit_at-trailing_zeros}
+use Rattle.std.proofs.lemmas.Bool.{cases_eq, cases_lt, and_parts, and_from, or_right, eq-eqb, ne_eqb, both_ways, not-true, not_from_false}
+use Rattle.std.proofs.lemmas.Bool.Decides.{nat_tests}
+use Rattle.locks.specs.declared.path_set.PathSet.{PathSet}
+use Rattle.locks.specs.Sets.{has}
+use Rattle.lockorder.specs.Sections.{Share}
+
+abbrev pub bit : ℕ → ℕ → Bool
+bit n i = bit_at n i == 1
+
+small_or : (x y : ℕ) → x < 2 → y < 2 → (max x y == 1) ≡ (x == 1 || y == 1)
+small_or x y hx hy = grind (arith, nat_tests)
+
+pub bit_or_is : (a b i : ℕ) → bit (bit_or a b) i ≡ (bit a i || bit b i)
+bit_or_is a b i = ap (λ x. x == 1) (bit_at_or a b i) ∙ small_or (bit_at a i) (bit_at b i) (bit_at-lt a i) (bit_at-lt b i)
+
+or_none : (b : Bool) → b ≡ (b || false)
+or_none true = refl
+or_none false = refl
+
+pub bit_with : (w : Width) (n k : ℕ) → k < bits w → (j : ℕ) → bit (bit_or n (1 * 2 ^ k % 2 ^ bits w)) j ≡ (bit n j || (j == k))
+bit_with w n k h j =
+    elim (cases_eq j k) [
+      | inl e ↦ ap (λ x. bit (bit_or n (1 * 2 ^ k % 2 ^ bits w)) x) e ∙ ap (λ x. x == 1) (bit_at_set_same w n k h) ∙ sym (or_right (bit n j) (j == k) (eq-eqb j k e))
+      | inr ne ↦ ap (λ x. x == 1) (bit_at_set_other w n k h j ne) ∙ or_none (bit n j) ∙ ap (λ x. bit n j || x) (sym (ne_eqb j k ne))
+    ]
+
+-- a set that isn't empty has a path
+pub has_some : (s : PathSet) → 0 < s.bits → s.bits < 2 ^ 64 → (i : ℕ) × (has s i ≡ true)
+has_some s some fits =
+    let z = bit_at-trailing_zeros w64 s.bits some fits in
+    (trailing_zeros w64 s.bits, eq-eqb (bit_at s.bits (trailing_zeros w64 s.bits)) 1 z.1)
+
+pub has_none : (s : PathSet) (i : ℕ) → s.bits ≡ 0 → has s i ≡ false
+has_none s i e = let z : bit_at s.bits i ≡ 0 = ap (λ n. bit_at n i) e ∙ bit_at-zero i in ap (λ x. x == 1) z
+
+pub share_decides : (a b m : PathSet) → ((i : ℕ) → has m i ≡ (has a i && has b i)) → m.bits < 2 ^ 64 → Decides (not (m.bits == 0)) (Share a b)
+share_decides a b m both fits = (
+  λ e.
+      let ne : m.bits ≡ 0 → ⊥ = λ z. both_ways (m.bits == 0) (not-true (m.bits == 0) e) (eq-eqb m.bits 0 z) in
+      let i = has_some m (above m.bits ne) fits in
+      let p = and_parts (has a i.0) (has b i.0) (sym (both i.0) ∙ i.1) in
+      (i.0, p.0, p.1),
+  λ (i, x, y). not_from_false (m.bits == 0) (ne_eqb m.bits 0 (λ z.
+      both_ways (has m i) (has_none m i z) (both i ∙ and_from (has a i) (has b i) x y))),
+)
+  where
+    above : (n : ℕ) → (n ≡ 0 → ⊥) → 0 < n
+    above n ne = elim (cases_lt 0 n) [ inl lt ↦ lt | inr ge ↦ let z : n ≡ 0 = omega arith in absurd (ne z) ]

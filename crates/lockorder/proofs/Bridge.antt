@@ -1,0 +1,186 @@
+-- What the sets of a section's points say of the edges that the section makes.
+use Rattle.std.proofs.Common.{◌≡◌, ℕ, ◌<◌, List, length, Option, Some, None, ◌⊎◌, inl, inr, refl, sym, ap, ◌∙◌, subst, arith}
+use Rattle.std.specs.Prelude.{slice_get}
+use Rattle.std.specs.Option.{option_map}
+use Rattle.std.specs.List.{All, Contains}
+use Rattle.std.proofs.lemmas.Option.{none-some, same_Some, slice_get_within, slice_get-map, slice_get-get_or}
+use Rattle.std.proofs.lemmas.List.Elements.{All-contains_itself, All-weaker}
+use Rattle.core_lang.specs.declared.tree.Section.{Section}
+use Rattle.core_lang.specs.declared.typed.Typed.{Typed}
+use Rattle.core_lang.specs.WellFormed.{IsWellFormed}
+use Rattle.flow.specs.Skeletons.{skeleton}
+use Rattle.flow.specs.Flow.{Plus, one, more, Follows, Before}
+use Rattle.flow.specs.Points.{points}
+use Rattle.flow.specs.Laws.{PairsLeadBetweenPoints}
+use Rattle.locks.specs.declared.path_set.PathSet.{PathSet}
+use Rattle.locks.specs.LockPaths.{LockPath, Uses, BindsRoot, lock_paths}
+use Rattle.locks.specs.Laws.{UsedAreListed, PathsHaveClasses}
+use Rattle.locks.specs.Sets.{AreSets}
+use Rattle.points.specs.declared.table.Points.{Points}
+use Rattle.points.specs.Points.{ArePoints}
+use Rattle.points.specs.Used.{IsUsedBefore}
+use Rattle.lockorder.specs.Edges.{Makes, Edge}
+use Rattle.lockorder.specs.Sections.{set_at, no_paths, IsOfClass, HasClass, BindsAt, UsesAt, MakesSomewhere, MakesAt, LeadBetween}
+use Rattle.lockorder.proofs.Lists.{contains_there, there_contains}
+use Rattle.lockorder.proofs.InSection.{set_within}
+
+-- the section of this number makes the edge
+abbrev pub MakesIn : Typed → ℕ → ℕ → ℕ → Type 0
+MakesIn program k c d = (used bound : ℕ) × Makes program k used bound c d
+
+map_some : {A B : Type 0} (f : A → B) (o : Option A) (y : B) → option_map f o ≡ Some y → (x : A) × (o ≡ Some x) × (f x ≡ y)
+map_some f None y e = absurd (none-some y e)
+map_some f (Some x) y e = (x, refl, same_Some (f x) y e)
+
+map_plus : (R S : ℕ → ℕ → Type 0) → ((a b : ℕ) → R a b → S a b) → {p q : ℕ} → Plus R p q → Plus S p q
+map_plus R S to {p} {q} (one r) = one (to p q r)
+map_plus R S to {p} (more {q} r s) = more (to p q r) (map_plus R S to s)
+
+module _ (program : Typed) (well : IsWellFormed program) (listed : UsedAreListed) (classes : PathsHaveClasses) (between : PairsLeadBetweenPoints)
+    (k : ℕ) (section : Section) (here : slice_get program.sections.items k ≡ Some section) (x : Points) (are : ArePoints program section x) where
+  abbrev paths : List LockPath
+  paths = lock_paths program section
+
+  path_of : (c i : ℕ) → IsOfClass x c i → (path : LockPath) × (slice_get paths i ≡ Some path) × (path.class ≡ c)
+  path_of c i e =
+      map_some (λ (p : LockPath). p.class) (slice_get paths i) c
+      (sym (slice_get-map (λ (p : LockPath). p.class) paths i) ∙ ap (λ l. slice_get l i) (sym are.classes) ∙ e)
+
+  class_of : (i : ℕ) (path : LockPath) → slice_get paths i ≡ Some path → IsOfClass x path.class i
+  class_of i path e = ap (λ l. slice_get l i) are.classes ∙ slice_get-map (λ (p : LockPath). p.class) paths i ∙ ap (option_map (λ (p : LockPath). p.class)) e
+
+  used_somewhere : (i : ℕ) (path : LockPath) → slice_get paths i ≡ Some path → (p : ℕ) × Uses program section p path
+  used_somewhere i path e = (listed program section path).0 (contains_there paths i path e)
+
+  number_of : (p : ℕ) (path : LockPath) → Uses program section p path → (i : ℕ) × (slice_get paths i ≡ Some path)
+  number_of p path u = there_contains paths path ((listed program section path).1 (p, u))
+
+  -- the sets of a relation, read by class
+  module _ (R : ℕ → LockPath → Type 0) (sets : List PathSet) (a : AreSets program section R sets) where
+    there : (p : ℕ) → p < length sets → slice_get sets p ≡ Some (set_at sets p)
+    there p lt = slice_get-get_or sets p no_paths lt
+
+    from_set : (p c : ℕ) → HasClass x (set_at sets p) c → (path : LockPath) × R p path × (path.class ≡ c) × ((u : ℕ) × Uses program section u path)
+    from_set p c h =
+        let path = path_of c h.0 h.2 in
+        (path.0, (a.1 p h.0 (set_at sets p) path.0 (there p (set_within sets p h.0 h.1)) path.1).0 h.1, path.2, used_somewhere h.0 path.0 path.1)
+
+    to_set : (p i : ℕ) (path : LockPath) → p < length (points section) → slice_get paths i ≡ Some path → R p path → HasClass x (set_at sets p) path.class
+    to_set p i path lt e r = (i, (a.1 p i (set_at sets p) path (there p (omega (arith, lt, a.0))) e).1 r, class_of i path e)
+
+  uses_point : (p : ℕ) (path : LockPath) → Uses program section p path → p < length (points section)
+  uses_point p path u = slice_get_within (points section) p u.0 u.1
+
+  binds_point : (p : ℕ) (path : LockPath) → BindsRoot section p path → p < length (points section)
+  binds_point p path b = slice_get_within (points section) p b.2.0 b.2.1
+
+  same_section : (s : Section) → slice_get program.sections.items k ≡ Some s → s ≡ section
+  same_section s e = same_Some s section (sym e ∙ here)
+
+  -- ---- the sets say what the section makes
+
+  pub somewhere_makes : (c d : ℕ) → MakesSomewhere x c d → MakesIn program k c d
+  somewhere_makes c d (p, uses, binds) =
+      let b = from_set (BindsRoot section) x.bound.items are.bound p d binds in
+      elim uses [
+        | inl h ↦
+            let u = from_set (Uses program section) x.used.items are.used p c h in
+            (p, p, record { section = section; here = here; uses = (u.0, u.1, u.2); binds = (b.0, b.3.0, b.3.1, b.1, b.2); order = inl refl })
+        | inr h ↦
+            let u = from_set (IsUsedBefore program section) x.used_before.items are.used_before p c h in
+            (u.1.0, p, record { section = section; here = here; uses = (u.0, u.1.2, u.2); binds = (b.0, b.3.0, b.3.1, b.1, b.2); order = inr u.1.1 })
+      ]
+
+  pub at_makes : (c d used bound : ℕ) → MakesAt x c d used bound → Makes program k used bound c d
+  at_makes c d used bound m =
+      let u = from_set (Uses program section) x.used.items are.used used c m.0.0 in
+      let b = from_set (BindsRoot section) x.bound.items are.bound bound d m.1 in
+      record {
+        section = section;
+        here = here;
+        uses = (u.0, u.1, u.2);
+        binds = (b.0, b.3.0, b.3.1, b.1, b.2);
+        order = elim m.0.1 [
+          | inl e ↦ inl e
+          | inr p ↦ inr (map_plus (λ q r. Contains x.pairs.items (q, r)) (Follows (skeleton section)) (λ q r h. (are.pairs q r).0 h) p)
+        ];
+      }
+
+  uses_at : (used c : ℕ) (path : LockPath) → Uses program section used path → path.class ≡ c → UsesAt x used c
+  uses_at used c path u e =
+      let i = number_of used path u in
+      subst (HasClass x (set_at x.used.items used)) e (to_set (Uses program section) x.used.items are.used used i.0 path (uses_point used path u) i.1 u)
+
+  binds_at : (bound user d : ℕ) (path : LockPath) → Uses program section user path → BindsRoot section bound path → path.class ≡ d → BindsAt x bound d
+  binds_at bound user d path u b e =
+      let i = number_of user path u in
+      subst (HasClass x (set_at x.bound.items bound)) e (to_set (BindsRoot section) x.bound.items are.bound bound i.0 path (binds_point bound path b) i.1 b)
+
+  pub makes_at : (used bound c d : ℕ) (s : Section) (uses : LockPath) (binds : LockPath) (user : ℕ) → Uses program section used uses → uses.class ≡ c → Uses program section user binds →
+      BindsRoot section bound binds → binds.class ≡ d → (used ≡ bound) ⊎ Before (skeleton section) used bound → MakesAt x c d used bound
+  makes_at used bound c d s uses binds user u uc v b bd order = (
+    (
+      uses_at used c uses u uc,
+      elim order [
+        | inl e ↦ inl e
+        | inr p ↦ inr (map_plus (Follows (skeleton section)) (λ q r. Contains x.pairs.items (q, r)) (λ q r f. (are.pairs q r).1 f) p)
+      ],
+    ),
+    binds_at bound user d binds v b bd,
+  )
+
+  pub makes_somewhere_by : (used bound c d : ℕ) (uses binds : LockPath) (user : ℕ) → Uses program section used uses → uses.class ≡ c → Uses program section user binds →
+      BindsRoot section bound binds → binds.class ≡ d → (used ≡ bound) ⊎ Before (skeleton section) used bound → MakesSomewhere x c d
+  makes_somewhere_by used bound c d uses binds user u uc v b bd order = (
+    bound,
+    elim order [
+      | inl e ↦ inl (subst (λ p. UsesAt x p c) e (uses_at used c uses u uc))
+      | inr p ↦ inr (
+          let i = number_of used uses u in
+          subst (HasClass x (set_at x.used_before.items bound)) uc
+          (to_set (IsUsedBefore program section) x.used_before.items are.used_before bound i.0 uses (binds_point bound binds b) i.1 (used, p, u)))
+    ],
+    binds_at bound user d binds v b bd,
+  )
+
+  module _ (used bound c d : ℕ) (m : Makes program k used bound c d) where
+    moved : (P : Section → Type 0) → P m.section → P section
+    moved P h = subst P (same_section m.section m.here) h
+
+    pub makes_at_points : MakesAt x c d used bound
+    makes_at_points =
+        makes_at used bound c d section m.uses.0 m.binds.0 m.binds.1 (moved (λ s. Uses program s used m.uses.0) m.uses.1) m.uses.2 (moved (λ s. Uses program s m.binds.1 m.binds.0) m.binds.2)
+        (moved (λ s. BindsRoot s bound m.binds.0) m.binds.3) m.binds.4 (moved (λ s. (used ≡ bound) ⊎ Before (skeleton s) used bound) m.order)
+
+    pub makes_somewhere : MakesSomewhere x c d
+    makes_somewhere =
+        makes_somewhere_by used bound c d m.uses.0 m.binds.0 m.binds.1 (moved (λ s. Uses program s used m.uses.0) m.uses.1) m.uses.2 (moved (λ s. Uses program s m.binds.1 m.binds.0) m.binds.2)
+        (moved (λ s. BindsRoot s bound m.binds.0) m.binds.3) m.binds.4 (moved (λ s. (used ≡ bound) ⊎ Before (skeleton s) used bound) m.order)
+
+  -- ---- what the passes ask for
+
+  pub made_somewhere : (c d : ℕ) → MakesSomewhere x c d → (used bound : ℕ) × MakesAt x c d used bound
+  made_somewhere c d h = let m = somewhere_makes c d h in (m.0, m.1, makes_at_points m.0 m.1 c d m.2)
+
+  pub pairs_within : LeadBetween (length x.used.items) x.pairs.items
+  pairs_within =
+      All-weaker (Contains x.pairs.items) (λ (p : ℕ × ℕ). (p.0 < length x.used.items) × (p.1 < length x.used.items))
+      (λ p h. let w = between section p.0 p.1 ((are.pairs p.0 p.1).0 h) in (omega (arith, w.0, are.used.0), omega (arith, w.1, are.used.0))) x.pairs.items (All-contains_itself x.pairs.items)
+
+  pub classes_within : All (λ c. c < length program.classes.items) x.classes.items
+  classes_within =
+      All-weaker (Contains x.classes.items) (λ c. c < length program.classes.items) (λ c h.
+      let i = there_contains x.classes.items c h in
+      let path = path_of c i.0 i.1 in
+      let u = used_somewhere i.0 path.0 path.1 in
+      let has_class = classes program section u.0 path.0 well u.1 in
+      subst (λ n. n < length program.classes.items) path.2 (slice_get_within program.classes.items path.0.class has_class.0 has_class.1)) x.classes.items (All-contains_itself x.classes.items)
+
+-- the classes of an edge are the program's
+pub edge_within : (program : Typed) → IsWellFormed program → PathsHaveClasses → (c d : ℕ) → Edge program c d → (c < length program.classes.items) × (d < length program.classes.items)
+edge_within program well classes c d (k, used, bound, m) =
+    let u = classes program m.section used m.uses.0 well m.uses.1 in
+    let b = classes program m.section m.binds.1 m.binds.0 well m.binds.2 in (
+      subst (λ n. n < length program.classes.items) m.uses.2 (slice_get_within program.classes.items m.uses.0.class u.0 u.1),
+      subst (λ n. n < length program.classes.items) m.binds.4 (slice_get_within program.classes.items m.binds.0.class b.0 b.1),
+    )

@@ -1,0 +1,13 @@
+pub mod Lists
+pub mod Rising
+pub mod Stuck
+pub mod Ranked
+pub mod Blame
+pub mod Bridge
+pub mod Tells
+pub mod Making
+pub mod InSection
+pub mod Spreading
+pub mod Edges
+pub mod Bits
+pub mod Reaching

@@ -1,0 +1,124 @@
+-- Lists of numbers, and what they contain.
+use Rattle.std.proofs.Common.{◌≡◌, ℕ, zero, suc, ◌≤◌, ◌<◌, Bool, true, false, List, [], ◌∷◌, ◌++◌, take, length, get_or, set, Some, ◌⊎◌, inl, inr, refl, sym, ap, ◌∙◌, arith}
+use Rattle.std.specs.Prelude.{◌≢◌, ◌==◌, slice_get}
+use Rattle.std.specs.List.{All, AllPairs, Contains, list_any}
+use Rattle.std.proofs.lemmas.Bool.{or_cases, or_left, or_right, eqb-true, eq-eqb, cases_lt, cases_Bool, both_ways}
+use Rattle.std.proofs.lemmas.Bool.Decides.{Decides-eqb}
+use Rattle.std.proofs.lemmas.Option.{none-some, slice_get_within, get_or_from_slice_get, slice_get-get_or}
+use Rattle.std.proofs.lemmas.List.Elements.{All-contains}
+use Rattle.std.proofs.lemmas.List.{get_or-set_same, get_or-set_other}
+use Rattle.std.proofs.Math.ListN.{length-set}
+use Rattle.std.proofs.lemmas.List.Kept.{AllPairs-cons}
+use Rattle.std.proofs.lemmas.List.Quantifiers.{all_pairs_push}
+use Rattle.std.proofs.lemmas.Map.Made.{IsDistinct-from_AllPairs}
+use Rattle.std.proofs.lemmas.Map.Steps.{length-le_from_distinct_below, le-length_from_below}
+
+-- ---- what a list contains
+
+pub not_in_none : {X : Type 0} (x : X) → Contains [] x → ⊥
+not_in_none x c = omega (arith, c.1)
+
+pub in_first : {X : Type 0} (x : X) (xs : List X) → Contains (x ∷ xs) x
+in_first x xs = (0, omega arith, refl)
+
+pub in_rest : {X : Type 0} (x y : X) (xs : List X) → Contains xs y → Contains (x ∷ xs) y
+in_rest x y xs c = (suc c.0, omega (arith, c.1), c.2)
+
+pub in_cases : {X : Type 0} (x y : X) (xs : List X) → Contains (x ∷ xs) y → (x ≡ y) ⊎ Contains xs y
+in_cases x y xs (zero, lt, e) = inl e
+in_cases x y xs (suc i, lt, e) = inr (i, omega (arith, lt), e)
+
+pub contains_there : {X : Type 0} (xs : List X) (i : ℕ) (x : X) → slice_get xs i ≡ Some x → Contains xs x
+contains_there xs i x e = (i, slice_get_within xs i x e, get_or_from_slice_get xs i x x e)
+
+pub there_contains : {X : Type 0} (xs : List X) (x : X) → Contains xs x → (i : ℕ) × (slice_get xs i ≡ Some x)
+there_contains xs x c = (c.0, slice_get-get_or xs c.0 x c.1 ∙ ap Some c.2)
+
+pub in_take : {X : Type 0} (k : ℕ) (xs : List X) (x : X) → Contains (take k xs) x → (j : ℕ) × (j < k) × (slice_get xs j ≡ Some x)
+in_take zero xs x c = absurd (not_in_none x c)
+in_take (suc k) [] x c = absurd (not_in_none x c)
+in_take (suc k) (y ∷ xs) x c =
+    elim (in_cases y x (take k xs) c) [
+      | inl e ↦ (0, omega arith, ap Some e)
+      | inr m ↦ let r = in_take k xs x m in (suc r.0, omega (arith, r.1), r.2)
+    ]
+
+-- ---- lists of numbers without repeats
+
+among : (q : ℕ) (xs : List ℕ) → list_any (λ x. q == x) xs ≡ true → Contains xs q
+among q [] e = absurd cc
+among q (x ∷ xs) e =
+    elim (or_cases (q == x) (list_any (λ y. q == y) xs) e) [
+      | inl same ↦ (0, omega arith, sym (eqb-true q x same))
+      | inr more ↦ in_rest x q xs (among q xs more)
+    ]
+
+is_among : (q : ℕ) (xs : List ℕ) → Contains xs q → list_any (λ x. q == x) xs ≡ true
+is_among q [] c = absurd (not_in_none q c)
+is_among q (x ∷ xs) c =
+    elim (in_cases x q xs c) [
+      | inl e ↦ or_left (q == x) (list_any (λ y. q == y) xs) (eq-eqb q x (sym e))
+      | inr m ↦ or_right (q == x) (list_any (λ y. q == y) xs) (is_among q xs m)
+    ]
+
+pub among_or_not : (q : ℕ) (xs : List ℕ) → Contains xs q ⊎ (Contains xs q → ⊥)
+among_or_not q xs =
+    elim (cases_Bool (list_any (λ x. q == x) xs)) [
+      | inl is_so ↦ inl (among q xs is_so)
+      | inr not_so ↦ inr (λ c. both_ways (list_any (λ x. q == x) xs) not_so (is_among q xs c))
+    ]
+
+-- distinct numbers below n are at most n
+pub no_more : (xs : List ℕ) (n : ℕ) → AllPairs ◌≢◌ xs → All (λ x. x < n) xs → length xs ≤ n
+no_more xs n d b =
+    length-le_from_distinct_below xs n (IsDistinct-from_AllPairs Decides-eqb xs d) (λ q e. All-contains (λ x. x < n) xs q b (among q xs e))
+
+-- each number below n is among at least n
+pub no_fewer : (xs : List ℕ) (n : ℕ) → ((q : ℕ) → q < n → Contains xs q) → n ≤ length xs
+no_fewer xs n h = le-length_from_below xs n (λ q lt. is_among q xs (h q lt))
+
+at_contains : (xs : List ℕ) (k d x : ℕ) → k < length xs → get_or xs k d ≡ x → Contains xs x
+at_contains xs k d x lt e = (k, lt, get_or_from_slice_get xs k (get_or xs k d) x (slice_get-get_or xs k d lt) ∙ e)
+
+pub distinct_push : (xs : List ℕ) (y : ℕ) → AllPairs ◌≢◌ xs → (Contains xs y → ⊥) → AllPairs ◌≢◌ (xs ++ y ∷ [])
+distinct_push xs y d new = all_pairs_push ◌≢◌ xs y d (λ k z lt e. new (at_contains xs k z y lt e))
+
+pub distinct_cons : (x : ℕ) (xs : List ℕ) → AllPairs ◌≢◌ xs → (Contains xs x → ⊥) → AllPairs ◌≢◌ (x ∷ xs)
+distinct_cons x xs d new = AllPairs-cons ◌≢◌ x xs (λ k z lt e. new (at_contains xs k z x lt (sym e))) d
+
+-- ---- one more item, and another one
+
+pub push_cases : {X : Type 0} (xs : List X) (y : X) (k : ℕ) (x : X) → slice_get (xs ++ y ∷ []) k ≡ Some x → (slice_get xs k ≡ Some x) ⊎ ((k ≡ length xs) × (y ≡ x))
+push_cases [] y zero x e = inr (refl, cc)
+push_cases [] y (suc k) x e = absurd (none-some x e)
+push_cases (z ∷ xs) y zero x e = inl e
+push_cases (z ∷ xs) y (suc k) x e = elim (push_cases xs y k x e) [ inl h ↦ inl h | inr h ↦ inr (ap suc h.0, h.1) ]
+
+pub get_set_same : {X : Type 0} (xs : List X) (i : ℕ) (x : X) → i < length xs → slice_get (set xs i x) i ≡ Some x
+get_set_same xs i x lt = slice_get-get_or (set xs i x) i x (omega (arith, lt, length-set xs i x)) ∙ ap Some (get_or-set_same xs i x x lt)
+
+pub get_set_other : {X : Type 0} (xs : List X) (i j : ℕ) (x y : X) → j ≢ i → slice_get xs j ≡ Some y → slice_get (set xs i x) j ≡ Some y
+get_set_other xs i j x y ne e =
+    slice_get-get_or (set xs i x) j y (omega (arith, slice_get_within xs j y e, length-set xs i x))
+    ∙ ap Some (get_or-set_other xs i j x y ne ∙ get_or_from_slice_get xs j y y e)
+
+-- ---- numbers below a bound
+
+pub found_below : (f : ℕ → Bool) (n : ℕ) → ((k : ℕ) × (k < n) × (f k ≡ true)) ⊎ ((k : ℕ) → k < n → f k ≡ false)
+found_below f zero = inr (λ k lt. absurd (omega arith))
+found_below f (suc n) =
+    elim (cases_Bool (f n)) [
+      | inl is_so ↦ inl (n, omega arith, is_so)
+      | inr not_so ↦ elim (found_below f n) [
+        | inl x ↦ inl (x.0, omega (arith, x.1), x.2)
+        | inr none ↦ inr (λ k lt. or_last k lt not_so none)
+      ]
+    ]
+  where
+    or_last : (k : ℕ) → k < suc n → f n ≡ false → ((j : ℕ) → j < n → f j ≡ false) → f k ≡ false
+    or_last k lt last none = elim (cases_lt k n) [ inl less ↦ none k less | inr ge ↦ let same : k ≡ n = omega arith in ap f same ∙ last ]
+
+pub item_at : {X : Type 0} (xs : List X) (k : ℕ) → k < length xs → (x : X) × (slice_get xs k ≡ Some x)
+item_at [] k lt = absurd (omega arith)
+item_at (x ∷ xs) zero lt = (x, refl)
+item_at (x ∷ xs) (suc k) lt = item_at xs k (omega arith)

@@ -1,0 +1,14 @@
+use Rattle.std.proofs.Common.{refl, ap, ◌∙◌}
+use Rattle.lockorder.specs.Faults.{cycle_text, classes_of}
+use Rattle.lockorder.proofs.Blame.{first_makes, is_fault, starts_at}
+use Rattle.lockorder.proofs.ranks.Cycle.fault.Goals as goal
+
+pub returns : goal.returns
+returns c =
+    let program = c.args.program.now in
+    let edges = c.args.self.now.edges.items in
+    let first = c.index-first.result.now in
+    let m = first_makes program edges first c.requires c.index-first.ensures in
+    is_fault program edges first _ c.requires c.index-first.ensures
+    (starts_at program first.section first.used first.bound first.class m.0 c.index.result.now c.in_ok-points.points.items c.index-2.result.now c.start_of-start.result m.1
+    c.index.ensures c.in_ok-points.ensures c.index-2.ensures c.start_of-start.ensures) refl (c.in_ok-detail.ensures ∙ ap (λ l. cycle_text program (classes_of l)) c.deref.ensures.value)

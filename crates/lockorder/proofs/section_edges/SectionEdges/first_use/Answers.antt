@@ -1,0 +1,29 @@
+use Rattle.std.proofs.Common.{◌<◌, List, Bool, length, inl, inr, sym, subst, arith}
+use Rattle.std.proofs.lemmas.Bool.{both_ways}
+use Rattle.locks.specs.declared.path_set.PathSet.{PathSet}
+use Rattle.lockorder.specs.Sections.{IsUseFor, LeadsOn, Share, ComesBefore}
+use Rattle.lockorder.proofs.InSection.{none_next, set_read, set_within}
+use Rattle.lockorder.proofs.section_edges.SectionEdges.first_use.Goals as goal
+use Rattle.lockorder.proofs.section_edges.SectionEdges.first_use.Goals.{else-leads_on-via-then-leads_on+else-share, else-leads_on-via-else-leads_on}
+
+pub loop-used-preserved : goal.loop-used-preserved
+loop-used-preserved c =
+    let x = c.args.self.now.points.now in
+    let u = c.loop-used.used in
+    let lt : u < length x.used.items = omega (arith, c.loop-used-test.true, c.len-used-end.ensures, x.used.ok.0) in
+    none_next (IsUseFor x c.args.users c.args.bound) u c.loop-used.invariant (λ h. elim c.else-leads_on.branch [
+      | else-leads_on-via-then-leads_on+else-share w ↦
+          both_ways w.share.result w.if-share.false
+          (w.share.ensures.1 (subst (λ (s : PathSet). Share s c.args.users) (sym (set_read x.used.items u w.index.result.now lt w.index.ensures)) h.0))
+      | else-leads_on-via-else-leads_on w ↦
+          both_ways c.leads_on.result w.if-leads_on.false
+          (c.leads_on.ensures.1 (subst (λ (l : List Bool). LeadsOn c.args.bound l u) (sym c.deref-in-loop-used.ensures.value) (elim h.1 [
+            | inl at ↦ inl at
+            | inr b ↦ inr ((c.in_ok-before.ensures.found u).1 (subst (λ l. ComesBefore l u c.args.bound) (sym c.deref.ensures.value) b))
+          ])))
+    ])
+
+pub returns : goal.returns
+returns c u h =
+    let x = c.args.self.now.points.now in
+    c.loop-used.invariant u (omega (arith, set_within x.used.items u h.0.0 h.0.1, c.loop-used-test.false, c.len-used-end.ensures, x.used.ok.0)) h

@@ -1,0 +1,38 @@
+-- Which lock classes have to come before which.
+use Rattle.std.specs.Prelude.{◌≡◌, ◌⊎◌, ℕ, List, length, slice_get, Some}
+use Rattle.core_lang.specs.declared.tree.Section.{Section}
+use Rattle.core_lang.specs.declared.typed.Typed.{Typed}
+use Rattle.flow.specs.Skeletons.{skeleton}
+use Rattle.flow.specs.Flow.{Before}
+use Rattle.locks.specs.LockPaths.{LockPath, Uses, BindsRoot}
+use Rattle.lockorder.specs.Ranks.{AreRanks, Rise}
+
+-- a lock of the class is used at the section's point of this number
+abbrev pub UsesClass : Typed → Section → ℕ → ℕ → Type 0
+UsesClass program section p class = (path : LockPath) × Uses program section p path × (path.class ≡ class)
+
+-- the section's point of this number binds the root of a path of the class, which some point uses
+abbrev pub BindsClass : Typed → Section → ℕ → ℕ → Type 0
+BindsClass program section p class =
+    (path : LockPath) × (user : ℕ) × Uses program section user path × BindsRoot section p path × (path.class ≡ class)
+
+-- the section of this number makes the edge from class c to class d, by a use and a binding: at a point that binds the root of a path
+-- of class d, or at one that comes before it, a lock of class c is used
+pub record Makes (program : Typed) (number used bound c d : ℕ) : Type 0 where
+  pub section : Section
+  pub here : slice_get program.sections.items number ≡ Some section
+  pub uses : UsesClass program section used c
+  pub binds : BindsClass program section bound d
+  pub order : (used ≡ bound) ⊎ Before (skeleton section) used bound
+
+-- locks of class c have to be taken before those of class d
+abbrev pub Edge : Typed → ℕ → ℕ → Type 0
+Edge program c d = (number used bound : ℕ) × Makes program number used bound c d
+
+-- for each class of the program its place in the rank list
+abbrev pub AreRanksOf : Typed → List ℕ → Type 0
+AreRanksOf program ranks = AreRanks (Edge program) (length program.classes.items) ranks
+
+-- locks that have to be taken before others are of a lesser rank
+abbrev pub RiseIn : Typed → List ℕ → Type 0
+RiseIn program ranks = Rise (Edge program) ranks

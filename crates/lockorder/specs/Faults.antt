@@ -1,0 +1,70 @@
+-- A cycle of lock classes as a fault of the program, and as what `order` answers.
+use Rattle.std.specs.Prelude.{◌≡◌, ℕ, List, [], ◌∷◌, ◌++◌, slice_get, Some, codes, string_bytes, map, ⊤}
+use Rattle.source.specs.declared.fault.Fault.{Fault}
+use Rattle.source.specs.declared.fault.Code.TheVariants.{LockOrderCycle}
+use Rattle.core_lang.specs.declared.tree.Section.{Section}
+use Rattle.core_lang.specs.declared.typed.Typed.{Typed}
+use Rattle.flow.specs.Points.{Point, points, start_of}
+use Rattle.locks.specs.Texts.{class_name}
+use Rattle.lockorder.specs.declared.ranks.Edge as written
+use Rattle.lockorder.specs.declared.ranks.OrderRefusal.{OrderRefusal}
+use Rattle.lockorder.specs.declared.ranks.OrderRefusal.TheVariants as refusal
+use Rattle.lockorder.specs.Edges.{Makes, Edge}
+use Rattle.lockorder.specs.Ranks.{AreDistinct, IsCycle}
+
+-- ---- the text
+
+-- classes, each with an arrow behind it
+abbrev pub arrows : Typed → List ℕ → List ℕ
+arrows program [] = []
+arrows program (c ∷ cs) = class_name program c ++ codes " -> " ++ arrows program cs
+
+-- the classes of a cycle joined by arrows, the first again at the end
+abbrev pub cycle_text : Typed → List ℕ → List ℕ
+cycle_text program [] = []
+cycle_text program (c ∷ cs) = arrows program (c ∷ cs) ++ class_name program c
+
+-- ---- the fault
+
+-- the class that a cycle's first one leads to: the next one, or itself
+abbrev pub second : ℕ → List ℕ → ℕ
+second c [] = c
+second c (d ∷ rest) = d
+
+-- the section of this number has a point of this number, whose statement starts there
+pub record StartsAt (program : Typed) (number p start : ℕ) : Type 0 where
+  pub section : Section
+  pub here : slice_get program.sections.items number ≡ Some section
+  pub point : Point
+  pub there : slice_get (points section) p ≡ Some point
+  pub starts : start_of point ≡ start
+
+-- a fault for a cycle, at a point whose use makes the cycle's first edge
+pub data IsFault (program : Typed) (fault : Fault) : Type 0 where
+  cycle : (c : ℕ) (rest : List ℕ) (number used bound : ℕ) → IsCycle (Edge program) (c ∷ rest)
+      → Makes program number used bound c (second c rest) → StartsAt program number used fault.start
+      → fault.code ≡ LockOrderCycle → string_bytes fault.detail ≡ cycle_text program (c ∷ rest) → IsFault program fault
+
+abbrev pub HasNoFault : Typed → Type 0
+HasNoFault program = (fault : Fault) → IsFault program fault → ⊥
+
+-- ---- what `order` answers for a cycle
+
+abbrev pub classes_of : List written.Edge → List ℕ
+classes_of edges = map (λ (e : written.Edge). e.class) edges
+
+-- each edge is made by what it names, and leads from its class to the next one's, or from the last to this class
+abbrev pub AllMake : Typed → ℕ → List written.Edge → Type 0
+AllMake program first [] = ⊤
+AllMake program first (e ∷ []) = Makes program e.section e.used e.bound e.class first
+AllMake program first (e ∷ f ∷ rest) = Makes program e.section e.used e.bound e.class f.class × AllMake program first (f ∷ rest)
+
+-- one or more edges, from distinct classes
+abbrev pub IsCycleOf : Typed → List written.Edge → Type 0
+IsCycleOf program [] = ⊥
+IsCycleOf program (e ∷ rest) = AreDistinct (classes_of (e ∷ rest)) × AllMake program e.class (e ∷ rest)
+
+-- the refusal names a cycle, or is for want of memory
+abbrev pub IsRefusal : Typed → OrderRefusal → Type 0
+IsRefusal program refusal.NoMemory = ⊤
+IsRefusal program (refusal.Cycle c) = IsCycleOf program c.edges.items

@@ -1,0 +1,10 @@
+pub mod Edges
+pub mod Ranks
+pub mod Faults
+pub mod Tables
+pub mod Reached
+pub mod Sections
+pub mod Tellings
+pub use Rattle.lockorder.specs.Edges.{Makes, Edge, AreRanksOf, RiseIn}
+pub use Rattle.lockorder.specs.Ranks.{IsRankList, AreRanks, Rise, IsCycle}
+pub use Rattle.lockorder.specs.Faults.{cycle_text, IsFault, HasNoFault, IsCycleOf, IsRefusal}

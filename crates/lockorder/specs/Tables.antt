@@ -1,0 +1,75 @@
+-- Edges between classes as a table. Nobody has to believe these: what an edge is, says `Edges`.
+use Rattle.std.specs.Prelude.{◌≡◌, ◌⊎◌, ◌==◌, ◌&&◌, ◌||◌, ◌<◌, ℕ, Bool, true, List, length, slice_index_or, MatchOption, Option, Vec}
+use Rattle.std.specs.Bool.{Decides}
+use Rattle.std.proofs.Common.{Global}
+use Rattle.std.specs.Int.{bit_at}
+use Rattle.flow.specs.Flow.{Plus}
+use Rattle.lockorder.specs.declared.class_set.ClassSet.{ClassSet}
+use Rattle.lockorder.specs.Ranks.{IsReady, IsNext, AreRanks, IsCycle}
+
+-- ---- sets
+
+-- the set has the class
+abbrev pub has_class : ClassSet → ℕ → Bool
+has_class set c = bit_at set.bits c == 1
+
+abbrev pub InSet : ClassSet → ℕ → Type 0
+InSet set c = has_class set c ≡ true
+
+abbrev pub no_classes : ClassSet
+no_classes = record { bits = 0 }
+
+-- ---- tables: for each class the set of those that have to come before it
+
+-- the table has an edge from c to d
+abbrev pub has_edge : List ClassSet → ℕ → ℕ → Bool
+has_edge before c d = has_class (slice_index_or before d no_classes) c
+
+abbrev pub InTable : List ClassSet → ℕ → ℕ → Type 0
+InTable before c d = has_edge before c d ≡ true
+
+-- at most 128 classes, and edges between them alone
+abbrev pub LeadsWithin : List ClassSet → Type 0
+LeadsWithin before = (c d : ℕ) → InTable before c d → c < length before
+
+-- edges lead from the class round to itself
+abbrev pub IsOnCycle : List ClassSet → ℕ → Type 0
+IsOnCycle before c = Plus (InTable before) c c
+
+abbrev pub HasCycle : List ClassSet → Type 0
+HasCycle before = (c : ℕ) × (c < length before) × IsOnCycle before c
+
+abbrev pub IsReadyIn : List ClassSet → ClassSet → ℕ → Type 0
+IsReadyIn before listed c = IsReady (InTable before) (length before) (InSet listed) c
+
+abbrev pub IsNextIn : List ClassSet → ClassSet → ℕ → Type 0
+IsNextIn before listed c = IsNext (InTable before) (length before) (InSet listed) c
+
+abbrev pub AreRanksIn : List ClassSet → List ℕ → Type 0
+AreRanksIn before ranks = AreRanks (InTable before) (length before) ranks
+
+-- the next class, or none where no class is ready
+abbrev pub IsNextOrNone : List ClassSet → ClassSet → Option ℕ → Type 0
+IsNextOrNone before listed next = MatchOption next ((c : ℕ) → IsReadyIn before listed c → ⊥) (IsNextIn before listed)
+
+-- ranks, or none where some class is on a cycle
+abbrev pub IsRanking : List ClassSet → Option (Vec ℕ Global) → Type 0
+IsRanking before ranks = MatchOption ranks (HasCycle before) (λ r. AreRanksIn before r.items)
+
+-- a cycle, or none where the class is on none
+abbrev pub IsCycleThrough : List ClassSet → ℕ → Option (Vec ℕ Global) → Type 0
+IsCycleThrough before c cycle = MatchOption cycle (IsOnCycle before c → ⊥) (λ list. IsCycle (InTable before) list.items)
+
+-- ---- what is added
+
+-- the table has exactly the edges of a relation
+abbrev pub HasEdgesOf : List ClassSet → (ℕ → ℕ → Type 0) → Type 0
+HasEdgesOf before R = (c d : ℕ) → Decides (has_edge before c d) (R c d)
+
+-- and those that it had
+abbrev pub AddsEdges : List ClassSet → List ClassSet → (ℕ → ℕ → Type 0) → Type 0
+AddsEdges old new R = HasEdgesOf new (λ c d. InTable old c d ⊎ R c d)
+
+-- an edge from each class of a set to one
+abbrev pub AddsEach : List ClassSet → List ClassSet → ClassSet → ℕ → Type 0
+AddsEach old new from to = (c d : ℕ) → has_edge new c d ≡ (has_edge old c d || (d == to && has_class from c))

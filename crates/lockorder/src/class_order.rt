@@ -1,0 +1,94 @@
+//! The order of lock classes.
+
+ghost use Rattle.std.specs.Prelude.{◌≡◌, length, IfOk, IfErr, OnOk};
+ghost use Rattle.core_lang.specs.WellFormed.{IsWellFormed};
+ghost use Rattle.lockpaths.specs.Paths.{ArePaths};
+ghost use Rattle.lockorder.specs.Edges as program_edges;
+ghost use Rattle.lockorder.specs.Edges.{AreRanksOf, RiseIn};
+ghost use Rattle.lockorder.specs.Ranks.{IsCycle};
+ghost use Rattle.lockorder.specs.Faults.{HasNoFault, IsRefusal, IsCycleOf};
+ghost use Rattle.lockorder.specs.Tables.{HasEdgesOf};
+
+use crate::ranks::{Cycle, Edge, OrderRefusal, Ranks};
+use crate::section_edges::SectionEdges;
+use crate::table::Table;
+use crate::telling::Telling;
+use core_lang::typed::Typed;
+use lockpaths::table::Paths;
+use points::points;
+use source::memory::NoMemory;
+use std::alloc::Global;
+
+// The edges that the sections make.
+fn table(alloc: Global, program: &Typed, paths: &Paths) -> Result<Table, NoMemory>
+    requires program { IsWellFormed program.now }
+    requires paths { ArePaths program.now paths.now }
+    ensures classes { IfOk result (λ table. length table.before.items ≡ length program.now.classes.items) }
+    ensures edges { IfOk result (λ table. HasEdgesOf table.before.items (program_edges.Edge program.now)) }
+{
+    // The laws tell which paths a section has, that their classes are the program's, and that flow leads between points.
+    locks::laws::each_path_once();
+    locks::laws::paths_have_classes();
+    flow::laws::pairs_lead_between_points();
+    let mut table = Table::empty(alloc, program.classes.len())?;
+    for section in 0..program.sections.len() {
+        let points = points(alloc, program, section, paths)?;
+        let edges = SectionEdges { points: &points };
+        edges.add_to(&mut table);
+    }
+    Ok(table)
+}
+
+// The edges of a cycle, with what makes each.
+fn told(
+    alloc: Global,
+    program: &Typed,
+    paths: &Paths,
+    cycle: &[usize],
+) -> Result<Vec<Edge>, NoMemory>
+    requires program { IsWellFormed program.now }
+    requires paths { ArePaths program.now paths.now }
+    requires cycle { IsCycle (program_edges.Edge program.now) cycle.now }
+    ensures { IfOk result (λ edges. IsCycleOf program.now edges.items) }
+{
+    locks::laws::each_path_once();
+    locks::laws::paths_have_classes();
+    flow::laws::pairs_lead_between_points();
+    let mut telling = Telling::open(alloc, cycle)?;
+    for section in 0..program.sections.len() {
+        let points = points(alloc, program, section, paths)?;
+        telling.tell(alloc, section, &points)?;
+    }
+    let edges = telling.edges(alloc)?;
+    Ok(edges)
+}
+
+/// The rank of each lock class; or a cycle of classes of which each has to come before the next.
+///
+/// The cycle goes through the lowest-numbered class that is on any; it has the fewest edges, and of those with as few it
+/// is the first in the order of dictionaries. What makes an edge is told of the lowest section, there by the lowest use
+/// point, and for that by the lowest binding point.
+pub fn order(alloc: Global, program: &Typed, paths: &Paths) -> Result<Ranks, OrderRefusal>
+    requires program { IsWellFormed program.now }
+    requires paths { ArePaths program.now paths.now }
+    // A class has its place in the list in which each class is the lowest-numbered one that is ready.
+    ensures ranks { IfOk result (λ ranks. AreRanksOf program.now ranks.items) }
+    // A class that has to come before another has the lesser rank.
+    ensures rise { IfOk result (λ ranks. RiseIn program.now ranks.items) }
+    // A program with a cycle is never accepted.
+    ensures faultless { OnOk result (HasNoFault program.now) }
+    // The cycle is one of distinct classes, and what is told of each edge makes it.
+    ensures cycle { IfErr result (IsRefusal program.now) }
+{
+    // The law tells that each edge is one between classes of the program.
+    locks::laws::paths_have_classes();
+    let table = table(alloc, program, paths)?;
+    match table.ranks(alloc)? {
+        Some(ranks) => Ok(ranks),
+        None => {
+            let cycle = table.cycle(alloc)?;
+            let edges = told(alloc, program, paths, &cycle)?;
+            Err(OrderRefusal::Cycle(Cycle { edges }))
+        }
+    }
+}

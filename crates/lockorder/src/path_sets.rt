@@ -1,0 +1,15 @@
+//! What sets of lock paths have in common.
+
+ghost use Rattle.std.specs.Prelude.{◌≡◌, true, ℕ};
+ghost use Rattle.std.specs.Bool.{Decides};
+ghost use Rattle.locks.specs.Sets.{has};
+ghost use Rattle.lockorder.specs.Sections.{Share};
+
+use locks::path_set::PathSet;
+
+/// Whether two sets have a path in common.
+pub fn share(a: PathSet, b: PathSet) -> bool
+    ensures { Decides result (Share a b) }
+{
+    a.meet(b).bits != 0
+}

@@ -1,0 +1,46 @@
+//! Ranks of lock classes, and cycles.
+
+use source::memory::NoMemory;
+
+/// For each lock class, by number, its rank: its place in the order in which sections take locks.
+pub type Ranks = Vec<u32>;
+
+/// An edge of a cycle: from a class to that of the next edge, or from the last to the first; and what makes it.
+#[derive(Clone, Copy, PartialEq, Eq, Debug)]
+pub struct Edge {
+    /// The class, an index into [`core_lang::typed::Typed::classes`].
+    pub class: usize,
+    /// The section that makes the edge, an index into [`core_lang::typed::Typed::sections`].
+    pub section: usize,
+    /// The point at which a lock of the class is used.
+    pub used: usize,
+    /// The point that binds the root of a path of the next class.
+    pub bound: usize,
+}
+
+/// Lock classes of which each has to come before the next, and the last before the first.
+#[derive(Drop)]
+pub struct Cycle {
+    /// One or more edges, from distinct classes.
+    pub edges: Vec<Edge>,
+}
+
+/// Why there are no ranks.
+#[derive(Drop)]
+pub enum OrderRefusal {
+    /// The classes have no order.
+    Cycle(Cycle),
+    /// A growth was refused.
+    NoMemory,
+}
+
+impl From<NoMemory> for OrderRefusal {
+    ghost use Rattle.std.specs.Prelude.{◌≡◌};
+    ghost use Rattle.lockorder.specs.declared.ranks.OrderRefusal.TheVariants.{NoMemory};
+
+    ghost from_gives = { λ _ e. e ≡ NoMemory };
+
+    fn from(_e: NoMemory) -> OrderRefusal {
+        OrderRefusal::NoMemory
+    }
+}

@@ -1,0 +1,168 @@
+//! The edges that one section makes.
+
+ghost use Rattle.std.specs.Prelude.{◌≡◌, ◌<◌, ◌⊎◌, ℕ, length, Some, IsSome, IfOk};
+ghost use Rattle.std.specs.Bool.{Decides};
+ghost use Rattle.std.specs.List.{All};
+ghost use Rattle.locks.specs.Sets.{has};
+ghost use Rattle.lockorder.specs.Tables.{InSet, has_class, AddsEdges};
+ghost use Rattle.lockorder.specs.Sections.{AreUsedSoFar, HasClass, IsOfClass, IsUseOrNone, LeadBetween, LeadsToRoots, MakesAt, MakesSomewhere};
+
+use crate::before::{leads_on, points_before};
+use crate::class_set::ClassSet;
+use crate::path_sets::share;
+use crate::table::Table;
+use locks::path_set::PathSet;
+use points::table::Points;
+use source::memory::NoMemory;
+use std::alloc::Global;
+
+/// The use and the binding by which a section makes an edge.
+#[derive(Clone, Copy, PartialEq, Eq, Debug)]
+pub struct Made {
+    /// The point at which a lock of the first class is used.
+    pub used: usize,
+    /// The point that binds the root of a path of the second class: the same, or one that the first comes before.
+    pub bound: usize,
+}
+
+/// The edges that a section makes.
+#[derive(Drop)]
+pub struct SectionEdges<'a> {
+    /// The section's points.
+    pub points: &'a Points,
+}
+
+impl<'a> SectionEdges<'a> {
+    // The paths that are used at a point or before it.
+    fn used_so_far(&self, point: usize) -> PathSet
+        requires { point < length self.now.points.now.bound.items }
+        ensures { AreUsedSoFar self.now.points.now point result }
+    {
+        self.points.used[point].union(self.points.used_before[point])
+    }
+
+    // The classes of the paths of a set.
+    fn classes_of(&self, set: PathSet) -> ClassSet
+        requires { All (λ c. c < 128) self.now.points.now.classes.items }
+        ensures { (c : ℕ) → Decides (has_class result c) (HasClass self.now.points.now set c) }
+    {
+        let mut classes = ClassSet::empty();
+        for path in 0..self.points.classes.len() {
+            if set.contains(path) {
+                classes = classes.with(self.points.classes[path]);
+            }
+        }
+        classes
+    }
+
+    // The paths of a class.
+    fn paths_of(&self, class: usize) -> PathSet
+        ensures { (i : ℕ) → Decides (has result i) (IsOfClass self.now.points.now class i) }
+    {
+        let mut paths = PathSet::empty();
+        for path in 0..self.points.classes.len() {
+            if self.points.classes[path] == class {
+                paths = paths.with(path);
+            }
+        }
+        paths
+    }
+
+    /// Adds the edges that the section makes.
+    pub fn add_to(&self, table: &mut Table)
+        requires { All (λ c. c < length table.old.before.items) self.now.points.now.classes.items }
+        ensures classes { length table.new.before.items ≡ length table.old.before.items }
+        ensures edges { AddsEdges table.old.before.items table.new.before.items (MakesSomewhere self.now.points.now) }
+    {
+        for point in 0..self.points.bound.len() {
+            let bound = self.points.bound[point];
+            if bound != PathSet::empty() {
+                let used = self.classes_of(self.used_so_far(point));
+                self.add_roots(bound, used, table);
+            }
+        }
+    }
+
+    // Adds an edge from each of some classes to that of each path of a set.
+    fn add_roots(&self, bound: PathSet, used: ClassSet, table: &mut Table)
+        requires classes { All (λ c. c < length table.old.before.items) self.now.points.now.classes.items }
+        requires used { (c : ℕ) → InSet used c → c < length table.old.before.items }
+        ensures classes { length table.new.before.items ≡ length table.old.before.items }
+        ensures edges { AddsEdges table.old.before.items table.new.before.items (LeadsToRoots self.now.points.now used bound) }
+    {
+        for path in 0..self.points.classes.len() {
+            if bound.contains(path) {
+                table.add(used, self.points.classes[path]);
+            }
+        }
+    }
+
+    /// Whether the section makes an edge.
+    pub fn makes(&self, from: usize, to: usize) -> bool
+        ensures { Decides result (MakesSomewhere self.now.points.now from to) }
+    {
+        let users = self.paths_of(from);
+        let roots = self.paths_of(to);
+        for point in 0..self.points.bound.len() {
+            if share(self.points.bound[point], roots) && share(self.used_so_far(point), users) {
+                return true;
+            }
+        }
+        false
+    }
+
+    // The lowest point that uses one of some paths, and is the binding one or comes before it.
+    fn first_use(
+        &self,
+        alloc: Global,
+        users: PathSet,
+        bound: usize,
+    ) -> Result<Option<usize>, NoMemory>
+        requires { LeadBetween (length self.now.points.now.used.items) self.now.points.now.pairs.items }
+        ensures { IfOk result (IsUseOrNone self.now.points.now users bound) }
+    {
+        let before = points_before(alloc, &self.points.pairs, self.points.used.len(), bound)?;
+        for used in 0..self.points.used.len() {
+            if leads_on(used, bound, &before) && share(self.points.used[used], users) {
+                return Ok(Some(used));
+            }
+        }
+        Ok(None)
+    }
+
+    /// What makes an edge: of those that do, by the lowest use, and of these by the lowest binding.
+    pub fn first_made(&self, alloc: Global, from: usize, to: usize) -> Result<Made, NoMemory>
+        requires pairs { LeadBetween (length self.now.points.now.used.items) self.now.points.now.pairs.items }
+        requires made { (used bound : ℕ) × MakesAt self.now.points.now from to used bound }
+        ensures { IfOk result (λ made. MakesAt self.now.points.now from to made.used made.bound) }
+    {
+        let users = self.paths_of(from);
+        let roots = self.paths_of(to);
+        let mut least = None;
+        for bound in 0..self.points.bound.len() {
+            if share(self.points.bound[bound], roots) {
+                if let Some(used) = self.first_use(alloc, users, bound)? {
+                    note(&mut least, Made { used, bound });
+                }
+            }
+        }
+        match least {
+            Some(made) => Ok(made),
+            None => unreachable!(),
+        }
+    }
+}
+
+// Keeps of two the one with the lower use, of two with the same the first.
+fn note(least: &mut Option<Made>, made: Made)
+    ensures { (least.new ≡ Some made) ⊎ (least.new ≡ least.old × IsSome least.old) }
+{
+    match *least {
+        Some(kept) => {
+            if made.used < kept.used {
+                *least = Some(made);
+            }
+        }
+        None => *least = Some(made),
+    }
+}

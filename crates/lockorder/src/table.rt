@@ -1,0 +1,51 @@
+//! Edges between lock classes.
+
+ghost use Rattle.std.specs.Prelude.{◌≡◌, ◌<◌, ◌≤◌, false, ℕ, length, IfOk};
+ghost use Rattle.lockorder.specs.Tables.{has_edge, AddsEach, InSet, LeadsWithin};
+
+use crate::class_set::ClassSet;
+use source::memory::NoMemory;
+use std::alloc::Global;
+
+/// Which lock classes have to come before which.
+#[derive(Drop)]
+pub struct Table {
+    /// For each class those that have to come before it.
+    pub before: Vec<ClassSet>,
+    ghost few: { length before.items ≤ 128 },
+    ghost within: { LeadsWithin before.items },
+}
+
+impl Table {
+    /// So many classes, without an edge.
+    pub fn empty(alloc: Global, classes: usize) -> Result<Table, NoMemory>
+        requires { classes ≤ 128 }
+        ensures classes { IfOk result (λ table. length table.before.items ≡ classes) }
+        ensures edges { IfOk result (λ table. (c d : ℕ) → has_edge table.before.items c d ≡ false) }
+    {
+        let mut before = Vec::with_capacity(alloc, classes)?;
+        for _class in 0..classes {
+            before.push(ClassSet::empty())?;
+        }
+        Ok(Table { before })
+    }
+
+    /// Whether there is an edge from one class to another.
+    pub fn has_edge(&self, from: usize, to: usize) -> bool
+        requires from { from < length self.now.before.items }
+        requires to { to < length self.now.before.items }
+        ensures { result ≡ has_edge self.now.before.items from to }
+    {
+        self.before[to].contains(from)
+    }
+
+    /// Adds an edge from each of some classes to another.
+    pub fn add(&mut self, from: ClassSet, to: usize)
+        requires from { (c : ℕ) → InSet from c → c < length self.old.before.items }
+        requires to { to < length self.old.before.items }
+        ensures classes { length self.new.before.items ≡ length self.old.before.items }
+        ensures edges { AddsEach self.old.before.items self.new.before.items from to }
+    {
+        self.before[to] = self.before[to].union(from);
+    }
+}

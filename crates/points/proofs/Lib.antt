@@ -1,0 +1,10 @@
+pub mod Sets
+pub mod Arms
+pub mod PairLists
+pub mod Scopings
+pub mod Exact
+pub mod Whole
+pub mod HeldArms
+pub mod RankLists
+pub mod Taken
+pub mod WantedSets

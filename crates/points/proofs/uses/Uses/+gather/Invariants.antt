@@ -1,0 +1,14 @@
+use Rattle.std.proofs.Common.{◌≡◌, ◌+◌, ℕ, drop}
+use Rattle.flow.specs.Skeletons.{count}
+use Rattle.flow.specs.Parts.{skeleton_of}
+use Rattle.flow.specs.Theory.Gather.{or}
+use Rattle.flow.specs.Theory.Passes.{gather}
+use Rattle.locks.specs.Sets.{has}
+use Rattle.points.specs.Passes.{uses}
+use Rattle.points.proofs.uses.Uses.+gather.Given as goal
+
+abbrev pub invariant-gather-loop-part : goal.invariant-gather-loop-part
+invariant-gather-loop-part l = record {
+  set : (i : ℕ) → gather or (uses l.self i) (skeleton_of (drop l.part-index l.parts)) l.at (has l.all i) ≡ gather or (uses l.self i) (skeleton_of l.parts) l.n (has l.initial.all i);
+  next : l.at + count (skeleton_of (drop l.part-index l.parts)) ≡ l.n + count (skeleton_of l.parts);
+}

@@ -1,0 +1,54 @@
+use Rattle.std.proofs.Common.{rules, ◌+◌, ◌-◌, ◌<◌, ◌∙◌, ◌*◌, refl, sym, ap, arith}
+use Rattle.flow.specs.Skeletons.{count, Nil}
+use Rattle.flow.specs.Parts.{skeleton_of, part_in_front}
+use Rattle.flow.specs.Theory.Gather.{or}
+use Rattle.flow.specs.Theory.Joined.{later_turn, behind_turn, start_turn, count_room}
+use Rattle.points.specs.Passes.{uses}
+use Rattle.points.proofs.Arms.{as_if, as_while, with_point, behind_fork, later_fork, later_loop_of}
+use Rattle.points.proofs.uses.Uses.+later.Goals as goal
+
+pub later-later_part-requires : goal.later-later_part-requires
+later-later_part-requires t c =
+    let room = count_room c.args.parts.now c.loop-i.i c.index-parts-i.result c.index-parts-i.is c.loop-i-test.true c.loop-i.invariant.within in
+    let falls : 2 * count (part_in_front c.index-parts-i.result Nil) < 2 * count (skeleton_of c.args.parts.now) + 1 = omega (arith, room) in
+    (search rules, (omega (arith, room, c.loop-i.invariant.start, c.requires.low), omega (arith, c.loop-i.invariant.start, c.requires.high)))
+
+pub later-loop-i-preserved : goal.later-loop-i-preserved
+later-loop-i-preserved t c =
+    let e = c.in_ok-set.ensures in
+    let i = c.loop-i.invariant in
+    let r = c.args.self.now in
+    record {
+      within = omega (arith, i.within);
+      sets = λ k. later_turn or (uses r k) c.args.parts.now c.loop-i.i c.index-parts-i.result c.index-parts-i.is c.loop-i-test.true i.within _ _ _ _ _ _ _ (i.sets k) (i.set k) e.start (e.sets k);
+      start = start_turn c.args.parts.now c.loop-i.i c.index-parts-i.result c.index-parts-i.is c.loop-i-test.true i.within _ _ _ i.start e.start;
+      set = λ k. behind_turn or (uses r k) c.args.parts.now c.loop-i.i c.index-parts-i.result c.index-parts-i.is c.loop-i-test.true i.within _ _ _ _ _ (i.set k) e.start (e.set k);
+    }
+
+pub later_part-returns-in_ok-push-in-If-clause-sets : goal.later_part-returns-in_ok-push-in-If-clause-sets
+later_part-returns-in_ok-push-in-If-clause-sets t c =
+    let is = as_if c.args.part.now _ _ _ _ c.in-If.is c.deref-in-If.ensures.value c.deref.ensures.value in
+    let one = c.in_ok-one-in-If.ensures in
+    let two = c.in_ok-two-in-If.ensures in
+    later_fork c.args.self.now (c.in_ok-one-in-If.start - 1) _ _ _ _ _ c.args.behind c.in_ok-one-in-If.one c.in_ok-two-in-If.two c.union-either.result c.args.sets.now
+    c.later.new.sets c.later-in-If.new.sets c.push-in-If.new.self is (omega (arith, ap count is, one.start, two.start, c.requires.low)) (sym one.start) one.set two.set
+    c.union-either.ensures two.sets one.sets c.in_ok-push-in-If.ensures.items
+
+pub later_part-returns-in_ok-push-in-If-clause-set : goal.later_part-returns-in_ok-push-in-If-clause-set
+later_part-returns-in_ok-push-in-If-clause-set t c =
+    let is = as_if c.args.part.now _ _ _ _ c.in-If.is c.deref-in-If.ensures.value c.deref.ensures.value in
+    let one = c.in_ok-one-in-If.ensures in
+    let two = c.in_ok-two-in-If.ensures in
+    let n = c.in_ok-one-in-If.start - 1 in
+    behind_fork c.args.self.now n _ _ _ _ _ c.args.behind c.in_ok-one-in-If.one c.in_ok-two-in-If.two c.union-either.result c.union-in-If.result is
+    (omega (arith, ap count is, one.start, two.start, c.requires.low)) (sym one.start) one.set two.set c.union-either.ensures
+    (with_point c.args.self.now n n c.union-either.result c.at-in-If.result c.union-in-If.result refl c.at-in-If.ensures c.union-in-If.ensures)
+
+pub later_part-returns-in_ok-push_times-in-While-clause-sets : goal.later_part-returns-in_ok-push_times-in-While-clause-sets
+later_part-returns-in_ok-push_times-in-While-clause-sets t c =
+    let n = c.args.end - c.points_in-points.result - 1 in
+    let times = ap (λ m. m + 1) (c.points_in-points.ensures ∙ ap (λ l. count (skeleton_of l)) (c.deref-in-While.ensures.value ∙ sym c.deref-in-While-2.ensures.value)) in
+    later_loop_of c.args.self.now n _ _ _ _ c.args.behind c.union-here.result c.gather.result.0 c.args.sets.now c.push_times.new.sets
+    (as_while c.args.part.now _ _ c.in-While.is c.deref-in-While-2.ensures.value) refl times
+    (with_point c.args.self.now n n c.args.behind c.at-in-While.result c.union-here.result refl c.at-in-While.ensures c.union-here.ensures)
+    c.gather.ensures.set c.in_ok-push_times-in-While.ensures.items

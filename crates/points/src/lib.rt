@@ -1,0 +1,20 @@
+//! What is used before the points of a section and later, and what is wanted and surely held at them.
+//!
+//! - [`points`]: the points of a section, which of them is followed by which, and what each lock path is to each point.
+//! - [`table::Points`]: what is answered; with the ranks of the classes, which paths are wanted at each point, and which
+//!   are surely held there.
+//!
+//! `specs/` defines when a path is used before a point and later (`Used`), what an answer is (`Points`), and what is wanted
+//! and surely held (`Wanted`). Its other files only say what the passes of the code have done; nobody has to believe them.
+#![tactic(auto)]
+
+mod held;
+mod pairs;
+mod ranking;
+mod roots;
+mod section;
+pub mod table;
+mod uses;
+mod wanted;
+
+pub use section::points;

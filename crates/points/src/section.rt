@@ -1,0 +1,81 @@
+//! The points of one section of a program.
+
+ghost use Rattle.std.specs.Prelude.{◌≡◌, ◌<◌, map, length, IfOk};
+ghost use Rattle.locks.specs.declared.path.LockPath as written;
+ghost use Rattle.lockpaths.specs.Paths.{ArePaths};
+ghost use Rattle.points.specs.Points.{ArePointsOf};
+
+use crate::pairs::pairs_of;
+use crate::roots::Roots;
+use crate::table::Points;
+use crate::uses::Uses;
+use core_lang::typed::Typed;
+use flow::points::points_of;
+use flow::skeleton::parts_of;
+use lockpaths::table::Paths;
+use locks::path::LockPath;
+use locks::path_set::PathSet;
+use source::memory::NoMemory;
+use std::alloc::Global;
+
+fn classes_of(alloc: Global, paths: &[LockPath]) -> Result<Vec<usize>, NoMemory>
+    ensures { IfOk result (λ classes. classes.items ≡ map (λ (path : written.LockPath). path.class) paths.now) }
+{
+    let mut classes = Vec::with_capacity(alloc, paths.len())?;
+    for path in paths {
+        classes.push(path.class)?;
+    }
+    Ok(classes)
+}
+
+fn copy_of(alloc: Global, sets: &[PathSet]) -> Result<Vec<PathSet>, NoMemory>
+    ensures { IfOk result (λ copy. copy.items ≡ sets.now) }
+{
+    let mut copy = Vec::new(alloc);
+    copy.extend_from_slice(sets)?;
+    Ok(copy)
+}
+
+/// The points of the section of this number in [`Typed::sections`], by the program's lock paths.
+///
+/// # Errors
+///
+/// Want of memory.
+pub fn points(
+    alloc: Global,
+    program: &Typed,
+    section: usize,
+    paths: &Paths,
+) -> Result<Points, NoMemory>
+    requires paths { ArePaths program.now paths.now }
+    requires section { section < length program.now.sections.items }
+    ensures { IfOk result (ArePointsOf program.now section) }
+{
+    // The laws tell that each list has an item for each point, and which pairs are listed.
+    flow::laws::points_are_counted();
+    flow::laws::pairs_lead_between_points();
+    let declared = &program.sections[section];
+    let found = &paths.sections[section];
+    let parts = parts_of(alloc, declared)?;
+    let roots = Roots {
+        paths: &found.paths,
+    };
+    let uses = Uses { used: &found.used };
+    let bound = roots.bound(alloc, &points_of(alloc, declared)?)?;
+    let in_scope = roots.in_scope(alloc, declared)?;
+    let used_before = uses.used_before(alloc, &parts)?;
+    let used_later = uses.used_later(alloc, &parts)?;
+    let pairs = pairs_of(alloc, &parts)?;
+    let classes = classes_of(alloc, &found.paths)?;
+    let used = copy_of(alloc, &found.used)?;
+    Ok(Points {
+        parts,
+        classes,
+        pairs,
+        bound,
+        used,
+        in_scope,
+        used_before,
+        used_later,
+    })
+}

@@ -1,0 +1,37 @@
+//! The points of a section.
+
+ghost use Rattle.std.specs.Prelude.{◌≡◌, ◌≤◌, vec_len};
+ghost use Rattle.flow.specs.Skeletons.{count};
+ghost use Rattle.flow.specs.Parts.{skeleton_of};
+
+use flow::skeleton::Part;
+use locks::path_set::PathSet;
+
+/// The points of a section, numbered from 0 in the order of the text, and what each lock path of the section is to each
+/// of them.
+#[derive(Drop)]
+pub struct Points {
+    /// The section as far as control flow goes: which points there are, and in which blocks they stand.
+    pub parts: Vec<Part>,
+    /// For each lock path its class, an index into [`core_lang::typed::Typed::classes`].
+    pub classes: Vec<usize>,
+    /// The pairs of points of which the first is followed by the second.
+    pub pairs: Vec<(usize, usize)>,
+    /// For each point the paths whose root it binds.
+    pub bound: Vec<PathSet>,
+    /// For each point the paths that it uses.
+    pub used: Vec<PathSet>,
+    /// For each point the paths in scope before it.
+    pub in_scope: Vec<PathSet>,
+    /// For each point the paths that are used at a point which comes before it.
+    pub used_before: Vec<PathSet>,
+    /// For each point the paths that are used at a point which it comes before.
+    pub used_later: Vec<PathSet>,
+    /// A set has room for all lock paths.
+    pub ghost few: { vec_len classes ≤ 64 },
+    pub ghost of_bound: { vec_len bound ≡ count (skeleton_of parts.items) },
+    pub ghost of_used: { vec_len used ≡ count (skeleton_of parts.items) },
+    pub ghost of_in_scope: { vec_len in_scope ≡ count (skeleton_of parts.items) },
+    pub ghost of_used_before: { vec_len used_before ≡ count (skeleton_of parts.items) },
+    pub ghost of_used_later: { vec_len used_later ≡ count (skeleton_of parts.items) },
+}
