@@ -15,16 +15,25 @@ pub enum Asked {
     Again,
     /// Its tree as `Debug` writes it.
     Shape,
+    /// The lock paths of its sections and points.
+    Paths,
+    /// The points of its sections, and what lock paths are to each.
+    Points,
+    /// The order of its lock classes, and what that makes of its points.
+    Order,
 }
 
 impl Asked {
-    /// What this word asks: nothing, unless it is one of the five.
+    /// What this word asks: nothing, unless it is one of the eight.
     pub fn named(word: &str) -> Option<Asked>
         ensures check { (result ≡ Some Asked.Check) ↔ (word.now ≡ codes "check") }
         ensures tree { (result ≡ Some Asked.Tree) ↔ (word.now ≡ codes "tree") }
         ensures print { (result ≡ Some Asked.Print) ↔ (word.now ≡ codes "print") }
         ensures again { (result ≡ Some Asked.Again) ↔ (word.now ≡ codes "again") }
         ensures shape { (result ≡ Some Asked.Shape) ↔ (word.now ≡ codes "shape") }
+        ensures paths { (result ≡ Some Asked.Paths) ↔ (word.now ≡ codes "paths") }
+        ensures points { (result ≡ Some Asked.Points) ↔ (word.now ≡ codes "points") }
+        ensures order { (result ≡ Some Asked.Order) ↔ (word.now ≡ codes "order") }
     {
         match word {
             "check" => Some(Asked::Check),
@@ -32,6 +41,9 @@ impl Asked {
             "print" => Some(Asked::Print),
             "again" => Some(Asked::Again),
             "shape" => Some(Asked::Shape),
+            "paths" => Some(Asked::Paths),
+            "points" => Some(Asked::Points),
+            "order" => Some(Asked::Order),
             _ => None,
         }
     }

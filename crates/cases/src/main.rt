@@ -1,5 +1,5 @@
-//! The program `cases`: texts and what must be said of them, judged by the lexer, the parser and the pass of names and
-//! types together. Its words are the names of files of cases.
+//! The program `cases`: texts and what must be said of them, judged by the lexer, the parser, and the passes of names
+//! and types, of lock paths, of points and of the order of classes. Its words are the names of files of cases.
 //!
 //! A file is paragraphs, which stand apart by one empty line:
 //!
@@ -9,7 +9,15 @@
 //!   - `tree`: `tree`, or the line of the fault that the lexer or the parser tells;
 //!   - `print`: the tree printed, without the last line feed;
 //!   - `again`: `same`, or what differs when the tree is printed and read again;
-//!   - `shape`: the tree as `Debug` writes it.
+//!   - `shape`: the tree as `Debug` writes it;
+//!   - `paths`: for each section a line with its name, `:` and its lock paths, and a line for each of its points, with its
+//!     line and column and the lock paths that it uses; or the line of the text's fault;
+//!   - `points`: for each section a line with its name, `:` and which of its points, counted from 0, is followed by
+//!     which; and a line for each of its points, with its line and column, the lock paths in scope there, those used at
+//!     points that come before it, and those used at points that it comes before; or the line of the text's fault;
+//!   - `order`: a line with `order:` and the lock classes by rising rank; for each section a line with its name and `:`;
+//!     and a line for each of its points, with its line and column, the lock paths that are wanted there and those that
+//!     are surely held; or the line of the text's fault.
 //! - `@head` alone on a line, with lines below it: those and a line feed stand ahead of each text below. With no lines
 //!   below it, nothing does from there on.
 //! - Anything else is a case: a text, then a line that begins with `=> ` and has what must be said of the text, which
@@ -28,6 +36,7 @@
 //! out.
 #![tactic(auto)]
 
+mod analysing;
 mod judging;
 mod rereading;
 mod saying;

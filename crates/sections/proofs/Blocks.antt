@@ -10,7 +10,7 @@ use Rattle.syntax.specs.declared.tree.Stmt.{While, If}
 use Rattle.syntax.specs.declared.tree.Block as tree_block
 use Rattle.syntax.specs.declared.tree.Param as tree_param
 use Rattle.syntax.specs.Views.{expr_of, stmt_of, stmts_of, else_of, param_of}
-use Rattle.syntax.specs.Trees.{Decl, Expr, if_then, while, Stmts, no_stmts, stmt, Otherwise}
+use Rattle.syntax.specs.Trees.{Decl, Expr, Stmt, let_local, var_local, assign, if_then, while, print, return_value, Stmts, no_stmts, stmt, Otherwise, no_else, else_do, Param, Section}
 use Rattle.core_lang.specs.declared.value.ValueType as core_type
 use Rattle.syntax.specs.Rows.{stmt_of_While, stmt_of_If}
 use Rattle.core_lang.specs.declared.tree.LocalKind.TheVariants.{Parameter}
@@ -24,6 +24,7 @@ use Rattle.resolution.specs.Limits.{PARAMETER_LIMIT}
 use Rattle.resolution.specs.Scopes.{Local, Scope, hidden_from, bound, entered, outside, type_of, left}
 use Rattle.resolution.specs.Expressions.{typed, test_resolved}
 use Rattle.resolution.specs.Statements.{Part, does, gives, Body, given_back, preceded, typed_body, typed_stmt, typed_if, after, after_else, after_all, block_of}
+use Rattle.resolution.specs.Resolution.{result_of, ahead_of, entry, core_locals, section_of, typed_section}
 use Rattle.source.specs.Mistakes.{least_of}
 use Rattle.resolution.specs.FaultLists.{one_if, local_faults, type_faults, param_faults, stmt_faults, stmts_faults, wanted_faults, else_faults}
 use Rattle.symbols.specs.Steps.{step, noted_one, noted_two, noted_three}
@@ -147,19 +148,51 @@ param_scope_step sc sc' whole items i item lt is behind before =
 
 -- ---- blocks
 
-after_all_result : (sc : Scope) (ss : Stmts) → (after_all sc ss).result ≡ sc.result
-after_all_result sc no_stmts = refl
-after_all_result sc (stmt s rest) = after_all_result (after sc s) rest ∙ after_result sc s
+after_decls : (sc : Scope) (s : Stmt) → (after sc s).decls ≡ sc.decls
+after_decls sc (let_local l) = refl
+after_decls sc (var_local l) = refl
+after_decls sc (assign p e) = refl
+after_decls sc (if_then start e body close no_else) = refl
+after_decls sc (if_then start e body close (else_do other end)) = refl
+after_decls sc (while start e body close) = refl
+after_decls sc (print start e) = refl
+after_decls sc (return_value start e) = refl
+
+all_decls : (sc : Scope) (ss : Stmts) → (after_all sc ss).decls ≡ sc.decls
+all_decls sc no_stmts = refl
+all_decls sc (stmt s rest) = all_decls (after sc s) rest ∙ after_decls sc s
+
+all_result : (sc : Scope) (ss : Stmts) → (after_all sc ss).result ≡ sc.result
+all_result sc no_stmts = refl
+all_result sc (stmt s rest) = all_result (after sc s) rest ∙ after_result sc s
 
 -- behind a block, whose locals are hidden
-pub left_is : (ds : List Decl) (old inner new : List Local) (r0 r1 r2 : Option core_type.ValueType) (place : ℕ) (ss : Stmts) → place ≡ length old →
-    ◌≡◌ {A = Scope} (record { decls = ds; locals = inner; result = r1 }) (after_all (record { decls = ds; locals = old; result = r0 }) ss) → new ≡ hidden_from place inner → r2 ≡ r1 →
-    ◌≡◌ {A = Scope} (record { decls = ds; locals = new; result = r2 }) (left (record { decls = ds; locals = old; result = r0 }) (after_all (record { decls = ds; locals = old; result = r0 }) ss))
-left_is ds old inner new r0 r1 r2 place ss here within made same =
-    let sc : Scope = record { decls = ds; locals = old; result = r0 } in
-    let a : new ≡ hidden_from (length old) (after_all sc ss).locals = made ∙ ap (λ (n : ℕ). hidden_from n inner) here ∙ ap (λ (z : Scope). hidden_from (length old) z.locals) within in
-    let b : r2 ≡ r0 = same ∙ ap (λ (z : Scope). z.result) within ∙ after_all_result sc ss in
-    ap (λ (ws : List Local). record { decls = ds; locals = ws; result = r2 }) a ∙ ap (λ (r : Option core_type.ValueType). record { decls = ds; locals = hidden_from (length old) (after_all sc ss).locals; result = r }) b
+pub left_is : (sc inner new : Scope) (number : ℕ) (ss : Stmts) → number ≡ length sc.locals → inner ≡ after_all sc ss → new ≡ record inner { locals = hidden_from number inner.locals } →
+    new ≡ left sc (after_all sc ss)
+left_is sc inner new number ss here within made =
+    let end = after_all sc ss in
+    made ∙ ap (λ (z : Scope). record z { locals = hidden_from number z.locals }) within
+    ∙ ap (λ (n : ℕ). record end { locals = hidden_from n end.locals }) here
+    ∙ ap (λ (ds : List Decl). record { decls = ds; locals = hidden_from (length sc.locals) end.locals; result = end.result }) (all_decls sc ss)
+    ∙ ap (λ (r : Option core_type.ValueType). record { decls = sc.decls; locals = hidden_from (length sc.locals) end.locals; result = r }) (all_result sc ss)
+
+-- ---- a whole section
+
+entered_decls : (sc : Scope) (ps : List Param) → (entered sc ps).decls ≡ sc.decls
+entered_decls sc [] = refl
+entered_decls sc (p ∷ ps) = entered_decls (bound sc Parameter p.name (type_of (outside sc.decls) p.value_type)) ps
+
+module _ (ds : List Decl) (s : Section) (result : Option core_type.ValueType) (start inner end : Scope) (locals : Option (List core.Local)) (body : Option Body) where
+  pub section_is : result ≡ result_of ds s → start ≡ record (outside ds) { result = result } → inner ≡ entered start s.params → body ≡ typed_body inner s.body.stmts →
+      end ≡ after_all inner s.body.stmts → locals ≡ core_locals end.locals → section_of end.decls s locals body ≡ typed_section ds s
+  section_is hr hs hi hb he hl =
+      let first : start ≡ ahead_of ds s = hs ∙ ap (λ (r : Option core_type.ValueType). record (outside ds) { result = r }) hr in
+      let here : inner ≡ entry ds s = hi ∙ ap (λ (z : Scope). entered z s.params) first in
+      let last : end ≡ after_all (entry ds s) s.body.stmts = he ∙ ap (λ (z : Scope). after_all z s.body.stmts) here in
+      let same : end.decls ≡ ds = ap (λ (z : Scope). z.decls) last ∙ all_decls (entry ds s) s.body.stmts ∙ entered_decls (ahead_of ds s) s.params in
+      ap (λ (x : List Decl). section_of x s locals body) same
+      ∙ ap (λ (x : Option (List core.Local)). section_of ds s x body) (hl ∙ ap (λ (z : Scope). core_locals z.locals) last)
+      ∙ ap (λ (x : Option Body). section_of ds s (core_locals (after_all (entry ds s) s.body.stmts).locals) x) (hb ∙ ap (λ (z : Scope). typed_body z s.body.stmts) here)
 
 -- ---- loops and choices
 

@@ -19,16 +19,17 @@ use Rattle.syntax.specs.Rows.{joined_of-Chain}
 use Rattle.resolution.specs.Core as core
 use Rattle.resolution.specs.CoreViews.{core_expr, core_condition, core_operations, core_conditions}
 use Rattle.resolution.specs.Scopes.{Scope}
-use Rattle.resolution.specs.Expressions.{ResolvedExpr, Tests, tested, typed, typed_links, typed_tests, chained, linked, operator_of, number_resolved, test_resolved, all_hold, one_holds}
+use Rattle.resolution.specs.Expressions.{Tests, tested, typed, typed_links, typed_tests, chained, linked, operator_of, number_resolved, test_resolved, all_hold, one_holds}
 use Rattle.resolution.specs.Faults.{start_of}
-use Rattle.resolution.specs.Where.{operand_want}
 use Rattle.source.specs.Mistakes.{least_of}
 use Rattle.resolution.specs.FaultLists.{expr_faults, link_faults, operator_faults, misfit, wanted_faults}
-use Rattle.sections.specs.Parts.{pushed, link_with, operation_with, SoFar, so_far, tests_with, first_test}
+use Rattle.sections.specs.Parts.{pushed, operation_with, SoFar, so_far, tests_with, first_test}
 use Rattle.sections.specs.ResolvedExprs.{tests_of, holds}
 use Rattle.sections.specs.declared.resolved_expr.Tests as the_tests
-use Rattle.resolution.specs.declared.wanted.Want.{Want}
-use Rattle.symbols.specs.Steps.{step, noted_one, noted_three}
+use Rattle.core_lang.specs.declared.value.ValueType.TheVariants.{Integer}
+use Rattle.resolution.specs.declared.wanted.Want.TheVariants.{Condition, Value}
+use Rattle.source.specs.Leasts.{least_append}
+use Rattle.symbols.specs.Steps.{step, noted_one, noted_two, noted_three}
 
 -- ---- operations
 
@@ -45,15 +46,12 @@ operations_push : (xs : List o.Operation) (op : Operator) (x : r.Expr) (rest : c
 operations_push [] op x rest = refl
 operations_push (y ∷ xs) op x rest = ap (core.operation y.operator (core_expr y.operand)) (operations_push xs op x rest)
 
-operations_with : (before : Option (List o.Operation)) (op : Option Operator) (x : Option r.Expr) (rest : Option core.Operations) → operations_joined (pushed before (operation_with op x)) rest ≡ operations_joined before (linked op (option_map core_expr x) rest)
+pub operations_with : (before : Option (List o.Operation)) (op : Option Operator) (x : Option r.Expr) (rest : Option core.Operations) → operations_joined (pushed before (operation_with op x)) rest ≡ operations_joined before (linked op (option_map core_expr x) rest)
 operations_with None op x rest = refl
 operations_with (Some xs) None x rest = refl
 operations_with (Some xs) (Some op) None rest = refl
 operations_with (Some xs) (Some op) (Some x) None = refl
 operations_with (Some xs) (Some op) (Some x) (Some rest) = ap Some (operations_push xs op x rest)
-
-pub operations_more : (before : Option (List o.Operation)) (op : Op) (x : Option r.Expr) (rest : Option core.Operations) → operations_joined (pushed before (link_with op x)) rest ≡ operations_joined before (linked (operator_of op) (option_map core_expr x) rest)
-operations_more before op x rest = operations_with before (operator_of op) x rest
 
 operations_all : (xs : List o.Operation) → operations_before xs core.no_operations ≡ core_operations xs
 operations_all [] = refl
@@ -119,77 +117,106 @@ tests_end sc (Some t) = ap (λ (cs : core.Conditions). Some (record { before = c
 pub chain_seen : (e : joined.Joined) (k : Level) (first : tree.Expr) (links : Vec tree_link.Link Global) → e ≡ Chain k first links → joined_of e ≡ chain k (expr_of first) (links_of links.items)
 chain_seen e k first links is = ap joined_of is ∙ joined_of-Chain k first links
 
-numbers_chain : (sc : Scope) (k : Level) (e : Expr) (ls : Links) → (k ≡ Term) ⊎ (k ≡ Sum) → chained (number_resolved (typed sc e)) (typed_links sc ls) ≡ typed sc (chain k e ls)
-numbers_chain sc Term e ls h = refl
-numbers_chain sc Sum e ls h = refl
-numbers_chain sc Conjunction e ls (inl h) = absurd (cc)
-numbers_chain sc Conjunction e ls (inr h) = absurd (cc)
-numbers_chain sc Disjunction e ls (inl h) = absurd (cc)
-numbers_chain sc Disjunction e ls (inr h) = absurd (cc)
+-- the faults of further operands are the same on both levels
+term_faults : (sc : Scope) (ls : Links) → link_faults sc Term ls ≡ link_faults sc Sum ls
+term_faults sc no_links = refl
+term_faults sc (link o e rest) = ap (λ (fs : List Mistake). operator_faults Sum (start_of e) o ++ expr_faults sc e ++ misfit (Value Integer) (start_of e) (typed sc e) ++ fs) (term_faults sc rest)
 
-holds_some : (k : Level) (ts : Option Tests) → (k ≡ Conjunction) ⊎ (k ≡ Disjunction) → (sc : Scope) (e : Expr) (ls : Links) → ts ≡ typed_tests sc (test_resolved (typed sc e)) ls → holds k ts ≡ typed sc (chain k e ls)
-holds_some Term ts (inl h) sc e ls is = absurd (cc)
-holds_some Term ts (inr h) sc e ls is = absurd (cc)
-holds_some Sum ts (inl h) sc e ls is = absurd (cc)
-holds_some Sum ts (inr h) sc e ls is = absurd (cc)
-holds_some Conjunction None h sc e ls is = ap all_hold is
-holds_some Conjunction (Some ts) h sc e ls is = ap all_hold is
-holds_some Disjunction None h sc e ls is = ap one_holds is
-holds_some Disjunction (Some ts) h sc e ls is = ap one_holds is
+either_faults : (sc : Scope) (ls : Links) → link_faults sc Disjunction ls ≡ link_faults sc Conjunction ls
+either_faults sc no_links = refl
+either_faults sc (link o e rest) = ap (λ (fs : List Mistake). expr_faults sc e ++ misfit Condition (start_of e) (typed sc e) ++ fs) (either_faults sc rest)
 
-pub numbers_value : (sc : Scope) (e : joined.Joined) (k : Level) (first : tree.Expr) (links : Vec tree_link.Link Global) (items : List tree_link.Link) (s : Option ResolvedExpr) (a : Option core.Expr) (b : Option core.Operations) →
-    e ≡ Chain k first links → (k ≡ Term) ⊎ (k ≡ Sum) → items ≡ links.items → a ≡ number_resolved s → s ≡ typed sc (expr_of first) → b ≡ typed_links sc (links_of items) → chained a b ≡ typed sc (joined_of e)
-numbers_value sc e k first links items s a b is kind links_is ha hs hb =
-    ap (λ x. chained x b) (ha ∙ ap number_resolved hs)
-    ∙ ap (chained (number_resolved (typed sc (expr_of first)))) (hb ∙ ap (λ x. typed_links sc (links_of x)) links_is)
-    ∙ numbers_chain sc k (expr_of first) (links_of links.items) kind
-    ∙ ap (typed sc) (sym (chain_seen e k first links is))
+module _ (sc : Scope) (e : Expr) (ls : Links) where
+  numbers_chain : (k : Level) → (k ≡ Term) ⊎ (k ≡ Sum) → chained (number_resolved (typed sc e)) (typed_links sc ls) ≡ typed sc (chain k e ls)
+  numbers_chain Term h = refl
+  numbers_chain Sum h = refl
+  numbers_chain Conjunction (inl h) = absurd (cc)
+  numbers_chain Conjunction (inr h) = absurd (cc)
+  numbers_chain Disjunction (inl h) = absurd (cc)
+  numbers_chain Disjunction (inr h) = absurd (cc)
 
-pub tests_value : (sc : Scope) (e : joined.Joined) (k : Level) (first : tree.Expr) (links : Vec tree_link.Link Global) (items : List tree_link.Link) (s : Option ResolvedExpr) (a : Option core.Condition) (b : Option Tests) →
-    e ≡ Chain k first links → (k ≡ Conjunction) ⊎ (k ≡ Disjunction) → items ≡ links.items → a ≡ test_resolved s → s ≡ typed sc (expr_of first) → b ≡ typed_tests sc a (links_of items) → holds k b ≡ typed sc (joined_of e)
-tests_value sc e k first links items s a b is kind links_is ha hs hb =
-    holds_some k b kind sc (expr_of first) (links_of links.items)
-    (hb ∙ ap (λ x. typed_tests sc a (links_of x)) links_is ∙ ap (λ x. typed_tests sc x (links_of links.items)) (ha ∙ ap test_resolved hs))
-    ∙ ap (typed sc) (sym (chain_seen e k first links is))
+  tests_chain : (k : Level) (ts : Option Tests) → (k ≡ Conjunction) ⊎ (k ≡ Disjunction) → ts ≡ typed_tests sc (test_resolved (typed sc e)) ls → holds k ts ≡ typed sc (chain k e ls)
+  tests_chain Term ts (inl h) is = absurd (cc)
+  tests_chain Term ts (inr h) is = absurd (cc)
+  tests_chain Sum ts (inl h) is = absurd (cc)
+  tests_chain Sum ts (inr h) is = absurd (cc)
+  tests_chain Conjunction None h is = ap all_hold is
+  tests_chain Conjunction (Some ts) h is = ap all_hold is
+  tests_chain Disjunction None h is = ap one_holds is
+  tests_chain Disjunction (Some ts) h is = ap one_holds is
 
-pub chain_faults : (sc : Scope) (e : joined.Joined) (k : Level) (first : tree.Expr) (links : Vec tree_link.Link Global) (items : List tree_link.Link) (w : Want) (f g m : Option Mistake) →
-    e ≡ Chain k first links → items ≡ links.items → w ≡ operand_want k → g ≡ least_of f (wanted_faults sc w (expr_of first)) → m ≡ least_of g (link_faults sc k (links_of items)) → m ≡ least_of f (expr_faults sc (joined_of e))
-chain_faults sc e k first links items w f g m is links_is hw hg hm =
-    let x = expr_of first in
-    hm ∙ ap (λ y. least_of g (link_faults sc k (links_of y))) links_is
-    ∙ noted_one f g (wanted_faults sc (operand_want k) x) (link_faults sc k (links_of links.items)) (hg ∙ ap (λ v. least_of f (wanted_faults sc v x)) hw)
-    ∙ ap (λ y. least_of f (expr_faults sc y)) (sym (chain_seen e k first links is))
+  numbers_blamed : (k : Level) (f g : Option Mistake) → (k ≡ Term) ⊎ (k ≡ Sum) → g ≡ least_of f (wanted_faults sc (Value Integer) e) → least_of g (link_faults sc Sum ls) ≡ least_of f (expr_faults sc (chain k e ls))
+  numbers_blamed Term f g h is = ap (least_of g) (sym (term_faults sc ls)) ∙ noted_one f g (wanted_faults sc (Value Integer) e) (link_faults sc Term ls) is
+  numbers_blamed Sum f g h is = noted_one f g (wanted_faults sc (Value Integer) e) (link_faults sc Sum ls) is
+  numbers_blamed Conjunction f g (inl h) is = absurd (cc)
+  numbers_blamed Conjunction f g (inr h) is = absurd (cc)
+  numbers_blamed Disjunction f g (inl h) is = absurd (cc)
+  numbers_blamed Disjunction f g (inr h) is = absurd (cc)
+
+  tests_blamed : (k : Level) (f g : Option Mistake) → (k ≡ Conjunction) ⊎ (k ≡ Disjunction) → g ≡ least_of f (wanted_faults sc Condition e) → least_of g (link_faults sc Conjunction ls) ≡ least_of f (expr_faults sc (chain k e ls))
+  tests_blamed Conjunction f g h is = noted_one f g (wanted_faults sc Condition e) (link_faults sc Conjunction ls) is
+  tests_blamed Disjunction f g h is = ap (least_of g) (sym (either_faults sc ls)) ∙ noted_one f g (wanted_faults sc Condition e) (link_faults sc Disjunction ls) is
+  tests_blamed Term f g (inl h) is = absurd (cc)
+  tests_blamed Term f g (inr h) is = absurd (cc)
+  tests_blamed Sum f g (inl h) is = absurd (cc)
+  tests_blamed Sum f g (inr h) is = absurd (cc)
+
+-- a chain in the tree, by what its first operand and its links are
+module _ (sc : Scope) (e : joined.Joined) (k : Level) (first : tree.Expr) (links : Vec tree_link.Link Global) (items : List tree_link.Link) (is : e ≡ Chain k first links) (links_is : items ≡ links.items) where
+  whole : chain k (expr_of first) (links_of items) ≡ joined_of e
+  whole = ap (λ x. chain k (expr_of first) (links_of x)) links_is ∙ sym (chain_seen e k first links is)
+
+  pub numbers_value : (a : Option core.Expr) (b : Option core.Operations) → (k ≡ Term) ⊎ (k ≡ Sum) → a ≡ number_resolved (typed sc (expr_of first)) → b ≡ typed_links sc (links_of items) → chained a b ≡ typed sc (joined_of e)
+  numbers_value a b kind ha hb = ap (λ x. chained x b) ha ∙ ap (chained (number_resolved (typed sc (expr_of first)))) hb ∙ numbers_chain sc (expr_of first) (links_of items) k kind ∙ ap (typed sc) whole
+
+  pub tests_value : (a : Option core.Condition) (b : Option Tests) → (k ≡ Conjunction) ⊎ (k ≡ Disjunction) → a ≡ test_resolved (typed sc (expr_of first)) → b ≡ typed_tests sc a (links_of items) → holds k b ≡ typed sc (joined_of e)
+  tests_value a b kind ha hb = tests_chain sc (expr_of first) (links_of items) k b kind (hb ∙ ap (λ x. typed_tests sc x (links_of items)) ha) ∙ ap (typed sc) whole
+
+  pub numbers_faults : (f g m : Option Mistake) → (k ≡ Term) ⊎ (k ≡ Sum) → g ≡ least_of f (wanted_faults sc (Value Integer) (expr_of first)) → m ≡ least_of g (link_faults sc Sum (links_of items)) → m ≡ least_of f (expr_faults sc (joined_of e))
+  numbers_faults f g m kind hg hm = hm ∙ numbers_blamed sc (expr_of first) (links_of items) k f g kind hg ∙ ap (λ x. least_of f (expr_faults sc x)) whole
+
+  pub tests_faults : (f g m : Option Mistake) → (k ≡ Conjunction) ⊎ (k ≡ Disjunction) → g ≡ least_of f (wanted_faults sc Condition (expr_of first)) → m ≡ least_of g (link_faults sc Conjunction (links_of items)) → m ≡ least_of f (expr_faults sc (joined_of e))
+  tests_faults f g m kind hg hm = hm ∙ tests_blamed sc (expr_of first) (links_of items) k f g kind hg ∙ ap (λ x. least_of f (expr_faults sc x)) whole
 
 -- ---- one link more
 
-pub link_step : (sc : Scope) (items : List tree_link.Link) (i : ℕ) (item : tree_link.Link) (before new : Option (List o.Operation)) (s : Option ResolvedExpr) (x : Option r.Expr) (whole : Option core.Operations) →
-    i < length items → item ≡ get_or items i item → new ≡ pushed before (link_with item.op x) → option_map core_expr x ≡ number_resolved s → s ≡ typed sc (expr_of item.operand) →
-    operations_joined before (typed_links sc (links_of (drop i items))) ≡ whole → operations_joined new (typed_links sc (links_of (drop (i + 1) items))) ≡ whole
-link_step sc items i item before new s x whole lt is made hx hs inv =
-    let rest = typed_links sc (links_of (drop (i + 1) items)) in
-    step (λ ls. operations_joined before (typed_links sc (links_of ls))) (λ ls. operations_joined new (typed_links sc (links_of ls))) items i item whole lt is
-    (ap (λ (n : Option (List o.Operation)). operations_joined n rest) made
-    ∙ operations_more before item.op x rest
-    ∙ ap (λ (y : Option core.Expr). operations_joined before (linked (operator_of item.op) y rest)) (hx ∙ ap number_resolved hs))
-    inv
+module _ (sc : Scope) (items : List tree_link.Link) (i : ℕ) (item : tree_link.Link) (lt : i < length items) (is : item ≡ get_or items i item) where
+  pub link_step : (before new : Option (List o.Operation)) (op : Option Operator) (x : Option r.Expr) (whole : Option core.Operations) →
+      new ≡ pushed before (operation_with op x) → op ≡ operator_of item.op → option_map core_expr x ≡ number_resolved (typed sc (expr_of item.operand)) →
+      operations_joined before (typed_links sc (links_of (drop i items))) ≡ whole → operations_joined new (typed_links sc (links_of (drop (i + 1) items))) ≡ whole
+  link_step before new op x whole made hop hx inv =
+      let rest = typed_links sc (links_of (drop (i + 1) items)) in
+      step (λ ls. operations_joined before (typed_links sc (links_of ls))) (λ ls. operations_joined new (typed_links sc (links_of ls))) items i item whole lt is
+      (ap (λ (n : Option (List o.Operation)). operations_joined n rest) made
+      ∙ operations_with before op x rest
+      ∙ ap (λ (y : Option core.Expr). operations_joined before (linked op y rest)) hx
+      ∙ ap (λ (p : Option Operator). operations_joined before (linked p (number_resolved (typed sc (expr_of item.operand))) rest)) hop)
+      inv
 
-pub test_step : (sc : Scope) (items : List tree_link.Link) (i : ℕ) (item : tree_link.Link) (before new : Option SoFar) (s : Option ResolvedExpr) (x : Option rc.Condition) (whole : Option Tests) →
-    i < length items → item ≡ get_or items i item → new ≡ tests_with before x → option_map core_condition x ≡ test_resolved s → s ≡ typed sc (expr_of item.operand) →
-    tests_joined sc before (links_of (drop i items)) ≡ whole → tests_joined sc new (links_of (drop (i + 1) items)) ≡ whole
-test_step sc items i item before new s x whole lt is made hx hs inv =
-    let rest = links_of (drop (i + 1) items) in
-    step (λ ls. tests_joined sc before (links_of ls)) (λ ls. tests_joined sc new (links_of ls)) items i item whole lt is
-    (ap (λ (n : Option SoFar). tests_joined sc n rest) made ∙ tests_more sc before item.op (expr_of item.operand) x rest (hx ∙ ap test_resolved hs))
-    inv
+  pub test_step : (before new : Option SoFar) (x : Option rc.Condition) (whole : Option Tests) →
+      new ≡ tests_with before x → option_map core_condition x ≡ test_resolved (typed sc (expr_of item.operand)) →
+      tests_joined sc before (links_of (drop i items)) ≡ whole → tests_joined sc new (links_of (drop (i + 1) items)) ≡ whole
+  test_step before new x whole made hx inv =
+      let rest = links_of (drop (i + 1) items) in
+      step (λ ls. tests_joined sc before (links_of ls)) (λ ls. tests_joined sc new (links_of ls)) items i item whole lt is
+      (ap (λ (n : Option SoFar). tests_joined sc n rest) made ∙ tests_more sc before item.op (expr_of item.operand) x rest hx)
+      inv
 
-pub link_fault_step : (sc : Scope) (level : Level) (items : List tree_link.Link) (i : ℕ) (item : tree_link.Link) (start : ℕ) (w : Want) (s : Option ResolvedExpr) (f g h m : Option Mistake) {whole : Option Mistake} →
-    i < length items → item ≡ get_or items i item → start ≡ start_of (expr_of item.operand) → w ≡ operand_want level → s ≡ typed sc (expr_of item.operand) →
-    g ≡ least_of f (operator_faults level start item.op) → h ≡ least_of g (expr_faults sc (expr_of item.operand)) → m ≡ least_of h (misfit w start s) →
-    least_of f (link_faults sc level (links_of (drop i items))) ≡ whole → least_of m (link_faults sc level (links_of (drop (i + 1) items))) ≡ whole
-link_fault_step sc level items i item start w s f g h m {whole} lt is hstart hw hs hg hh hm inv =
-    let x = expr_of item.operand in
-    step (λ ls. least_of f (link_faults sc level (links_of ls))) (λ ls. least_of m (link_faults sc level (links_of ls))) items i item whole lt is
-    (noted_three f g h m (operator_faults level (start_of x) item.op) (expr_faults sc x) (misfit (operand_want level) (start_of x) (typed sc x)) (link_faults sc level (links_of (drop (i + 1) items)))
-    (hg ∙ ap (λ (n : ℕ). least_of f (operator_faults level n item.op)) hstart) hh
-    (hm ∙ ap (λ (n : ℕ). least_of h (misfit w n s)) hstart ∙ ap (λ (v : Want). least_of h (misfit v (start_of x) s)) hw ∙ ap (λ (y : Option ResolvedExpr). least_of h (misfit (operand_want level) (start_of x) y)) hs))
-    inv
+  pub link_fault_step : (start : ℕ) (f g h : Option Mistake) {whole : Option Mistake} → start ≡ start_of (expr_of item.operand) →
+      g ≡ least_of f (operator_faults Sum start item.op) → h ≡ least_of g (wanted_faults sc (Value Integer) (expr_of item.operand)) →
+      least_of f (link_faults sc Sum (links_of (drop i items))) ≡ whole → least_of h (link_faults sc Sum (links_of (drop (i + 1) items))) ≡ whole
+  link_fault_step start f g h {whole} hstart hg hh inv =
+      let x = expr_of item.operand in
+      step (λ ls. least_of f (link_faults sc Sum (links_of ls))) (λ ls. least_of h (link_faults sc Sum (links_of ls))) items i item whole lt is
+      (noted_three f g (least_of g (expr_faults sc x)) h (operator_faults Sum (start_of x) item.op) (expr_faults sc x) (misfit (Value Integer) (start_of x) (typed sc x)) (link_faults sc Sum (links_of (drop (i + 1) items)))
+      (hg ∙ ap (λ (n : ℕ). least_of f (operator_faults Sum n item.op)) hstart) refl (hh ∙ least_append g (expr_faults sc x) (misfit (Value Integer) (start_of x) (typed sc x))))
+      inv
+
+  pub test_fault_step : (f g : Option Mistake) {whole : Option Mistake} → g ≡ least_of f (wanted_faults sc Condition (expr_of item.operand)) →
+      least_of f (link_faults sc Conjunction (links_of (drop i items))) ≡ whole → least_of g (link_faults sc Conjunction (links_of (drop (i + 1) items))) ≡ whole
+  test_fault_step f g {whole} hg inv =
+      let x = expr_of item.operand in
+      step (λ ls. least_of f (link_faults sc Conjunction (links_of ls))) (λ ls. least_of g (link_faults sc Conjunction (links_of ls))) items i item whole lt is
+      (noted_two f (least_of f (expr_faults sc x)) g (expr_faults sc x) (misfit Condition (start_of x) (typed sc x)) (link_faults sc Conjunction (links_of (drop (i + 1) items)))
+      refl (hg ∙ least_append f (expr_faults sc x) (misfit Condition (start_of x) (typed sc x))))
+      inv

@@ -1,4 +1,5 @@
 pub mod CoreRows
 pub mod Chains
 pub mod Blocks
+pub mod Indices
 pub mod Lasts

@@ -1,3 +1,6 @@
+pub mod Checkers
+pub mod Misplaced
+pub mod Indexing
 pub mod ResolvedExprs
 pub mod Parts
 pub mod Targets

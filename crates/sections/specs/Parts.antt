@@ -1,11 +1,9 @@
 -- What the loops have so far, if nothing in it is missing.
 use Rattle.std.specs.Prelude.{List, [], ◌∷◌, ◌++◌, Option, Some, None}
-use Rattle.syntax.specs.declared.tree.Op.{Op}
 use Rattle.core_lang.specs.declared.tree.Operator.{Operator}
 use Rattle.core_lang.specs.declared.tree.Operation as the_operation
 use Rattle.core_lang.specs.declared.tree.Expr as the_expr
 use Rattle.core_lang.specs.declared.tree.Condition as the_condition
-use Rattle.resolution.specs.Expressions.{operator_of}
 use Rattle.sections.specs.declared.resolved_expr.Tests.{Tests}
 
 -- one more
@@ -18,9 +16,6 @@ abbrev pub operation_with : Option Operator → Option the_expr.Expr → Option 
 operation_with (Some o) (Some x) = Some (record { operator = o; operand = x })
 operation_with (Some o) None = None
 operation_with None x = None
-
-abbrev pub link_with : Op → Option the_expr.Expr → Option the_operation.Operation
-link_with op x = operation_with (operator_of op) x
 
 -- conditions so far, the last apart
 pub record SoFar : Type 0 where

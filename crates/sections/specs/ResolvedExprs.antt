@@ -1,13 +1,12 @@
 -- What expressions and places that the checker's values stand for are.
-use Rattle.std.specs.Prelude.{Option, Some, None}
+use Rattle.std.specs.Prelude.{Option, Some, None, option_map}
 use Rattle.syntax.specs.declared.tree.Level.{Level}
 use Rattle.syntax.specs.declared.tree.Level.TheVariants.{Term, Sum, Conjunction, Disjunction}
-use Rattle.syntax.specs.declared.tree.Prefix.{Prefix}
-use Rattle.syntax.specs.declared.tree.Prefix.TheVariants.{Negate, Not}
 use Rattle.resolution.specs.CoreViews.{core_expr, core_condition, core_conditions}
-use Rattle.resolution.specs.Expressions.{ResolvedExpr, value, truth, Tests, Walk, reached, at_lock, lost, negated, not_so, number_resolved, test_resolved, all_hold, one_holds}
+use Rattle.resolution.specs.Expressions.{ResolvedExpr, value, truth, Tests, Walk, reached, at_lock, lost, all_hold, one_holds}
 use Rattle.sections.specs.declared.resolved_expr.ResolvedExpr as s
 use Rattle.sections.specs.declared.resolved_expr.ResolvedExpr.TheVariants as v
+use Rattle.sections.specs.declared.resolved_expr.Side as the_side
 use Rattle.sections.specs.declared.resolved_expr.Tests as the_tests
 use Rattle.sections.specs.declared.place.Walk as w
 use Rattle.sections.specs.declared.place.Walk.TheVariants as u
@@ -24,10 +23,9 @@ walk_of (u.Reached steps t) = reached steps.items t
 walk_of u.AtLock = at_lock
 walk_of u.Lost = lost
 
--- what a prefix sign makes of its operand
-abbrev pub prefixed : Prefix → Option ResolvedExpr → Option ResolvedExpr
-prefixed Negate s = negated (number_resolved s)
-prefixed Not s = not_so (test_resolved s)
+-- a side of a comparison
+abbrev pub seen : the_side.Side → Option ResolvedExpr
+seen x = option_map resolved_expr_of x.value
 
 -- what a chain of conditions is
 abbrev pub holds : Level → Option Tests → Option ResolvedExpr

@@ -10,6 +10,7 @@
 //! a tree stands for, and where its faults stand, is defined in `resolution`.
 #![tactic(auto)]
 
+mod checker;
 mod expr;
 mod place;
 mod resolved_expr;

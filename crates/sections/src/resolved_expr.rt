@@ -2,23 +2,25 @@
 
 ghost use Rattle.std.specs.Prelude.{◌≡◌, IfOk, option_map};
 ghost use Rattle.resolution.specs.CoreViews.{core_expr, core_condition, core_operations};
-ghost use Rattle.resolution.specs.Expressions.{fits, fitting, as_value, number_resolved, test_resolved, alike_sorts, literal, value_of, parenthesised, negated, not_so, operator_of, chained, all_hold, one_holds, ordered, equated, compared};
+ghost use Rattle.resolution.specs.Expressions.{fits, fitting, as_value, number_resolved, test_resolved, alike_sorts, literal, value_of, parenthesised, negated, not_so, number_value, operator_of, chained, ordered, equated, compared};
 ghost use Rattle.source.specs.Mistakes.{least_of};
-ghost use Rattle.resolution.specs.FaultLists.{misfit, unlike, side_faults, operator_faults};
-ghost use Rattle.resolution.specs.Where.{operand_want, prefix_want, side_want};
-ghost use Rattle.sections.specs.ResolvedExprs.{resolved_expr_of, tests_of, prefixed, holds};
-ghost use Rattle.sections.specs.Parts.{pushed, link_with, so_far, first_test, tests_with};
+ghost use Rattle.resolution.specs.FaultLists.{misfit, number_faults, unlike, side_faults, operator_faults};
+ghost use Rattle.resolution.specs.Where.{side_want};
+ghost use Rattle.syntax.specs.declared.tree.Level.TheVariants.{Sum};
+ghost use Rattle.sections.specs.ResolvedExprs.{resolved_expr_of, seen, tests_of, holds};
+ghost use Rattle.sections.specs.Parts.{pushed, operation_with, so_far, first_test, tests_with};
 
-use crate::wanted::{fits_sort, fits_type};
+use crate::checker::{Judged, Least, faulty};
+use crate::wanted::{fits_sort, fits_type, note_number, number};
 use core_lang::tree::{Comparison, Condition, Expr, Operation, Operator};
 use core_lang::value::ValueType;
 use resolution::wanted::{Sort, Want};
 use source::fault::Code;
-use source::mistake::{Mistake, note};
+use source::mistake::note;
+use source::token::Number;
 use std::alloc::{AllocError, Global};
-use symbols::note::note_if;
 use syntax::tree;
-use syntax::tree::{Level, Op, Prefix};
+use syntax::tree::{Level, Op};
 
 /// What an expression is, with its resolved form.
 #[derive(Drop)]
@@ -27,6 +29,13 @@ pub enum ResolvedExpr {
     Value(Expr, Sort),
     /// What is true or false.
     Truth(Condition),
+}
+
+/// A side of a comparison, and where it starts.
+#[derive(Drop)]
+pub struct Side {
+    pub start: usize,
+    pub value: Option<ResolvedExpr>,
 }
 
 /// Operands of `&&` or `||`, the last apart.
@@ -52,7 +61,7 @@ fn fits(w: Want, s: &ResolvedExpr) -> bool
 }
 
 /// Notes what isn't wanted.
-pub fn note_misfit(w: Want, start: usize, s: &Option<ResolvedExpr>, least: &mut Option<Mistake>)
+pub fn note_misfit(w: Want, start: usize, s: &Option<ResolvedExpr>, least: &mut Least)
     ensures { least.new ≡ least_of least.old (misfit w start (option_map resolved_expr_of s.now)) }
 {
     if let Some(s) = s {
@@ -96,26 +105,6 @@ pub fn test_in(s: Option<ResolvedExpr>) -> Option<Condition>
     }
 }
 
-/// What operands of a chain are to be.
-pub fn operand_want(level: Level) -> Want
-    ensures { result ≡ operand_want level }
-{
-    match level {
-        Level::Term | Level::Sum => Want::Value(ValueType::Integer),
-        Level::Conjunction | Level::Disjunction => Want::Condition,
-    }
-}
-
-/// What the operand behind a prefix sign is to be.
-pub fn prefix_want(o: Prefix) -> Want
-    ensures { result ≡ prefix_want o }
-{
-    match o {
-        Prefix::Negate => Want::Value(ValueType::Integer),
-        Prefix::Not => Want::Condition,
-    }
-}
-
 /// What each side of a comparison is to be by itself.
 pub fn side_want(c: tree::Comparison) -> Want
     ensures { result ≡ side_want c }
@@ -142,10 +131,12 @@ fn are_alike(a: Sort, b: Sort) -> bool
 }
 
 /// A number as an expression.
-pub fn literal(n: Option<i64>) -> Option<ResolvedExpr>
-    ensures { option_map resolved_expr_of result ≡ literal n }
+pub fn literal(n: Number, least: &mut Least) -> Option<ResolvedExpr>
+    ensures value { option_map resolved_expr_of result ≡ literal (number_value n) }
+    ensures faults { least.new ≡ least_of least.old (number_faults n) }
 {
-    match n {
+    note_number(n, least);
+    match number(n) {
         Some(n) => Some(ResolvedExpr::Value(Expr::Number(n), Sort::Of(ValueType::Integer))),
         None => None,
     }
@@ -177,32 +168,30 @@ pub fn parenthesised(s: Option<ResolvedExpr>) -> Option<ResolvedExpr>
     }
 }
 
-/// What a prefix sign makes of its operand.
-pub fn prefixed(
-    alloc: Global,
-    o: Prefix,
-    s: Option<ResolvedExpr>,
-) -> Result<Option<ResolvedExpr>, AllocError>
-    ensures { IfOk result (λ r. option_map resolved_expr_of r ≡ prefixed o (option_map resolved_expr_of s)) }
+/// What `-` makes of its operand.
+pub fn negated(alloc: Global, e: Option<Expr>) -> Judged<ResolvedExpr>
+    ensures { IfOk result (λ r. option_map resolved_expr_of r ≡ negated (option_map core_expr e)) }
 {
-    match o {
-        Prefix::Negate => match number_in(s) {
-            Some(e) => Ok(Some(ResolvedExpr::Value(
-                Expr::Negate(Box::new(alloc, e)?),
-                Sort::Of(ValueType::Integer),
-            ))),
-            None => Ok(None),
-        },
-        Prefix::Not => match test_in(s) {
-            Some(c) => Ok(Some(ResolvedExpr::Truth(Condition::Not(Box::new(alloc, c)?)))),
-            None => Ok(None),
-        },
+    match e {
+        Some(e) => Ok(value_of(Expr::Negate(Box::new(alloc, e)?), Some(ValueType::Integer))),
+        None => Ok(None),
     }
 }
 
-/// The operator on numbers. `None` for those of conditions.
-fn operator(op: Op) -> Option<Operator>
-    ensures { result ≡ operator_of op }
+/// What `!` makes of its operand.
+pub fn not_so(alloc: Global, c: Option<Condition>) -> Judged<ResolvedExpr>
+    ensures { IfOk result (λ r. option_map resolved_expr_of r ≡ not_so (option_map core_condition c)) }
+{
+    match c {
+        Some(c) => Ok(Some(ResolvedExpr::Truth(Condition::Not(Box::new(alloc, c)?)))),
+        None => Ok(None),
+    }
+}
+
+/// The operator between two numbers, the second of which starts there.
+pub fn operator(op: Op, start: usize, least: &mut Least) -> Option<Operator>
+    ensures value { result ≡ operator_of op }
+    ensures faults { least.new ≡ least_of least.old (operator_faults Sum start op) }
 {
     match op {
         Op::Add => Some(Operator::Plus),
@@ -210,19 +199,7 @@ fn operator(op: Op) -> Option<Operator>
         Op::Mul => Some(Operator::Times),
         Op::Div => Some(Operator::Divide),
         Op::Rem => Some(Operator::Remainder),
-        Op::And | Op::Or => None,
-    }
-}
-
-/// Notes an operator that can't stand in the chain.
-pub fn note_operator(level: Level, start: usize, op: Op, least: &mut Option<Mistake>)
-    ensures { least.new ≡ least_of least.old (operator_faults level start op) }
-{
-    match level {
-        Level::Term | Level::Sum => {
-            note_if(operator(op).is_none(), Code::WrongType, start, least);
-        }
-        Level::Conjunction | Level::Disjunction => {}
+        Op::And | Op::Or => faulty(Code::WrongType, start, least),
     }
 }
 
@@ -231,7 +208,7 @@ pub fn chained(
     alloc: Global,
     first: Option<Expr>,
     rest: Option<Vec<Operation>>,
-) -> Result<Option<ResolvedExpr>, AllocError>
+) -> Judged<ResolvedExpr>
     ensures { IfOk result (λ r. option_map resolved_expr_of r ≡ chained (option_map core_expr first) (option_map (λ os. core_operations os.items) rest)) }
 {
     match (first, rest) {
@@ -249,12 +226,12 @@ pub fn chained(
 /// The operations and one more, if none is missing.
 pub fn with_operation(
     operations: Option<Vec<Operation>>,
-    op: Op,
+    operator: Option<Operator>,
     operand: Option<Expr>,
-) -> Result<Option<Vec<Operation>>, AllocError>
-    ensures { IfOk result (λ r. option_map (λ os. os.items) r ≡ pushed (option_map (λ os. os.items) operations) (link_with op operand)) }
+) -> Judged<Vec<Operation>>
+    ensures { IfOk result (λ r. option_map (λ os. os.items) r ≡ pushed (option_map (λ os. os.items) operations) (operation_with operator operand)) }
 {
-    match (operations, operator(op), operand) {
+    match (operations, operator, operand) {
         (Some(mut operations), Some(operator), Some(operand)) => {
             operations.push(Operation { operator, operand })?;
             Ok(Some(operations))
@@ -277,7 +254,7 @@ pub fn one_test(alloc: Global, c: Option<Condition>) -> Option<Tests>
 }
 
 /// The operands and one more, if none is missing.
-pub fn with_test(tests: Option<Tests>, c: Option<Condition>) -> Result<Option<Tests>, AllocError>
+pub fn with_test(tests: Option<Tests>, c: Option<Condition>) -> Judged<Tests>
     ensures { IfOk result (λ r. option_map so_far r ≡ tests_with (option_map so_far tests) c) }
 {
     let Some(tests) = tests else {
@@ -294,11 +271,7 @@ pub fn with_test(tests: Option<Tests>, c: Option<Condition>) -> Result<Option<Te
 }
 
 /// A chain of conditions.
-pub fn tested(
-    alloc: Global,
-    level: Level,
-    tests: Option<Tests>,
-) -> Result<Option<ResolvedExpr>, AllocError>
+pub fn tested(alloc: Global, level: Level, tests: Option<Tests>) -> Judged<ResolvedExpr>
     ensures { IfOk result (λ r. option_map resolved_expr_of r ≡ holds level (option_map tests_of tests)) }
 {
     let Some(tests) = tests else {
@@ -317,80 +290,50 @@ pub fn tested(
     }
 }
 
-/// Notes sides that `==` doesn't take.
-fn note_unlike(
-    a: usize,
-    b: usize,
-    s: &Option<ResolvedExpr>,
-    t: &Option<ResolvedExpr>,
-    least: &mut Option<Mistake>,
-)
-    ensures { least.new ≡ least_of least.old (unlike a b (option_map resolved_expr_of s.now) (option_map resolved_expr_of t.now)) }
-{
-    match (s, t) {
-        (Some(ResolvedExpr::Value(_, s)), Some(ResolvedExpr::Value(_, t))) => {
-            if !are_alike(*s, *t) {
-                note(least, Code::WrongType, b);
-            }
-        }
-        (Some(ResolvedExpr::Value(_, _)), Some(ResolvedExpr::Truth(_))) => note(
-            least,
-            Code::WrongType,
-            b,
-        ),
-        (Some(ResolvedExpr::Truth(_)), Some(ResolvedExpr::Value(_, _))) => note(
-            least,
-            Code::WrongType,
-            b,
-        ),
-        (Some(ResolvedExpr::Truth(_)), Some(ResolvedExpr::Truth(_))) => note(
-            least,
-            Code::WrongType,
-            a,
-        ),
-        _ => {}
-    }
-}
-
-/// Notes sides that a comparison doesn't take.
-pub fn note_sides(
-    c: tree::Comparison,
-    a: usize,
-    b: usize,
-    s: &Option<ResolvedExpr>,
-    t: &Option<ResolvedExpr>,
-    least: &mut Option<Mistake>,
-)
-    ensures { least.new ≡ least_of least.old (side_faults c a b (option_map resolved_expr_of s.now) (option_map resolved_expr_of t.now)) }
-{
-    match c {
-        tree::Comparison::Equal | tree::Comparison::NotEqual => note_unlike(a, b, s, t, least),
-        tree::Comparison::Less
-        | tree::Comparison::LessOrEqual
-        | tree::Comparison::Greater
-        | tree::Comparison::GreaterOrEqual => {}
-    }
-}
-
 /// A comparison of two numbers.
-fn ordered(c: Comparison, a: Option<Expr>, b: Option<Expr>) -> Option<ResolvedExpr>
-    ensures { option_map resolved_expr_of result ≡ ordered c (option_map core_expr a) (option_map core_expr b) }
+fn ordered(c: Comparison, left: Side, right: Side) -> Option<ResolvedExpr>
+    ensures { option_map resolved_expr_of result ≡ ordered c (number_resolved (seen left)) (number_resolved (seen right)) }
 {
-    match (a, b) {
+    match (number_in(left.value), number_in(right.value)) {
         (Some(a), Some(b)) => Some(ResolvedExpr::Truth(Condition::Compare(c, a, b))),
         _ => None,
     }
 }
 
-/// A comparison of two that are alike.
-fn equated(c: Comparison, a: Option<ResolvedExpr>, b: Option<ResolvedExpr>) -> Option<ResolvedExpr>
-    ensures { option_map resolved_expr_of result ≡ equated c (option_map resolved_expr_of a) (option_map resolved_expr_of b) }
+/// Notes sides that `==` doesn't take.
+fn note_unlike(left: &Side, right: &Side, least: &mut Least)
+    ensures { least.new ≡ least_of least.old (unlike left.now.start right.now.start (seen left.now) (seen right.now)) }
 {
-    let Some(ResolvedExpr::Value(a, s)) = a else {
-        drop(b);
+    match (&left.value, &right.value) {
+        (Some(ResolvedExpr::Value(_, s)), Some(ResolvedExpr::Value(_, t))) => {
+            if !are_alike(*s, *t) {
+                note(least, Code::WrongType, right.start);
+            }
+        }
+        (Some(ResolvedExpr::Value(_, _)), Some(ResolvedExpr::Truth(_)))
+        | (Some(ResolvedExpr::Truth(_)), Some(ResolvedExpr::Value(_, _))) => {
+            note(least, Code::WrongType, right.start);
+        }
+        (Some(ResolvedExpr::Truth(_)), Some(ResolvedExpr::Truth(_))) => {
+            note(least, Code::WrongType, left.start);
+        }
+        _ => {}
+    }
+}
+
+/// A comparison of two that are alike. The fault is noted ahead of it, by reference: an arm that owns the sides and
+/// gives none back has to take both apart, which makes the proof long.
+fn equated(c: Comparison, left: Side, right: Side, least: &mut Least) -> Option<ResolvedExpr>
+    ensures value { option_map resolved_expr_of result ≡ equated c (seen left) (seen right) }
+    ensures faults { least.new ≡ least_of least.old (unlike left.start right.start (seen left) (seen right)) }
+{
+    note_unlike(&left, &right, least);
+    let (left, right) = (left.value, right.value);
+    let Some(ResolvedExpr::Value(a, s)) = left else {
+        drop(right);
         return None;
     };
-    let Some(ResolvedExpr::Value(b, t)) = b else {
+    let Some(ResolvedExpr::Value(b, t)) = right else {
         drop(a);
         return None;
     };
@@ -406,19 +349,19 @@ fn equated(c: Comparison, a: Option<ResolvedExpr>, b: Option<ResolvedExpr>) -> O
 /// A comparison.
 pub fn compared(
     c: tree::Comparison,
-    a: Option<ResolvedExpr>,
-    b: Option<ResolvedExpr>,
+    left: Side,
+    right: Side,
+    least: &mut Least,
 ) -> Option<ResolvedExpr>
-    ensures { option_map resolved_expr_of result ≡ compared c (option_map resolved_expr_of a) (option_map resolved_expr_of b) }
+    ensures value { option_map resolved_expr_of result ≡ compared c (seen left) (seen right) }
+    ensures faults { least.new ≡ least_of least.old (side_faults c left.start right.start (seen left) (seen right)) }
 {
     match c {
-        tree::Comparison::Equal => equated(Comparison::Equal, a, b),
-        tree::Comparison::NotEqual => equated(Comparison::Unequal, a, b),
-        tree::Comparison::Less => ordered(Comparison::Less, number_in(a), number_in(b)),
-        tree::Comparison::LessOrEqual => ordered(Comparison::LessEqual, number_in(a), number_in(b)),
-        tree::Comparison::Greater => ordered(Comparison::Greater, number_in(a), number_in(b)),
-        tree::Comparison::GreaterOrEqual => {
-            ordered(Comparison::GreaterEqual, number_in(a), number_in(b))
-        }
+        tree::Comparison::Equal => equated(Comparison::Equal, left, right, least),
+        tree::Comparison::NotEqual => equated(Comparison::Unequal, left, right, least),
+        tree::Comparison::Less => ordered(Comparison::Less, left, right),
+        tree::Comparison::LessOrEqual => ordered(Comparison::LessEqual, left, right),
+        tree::Comparison::Greater => ordered(Comparison::Greater, left, right),
+        tree::Comparison::GreaterOrEqual => ordered(Comparison::GreaterEqual, left, right),
     }
 }

@@ -1,27 +1,29 @@
 //! Sections.
 
 ghost use Rattle.std.specs.Prelude.{◌≡◌, OnOk, IfOk, option_map, map};
-ghost use Rattle.syntax.specs.Views.{param_of, option_of, type_of as type_seen, section_of as section_view};
+ghost use Rattle.syntax.specs.Views.{param_of, section_of as section_view};
 ghost use Rattle.resolution.specs.CoreViews as core;
 ghost use Rattle.resolution.specs.CoreViews.{core_section};
 ghost use Rattle.resolution.specs.Scopes.{entered};
 ghost use Rattle.resolution.specs.Resolution.{core_locals, core_local, result_of, section_with, section_of, typed_section};
 ghost use Rattle.source.specs.Mistakes.{least_of};
 ghost use Rattle.resolution.specs.FaultLists.{param_faults, result_faults, section_faults};
+ghost use Rattle.symbols.specs.{declared_by, AreDeclarations, program_of, IsProgram, local_seen};
+ghost use Rattle.sections.specs.Checkers.{scope};
 ghost use Rattle.sections.specs.Parts.{pushed};
-ghost use Rattle.symbols.specs.{declared_by, AreDeclarations, program_of, IsProgram, scope_of, local_seen, AreLocals};
 ghost use Rattle.sections.specs.Targets.{body_of};
 
-use crate::stmt::{Body, judge_body, note_name};
+use crate::checker::{Checker, Judged, Least};
+use crate::stmt::Body;
 use core_lang::tree;
-use core_lang::tree::{LocalKind, Return, Section, Stmt};
+use core_lang::tree::{LocalKind, Section};
 use core_lang::value::ValueType;
 use source::fault::Code;
 use source::mistake::Mistake;
 use std::alloc::{AllocError, Global};
 use symbols::declarations::Declarations;
 use symbols::note::note_if;
-use symbols::scope::{Local, Locals, note_type, type_outside};
+use symbols::scope::{Local, note_type, type_outside};
 use symbols::table::Program;
 use syntax::tree as written;
 use syntax::tree::Param;
@@ -29,38 +31,8 @@ use syntax::tree::Param;
 /// How many parameters a section may have.
 const PARAMETER_LIMIT: usize = 8;
 
-/// Declares a section's parameters, and notes what is wrong with them.
-#[tactic(auto, using(source::specs::Leasts::least_append))]
-fn judge_params(
-    alloc: Global,
-    program: &Program,
-    locals: &mut Locals,
-    params: &[Param],
-    least: &mut Option<Mistake>,
-) -> Result<(), AllocError>
-    requires program { IsProgram program.now }
-    requires locals { AreLocals locals.old }
-    ensures faults { OnOk result (least.new ≡ least_of least.old (param_faults (scope_of (program_of program.now) locals.old) 0 (map param_of params.now))) }
-    ensures scope { OnOk result (scope_of (program_of program.now) locals.new ≡ entered (scope_of (program_of program.now) locals.old) (map param_of params.now)) }
-    ensures locals { OnOk result (AreLocals locals.new) }
-{
-    for (place, param) in params.iter().enumerate() {
-        note_name(program, locals, &param.name, least);
-        note_if(
-            PARAMETER_LIMIT <= place,
-            Code::LimitExceeded,
-            param.name.start as usize,
-            least,
-        );
-        note_type(&program.decls, &param.value_type, least);
-        let t = type_outside(&program.decls, &param.value_type);
-        locals.bind(alloc, &param.name, LocalKind::Parameter, t)?;
-    }
-    Ok(())
-}
-
 /// A local, if its type has no fault.
-fn core_local(l: &Local) -> Result<Option<tree::Local>, AllocError>
+fn core_local(l: &Local) -> Judged<tree::Local>
     ensures { IfOk result (λ r. option_map core.core_local r ≡ core_local (local_seen l.now)) }
 {
     match l.value_type {
@@ -77,7 +49,7 @@ fn core_local(l: &Local) -> Result<Option<tree::Local>, AllocError>
 fn with_local(
     locals: Option<Vec<tree::Local>>,
     local: Option<tree::Local>,
-) -> Result<Option<Vec<tree::Local>>, AllocError>
+) -> Judged<Vec<tree::Local>>
     ensures { IfOk result (λ r. option_map (λ ls. core.core_locals ls.items) r ≡ pushed (option_map (λ ls. core.core_locals ls.items) locals) (option_map core.core_local local)) }
 {
     match (locals, local) {
@@ -90,7 +62,7 @@ fn with_local(
 }
 
 /// The locals, if the types of all have no fault.
-fn core_locals(alloc: Global, locals: &[Local]) -> Result<Option<Vec<tree::Local>>, AllocError>
+fn core_locals(alloc: Global, locals: &[Local]) -> Judged<Vec<tree::Local>>
     ensures { IfOk result (λ r. option_map (λ ls. core.core_locals ls.items) r ≡ core_locals (map local_seen locals.now)) }
 {
     let mut made = Some(Vec::new(alloc));
@@ -101,78 +73,82 @@ fn core_locals(alloc: Global, locals: &[Local]) -> Result<Option<Vec<tree::Local
     Ok(made)
 }
 
-/// A section's parts put together, where its result and its `return` agree.
-fn section_with(
-    alloc: Global,
-    decls: &Declarations,
-    s: &written::Section,
-    locals: Vec<tree::Local>,
-    body: Vec<Stmt>,
-    given: Option<Return>,
-) -> Result<Option<Section>, AllocError>
-    requires { AreDeclarations decls.now }
-    ensures { IfOk result (λ r. option_map core_section r ≡ section_with (declared_by decls.now) (section_view s.now) (core.core_locals locals.items) (core.core_stmts body.items) (section_view s.now).result (option_map core.core_return given)) }
-{
-    let result_type = match (&s.result, &given) {
-        (None, None) => None,
-        (Some(t), Some(_)) => match type_outside(decls, t) {
-            Some(t) => Some(t),
-            None => return Ok(None),
-        },
-        _ => return Ok(None),
-    };
-    Ok(Some(Section {
-        name: String::from_str(alloc, s.name.text.as_str())?,
-        parameters: s.params.len(),
-        locals,
-        result_type,
-        body,
-        result: given,
-    }))
-}
-
-/// A section's parts put together, if none is missing.
-fn section_of(
-    alloc: Global,
-    decls: &Declarations,
-    s: &written::Section,
-    locals: Option<Vec<tree::Local>>,
-    body: Option<Body>,
-) -> Result<Option<Section>, AllocError>
-    requires { AreDeclarations decls.now }
-    ensures { IfOk result (λ r. option_map core_section r ≡ section_of (declared_by decls.now) (section_view s.now) (option_map (λ ls. core.core_locals ls.items) locals) (option_map body_of body)) }
-{
-    match (locals, body) {
-        (Some(locals), Some(body)) => section_with(
-            alloc,
-            decls,
-            s,
-            locals,
-            body.stmts,
-            body.result,
-        ),
-        _ => Ok(None),
-    }
-}
-
 /// The type of a section's result, if it has one without a fault.
-fn result_of(decls: &Declarations, s: &written::Section) -> Option<ValueType>
+fn result_type(decls: &Declarations, s: &written::Section, least: &mut Least) -> Option<ValueType>
     requires { AreDeclarations decls.now }
-    ensures { result ≡ result_of (declared_by decls.now) (section_view s.now) }
+    ensures value { result ≡ result_of (declared_by decls.now) (section_view s.now) }
+    ensures faults { least.new ≡ least_of least.old (result_faults (declared_by decls.now) (section_view s.now).result) }
 {
     match &s.result {
-        Some(t) => type_outside(decls, t),
+        Some(t) => {
+            note_type(decls, t, least);
+            type_outside(decls, t)
+        }
         None => None,
     }
 }
 
-/// Notes what is wrong with the type of a section's result.
-fn note_result(decls: &Declarations, t: &Option<written::ValueType>, least: &mut Option<Mistake>)
-    requires { AreDeclarations decls.now }
-    ensures { least.new ≡ least_of least.old (result_faults (declared_by decls.now) (option_of type_seen t.now)) }
-{
-    if let Some(t) = t {
-        note_type(decls, t, least);
+impl<'a> Checker<'a> {
+    // Declares a section's parameters, and notes what is wrong with them.
+    #[tactic(auto, using(source::specs::Leasts::least_append))]
+    fn params(&mut self, params: &[Param], least: &mut Least) -> Result<(), AllocError>
+        ensures faults { OnOk result (least.new ≡ least_of least.old (param_faults (scope self.old) 0 (map param_of params.now))) }
+        ensures scope { OnOk result (scope self.new ≡ entered (scope self.old) (map param_of params.now)) }
+    {
+        for (place, param) in params.iter().enumerate() {
+            self.note_name(&param.name, least);
+            note_if(
+                PARAMETER_LIMIT <= place,
+                Code::LimitExceeded,
+                param.name.start as usize,
+                least,
+            );
+            let t = self.declared_type(&param.value_type, least);
+            self.bind(&param.name, LocalKind::Parameter, t)?;
+        }
+        Ok(())
+    }
+
+    // A section's parts put together, where its result and its `return` agree.
+    fn section_with(
+        &self,
+        s: &written::Section,
+        locals: Vec<tree::Local>,
+        body: Body,
+    ) -> Judged<Section>
+        ensures { IfOk result (λ r. option_map core_section r ≡ section_with (scope self.now).decls (section_view s.now) (core.core_locals locals.items) (core.core_stmts body.stmts.items) (section_view s.now).result (option_map core.core_return body.result)) }
+    {
+        let result_type = match (&s.result, &body.result) {
+            (None, None) => None,
+            (Some(t), Some(_)) => match self.type_outside(t) {
+                Some(t) => Some(t),
+                None => return Ok(None),
+            },
+            _ => return Ok(None),
+        };
+        Ok(Some(Section {
+            name: String::from_str(self.alloc(), s.name.text.as_str())?,
+            parameters: s.params.len(),
+            locals,
+            result_type,
+            body: body.stmts,
+            result: body.result,
+        }))
+    }
+
+    // A section's parts put together, if none is missing.
+    fn section_of(
+        &self,
+        s: &written::Section,
+        locals: Option<Vec<tree::Local>>,
+        body: Option<Body>,
+    ) -> Judged<Section>
+        ensures { IfOk result (λ r. option_map core_section r ≡ section_of (scope self.now).decls (section_view s.now) (option_map (λ ls. core.core_locals ls.items) locals) (option_map body_of body)) }
+    {
+        match (locals, body) {
+            (Some(locals), Some(body)) => self.section_with(s, locals, body),
+            _ => Ok(None),
+        }
     }
 }
 
@@ -190,11 +166,10 @@ pub fn judge_section(
     ensures value { IfOk result (λ r. option_map core_section r ≡ typed_section (program_of program.now) (section_view s.now)) }
     ensures faults { OnOk result (least.new ≡ least_of least.old (section_faults (program_of program.now) (section_view s.now))) }
 {
-    let decls = &program.decls;
-    note_result(decls, &s.result, least);
-    let mut locals = Locals::new(alloc, result_of(decls, s));
-    judge_params(alloc, program, &mut locals, &s.params, least)?;
-    let body = judge_body(alloc, program, &mut locals, &s.body.stmts, least)?;
-    let made = core_locals(alloc, &locals.items)?;
-    section_of(alloc, decls, s, made, body)
+    let result = result_type(&program.decls, s, least);
+    let mut checker = Checker::new(alloc, program, result);
+    checker.params(&s.params, least)?;
+    let body = checker.body(&s.body.stmts, least)?;
+    let locals = core_locals(alloc, checker.locals())?;
+    checker.section_of(s, locals, body)
 }

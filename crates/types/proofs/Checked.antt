@@ -1,14 +1,17 @@
 -- The passes together.
 use Rattle.std.proofs.Common.{◌≡◌, List, [], ◌∷◌, ◌++◌, Option, Some, None, Bool, true, false, refl, sym, ap, ◌∙◌, if◌then◌else◌}
+use Rattle.std.specs.Prelude.{is_some, not}
 use Rattle.source.specs.declared.mistake.Mistake.{Mistake}
+use Rattle.core_lang.specs.declared.typed.Typed.{Typed}
+use Rattle.resolution.specs.CoreViews.{core_of}
 use Rattle.syntax.specs.Trees.{Decl}
 use Rattle.resolution.specs.Core as core
 use Rattle.source.specs.Mistakes.{goes_before, least_of}
 use Rattle.source.specs.Leasts.{least_append}
-use Rattle.resolution.specs.Resolution.{resolved, resolved_from}
+use Rattle.resolution.specs.Resolution.{nothing_yet, resolved, resolved_from}
 use Rattle.resolution.specs.FaultLists.{twice_faults, struct_faults, total_faults, repeated_faults, each_faults}
 use Rattle.resolution.specs.Laws.{the_least}
-use Rattle.types.specs.Whole.{unless}
+use Rattle.types.specs.Grown.{if_right}
 
 -- the least after the passes over all declarations
 abbrev pub least_after : Option Mistake → List Decl → Option Mistake
@@ -35,10 +38,15 @@ was_none None gs e = refl
 was_none (Some f) gs e = absurd (some_kept f gs e)
 
 -- where there is no fault, the whole is resolved
-pub built : (ds ps : List Decl) (f : Option Mistake) (start v : Option core.Program) → ps ≡ ds → f ≡ None → start ≡ unless f → v ≡ resolved_from ps 0 start ps → v ≡ resolved ds
-built ds ps f start v same none begun made =
-    made ∙ ap (λ (x : List Decl). resolved_from x 0 start x) same ∙ ap (λ (o : Option core.Program). resolved_from ds 0 o ds) (begun ∙ ap unless none)
+pub whole_built : (ds ps : List Decl) (start v : Option core.Program) → ps ≡ ds → start ≡ Some nothing_yet → v ≡ resolved_from ps 0 start ps → v ≡ resolved ds
+whole_built ds ps start v same begun made =
+    made ∙ ap (λ (x : List Decl). resolved_from x 0 start x) same ∙ ap (λ (o : Option core.Program). resolved_from ds 0 o ds) begun
 
 -- and a program that is not there is none that the tree stands for
 pub none_built : (ds : List Decl) (v : Option core.Program) → v ≡ resolved ds → v ≡ None → ((p : core.Program) × (resolved ds ≡ Some p)) → ⊥
 none_built ds v is none some = let e : None ≡ Some some.0 = sym none ∙ is ∙ some.1 in cc
+
+-- nothing is declared, and all of it is right, where there is no fault yet
+pub begun : (f : Option Mistake) (b : Bool) (t : Typed) → f ≡ None → is_some f ≡ not b → core_of t ≡ nothing_yet → if_right b t ≡ Some nothing_yet
+begun f true t none is made = ap Some made
+begun f false t none is made = let e : false ≡ true = sym (ap is_some none) ∙ is in absurd (cc)

@@ -4,3 +4,4 @@ pub mod Shapes
 pub mod Threads
 pub mod Whole
 pub mod Checked
+pub mod Lost

@@ -1,15 +1,9 @@
 -- What the passes over declarations give, by parts.
-use Rattle.std.specs.Prelude.{ℕ, List, Option, Some, None}
+use Rattle.std.specs.Prelude.{ℕ, List, Option}
 use Rattle.syntax.specs.Trees.{Decl, Variable, Array, Section, Thread}
-use Rattle.source.specs.declared.mistake.Mistake.{Mistake}
 use Rattle.resolution.specs.Core as core
 use Rattle.resolution.specs.Scopes.{◌>>=◌}
-use Rattle.resolution.specs.Resolution.{nothing_yet, extended, with_section, with_thread, typed_section, typed_calls, global_with, array_with}
-
--- nothing, unless there is a fault
-abbrev pub unless : Option Mistake → Option core.Program
-unless None = Some nothing_yet
-unless (Some f) = None
+use Rattle.resolution.specs.Resolution.{extended, with_section, with_thread, typed_section, typed_calls, global_with, array_with}
 
 -- a program, if there is one, with one more declaration
 abbrev pub extended_if : List Decl → ℕ → Option core.Program → Decl → Option core.Program

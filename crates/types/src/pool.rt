@@ -5,24 +5,26 @@ ghost use Rattle.syntax.specs.Views.{member_of, const_of, pool_of};
 ghost use Rattle.resolution.specs.CoreViews.{core_of};
 ghost use Rattle.resolution.specs.Scopes.{struct_named};
 ghost use Rattle.resolution.specs.Constants.{members_of, referred};
-ghost use Rattle.resolution.specs.Resolution.{slot_given, opening_of, with_cell, with_members, with_object, with_objects, with_pool};
+ghost use Rattle.resolution.specs.Resolution.{slot_given, opening_of, final_cell, field_cell, with_members, with_object, with_objects, with_pool};
 ghost use Rattle.resolution.specs.Limits.{up_to, object_at, cell_at, final_at};
 ghost use Rattle.source.specs.Mistakes.{least_of};
 ghost use Rattle.resolution.specs.FaultLists.{some_lacks, is_at, is_due, lacks, missing_faults};
 ghost use Rattle.symbols.specs.{members_seen, IsStructure, program_of, IsProgram};
 ghost use Rattle.symbols.specs.Counted.{field_if};
-ghost use Rattle.types.specs.Slots.{slot_of, then_final, then_field, member_with};
+ghost use Rattle.types.specs.Grown.{if_right};
+ghost use Rattle.types.specs.Slots.{slot_of, member_with};
 
 use crate::constant::{opened, typed_const};
+use crate::grown::{Builder, add_cell};
 use core_lang::shape;
 use core_lang::shape::Object;
-use core_lang::typed::{Cell, Owner, Typed};
+use core_lang::typed::{Owner, Typed};
 use core_lang::value::{Value, ValueType};
 use resolution::init_target::InitTarget;
 use resolution::wanted::Want;
 use source::fault::Code;
 use source::mistake::Mistake;
-use std::alloc::{AllocError, Global};
+use std::alloc::AllocError;
 use symbols::members::Structure;
 use symbols::note::note_if;
 use symbols::scope::{struct_named, type_outside};
@@ -42,6 +44,21 @@ pub struct Slot {
     pub index: usize,
     /// The object's number, from 0 over all pools.
     pub object: usize,
+}
+
+/// A member of a struct by its place, and how many of the struct's fields stand ahead of it.
+#[derive(Clone, Copy)]
+struct MemberPlace {
+    place: usize,
+    fields: usize,
+}
+
+/// A pool by its place among the declarations, its number and what its members are made of.
+#[derive(Clone, Copy)]
+struct PoolPlace<'a> {
+    place: usize,
+    number: usize,
+    members: &'a [Member],
 }
 
 /// A number, if it is no more than the limit.
@@ -73,24 +90,6 @@ fn final_at(n: usize) -> Option<u32>
     up_to(FINAL_PLACES, n)
 }
 
-/// The program with a cell more.
-pub fn with_cell(
-    typed: Typed,
-    owner: Owner,
-    value_type: ValueType,
-    opening: Value,
-) -> Result<Typed, AllocError>
-    ensures { IfOk result (λ r. core_of r ≡ with_cell (core_of typed) owner value_type opening) }
-{
-    let mut typed = typed;
-    typed.cells.push(Cell {
-        owner,
-        value_type,
-        opening,
-    })?;
-    Ok(typed)
-}
-
 /// What the declarations give the member at this place of its struct.
 fn slot_given<'t>(program: &Program<'t>, slot: Slot, member: usize) -> Option<&'t Const>
     requires { IsProgram program.now }
@@ -117,75 +116,41 @@ fn referred(program: &Program, target: Option<usize>, c: Option<&Const>) -> Opti
     }
 }
 
-/// The program with a final reference more, if it is given an object.
-fn with_final(typed: Option<Typed>, object: Option<u32>) -> Result<Option<Typed>, AllocError>
-    ensures { IfOk result (λ r. option_map core_of r ≡ then_final (option_map core_of typed) object) }
+/// Adds a final reference, if it is given an object.
+fn add_final(object: Option<u32>, typed: &mut Typed) -> Result<bool, AllocError>
+    ensures { IfOk result (λ right. if_right right typed.new ≡ final_cell (core_of typed.old) object) }
 {
-    let Some(mut typed) = typed else {
-        return Ok(None);
-    };
     let Some(object) = object else {
-        drop(typed);
-        return Ok(None);
+        return Ok(false);
     };
     typed.shape.finals.push(object)?;
-    Ok(Some(typed))
+    Ok(true)
 }
 
-/// The program with a field's cell more, if its type and what it opens with are right.
-fn with_field(
-    program: &Program,
-    typed: Option<Typed>,
+/// Adds a field's cell, if its type and what it opens with are right.
+fn add_field(
     owner: Owner,
     t: Option<ValueType>,
-    c: Option<&Const>,
-) -> Result<Option<Typed>, AllocError>
-    requires { IsProgram program.now }
-    ensures { IfOk result (λ r. option_map core_of r ≡ then_field (option_map core_of typed) owner t (opening_of (program_of program.now) t (option_map (λ x. const_of x.now) c.entry))) }
+    opening: Option<Value>,
+    typed: &mut Typed,
+) -> Result<bool, AllocError>
+    ensures { IfOk result (λ right. if_right right typed.new ≡ field_cell (core_of typed.old) owner t opening) }
 {
-    let Some(typed) = typed else {
-        return Ok(None);
+    let (Some(t), Some(opening)) = (t, opening) else {
+        return Ok(false);
     };
-    let Some(t) = t else {
-        drop(typed);
-        return Ok(None);
-    };
-    let Some(value) = opened(program, t, c) else {
-        drop(typed);
-        return Ok(None);
-    };
-    Ok(Some(with_cell(typed, owner, t, value)?))
+    add_cell(owner, t, opening, typed)?;
+    Ok(true)
 }
 
-/// The program with one more member of an object, where so many fields stand ahead of it.
-fn with_member(
-    program: &Program,
-    slot: Slot,
-    place: usize,
-    fields: usize,
-    typed: Option<Typed>,
-    m: &Member,
-) -> Result<Option<Typed>, AllocError>
+/// The value that a field opens with, if its type has no fault.
+fn opening_of(program: &Program, t: Option<ValueType>, c: Option<&Const>) -> Option<Value>
     requires { IsProgram program.now }
-    ensures { IfOk result (λ r. option_map core_of r ≡ member_with (program_of program.now) (slot_of slot) place fields (option_map core_of typed) (member_of m.now)) }
+    ensures { result ≡ opening_of (program_of program.now) t (option_map (λ x. const_of x.now) c.entry) }
 {
-    match m {
-        Member::Lock(_) => Ok(typed),
-        Member::Final(f) => {
-            let target = struct_named(&program.decls, &f.target);
-            with_final(
-                typed,
-                referred(program, target, slot_given(program, slot, place)),
-            )
-        }
-        Member::Field(f) => {
-            let t = type_outside(&program.decls, &f.value_type);
-            let owner = Owner::Field {
-                object: slot.object,
-                field: fields,
-            };
-            with_field(program, typed, owner, t, slot_given(program, slot, place))
-        }
+    match t {
+        Some(t) => opened(program, t, c),
+        None => None,
     }
 }
 
@@ -199,116 +164,138 @@ fn field_count(m: &Member) -> usize
     }
 }
 
-/// The program with the members of an object.
-fn with_members(
-    program: &Program,
-    slot: Slot,
-    typed: Option<Typed>,
-    members: &[Member],
-) -> Result<Option<Typed>, AllocError>
-    requires { IsProgram program.now }
-    ensures { IfOk result (λ r. option_map core_of r ≡ with_members (program_of program.now) (slot_of slot) 0 0 (option_map core_of typed) (map member_of members.now)) }
-{
-    let mut typed = typed;
-    let mut fields = 0;
-    for (place, m) in members.iter().enumerate() {
-        typed = with_member(program, slot, place, fields, typed, m)?;
-        fields = fields + field_count(m);
+impl<'a> Builder<'a> {
+    // Adds a member of an object, if it is right.
+    fn add_part(
+        &self,
+        slot: Slot,
+        at: MemberPlace,
+        m: &Member,
+        typed: &mut Typed,
+    ) -> Result<bool, AllocError>
+        requires { IsProgram self.now.program.now }
+        ensures { IfOk result (λ right. if_right right typed.new ≡ member_with (program_of self.now.program.now) (slot_of slot) at.place at.fields (Some (core_of typed.old)) (member_of m.now)) }
+    {
+        let program = self.program;
+        match m {
+            Member::Lock(_) => Ok(true),
+            Member::Final(f) => {
+                let target = struct_named(&program.decls, &f.target);
+                add_final(
+                    referred(program, target, slot_given(program, slot, at.place)),
+                    typed,
+                )
+            }
+            Member::Field(f) => {
+                let t = type_outside(&program.decls, &f.value_type);
+                let owner = Owner::Field {
+                    object: slot.object,
+                    field: at.fields,
+                };
+                let opening = opening_of(program, t, slot_given(program, slot, at.place));
+                add_field(owner, t, opening, typed)
+            }
+        }
     }
-    Ok(typed)
-}
 
-/// The program with the next object, which is the member of this index of a pool.
-fn with_object(
-    program: &Program,
-    place: usize,
-    number: usize,
-    members: &[Member],
-    index: usize,
-    typed: Typed,
-) -> Result<Option<Typed>, AllocError>
-    requires { IsProgram program.now }
-    ensures { IfOk result (λ r. option_map core_of r ≡ with_object (program_of program.now) place number (map member_of members.now) index (core_of typed)) }
-{
-    let (Some(cells), Some(finals)) = (
-        cell_at(typed.cells.len()),
-        final_at(typed.shape.finals.len()),
-    ) else {
-        drop(typed);
-        return Ok(None);
-    };
-    let slot = Slot {
-        pool: place,
-        index,
-        object: typed.shape.objects.len(),
-    };
-    let mut typed = typed;
-    typed.shape.objects.push(Object {
-        pool: number,
-        cells,
-        finals,
-    })?;
-    with_members(program, slot, Some(typed), members)
-}
+    // Adds the members of an object, if they are right.
+    fn add_parts(
+        &self,
+        slot: Slot,
+        members: &[Member],
+        typed: &mut Typed,
+    ) -> Result<bool, AllocError>
+        requires { IsProgram self.now.program.now }
+        ensures { IfOk result (λ right. if_right right typed.new ≡ with_members (program_of self.now.program.now) (slot_of slot) 0 0 (Some (core_of typed.old)) (map member_of members.now)) }
+    {
+        let mut fields = 0;
+        for (place, m) in members.iter().enumerate() {
+            if !self.add_part(slot, MemberPlace { place, fields }, m, typed)? {
+                return Ok(false);
+            }
+            fields = fields + field_count(m);
+        }
+        Ok(true)
+    }
 
-/// The program with so many members of a pool, which has this place and this number.
-fn with_objects(
-    program: &Program,
-    place: usize,
-    number: usize,
-    members: &[Member],
-    typed: Typed,
-    count: u32,
-) -> Result<Option<Typed>, AllocError>
-    requires { IsProgram program.now }
-    ensures { IfOk result (λ r. option_map core_of r ≡ with_objects (program_of program.now) place number (map member_of members.now) (Some (core_of typed)) count) }
-{
-    let mut typed = typed;
-    for index in 0..count {
-        typed = match with_object(program, place, number, members, index as usize, typed)? {
-            Some(typed) => typed,
-            None => return Ok(None),
+    // Adds the next object, which is the member of this index of a pool, if it is right.
+    fn add_object(
+        &self,
+        pool: &PoolPlace<'a>,
+        index: usize,
+        typed: &mut Typed,
+    ) -> Result<bool, AllocError>
+        requires { IsProgram self.now.program.now }
+        ensures { IfOk result (λ right. if_right right typed.new ≡ with_object (program_of self.now.program.now) pool.now.place pool.now.number (map member_of pool.now.members.now) index (core_of typed.old)) }
+    {
+        let Some(cells) = cell_at(typed.cells.len()) else {
+            return Ok(false);
         };
+        let Some(finals) = final_at(typed.shape.finals.len()) else {
+            return Ok(false);
+        };
+        let slot = Slot {
+            pool: pool.place,
+            index,
+            object: typed.shape.objects.len(),
+        };
+        typed.shape.objects.push(Object {
+            pool: pool.number,
+            cells,
+            finals,
+        })?;
+        self.add_parts(slot, pool.members, typed)
     }
-    Ok(Some(typed))
-}
 
-/// The program with a pool more.
-pub fn with_pool(
-    alloc: Global,
-    program: &Program,
-    place: usize,
-    typed: Typed,
-    p: &Pool,
-) -> Result<Option<Typed>, AllocError>
-    requires { IsProgram program.now }
-    ensures { IfOk result (λ r. option_map core_of r ≡ with_pool (program_of program.now) place (core_of typed) (pool_of p.now).name.text (struct_named (program_of program.now) (pool_of p.now).target) (members_of (program_of program.now) (pool_of p.now).target) (pool_of p.now).length.value) }
-{
-    let Some(structure) = struct_named(&program.decls, &p.target) else {
-        drop(typed);
-        return Ok(None);
-    };
-    let Some((_, table)) = program.decls.struct_of(&p.target) else {
-        drop(typed);
-        return Ok(None);
-    };
-    let Some(first) = object_at(typed.shape.objects.len()) else {
-        drop(typed);
-        return Ok(None);
-    };
-    let Some(length) = object_at(p.length.value as usize) else {
-        drop(typed);
-        return Ok(None);
-    };
-    let number = typed.shape.pools.len();
-    let mut typed = typed;
-    typed.shape.pools.push(shape::Pool {
-        name: String::from_str(alloc, p.name.text.as_str())?,
-        first,
-        length,
-        structure,
-    })?;
-    with_objects(program, place, number, &table.item.members, typed, length)
+    // Adds so many members of a pool, if they are right.
+    fn add_objects(
+        &self,
+        pool: &PoolPlace<'a>,
+        count: u32,
+        typed: &mut Typed,
+    ) -> Result<bool, AllocError>
+        requires { IsProgram self.now.program.now }
+        ensures { IfOk result (λ right. if_right right typed.new ≡ with_objects (program_of self.now.program.now) pool.now.place pool.now.number (map member_of pool.now.members.now) (Some (core_of typed.old)) count) }
+    {
+        for index in 0..count {
+            if !self.add_object(pool, index as usize, typed)? {
+                return Ok(false);
+            }
+        }
+        Ok(true)
+    }
+
+    /// Adds a pool, which has this place, if it is right.
+    pub fn add_pool(&self, place: usize, p: &Pool, typed: &mut Typed) -> Result<bool, AllocError>
+        requires { IsProgram self.now.program.now }
+        ensures { IfOk result (λ right. if_right right typed.new ≡ with_pool (program_of self.now.program.now) place (core_of typed.old) (pool_of p.now).name.text (struct_named (program_of self.now.program.now) (pool_of p.now).target) (members_of (program_of self.now.program.now) (pool_of p.now).target) (pool_of p.now).length.value) }
+    {
+        let decls = &self.program.decls;
+        let Some(structure) = struct_named(decls, &p.target) else {
+            return Ok(false);
+        };
+        let Some((_, table)) = decls.struct_of(&p.target) else {
+            return Ok(false);
+        };
+        let Some(first) = object_at(typed.shape.objects.len()) else {
+            return Ok(false);
+        };
+        let Some(length) = object_at(p.length.value as usize) else {
+            return Ok(false);
+        };
+        let pool = PoolPlace {
+            place,
+            number: typed.shape.pools.len(),
+            members: &table.item.members,
+        };
+        typed.shape.pools.push(shape::Pool {
+            name: String::from_str(self.alloc, p.name.text.as_str())?,
+            first,
+            length,
+            structure,
+        })?;
+        self.add_objects(&pool, length, typed)
+    }
 }
 
 /// Whether of the first so many members of the pool at a place some isn't given the member at this place of its struct.

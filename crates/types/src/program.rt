@@ -12,12 +12,13 @@ ghost use Rattle.resolution.specs.Faults.{IsFault, IsRefusal, HasNoFault};
 ghost use Rattle.source.specs.Mistakes.{least_of, IsLeastOf};
 ghost use Rattle.resolution.specs.FaultLists.{global_faults, array_faults, section_faults, decl_faults, each_faults, items_faults};
 ghost use Rattle.symbols.specs.{structure_of, IsStructure, program_of, IsProgram};
-ghost use Rattle.types.specs.Whole.{unless, extended_if, global_if, array_if, section_if, thread_if};
+ghost use Rattle.types.specs.Grown.{built};
+ghost use Rattle.types.specs.Whole.{extended_if, global_if, array_if, section_if, thread_if};
 
 use crate::constant::note_opening;
-use crate::grown::{with_array, with_global, with_lock, with_section, with_struct, with_thread};
+use crate::grown::{Builder, Grown, add_lock, add_section};
 use crate::initial::note_init;
-use crate::pool::{note_missing, with_pool};
+use crate::pool::note_missing;
 use crate::struct_builder::note_members;
 use crate::thread::{note_items, typed_calls};
 use core_lang::shape::Shape;
@@ -35,172 +36,188 @@ use symbols::scope::{note_target, note_type, type_outside};
 use symbols::table::Program;
 use syntax::tree::{Array, Decl, Pool, Section, Thread, Tree, Variable};
 
-/// The program with a struct more, which has this place, if everything in it is right.
-#[tactic(auto, using(source::specs::Leasts::least_append))]
-fn judge_struct<'a, 't>(
-    alloc: Global,
-    program: &'a Program<'t>,
-    place: usize,
-    typed: Option<Typed>,
-    structure: &'a Structure<'t>,
-    least: &mut Option<Mistake>,
-) -> Result<Option<Typed>, AllocError>
-    requires program { IsProgram program.now }
-    requires structure { IsStructure structure.now }
-    ensures value { IfOk result (λ r. option_map core_of r ≡ extended_if (program_of program.now) place (option_map core_of typed) (struct (structure_of structure.now))) }
-    ensures faults { OnOk result (least.new ≡ least_of least.old (decl_faults (program_of program.now) place (struct (structure_of structure.now)))) }
-{
-    let members = &structure.item.members;
-    note_members(alloc, &program.decls, place, structure, members, least)?;
-    match typed {
-        Some(typed) => with_struct(alloc, program, place, typed, structure),
-        None => Ok(None),
-    }
-}
-
-/// The program with a global more, if everything in it is right.
-#[tactic(auto, using(source::specs::Leasts::least_append))]
-fn judge_global(
-    alloc: Global,
-    program: &Program,
-    typed: Option<Typed>,
-    v: &Variable,
-    least: &mut Option<Mistake>,
-) -> Result<Option<Typed>, AllocError>
-    requires { IsProgram program.now }
-    ensures value { IfOk result (λ r. option_map core_of r ≡ global_if (program_of program.now) (option_map core_of typed) (variable_of v.now)) }
-    ensures faults { OnOk result (least.new ≡ least_of least.old (global_faults (program_of program.now) (variable_of v.now))) }
-{
-    let decls = &program.decls;
-    note_type(decls, &v.value_type, least);
-    note_lock(decls, &v.name, &v.protection, least);
-    let wanted = want(type_outside(decls, &v.value_type));
-    note_opening(decls, wanted, &v.value, least);
-    match typed {
-        Some(typed) => with_global(alloc, program, typed, v),
-        None => Ok(None),
-    }
-}
-
-/// The program with an array more, if everything in it is right.
-#[tactic(auto, using(source::specs::Leasts::least_append))]
-fn judge_array(
-    alloc: Global,
-    program: &Program,
-    typed: Option<Typed>,
-    a: &Array,
-    least: &mut Option<Mistake>,
-) -> Result<Option<Typed>, AllocError>
-    requires { IsProgram program.now }
-    ensures value { IfOk result (λ r. option_map core_of r ≡ array_if (program_of program.now) (option_map core_of typed) (array_of a.now)) }
-    ensures faults { OnOk result (least.new ≡ least_of least.old (array_faults (program_of program.now) (array_of a.now))) }
-{
-    let decls = &program.decls;
-    note_type(decls, &a.value_type, least);
-    note_lock(decls, &a.name, &a.protection, least);
-    match typed {
-        Some(typed) => with_array(alloc, program, typed, a),
-        None => Ok(None),
-    }
-}
-
-/// The program with a pool more, which has this place, if everything in it is right.
-#[tactic(auto, using(source::specs::Leasts::least_append))]
-fn judge_pool(
-    alloc: Global,
-    program: &Program,
-    place: usize,
-    typed: Option<Typed>,
-    p: &Pool,
-    least: &mut Option<Mistake>,
-) -> Result<Option<Typed>, AllocError>
-    requires { IsProgram program.now }
-    ensures value { IfOk result (λ r. option_map core_of r ≡ extended_if (program_of program.now) place (option_map core_of typed) (pool (pool_of p.now))) }
-    ensures faults { OnOk result (least.new ≡ least_of least.old (decl_faults (program_of program.now) place (pool (pool_of p.now)))) }
-{
-    note_target(&program.decls, &p.target, least);
-    note_missing(program, place, p, least);
-    match typed {
-        Some(typed) => with_pool(alloc, program, place, typed, p),
-        None => Ok(None),
-    }
-}
-
-/// The program with a section more, if everything in it is right.
-fn judge_atomic(
-    alloc: Global,
-    program: &Program,
-    typed: Option<Typed>,
-    s: &Section,
-    least: &mut Option<Mistake>,
-) -> Result<Option<Typed>, AllocError>
-    requires { IsProgram program.now }
-    ensures value { IfOk result (λ r. option_map core_of r ≡ section_if (program_of program.now) (option_map core_of typed) (section_of s.now)) }
-    ensures faults { OnOk result (least.new ≡ least_of least.old (section_faults (program_of program.now) (section_of s.now))) }
-{
-    let section = judge_section(alloc, program, s, least)?;
-    match typed {
-        Some(typed) => with_section(typed, section),
-        None => Ok(None),
-    }
-}
-
-/// The program with a thread more, if everything in it is right.
-fn judge_thread(
-    alloc: Global,
-    program: &Program,
-    typed: Option<Typed>,
-    t: &Thread,
-    least: &mut Option<Mistake>,
-) -> Result<Option<Typed>, AllocError>
-    requires { IsProgram program.now }
-    ensures value { IfOk result (λ r. option_map core_of r ≡ thread_if (program_of program.now) (option_map core_of typed) (thread_of t.now)) }
-    ensures faults { OnOk result (least.new ≡ least_of least.old (items_faults (program_of program.now) (items_of t.now.items.items))) }
-{
-    note_items(&program.decls, &t.items, least);
-    let Some(typed) = typed else {
-        return Ok(None);
-    };
-    let calls = typed_calls(alloc, program, &t.items)?;
-    with_thread(alloc, typed, &t.name, calls)
-}
-
-/// The program with one more declaration, which has this place, if everything in it is right.
-#[tactic(auto, using(source::specs::Leasts::least_append))]
-fn judge_decl(
-    alloc: Global,
-    program: &Program,
-    place: usize,
-    typed: Option<Typed>,
-    d: &Decl,
-    least: &mut Option<Mistake>,
-) -> Result<Option<Typed>, AllocError>
-    requires program { IsProgram program.now }
-    requires place { slice_get (program_of program.now) place ≡ Some (decl_of d.now) }
-    ensures value { IfOk result (λ r. option_map core_of r ≡ extended_if (program_of program.now) place (option_map core_of typed) (decl_of d.now)) }
-    ensures faults { OnOk result (least.new ≡ least_of least.old (decl_faults (program_of program.now) place (decl_of d.now))) }
-{
-    let decls = &program.decls;
-    match d {
-        Decl::Lock(name) => match typed {
-            Some(typed) => Ok(Some(with_lock(alloc, typed, name)?)),
-            None => Ok(None),
-        },
-        Decl::Struct(_) => {
-            let Some(structure) = decls.structure(decls.number(place, d)) else {
-                unreachable!()
-            };
-            judge_struct(alloc, program, place, typed, structure, least)
+impl<'a> Builder<'a> {
+    // A struct, which has this place.
+    #[tactic(auto, using(source::specs::Leasts::least_append))]
+    fn judge_struct(
+        &self,
+        place: usize,
+        table: &'a Structure<'a>,
+        grown: &mut Grown,
+        least: &mut Option<Mistake>,
+    ) -> Result<(), AllocError>
+        requires program { IsProgram self.now.program.now }
+        requires structure { IsStructure table.now }
+        ensures value { OnOk result (built grown.new ≡ extended_if (program_of self.now.program.now) place (built grown.old) (struct (structure_of table.now))) }
+        ensures faults { OnOk result (least.new ≡ least_of least.old (decl_faults (program_of self.now.program.now) place (struct (structure_of table.now)))) }
+    {
+        let members = &table.item.members;
+        note_members(
+            self.alloc,
+            &self.program.decls,
+            place,
+            table,
+            members,
+            least,
+        )?;
+        if grown.is_right {
+            grown.is_right = self.add_struct(place, table, &mut grown.typed)?;
         }
-        Decl::Global(v) => judge_global(alloc, program, typed, v, least),
-        Decl::Array(a) => judge_array(alloc, program, typed, a, least),
-        Decl::Pool(p) => judge_pool(alloc, program, place, typed, p, least),
-        Decl::Init(i) => {
-            note_init(decls, i, least);
-            Ok(typed)
+        Ok(())
+    }
+
+    // A global.
+    #[tactic(auto, using(source::specs::Leasts::least_append))]
+    fn judge_global(
+        &self,
+        v: &Variable,
+        grown: &mut Grown,
+        least: &mut Option<Mistake>,
+    ) -> Result<(), AllocError>
+        requires { IsProgram self.now.program.now }
+        ensures value { OnOk result (built grown.new ≡ global_if (program_of self.now.program.now) (built grown.old) (variable_of v.now)) }
+        ensures faults { OnOk result (least.new ≡ least_of least.old (global_faults (program_of self.now.program.now) (variable_of v.now))) }
+    {
+        let decls = &self.program.decls;
+        note_type(decls, &v.value_type, least);
+        note_lock(decls, &v.name, &v.protection, least);
+        let wanted = want(type_outside(decls, &v.value_type));
+        note_opening(decls, wanted, &v.value, least);
+        if grown.is_right {
+            grown.is_right = self.add_global(v, &mut grown.typed)?;
         }
-        Decl::Atomic(s) => judge_atomic(alloc, program, typed, s, least),
-        Decl::Thread(t) => judge_thread(alloc, program, typed, t, least),
+        Ok(())
+    }
+
+    // An array.
+    #[tactic(auto, using(source::specs::Leasts::least_append))]
+    fn judge_array(
+        &self,
+        a: &Array,
+        grown: &mut Grown,
+        least: &mut Option<Mistake>,
+    ) -> Result<(), AllocError>
+        requires { IsProgram self.now.program.now }
+        ensures value { OnOk result (built grown.new ≡ array_if (program_of self.now.program.now) (built grown.old) (array_of a.now)) }
+        ensures faults { OnOk result (least.new ≡ least_of least.old (array_faults (program_of self.now.program.now) (array_of a.now))) }
+    {
+        let decls = &self.program.decls;
+        note_type(decls, &a.value_type, least);
+        note_lock(decls, &a.name, &a.protection, least);
+        if grown.is_right {
+            grown.is_right = self.add_array(a, &mut grown.typed)?;
+        }
+        Ok(())
+    }
+
+    // A pool, which has this place.
+    #[tactic(auto, using(source::specs::Leasts::least_append))]
+    fn judge_pool(
+        &self,
+        place: usize,
+        p: &Pool,
+        grown: &mut Grown,
+        least: &mut Option<Mistake>,
+    ) -> Result<(), AllocError>
+        requires { IsProgram self.now.program.now }
+        ensures value { OnOk result (built grown.new ≡ extended_if (program_of self.now.program.now) place (built grown.old) (pool (pool_of p.now))) }
+        ensures faults { OnOk result (least.new ≡ least_of least.old (decl_faults (program_of self.now.program.now) place (pool (pool_of p.now)))) }
+    {
+        note_target(&self.program.decls, &p.target, least);
+        note_missing(self.program, place, p, least);
+        if grown.is_right {
+            grown.is_right = self.add_pool(place, p, &mut grown.typed)?;
+        }
+        Ok(())
+    }
+
+    // A section.
+    fn judge_atomic(
+        &self,
+        s: &Section,
+        grown: &mut Grown,
+        least: &mut Option<Mistake>,
+    ) -> Result<(), AllocError>
+        requires { IsProgram self.now.program.now }
+        ensures value { OnOk result (built grown.new ≡ section_if (program_of self.now.program.now) (built grown.old) (section_of s.now)) }
+        ensures faults { OnOk result (least.new ≡ least_of least.old (section_faults (program_of self.now.program.now) (section_of s.now))) }
+    {
+        let section = judge_section(self.alloc, self.program, s, least)?;
+        if grown.is_right {
+            grown.is_right = add_section(section, &mut grown.typed)?;
+        }
+        Ok(())
+    }
+
+    // A thread.
+    fn judge_thread(
+        &self,
+        t: &Thread,
+        grown: &mut Grown,
+        least: &mut Option<Mistake>,
+    ) -> Result<(), AllocError>
+        requires { IsProgram self.now.program.now }
+        ensures value { OnOk result (built grown.new ≡ thread_if (program_of self.now.program.now) (built grown.old) (thread_of t.now)) }
+        ensures faults { OnOk result (least.new ≡ least_of least.old (items_faults (program_of self.now.program.now) (items_of t.now.items.items))) }
+    {
+        note_items(&self.program.decls, &t.items, least);
+        if grown.is_right {
+            let calls = typed_calls(self.alloc, self.program, &t.items)?;
+            grown.is_right = self.add_thread(&t.name, calls, &mut grown.typed)?;
+        }
+        Ok(())
+    }
+
+    // A declaration, which has this place.
+    #[tactic(auto, using(source::specs::Leasts::least_append))]
+    fn judge_decl(
+        &self,
+        place: usize,
+        d: &Decl,
+        grown: &mut Grown,
+        least: &mut Option<Mistake>,
+    ) -> Result<(), AllocError>
+        requires program { IsProgram self.now.program.now }
+        requires place { slice_get (program_of self.now.program.now) place ≡ Some (decl_of d.now) }
+        ensures value { OnOk result (built grown.new ≡ extended_if (program_of self.now.program.now) place (built grown.old) (decl_of d.now)) }
+        ensures faults { OnOk result (least.new ≡ least_of least.old (decl_faults (program_of self.now.program.now) place (decl_of d.now))) }
+    {
+        let decls = &self.program.decls;
+        match d {
+            Decl::Lock(name) => {
+                add_lock(self.alloc, name, &mut grown.typed)?;
+                Ok(())
+            }
+            Decl::Struct(_) => {
+                let Some(table) = decls.structure(decls.number(place, d)) else {
+                    unreachable!()
+                };
+                self.judge_struct(place, table, grown, least)
+            }
+            Decl::Global(v) => self.judge_global(v, grown, least),
+            Decl::Array(a) => self.judge_array(a, grown, least),
+            Decl::Pool(p) => self.judge_pool(place, p, grown, least),
+            Decl::Init(i) => {
+                note_init(decls, i, least);
+                Ok(())
+            }
+            Decl::Atomic(s) => self.judge_atomic(s, grown, least),
+            Decl::Thread(t) => self.judge_thread(t, grown, least),
+        }
+    }
+
+    // The declarations, one after another.
+    #[tactic(auto, using(source::specs::Leasts::least_append))]
+    fn judge_decls(&self, grown: &mut Grown, least: &mut Option<Mistake>) -> Result<(), AllocError>
+        requires { IsProgram self.now.program.now }
+        ensures value { OnOk result (built grown.new ≡ resolved_from (program_of self.now.program.now) 0 (built grown.old) (program_of self.now.program.now)) }
+        ensures faults { OnOk result (least.new ≡ least_of least.old (each_faults (program_of self.now.program.now) 0 (program_of self.now.program.now))) }
+    {
+        let program = self.program;
+        for (place, d) in program.decls.items.iter().enumerate() {
+            self.judge_decl(place, d, grown, least)?;
+        }
+        Ok(())
     }
 }
 
@@ -224,33 +241,19 @@ fn nothing(alloc: Global) -> Typed
     }
 }
 
-/// A program in which nothing is declared, unless there is a fault already: then nothing is built.
-fn unless(alloc: Global, least: &Option<Mistake>) -> Option<Typed>
-    ensures { option_map core_of result ≡ unless least.now }
-{
-    match least {
-        Some(_) => None,
-        None => Some(nothing(alloc)),
-    }
-}
-
-/// The program with its declarations, one after another.
-#[tactic(auto, using(source::specs::Leasts::least_append))]
-fn judge_decls(
+/// The declarations of a program, one after another.
+fn judge_all(
     alloc: Global,
     program: &Program,
-    typed: Option<Typed>,
+    grown: &mut Grown,
     least: &mut Option<Mistake>,
-) -> Result<Option<Typed>, AllocError>
+) -> Result<(), AllocError>
     requires { IsProgram program.now }
-    ensures value { IfOk result (λ r. option_map core_of r ≡ resolved_from (program_of program.now) 0 (option_map core_of typed) (program_of program.now)) }
+    ensures value { OnOk result (built grown.new ≡ resolved_from (program_of program.now) 0 (built grown.old) (program_of program.now)) }
     ensures faults { OnOk result (least.new ≡ least_of least.old (each_faults (program_of program.now) 0 (program_of program.now))) }
 {
-    let mut typed = typed;
-    for (place, d) in program.decls.items.iter().enumerate() {
-        typed = judge_decl(alloc, program, place, typed, d, least)?;
-    }
-    Ok(typed)
+    let builder = Builder { alloc, program };
+    builder.judge_decls(grown, least)
 }
 
 /// The program that a tree stands for: each name replaced by the number of what it means, every expression typed. Or
@@ -276,15 +279,19 @@ pub fn check(alloc: Global, tree: &Tree) -> Result<Typed, Refusal>
     laws::resolved_are_well_formed();
     let mut least = None;
     let program = Program::new(alloc, &tree.decls, &mut least)?;
-    let start = unless(alloc, &least);
-    let typed = judge_decls(alloc, &program, start, &mut least)?;
+    // Behind a fault nothing is built.
+    let mut grown = Grown {
+        typed: nothing(alloc),
+        is_right: least.is_none(),
+    };
+    judge_all(alloc, &program, &mut grown, &mut least)?;
     drop(program);
     if let Some(fault) = least {
-        drop(typed);
+        drop(grown);
         return Err(Refusal::Fault(Fault::at(alloc, fault.code, fault.start)));
     }
-    match typed {
-        Some(typed) => Ok(typed),
-        None => unreachable!(),
+    if !grown.is_right {
+        unreachable!()
     }
+    Ok(grown.typed)
 }

@@ -7,8 +7,10 @@ ghost use Rattle.resolution.specs.Resolution.{lock_added, final_added, field_add
 ghost use Rattle.source.specs.Mistakes.{least_of};
 ghost use Rattle.resolution.specs.FaultLists.{member_faults, members_faults};
 ghost use Rattle.symbols.specs.{declared_by, members_seen, IsStructure, AreDeclarations, program_of, IsProgram};
+ghost use Rattle.types.specs.Grown.{shaped};
 ghost use Rattle.types.specs.StructBuilders.{builder_of};
 
+use crate::grown::Builder;
 use core_lang::typed::{Field, FinalField, LockClass, LockField, Protection, Struct};
 use core_lang::value::ValueType;
 use source::mistake::Mistake;
@@ -17,7 +19,6 @@ use symbols::annotation::{note_protection, protection_of};
 use symbols::declarations::Declarations;
 use symbols::members::Structure;
 use symbols::scope::{note_target, note_type, struct_named, type_outside};
-use symbols::table::Program;
 use syntax::tree::{Member, Name};
 
 /// A struct with some of its members, and the lock classes so far.
@@ -29,121 +30,126 @@ pub struct StructBuilder {
     pub classes: Vec<LockClass>,
 }
 
-/// With a lock field, of the struct of this number.
-fn with_lock(
-    alloc: Global,
-    number: usize,
-    builder: StructBuilder,
-    name: &Name,
-) -> Result<StructBuilder, AllocError>
-    ensures { IfOk result (λ r. builder_of r ≡ lock_added number (builder_of builder) (ident name.now).text) }
-{
-    let mut builder = builder;
-    let class = builder.classes.len();
-    let lock = builder.structure.locks.len();
-    builder.structure.locks.push(LockField {
-        name: String::from_str(alloc, name.text.as_str())?,
-        class,
-    })?;
-    builder.classes.push(LockClass::Field {
-        structure: number,
-        lock,
-    })?;
-    Ok(builder)
+/// A struct that is built, by its number, its place among the declarations and its tables.
+#[derive(Clone, Copy)]
+pub struct StructPlace<'a> {
+    pub number: usize,
+    pub place: usize,
+    pub table: &'a Structure<'a>,
 }
 
-/// With a final reference, if its struct is known.
-fn with_final(
-    alloc: Global,
-    builder: StructBuilder,
-    name: &Name,
-    target: Option<usize>,
-) -> Result<Option<StructBuilder>, AllocError>
-    ensures { IfOk result (λ r. option_map builder_of r ≡ final_added (builder_of builder) (ident name.now).text target) }
-{
-    let Some(target) = target else {
-        return Ok(None);
-    };
-    let mut builder = builder;
-    builder.structure.finals.push(FinalField {
-        name: String::from_str(alloc, name.text.as_str())?,
-        target,
-    })?;
-    Ok(Some(builder))
-}
+impl StructBuilder {
+    // Adds a lock field, of the struct of this number.
+    fn add_lock(&mut self, alloc: Global, number: usize, name: &Name) -> Result<(), AllocError>
+        ensures { OnOk result (builder_of self.new ≡ lock_added number (builder_of self.old) (ident name.now).text) }
+    {
+        let class = self.classes.len();
+        let lock = self.structure.locks.len();
+        self.structure.locks.push(LockField {
+            name: String::from_str(alloc, name.text.as_str())?,
+            class,
+        })?;
+        self.classes.push(LockClass::Field {
+            structure: number,
+            lock,
+        })?;
+        Ok(())
+    }
 
-/// With a field, if its type and its annotation are right.
-fn with_field(
-    alloc: Global,
-    builder: StructBuilder,
-    name: &Name,
-    t: Option<ValueType>,
-    protection: Option<Protection>,
-) -> Result<Option<StructBuilder>, AllocError>
-    ensures { IfOk result (λ r. option_map builder_of r ≡ field_added (builder_of builder) (ident name.now).text t (option_map core_protection protection)) }
-{
-    let (Some(value_type), Some(protection)) = (t, protection) else {
-        return Ok(None);
-    };
-    let mut builder = builder;
-    builder.structure.fields.push(Field {
-        name: String::from_str(alloc, name.text.as_str())?,
-        value_type,
-        protection,
-    })?;
-    Ok(Some(builder))
-}
+    // Adds a final reference, if its struct is known.
+    fn add_final(
+        &mut self,
+        alloc: Global,
+        name: &Name,
+        target: Option<usize>,
+    ) -> Result<bool, AllocError>
+        ensures { IfOk result (λ right. shaped right self.new ≡ final_added (builder_of self.old) (ident name.now).text target) }
+    {
+        let Some(target) = target else {
+            return Ok(false);
+        };
+        self.structure.finals.push(FinalField {
+            name: String::from_str(alloc, name.text.as_str())?,
+            target,
+        })?;
+        Ok(true)
+    }
 
-/// With one more member of the struct that has this number and this place.
-fn with_member<'a, 't>(
-    alloc: Global,
-    program: &'a Program<'t>,
-    number: usize,
-    place: usize,
-    structure: &'a Structure<'t>,
-    builder: Option<StructBuilder>,
-    m: &Member,
-) -> Result<Option<StructBuilder>, AllocError>
-    requires program { IsProgram program.now }
-    requires structure { IsStructure structure.now }
-    ensures { IfOk result (λ r. option_map builder_of r ≡ member_added (program_of program.now) number place (members_seen structure.now) (option_map builder_of builder) (member_of m.now)) }
-{
-    let Some(builder) = builder else {
-        return Ok(None);
-    };
-    match m {
-        Member::Lock(name) => Ok(Some(with_lock(alloc, number, builder, name)?)),
-        Member::Final(f) => {
-            let target = struct_named(&program.decls, &f.target);
-            with_final(alloc, builder, &f.name, target)
-        }
-        Member::Field(f) => {
-            let t = type_outside(&program.decls, &f.value_type);
-            let protection = protection_of(alloc, program, place, structure, &f.protection)?;
-            with_field(alloc, builder, &f.name, t, protection)
-        }
+    // Adds a field, if its type and its annotation are right.
+    fn add_field(
+        &mut self,
+        alloc: Global,
+        name: &Name,
+        t: Option<ValueType>,
+        protection: Option<Protection>,
+    ) -> Result<bool, AllocError>
+        ensures { IfOk result (λ right. shaped right self.new ≡ field_added (builder_of self.old) (ident name.now).text t (option_map core_protection protection)) }
+    {
+        let (Some(value_type), Some(protection)) = (t, protection) else {
+            return Ok(false);
+        };
+        self.structure.fields.push(Field {
+            name: String::from_str(alloc, name.text.as_str())?,
+            value_type,
+            protection,
+        })?;
+        Ok(true)
     }
 }
 
-/// With members, one after another, of the struct that has this number and this place.
-pub fn with_members<'a, 't>(
-    alloc: Global,
-    program: &'a Program<'t>,
-    number: usize,
-    place: usize,
-    structure: &'a Structure<'t>,
-    builder: Option<StructBuilder>,
-    members: &[Member],
-) -> Result<Option<StructBuilder>, AllocError>
-    requires program { IsProgram program.now }
-    requires structure { IsStructure structure.now }
-    ensures { IfOk result (λ r. option_map builder_of r ≡ members_added (program_of program.now) number place (members_seen structure.now) (option_map builder_of builder) (map member_of members.now)) }
-{
-    let mut builder = builder;
-    for m in members {
-        builder = with_member(alloc, program, number, place, structure, builder, m)?;
+impl<'a> Builder<'a> {
+    // Adds a member of a struct, if it is right.
+    fn add_member(
+        &self,
+        here: &StructPlace<'a>,
+        m: &Member,
+        builder: &mut StructBuilder,
+    ) -> Result<bool, AllocError>
+        requires program { IsProgram self.now.program.now }
+        requires structure { IsStructure here.now.table.now }
+        ensures { IfOk result (λ right. shaped right builder.new ≡ member_added (program_of self.now.program.now) here.now.number here.now.place (members_seen here.now.table.now) (Some (builder_of builder.old)) (member_of m.now)) }
+    {
+        match m {
+            Member::Lock(name) => {
+                builder.add_lock(self.alloc, here.number, name)?;
+                Ok(true)
+            }
+            Member::Final(f) => {
+                let target = struct_named(&self.program.decls, &f.target);
+                builder.add_final(self.alloc, &f.name, target)
+            }
+            Member::Field(f) => {
+                let t = type_outside(&self.program.decls, &f.value_type);
+                let protection = protection_of(
+                    self.alloc,
+                    self.program,
+                    here.place,
+                    here.table,
+                    &f.protection,
+                )?;
+                builder.add_field(self.alloc, &f.name, t, protection)
+            }
+        }
     }
-    Ok(builder)
+
+    /// Adds members of a struct, one after another, if they are right.
+    pub fn add_members(
+        &self,
+        here: &StructPlace<'a>,
+        members: &[Member],
+        builder: &mut StructBuilder,
+    ) -> Result<bool, AllocError>
+        requires program { IsProgram self.now.program.now }
+        requires structure { IsStructure here.now.table.now }
+        ensures { IfOk result (λ right. shaped right builder.new ≡ members_added (program_of self.now.program.now) here.now.number here.now.place (members_seen here.now.table.now) (Some (builder_of builder.old)) (map member_of members.now)) }
+    {
+        for m in members {
+            if !self.add_member(here, m, builder)? {
+                return Ok(false);
+            }
+        }
+        Ok(true)
+    }
 }
 
 /// Notes what is wrong with a member of the struct at a place.

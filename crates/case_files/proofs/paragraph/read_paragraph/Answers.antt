@@ -1,4 +1,4 @@
-use Rattle.std.proofs.Common.{rules, ◌≡◌, ◌∷◌, ◌++◌, length, inl}
+use Rattle.std.proofs.Common.{rules, ◌∷◌, length, inl}
 use Rattle.std.proofs.Math.Seq.{drop-append_seam}
 use Rattle.std.proofs.lemmas.List.{length-append}
 use Rattle.case_files.proofs.paragraph.read_paragraph.Goals as goal

@@ -1,0 +1,222 @@
+//! What is said of a program's lock paths, its points, and the order of its lock classes.
+
+ghost use Rattle.core_lang.specs.WellFormed.{IsWellFormed};
+ghost use Rattle.lockpaths.specs.Paths.{ArePaths};
+
+use core_lang::tree::Section;
+use core_lang::typed::Typed;
+use flow::points::{PointRef, points_of};
+use lockorder::order;
+use lockorder::ranks::OrderRefusal;
+use lockpaths::table::{Paths, SectionPaths};
+use locks::path_set::PathSet;
+use locks::text::{push_class, push_path};
+use points::points;
+use points::table::Points;
+use source::line::fault_line;
+use source::memory::NoMemory;
+use std::alloc::{AllocError, Global};
+
+/// Where a point starts.
+fn start_of(point: PointRef) -> usize {
+    match point {
+        PointRef::Statement(statement) => statement.start,
+        PointRef::Result(result) => result.start,
+    }
+}
+
+/// A text and the program that it means.
+#[derive(Drop)]
+pub struct Analysed<'a> {
+    /// The text.
+    pub text: &'a str,
+    /// The program.
+    pub program: &'a Typed,
+}
+
+impl Analysed<'_> {
+    /// The line and the column of a byte of the text, as `4:16`.
+    fn push_place(&self, out: &mut String, start: usize) -> Result<(), AllocError> {
+        let mut line = 1u32;
+        let mut column = 1u32;
+        for byte in self.text.as_bytes().iter().take(start) {
+            if *byte == b'\n' {
+                line = line.saturating_add(1);
+                column = 1;
+            } else {
+                column = column.saturating_add(1);
+            }
+        }
+        write!(out, "{line}:{column}")
+    }
+
+    /// Some lock paths of the section, each with a space ahead of it.
+    fn push_set(
+        &self,
+        out: &mut String,
+        section: &Section,
+        found: &SectionPaths,
+        set: PathSet,
+    ) -> Result<(), AllocError> {
+        for (number, path) in found.paths.iter().enumerate() {
+            if number < 64 && set.contains(number) {
+                out.push_str(" ")?;
+                push_path(out, self.program, section, path)?;
+            }
+        }
+        Ok(())
+    }
+
+    /// A line for a section with its lock paths, and one for each of its points with its place and those that it uses.
+    fn push_section(
+        &self,
+        alloc: Global,
+        out: &mut String,
+        section: &Section,
+        found: &SectionPaths,
+    ) -> Result<(), NoMemory> {
+        out.push_str(section.name.as_str())?;
+        out.push_str(":")?;
+        for path in &found.paths {
+            out.push_str(" ")?;
+            push_path(out, self.program, section, path)?;
+        }
+        let points = points_of(alloc, section)?;
+        for (point, used) in points.iter().zip(found.used.iter()) {
+            out.push_str("\n")?;
+            self.push_place(out, start_of(*point))?;
+            self.push_set(out, section, found, *used)?;
+        }
+        Ok(())
+    }
+
+    /// What is said of its lock paths, section after section.
+    pub fn paths_said(&self, alloc: Global, paths: &Paths) -> Result<String, NoMemory> {
+        let mut out = String::new(alloc);
+        for (section, found) in self.program.sections.iter().zip(paths.sections.iter()) {
+            if !out.is_empty() {
+                out.push_str("\n")?;
+            }
+            self.push_section(alloc, &mut out, section, found)?;
+        }
+        Ok(out)
+    }
+
+    /// A line for each point of the section: its place, and the lock paths in scope there, used before it and used later.
+    fn push_points(
+        &self,
+        alloc: Global,
+        out: &mut String,
+        section: &Section,
+        found: &SectionPaths,
+        points: &Points,
+    ) -> Result<(), NoMemory> {
+        let sets = points.in_scope.iter().zip(points.used_before.iter());
+        let sets = sets.zip(points.used_later.iter());
+        for (point, ((in_scope, before), later)) in points_of(alloc, section)?.iter().zip(sets) {
+            out.push_str("\n")?;
+            self.push_place(out, start_of(*point))?;
+            out.push_str(" in")?;
+            self.push_set(out, section, found, *in_scope)?;
+            out.push_str(", before")?;
+            self.push_set(out, section, found, *before)?;
+            out.push_str(", later")?;
+            self.push_set(out, section, found, *later)?;
+        }
+        Ok(())
+    }
+
+    /// What is said of its points, section after section: which is followed by which, and what lock paths are to each.
+    pub fn points_said(&self, alloc: Global, paths: &Paths) -> Result<String, NoMemory>
+        requires { ArePaths self.now.program.now paths.now }
+    {
+        let mut out = String::new(alloc);
+        for number in 0..self.program.sections.len() {
+            if number > 0 {
+                out.push_str("\n")?;
+            }
+            let section = &self.program.sections[number];
+            let points = points(alloc, self.program, number, paths)?;
+            out.push_str(section.name.as_str())?;
+            out.push_str(":")?;
+            for (from, to) in &points.pairs {
+                write!(&mut out, " {from}-{to}")?;
+            }
+            if let Some(found) = paths.sections.get(number) {
+                self.push_points(alloc, &mut out, section, found, &points)?;
+            }
+        }
+        Ok(out)
+    }
+
+    /// A line with the classes by rising rank.
+    fn push_classes(&self, out: &mut String, ranks: &[u32]) -> Result<(), AllocError> {
+        out.push_str("order:")?;
+        for rank in 0..ranks.len() {
+            for (class, other) in ranks.iter().enumerate() {
+                if *other as usize == rank {
+                    out.push_str(" ")?;
+                    push_class(out, self.program, class)?;
+                }
+            }
+        }
+        Ok(())
+    }
+
+    /// A line for each point of the section: its place, and the lock paths that are wanted and surely held there.
+    fn push_wanted(
+        &self,
+        out: &mut String,
+        section: &Section,
+        found: &SectionPaths,
+        starts: &[PointRef],
+        sets: (&[PathSet], &[PathSet]),
+    ) -> Result<(), AllocError> {
+        for (point, (wanted, held)) in starts.iter().zip(sets.0.iter().zip(sets.1.iter())) {
+            out.push_str("\n")?;
+            self.push_place(out, start_of(*point))?;
+            out.push_str(" wants")?;
+            self.push_set(out, section, found, *wanted)?;
+            out.push_str(", holds")?;
+            self.push_set(out, section, found, *held)?;
+        }
+        Ok(())
+    }
+
+    /// What is said of its classes and points by these ranks.
+    fn ranks_said(&self, alloc: Global, paths: &Paths, ranks: &[u32]) -> Result<String, NoMemory>
+        requires { ArePaths self.now.program.now paths.now }
+    {
+        let mut out = String::new(alloc);
+        self.push_classes(&mut out, ranks)?;
+        for number in 0..self.program.sections.len() {
+            let section = &self.program.sections[number];
+            let points = points(alloc, self.program, number, paths)?;
+            let wanted = points.wanted(alloc, ranks)?;
+            let held = points.surely_held(alloc, ranks)?;
+            let starts = points_of(alloc, section)?;
+            out.push_str("\n")?;
+            out.push_str(section.name.as_str())?;
+            out.push_str(":")?;
+            if let Some(found) = paths.sections.get(number) {
+                self.push_wanted(&mut out, section, found, &starts, (&wanted, &held))?;
+            }
+        }
+        Ok(out)
+    }
+
+    /// What is said of the order of its classes: their ranks and what these make of its points, or the line of the fault.
+    pub fn order_said(&self, alloc: Global, paths: &Paths) -> Result<String, NoMemory>
+        requires program { IsWellFormed self.now.program.now }
+        requires paths { ArePaths self.now.program.now paths.now }
+    {
+        match order(alloc, self.program, paths) {
+            Ok(ranks) => self.ranks_said(alloc, paths, &ranks),
+            Err(OrderRefusal::Cycle(cycle)) => {
+                let fault = cycle.fault(alloc, self.program)?;
+                fault_line(alloc, "F", self.text.as_bytes(), &fault)
+            }
+            Err(OrderRefusal::NoMemory) => Err(NoMemory),
+        }
+    }
+}

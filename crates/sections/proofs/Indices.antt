@@ -1,0 +1,71 @@
+-- What takes an index, beside the definitions that go by what its name means.
+use Rattle.std.proofs.Common.{◌≡◌, ℕ, List, [], Option, Some, None, refl, sym}
+use Rattle.std.specs.Prelude.{is_some}
+use Rattle.source.specs.declared.fault.Code.TheVariants.{NotAssignable}
+use Rattle.source.specs.declared.mistake.Mistake.{Mistake}
+use Rattle.syntax.specs.Trees.{Decl, lock, struct, global, array, pool, init, atomic, thread}
+use Rattle.core_lang.specs.declared.value.ValueType.{ValueType}
+use Rattle.core_lang.specs.declared.value.ValueType.TheVariants.{Reference}
+use Rattle.resolution.specs.Core as core
+use Rattle.resolution.specs.Scopes.{◌>>=◌, outside, Meaning, a_local, a_decl, nothing, number_at, type_of, struct_named}
+use Rattle.resolution.specs.Expressions.{member_value, value_of, element_value}
+use Rattle.resolution.specs.Statements.{assignee, to_element, assignee_at_element}
+use Rattle.resolution.specs.FaultLists.{one, one_if, no_array}
+use Rattle.sections.specs.Indexing.{of_type, indexed_by, element_by, assigned_at}
+use Rattle.sections.specs.declared.place.Indexed.{Indexed}
+use Rattle.sections.specs.declared.place.Indexed.TheVariants.{Array, Pool}
+
+array_is : (start n : ℕ) (t : Option ValueType) (e : core.Expr) → element_by start (of_type (Array n) t) (Some e) ≡ value_of (core.element start n e) t
+array_is start n (Some t) e = refl
+array_is start n None e = refl
+
+pool_is : (start n : ℕ) (s : Option ℕ) (e : core.Expr) → element_by start (of_type (Pool n) (s >>= λ k. Some (Reference k))) (Some e) ≡ member_value n e s
+pool_is start n (Some s) e = refl
+pool_is start n None e = refl
+
+no_element : (start : ℕ) (x : Option Indexed) → element_by start x None ≡ None
+no_element start (Some x) = refl
+no_element start None = refl
+
+pub element_is : (decls : List Decl) (start : ℕ) (m : Meaning) (e : Option core.Expr) → element_by start (indexed_by decls m) e ≡ element_value decls start m e
+element_is decls start m None = no_element start (indexed_by decls m)
+element_is decls start (a_decl i (array a)) (Some e) = array_is start (number_at decls i (array a)) (type_of (outside decls) a.value_type) e
+element_is decls start (a_decl i (pool p)) (Some e) = pool_is start (number_at decls i (pool p)) (struct_named decls p.target) e
+element_is decls start _ (Some e) = refl
+
+array_assigned : (n : ℕ) (t : Option ValueType) (e : core.Expr) → assigned_at (of_type (Array n) t) (Some e) ≡ assignee (Some (to_element n e)) t
+array_assigned n (Some t) e = refl
+array_assigned n None e = refl
+
+pool_assigned : (n : ℕ) (s : Option ℕ) (e : core.Expr) → assigned_at (of_type (Pool n) (s >>= λ k. Some (Reference k))) (Some e) ≡ None
+pool_assigned n (Some s) e = refl
+pool_assigned n None e = refl
+
+nothing_assigned : (x : Option Indexed) → assigned_at x None ≡ None
+nothing_assigned (Some x) = refl
+nothing_assigned None = refl
+
+pub assigned_is : (decls : List Decl) (m : Meaning) (e : Option core.Expr) → assigned_at (indexed_by decls m) e ≡ assignee_at_element decls m e
+assigned_is decls m None = nothing_assigned (indexed_by decls m)
+assigned_is decls (a_decl i (array a)) (Some e) = array_assigned (number_at decls i (array a)) (type_of (outside decls) a.value_type) e
+assigned_is decls (a_decl i (pool p)) (Some e) = pool_assigned (number_at decls i (pool p)) (struct_named decls p.target) e
+assigned_is decls _ (Some e) = refl
+
+-- a pool's member on the left
+abbrev pub not_array : ℕ → Option Indexed → List Mistake
+not_array start (Some (Pool n t)) = one NotAssignable start
+not_array start (Some (Array n t)) = []
+not_array start None = []
+
+array_fits : (start n : ℕ) (t : Option ValueType) → not_array start (of_type (Array n) t) ≡ []
+array_fits start n (Some t) = refl
+array_fits start n None = refl
+
+pool_misfits : (start n : ℕ) (s : Option ℕ) → not_array start (of_type (Pool n) (s >>= λ k. Some (Reference k))) ≡ one_if (is_some s) NotAssignable start
+pool_misfits start n (Some s) = refl
+pool_misfits start n None = refl
+
+pub no_array_is : (decls : List Decl) (start : ℕ) (m : Meaning) → no_array decls start m ≡ not_array start (indexed_by decls m)
+no_array_is decls start (a_decl i (array a)) = sym (array_fits start (number_at decls i (array a)) (type_of (outside decls) a.value_type))
+no_array_is decls start (a_decl i (pool p)) = sym (pool_misfits start (number_at decls i (pool p)) (struct_named decls p.target))
+no_array_is decls start _ = refl

@@ -1,0 +1,237 @@
+//! The checker of a section: what is declared, and the section's locals so far.
+
+ghost use Rattle.std.specs.Prelude.{◌≡◌, OnOk, IfSome, Some, None, length, map, option_map};
+ghost use Rattle.syntax.specs.Trees.{ref_type};
+ghost use Rattle.syntax.specs.Views.{ident, decl_of, type_of as type_seen};
+ghost use Rattle.resolution.specs.Scopes.{meaning, outside, bound, hidden_from, number_at, the_struct, the_local, the_decl, type_of};
+ghost use Rattle.resolution.specs.Expressions.{cell_of};
+ghost use Rattle.source.specs.Mistakes.{least_of};
+ghost use Rattle.resolution.specs.FaultLists.{local_faults, one, taken, type_faults};
+ghost use Rattle.symbols.specs.{program_of, IsProgram, meaning_of, structure_of, IsStructure, local_seen};
+ghost use Rattle.sections.specs.Checkers.{scope};
+ghost use Rattle.sections.specs.Misplaced.{misplaced};
+
+use core_lang::tree::LocalKind;
+use core_lang::value::ValueType;
+use source::fault::Code;
+use source::mistake::{Mistake, note};
+use std::alloc::{AllocError, Global};
+use std::marker::Model;
+use symbols::members::Structure;
+use symbols::note::note_if;
+use symbols::scope::{
+    Local, Locals, Meaning, meaning_at, note_local_type, note_type, note_unfit, struct_named,
+    type_at, type_outside,
+};
+use symbols::table::Program;
+use syntax::tree;
+use syntax::tree::{Decl, Name};
+
+/// How many locals a section may have.
+const LOCAL_LIMIT: usize = 64;
+
+/// The least fault so far.
+pub type Least = Option<Mistake>;
+
+/// What something is, if it has no fault, unless a growth is refused.
+pub type Judged<T> = Result<Option<T>, AllocError>;
+
+/// Checks a section: knows what is declared, and the section's locals up to the place that is judged.
+#[derive(Drop)]
+pub struct Checker<'a> {
+    alloc: Global,
+    program: &'a Program<'a>,
+    locals: Locals,
+}
+
+impl<'a> Model for Checker<'a> {
+    ghost use Rattle.sections.specs.Checkers.{Known};
+    ghost use Rattle.symbols.specs.{IsProgram, locals_seen, AreLocals};
+    ghost use Rattle.std.specs.Coded.{codes};
+    ghost use Rattle.syntax.specs.contracts.tree.Decl as the_decl;
+
+    ghost Value = { Known };
+
+    ghost coded = { Prim.hlevel (codes, the_decl.the_row.coded) };
+
+    ghost view = { λ c. record { decls = c.program.now.decls.items.now; locals = locals_seen c.locals; result = c.locals.result } };
+
+    ghost invariant = { λ c. IsProgram c.program.now × AreLocals c.locals };
+}
+
+/// Notes a fault where something was to be answered.
+pub fn faulty<T>(code: Code, start: usize, least: &mut Least) -> Option<T>
+    ensures none { result ≡ None }
+    ensures faults { least.new ≡ least_of least.old (one code start) }
+{
+    note(least, code, start);
+    None
+}
+
+impl<'a> Checker<'a> {
+    /// At the start of a section whose result has this type.
+    pub fn new(alloc: Global, program: &'a Program<'a>, given: Option<ValueType>) -> Checker<'a>
+        requires { IsProgram program.now }
+        ensures { scope result ≡ record (outside (program_of program.now)) { result = given } }
+    {
+        Checker {
+            alloc,
+            program,
+            locals: Locals::new(alloc, given),
+        }
+    }
+
+    /// Where memory is taken.
+    pub fn alloc(&self) -> Global {
+        self.alloc
+    }
+
+    // ---- what names mean
+
+    /// What a name means here.
+    pub fn meaning(&self, name: &Name) -> Meaning<'_>
+        ensures { meaning_of result ≡ meaning (scope self.now) (ident name.now).text }
+    {
+        meaning_at(&self.program.decls, &self.locals, name)
+    }
+
+    /// Notes a name that can't stand there: an unknown one, or one whose declaration has a type without a fault.
+    pub fn misplaced<T>(&self, code: Code, start: usize, m: Meaning, least: &mut Least) -> Option<T>
+        ensures none { result ≡ None }
+        ensures faults { least.new ≡ least_of least.old (misplaced (scope self.now).decls code start (meaning_of m.entry)) }
+    {
+        match m {
+            Meaning::Nothing => note(least, Code::UnknownName, start),
+            _ => note_unfit(&self.program.decls, code, start, m, least),
+        }
+        None
+    }
+
+    /// The type that is written in a declaration, if it has no fault.
+    pub fn type_outside(&self, t: &tree::ValueType) -> Option<ValueType>
+        ensures { result ≡ type_of (outside (scope self.now).decls) (type_seen t.now) }
+    {
+        type_outside(&self.program.decls, t)
+    }
+
+    /// A reference to the struct of this name, if there is one outside of sections.
+    pub fn reference_to(&self, name: &Name) -> Option<ValueType>
+        ensures { result ≡ type_of (outside (scope self.now).decls) (ref_type (ident name.now)) }
+    {
+        match struct_named(&self.program.decls, name) {
+            Some(number) => Some(ValueType::Reference(number)),
+            None => None,
+        }
+    }
+
+    /// The number of a declaration among those of its kind, by its place.
+    pub fn number_of(&self, place: usize, d: &Decl) -> usize
+        ensures { result ≡ number_at (scope self.now).decls place (decl_of d.now) }
+    {
+        self.program.decls.number(place, d)
+    }
+
+    /// The cell of the global at a place.
+    pub fn cell(&self, place: usize) -> u32
+        ensures { result ≡ cell_of (scope self.now).decls place }
+    {
+        self.program.cell(place)
+    }
+
+    /// The struct of a number.
+    pub fn structure(&self, number: usize) -> Option<&Structure<'a>>
+        ensures structure { option_map (λ s. structure_of s.now) result ≡ the_struct (scope self.now).decls number }
+        ensures table { IfSome result (λ s. IsStructure s.now) }
+    {
+        self.program.decls.structure(number)
+    }
+
+    // ---- locals
+
+    /// The type of the section's result.
+    pub fn result(&self) -> Option<ValueType>
+        ensures { result ≡ (scope self.now).result }
+    {
+        self.locals.result
+    }
+
+    /// The number of the next local.
+    pub fn next(&self) -> usize
+        ensures { result ≡ length (scope self.now).locals }
+    {
+        self.locals.items.len()
+    }
+
+    fn note_taken(&self, name: &Name, least: &mut Least)
+        ensures { least.new ≡ least_of least.old (taken (ident name.now).span.start (the_local (scope self.now).locals (ident name.now).text) (the_decl (scope self.now).decls (ident name.now).text)) }
+    {
+        if let Some(place) = self.locals.names.find(name.text.as_str()) {
+            if self.locals.items.get(place).is_some() {
+                note(least, Code::DeclaredTwice, name.start as usize);
+                return;
+            }
+        }
+        if self.program.decls.find(name.text.as_str()).is_some() {
+            note(least, Code::DeclaredTwice, name.start as usize);
+        }
+    }
+
+    /// Notes what is wrong with the name of the next local.
+    #[tactic(auto, using(source::specs::Leasts::least_append))]
+    pub fn note_name(&self, name: &Name, least: &mut Least)
+        ensures { least.new ≡ least_of least.old (local_faults (scope self.now) (ident name.now)) }
+    {
+        self.note_taken(name, least);
+        let is_one_more = self.next() >= LOCAL_LIMIT;
+        note_if(is_one_more, Code::LimitExceeded, name.start as usize, least);
+    }
+
+    /// The type that is written at a local, if it has no fault.
+    pub fn local_type(&self, t: &tree::ValueType, least: &mut Least) -> Option<ValueType>
+        ensures value { result ≡ type_of (scope self.now) (type_seen t.now) }
+        ensures faults { least.new ≡ least_of least.old (type_faults (scope self.now) (type_seen t.now)) }
+    {
+        note_local_type(&self.program.decls, &self.locals, t, least);
+        type_at(&self.program.decls, &self.locals, t)
+    }
+
+    /// The type that is written at a parameter, if it has no fault.
+    pub fn declared_type(&self, t: &tree::ValueType, least: &mut Least) -> Option<ValueType>
+        ensures value { result ≡ type_of (outside (scope self.now).decls) (type_seen t.now) }
+        ensures faults { least.new ≡ least_of least.old (type_faults (outside (scope self.now).decls) (type_seen t.now)) }
+    {
+        note_type(&self.program.decls, t, least);
+        type_outside(&self.program.decls, t)
+    }
+
+    /// Adds a local, in scope from here on.
+    pub fn bind(
+        &mut self,
+        name: &Name,
+        kind: LocalKind,
+        value_type: Option<ValueType>,
+    ) -> Result<(), AllocError>
+        ensures { OnOk result (scope self.new ≡ bound (scope self.old) kind (ident name.now) value_type) }
+    {
+        if let Err(e) = self.locals.bind(self.alloc, name, kind, value_type) {
+            // The table may have got the name of a local that isn't there, so none is kept.
+            self.locals = Locals::new(self.alloc, None);
+            return Err(e);
+        }
+        Ok(())
+    }
+
+    /// Leaves a block: the locals from a number on are no longer in scope.
+    pub fn hide_from(&mut self, number: usize)
+        ensures { scope self.new ≡ record (scope self.old) { locals = hidden_from number (scope self.old).locals } }
+    {
+        self.locals.hide_from(number);
+    }
+
+    /// All locals so far.
+    pub fn locals(&self) -> &[Local]
+        ensures { map local_seen result.now ≡ (scope self.now).locals }
+    {
+        &self.locals.items
+    }
+}
