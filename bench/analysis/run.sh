@@ -18,7 +18,7 @@ write("50000_points_64_paths", GLOBALS, "atomic f() {\n", steps(50000), "}\n")
 write("60_loops_1000_points_64_paths", GLOBALS, "atomic f() {\n", "while (n1 > 0) { " * 60, steps(1000), "} " * 60, "}\n")
 write("20000_branches_64_paths", GLOBALS, "atomic f() {\n", "".join(f"if (n{i % 64} > 0) {{ n{i * 7 % 64} = 1; }}\n" for i in range(20000)), "}\n")
 STRUCTS = "struct S { lock l; int x protected_by(l); ref S n protected_by(l); }\npool S p[2];\n"
-write("60_lets_50000_points", STRUCTS, "atomic f(ref S a) {\n", "".join("if (a.x > 0) { let b: ref S = a.n; }\n" if i < 60 else "a.x = a.x + 1;\n" for i in range(50000)), "}\n")
+write("60_lets_50000_points", STRUCTS, "atomic f(ref S a) {\n", "".join(f"if (a.x > 0) {{ let b{i}: ref S = a.n; b{i}.x = 1; }}\n" if i < 60 else "a.x = a.x + 1;\n" for i in range(50000)), "}\n")
 write("256_sections_64_paths", GLOBALS, "".join(f"atomic f{k}() {{\n{steps(220)}}}\n" for k in range(256)))
 PYTHON
 for text in $(ls -v "$texts"); do
