@@ -195,7 +195,7 @@ atomic f(ref A r) : ref A {
   r.partner.z = r.partner.y * 2;
   return r.partner.back;
 }
-atomic g(ref B r) : int { return r.back.x; }
+atomic g(ref B r) : int { let back: ref A = r.back; return back.x; }
 thread t { f(a[0]); f(a[1]); g(b[0]); g(b[1]); }
 => 0 out
 history 1
