@@ -251,7 +251,7 @@ s[0] null
 s[1] null
 end
 
-struct N { lock l; int v protected_by(l); final ref N next; }
+lock L; struct N { int v protected_by(L); final ref N next; }
 pool N n[3];
 init n[0].next = n[1];
 init n[1].next = n[2];
