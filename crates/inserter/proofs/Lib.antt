@@ -1,0 +1,11 @@
+pub mod KeyLists
+pub mod DueLists
+pub mod Held
+pub mod Few
+pub mod Named
+pub mod Listed
+pub mod Arrived
+pub mod Standing
+pub mod Going
+pub mod RunLaws
+pub mod Placements

@@ -1,0 +1,111 @@
+-- The laws of a run's locks: its asks rise, what it uses is held, and it holds few.
+use Rattle.std.proofs.Common.{◌≡◌, ℕ, ◌<◌, List, [], ◌∷◌, ◌++◌, length, Some, inl, inr, sym, ap, ◌∙◌, subst, arith}
+use Rattle.std.specs.Prelude.{slice_index}
+use Rattle.std.specs.List.{Contains}
+use Rattle.std.proofs.lemmas.Option.{same_Some, slice_get_within}
+use Rattle.std.proofs.lemmas.List.Elements.{Contains-append_left, Contains-push, Contains-push_cases}
+use Rattle.core_lang.specs.declared.value.Value.{Value}
+use Rattle.core_lang.specs.declared.tree.Section.{Section}
+use Rattle.core_lang.specs.declared.typed.Typed.{Typed}
+use Rattle.locks.specs.declared.lock.Lock.{Lock}
+use Rattle.locks.specs.LockPaths.{LockPath, lock_paths, lock_named}
+use Rattle.inserter.specs.Placement.{IsPath}
+use Rattle.inserter.specs.Runs.{Asks, Run, begins, gets, goes}
+use Rattle.inserter.specs.Laws.{IsOrdered, InRuns, AsksRise, UsedAreHeld, FewAreHeld}
+use Rattle.inserter.proofs.Held.{distinct_push}
+use Rattle.inserter.proofs.Few.{no_more_than}
+use Rattle.inserter.proofs.Listed.{PathLaws, named_rank, used_wanted, number_of, listed_wanted}
+use Rattle.inserter.proofs.Arrived.{starts}
+use Rattle.inserter.proofs.Standing.{IsGranted, Standing, path_of, wanted_held}
+use Rattle.inserter.proofs.Going.{goes_on}
+
+module _ (laws : PathLaws) (program : Typed) (section : Section) (ranks : List ℕ) (lists : List (List ℕ)) (ok : IsOrdered program section ranks lists) where
+  granted : (p : ℕ) (locals : List Value) (held : List Lock) (lock : Lock) → Standing program section ranks lists p locals held →
+      Asks program section ranks lists p locals held lock → Standing program section ranks lists p locals (held ++ lock ∷ [])
+  granted p locals held lock s asks =
+      let more = λ (m : Lock) (c : Contains held m). Contains-append_left held (lock ∷ []) m c in
+      let last : IsGranted program section ranks lists p locals (held ++ lock ∷ []) lock = record {
+        listed = asks.listed;
+        first = λ m listed new. elim (asks.first m listed (λ c. new (more m c))) [
+          | inl e ↦ absurd (new (subst (λ (x : Lock). Contains (held ++ lock ∷ []) x) (sym e) (Contains-push held lock)))
+          | inr before ↦ before
+        ];
+      } in
+      record {
+        before = s.before;
+        arrived = s.arrived;
+        keeps = λ h c. more h (s.keeps h c);
+        each = λ h c. elim (Contains-push_cases held lock h c) [
+          | inl old ↦ elim (s.each h old) [
+            | inl b ↦ inl b
+            | inr g ↦ inr (record { listed = g.listed; first = λ m listed new. g.first m listed (λ d. new (more m d)) })
+          ]
+          | inr e ↦ inr (subst (λ (x : Lock). IsGranted program section ranks lists p locals (held ++ lock ∷ []) x) e last)
+        ];
+        once = distinct_push held lock s.once asks.new;
+      }
+
+  stands : {p : ℕ} {locals : List Value} {held : List Lock} → Run program section ranks lists p locals held → Standing program section ranks lists p locals held
+  stands (begins {locals}) = record {
+    before = [];
+    arrived = starts program section ranks locals;
+    keeps = λ h c. c;
+    each = λ h c. inl c;
+    once = λ i j k lt b. absurd (omega (arith, b));
+  }
+  stands (gets {p} {locals} {held} {lock} run asks) = granted p locals held lock (stands run) asks
+  stands (goes {p} {q} {locals} {after} {held} run all keeps follows) =
+      let s = stands run in
+      record {
+        before = held;
+        arrived = goes_on laws program section ranks lists ok p q locals after held s all keeps follows;
+        keeps = λ h c. c;
+        each = λ h c. inl c;
+        once = s.once;
+      }
+
+  rise : (p : ℕ) (locals : List Value) (held : List Lock) → Run program section ranks lists p locals held → AsksRise program section ranks lists p locals held
+  rise p locals held run lock other asks c =
+      let s = stands run in
+      elim (s.each other c) [
+        | inl old ↦
+            let x = asks.listed in
+            let wanted = listed_wanted laws program section ranks lists ok p locals lock x in
+            let below = s.arrived.free x.path lock wanted.in_scope wanted.ahead x.named (λ d. asks.new (s.keeps lock d)) other old in
+            let same = named_rank laws program section ranks lists ok x.path locals lock x.named in
+            let lt : slice_index ranks other.class < slice_index ranks lock.class = omega (arith, below, same) in
+            inl lt
+        | inr new ↦ new.first lock asks.listed asks.new
+      ]
+
+  held_there : (p : ℕ) (locals : List Value) (held : List Lock) → Run program section ranks lists p locals held → UsedAreHeld program section ranks lists p locals held
+  held_there p locals held run all path lock uses e =
+      wanted_held laws program section ranks lists ok p locals held (stands run) all path lock (used_wanted laws program section ranks lists ok p path uses) e
+
+  -- the path of this number names the lock
+  abbrev IsNamedBy : List Value → ℕ → Lock → Type 0
+  IsNamedBy locals i lock = (path : LockPath) × IsPath program section i path × (lock_named path program.shape locals ≡ Some lock)
+
+  few : (p : ℕ) (locals : List Value) (held : List Lock) → Run program section ranks lists p locals held → FewAreHeld program section ranks lists p locals held
+  few p locals held run =
+      let s = stands run in (
+        s.once,
+        no_more_than (length (lock_paths program section)) (IsNamedBy locals) (one locals) held s.once (λ h c.
+            let x = path_of laws program section ranks lists ok p locals held s h c in
+            let i = number_of laws program section ranks lists ok x.user x.path x.uses in
+            (i.0, slice_get_within (lock_paths program section) i.0 x.path i.1, (x.path, i.1, x.named))),
+      )
+    where
+      one : (locals : List Value) (i : ℕ) (a b : Lock) → IsNamedBy locals i a → IsNamedBy locals i b → a ≡ b
+      one locals i a b x y =
+          let same : x.0 ≡ y.0 = same_Some x.0 y.0 (sym x.1 ∙ y.1) in
+          same_Some a b (sym x.2 ∙ ap (λ (path : LockPath). lock_named path program.shape locals) same ∙ y.2)
+
+pub asks_rise : PathLaws → InRuns AsksRise
+asks_rise laws program section ranks lists p locals held ok run = rise laws program section ranks lists ok p locals held run
+
+pub used_are_held : PathLaws → InRuns UsedAreHeld
+used_are_held laws program section ranks lists p locals held ok run = held_there laws program section ranks lists ok p locals held run
+
+pub few_are_held : PathLaws → InRuns FewAreHeld
+few_are_held laws program section ranks lists p locals held ok run = few laws program section ranks lists ok p locals held run

@@ -1,0 +1,13 @@
+use Rattle.inserter.proofs.Listed.{PathLaws}
+use Rattle.inserter.proofs.RunLaws.{asks_rise, used_are_held, few_are_held}
+use Rattle.inserter.proofs.laws.asks_rise.Goals as goal
+
+pub returns : goal.returns
+returns c =
+    let laws : PathLaws = record {
+      in_scope = c.used_are_in_scope.ensures.used;
+      scope_back = c.used_are_in_scope.ensures.back;
+      classes = c.paths_have_classes.ensures;
+      listed = c.each_path_once.ensures.listed;
+    } in
+    record { rise = asks_rise laws; held = used_are_held laws; few = few_are_held laws }

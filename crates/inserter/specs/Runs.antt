@@ -1,0 +1,58 @@
+-- The run of a section as far as its locks go: what it asks for, what it holds, and where it comes.
+use Rattle.std.specs.Prelude.{◌≡◌, ◌⊎◌, ℕ, List, [], ◌∷◌, ◌++◌, length, slice_get, Some}
+use Rattle.std.specs.List.{Contains}
+use Rattle.core_lang.specs.declared.value.Value.{Value}
+use Rattle.core_lang.specs.declared.tree.Section.{Section}
+use Rattle.core_lang.specs.declared.typed.Typed.{Typed}
+use Rattle.flow.specs.Skeletons.{skeleton}
+use Rattle.flow.specs.Flow.{Follows}
+use Rattle.flow.specs.Points.{points}
+use Rattle.locks.specs.declared.lock.Lock.{Lock}
+use Rattle.locks.specs.LockPaths.{LockPath, lock_named, Uses, BindsRoot}
+use Rattle.locks.specs.Order.{Precedes}
+use Rattle.points.specs.Wanted.{IsWanted}
+use Rattle.inserter.specs.Placement.{IsPath, IsDue}
+
+-- lists before the points of a section that do: paths that are wanted there, and all that are due. Those of a placement are such lists,
+-- and so are lists of all that is wanted
+pub record AreAllowed (program : Typed) (section : Section) (ranks : List ℕ) (lists : List (List ℕ)) : Type 0 where
+  pub long : length lists ≡ length (points section)
+  pub only : (p i : ℕ) (list : List ℕ) → slice_get lists p ≡ Some list → Contains list i →
+      (path : LockPath) × IsPath program section i path × IsWanted program section ranks p path
+  pub all : (p i : ℕ) (list : List ℕ) (path : LockPath) → slice_get lists p ≡ Some list → IsPath program section i path →
+      IsDue program section ranks p path → Contains list i
+
+module _ (program : Typed) (section : Section) (ranks : List ℕ) (lists : List (List ℕ)) where
+  -- a path that is listed before the point names the lock, where these are the values of the locals; a path with a null root names none
+  pub record IsListed (p : ℕ) (locals : List Value) (lock : Lock) : Type 0 where
+    pub list : List ℕ
+    pub number : ℕ
+    pub path : LockPath
+    pub here : slice_get lists p ≡ Some list
+    pub listed : Contains list number
+    pub is_path : IsPath program section number path
+    pub named : lock_named path program.shape locals ≡ Some lock
+
+  -- of the listed locks that aren't held, the first
+  pub record Asks (p : ℕ) (locals : List Value) (held : List Lock) (lock : Lock) : Type 0 where
+    pub listed : IsListed p locals lock
+    pub new : Contains held lock → ⊥
+    pub first : (other : Lock) → IsListed p locals other → (Contains held other → ⊥) → (other ≡ lock) ⊎ Precedes ranks lock other
+
+  -- each lock path of the section names what it named, unless the point binds its root
+  abbrev pub Keeps : ℕ → List Value → List Value → Type 0
+  Keeps p before after =
+      (user : ℕ) (path : LockPath) → Uses program section user path → (BindsRoot section p path → ⊥) →
+      lock_named path program.shape after ≡ lock_named path program.shape before
+
+  -- a run has come to the point with these values of the locals, and holds these locks
+  pub data Run : ℕ → List Value → List Lock → Type 0 where
+    -- it begins at the first point, with any values, and holds nothing
+    begins : {locals : List Value} → Run 0 locals []
+    -- it is granted a lock that it asks for
+    gets : {p : ℕ} {locals : List Value} {held : List Lock} {lock : Lock} → Run p locals held → Asks p locals held lock →
+        Run p locals (held ++ lock ∷ [])
+    -- with all listed locks held it does what the point says, and goes on by flow. Only the roots that the point binds change, to anything
+    goes : {p q : ℕ} {locals after : List Value} {held : List Lock} → Run p locals held →
+        ((lock : Lock) → IsListed p locals lock → Contains held lock) → Keeps p locals after → Follows (skeleton section) p q →
+        Run q after held

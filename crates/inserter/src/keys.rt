@@ -1,0 +1,21 @@
+//! The lock paths of a section in the order in which they are listed.
+
+ghost use Rattle.std.specs.Prelude.{◌≤◌, length, map, slice_index, IfOk};
+ghost use Rattle.inserter.specs.Keys.{AreKeys};
+
+use source::memory::NoMemory;
+use std::alloc::Global;
+
+/// For each lock path a key, in rising order: 64 times the rank of its class, and its number.
+pub fn sorted_keys(alloc: Global, classes: &[usize], ranks: &[u32]) -> Result<Vec<u64>, NoMemory>
+    requires { length classes.now ≤ 64 }
+    ensures { IfOk result (λ keys. AreKeys (map (slice_index ranks.now) classes.now) keys.items) }
+{
+    let mut keys = Vec::with_capacity(alloc, classes.len())?;
+    for path in 0..classes.len() {
+        let rank = ranks.get(classes[path]).copied().unwrap_or(0);
+        keys.push(rank as u64 * 64 + path as u64)?;
+    }
+    keys.sort_unstable();
+    Ok(keys)
+}

@@ -1,0 +1,18 @@
+//! The locks that a section asks for before each of its points, and what holds of every run that does so.
+//!
+//! - [`place`]: the lists of lock paths before the points of all sections.
+//! - [`laws`]: each lock that a run asks for comes after all that it holds, each access finds its lock held, and no more
+//!   locks are held than the section has lock paths.
+//! - [`placed::Placed`]: the lists.
+//!
+//! `specs/` defines the list before a point (`Placement`), the run of a section as far as its locks go (`Runs`), and what
+//! the laws claim (`Laws`).
+#![tactic(auto)]
+
+mod keys;
+pub mod laws;
+pub mod placed;
+mod program_lists;
+mod section_lists;
+
+pub use program_lists::place;
