@@ -14,7 +14,7 @@ ghost use Rattle.driver.specs.{Serves, Tells, cannot_read, cannot_write, no_memo
 use clap::Error;
 use clap::error::ErrorKind;
 use driver::{
-    Sink, SourceText, Status, serial, tell_cannot_read, tell_cannot_write, tell_no_memory,
+    Sink, SourceText, Status, check, serial, tell_cannot_read, tell_cannot_write, tell_no_memory,
 };
 use std::alloc::{AllocError, Global};
 use std::io::{Read, Write};
@@ -27,6 +27,7 @@ fn file_name<'a>(line: Line<'a>) -> &'a str
     ensures { result.now ≡ file_of line.entry }
 {
     match line {
+        Line::Check { file } => file,
         Line::Serial { file, .. } => file,
     }
 }
@@ -45,6 +46,7 @@ fn run_opened<S: Read, O: Write, E: Write>(
         E.contents err.old err.new result }
 {
     match line {
+        Line::Check { file } => check(alloc, source, file, out, err),
         Line::Serial { file, turns } => serial(alloc, source, file, turns, out, err),
     }
 }

@@ -21,10 +21,12 @@ pub enum Asked {
     Points,
     /// The order of its lock classes, and what that makes of its points.
     Order,
+    /// The lock paths that are listed before its points, as the command `check` writes them.
+    Lists,
 }
 
 impl Asked {
-    /// What this word asks: nothing, unless it is one of the eight.
+    /// What this word asks: nothing, unless it is one of the nine.
     pub fn named(word: &str) -> Option<Asked>
         ensures check { (result ≡ Some Asked.Check) ↔ (word.now ≡ codes "check") }
         ensures tree { (result ≡ Some Asked.Tree) ↔ (word.now ≡ codes "tree") }
@@ -34,6 +36,7 @@ impl Asked {
         ensures paths { (result ≡ Some Asked.Paths) ↔ (word.now ≡ codes "paths") }
         ensures points { (result ≡ Some Asked.Points) ↔ (word.now ≡ codes "points") }
         ensures order { (result ≡ Some Asked.Order) ↔ (word.now ≡ codes "order") }
+        ensures lists { (result ≡ Some Asked.Lists) ↔ (word.now ≡ codes "lists") }
     {
         match word {
             "check" => Some(Asked::Check),
@@ -44,6 +47,7 @@ impl Asked {
             "paths" => Some(Asked::Paths),
             "points" => Some(Asked::Points),
             "order" => Some(Asked::Order),
+            "lists" => Some(Asked::Lists),
             _ => None,
         }
     }

@@ -1,19 +1,17 @@
 //! What is said of a program's lock paths, its points, and the order of its lock classes.
 
-ghost use Rattle.core_lang.specs.WellFormed.{IsWellFormed};
 ghost use Rattle.lockpaths.specs.Paths.{ArePaths};
 
 use core_lang::tree::Section;
 use core_lang::typed::Typed;
 use flow::points::{PointRef, points_of};
-use lockorder::order;
-use lockorder::ranks::OrderRefusal;
+use inserter::place;
 use lockpaths::table::{Paths, SectionPaths};
 use locks::path_set::PathSet;
 use locks::text::{push_class, push_path};
 use points::points;
 use points::table::Points;
-use source::line::fault_line;
+use report::Check;
 use source::memory::NoMemory;
 use std::alloc::{AllocError, Global};
 
@@ -23,6 +21,11 @@ fn start_of(point: PointRef) -> usize {
         PointRef::Statement(statement) => statement.start,
         PointRef::Result(result) => result.start,
     }
+}
+
+/// The text without the line feed at its end.
+pub fn without_line_feed(alloc: Global, text: &str) -> Result<String, NoMemory> {
+    Ok(String::from_str(alloc, text.strip_suffix('\n').unwrap_or(text))?)
 }
 
 /// A text and the program that it means.
@@ -183,8 +186,13 @@ impl Analysed<'_> {
         Ok(())
     }
 
-    /// What is said of its classes and points by these ranks.
-    fn ranks_said(&self, alloc: Global, paths: &Paths, ranks: &[u32]) -> Result<String, NoMemory>
+    /// What is said of the order of its classes, and what these ranks make of its points.
+    pub fn order_said(
+        &self,
+        alloc: Global,
+        paths: &Paths,
+        ranks: &[u32],
+    ) -> Result<String, NoMemory>
         requires { ArePaths self.now.program.now paths.now }
     {
         let mut out = String::new(alloc);
@@ -205,18 +213,23 @@ impl Analysed<'_> {
         Ok(out)
     }
 
-    /// What is said of the order of its classes: their ranks and what these make of its points, or the line of the fault.
-    pub fn order_said(&self, alloc: Global, paths: &Paths) -> Result<String, NoMemory>
-        requires program { IsWellFormed self.now.program.now }
-        requires paths { ArePaths self.now.program.now paths.now }
+    /// What `check` writes of it, without the last line feed.
+    pub fn lists_said(
+        &self,
+        alloc: Global,
+        paths: &Paths,
+        ranks: &[u32],
+    ) -> Result<String, NoMemory>
+        requires { ArePaths self.now.program.now paths.now }
     {
-        match order(alloc, self.program, paths) {
-            Ok(ranks) => self.ranks_said(alloc, paths, &ranks),
-            Err(OrderRefusal::Cycle(cycle)) => {
-                let fault = cycle.fault(alloc, self.program)?;
-                fault_line(alloc, "F", self.text.as_bytes(), &fault)
-            }
-            Err(OrderRefusal::NoMemory) => Err(NoMemory),
-        }
+        let placed = place(alloc, self.program, paths, ranks)?;
+        let check = Check {
+            text: self.text.as_bytes(),
+            program: self.program,
+            paths,
+            ranks,
+            placed: &placed,
+        };
+        without_line_feed(alloc, check.text(alloc)?.as_str())
     }
 }

@@ -17,7 +17,8 @@
 //!     points that come before it, and those used at points that it comes before; or the line of the text's fault;
 //!   - `order`: a line with `order:` and the lock classes by rising rank; for each section a line with its name and `:`;
 //!     and a line for each of its points, with its line and column, the lock paths that are wanted there and those that
-//!     are surely held; or the line of the text's fault.
+//!     are surely held; or the line of the text's fault;
+//!   - `lists`: what `check` writes, without the last line feed; or the line of the text's fault.
 //! - `@head` alone on a line, with lines below it: those and a line feed stand ahead of each text below. With no lines
 //!   below it, nothing does from there on.
 //! - Anything else is a case: a text, then a line that begins with `=> ` and has what must be said of the text, which

@@ -7,11 +7,13 @@ ghost use Rattle.lockpaths.specs.Paths.{ArePaths};
 ghost use Rattle.syntax.specs.Returns.{ReturnsRight};
 ghost use Rattle.syntax.specs.Views.{tree_of};
 
-use crate::analysing::Analysed;
+use crate::analysing::{Analysed, without_line_feed};
 use crate::rereading::difference;
 use case_files::asked::Asked;
 use core_lang::typed::Typed;
 use lexer::lex;
+use lockorder::order;
+use lockorder::ranks::{OrderRefusal, Ranks};
 use lockpaths::paths;
 use lockpaths::table::Paths;
 use parser::parse;
@@ -66,19 +68,29 @@ fn analysed(
     }
 }
 
-/// `accepted`, or the line of the fault of names, types or lock paths that the text with this tree has.
-fn checked(alloc: Global, text: &str, tree: &Tree) -> Result<String, NoMemory>
-    requires { ReturnsRight (tree_of tree.now) }
+/// The ranks of the program's lock classes, or the line of the fault of a cycle.
+fn ranked(
+    alloc: Global,
+    text: &str,
+    program: &Typed,
+    paths: &Paths,
+) -> Result<Result<Ranks, String>, NoMemory>
+    requires program { IsWellFormed program.now }
+    requires paths { ArePaths program.now paths.now }
 {
-    match analysed(alloc, text, tree)? {
-        Ok(_) => Ok(String::from_str(alloc, "accepted")?),
-        Err(line) => Ok(line),
+    match order(alloc, program, paths) {
+        Ok(ranks) => Ok(Ok(ranks)),
+        Err(OrderRefusal::Cycle(cycle)) => {
+            let fault = cycle.fault(alloc, program)?;
+            Ok(Err(fault_line(alloc, "F", text.as_bytes(), &fault)?))
+        }
+        Err(OrderRefusal::NoMemory) => Err(NoMemory),
     }
 }
 
-/// What is said to what is asked of the program of the text with this tree: to `points` of its points, to `order` of the
-/// order of its classes, and else of its lock paths; or the line of the fault that it has.
-fn of_program(alloc: Global, asked: Asked, text: &str, tree: &Tree) -> Result<String, NoMemory>
+/// What is said to what is asked of the lock paths of the text with this tree: to `points` of its points, and else of the
+/// lock paths; or the line of the fault that it has, where the order of its classes counts for none.
+fn of_paths(alloc: Global, asked: Asked, text: &str, tree: &Tree) -> Result<String, NoMemory>
     requires { ReturnsRight (tree_of tree.now) }
 {
     let (program, paths) = match analysed(alloc, text, tree)? {
@@ -89,16 +101,37 @@ fn of_program(alloc: Global, asked: Asked, text: &str, tree: &Tree) -> Result<St
     let told = Analysed { text, program };
     match asked {
         Asked::Points => told.points_said(alloc, &paths),
-        Asked::Order => told.order_said(alloc, &paths),
         _ => told.paths_said(alloc, &paths),
+    }
+}
+
+/// What is said to what is asked of the order of the locks of the text with this tree: to `check` that it is accepted, to
+/// `order` of the order and what it makes of points, and else of the lists before points; or the line of the fault that it
+/// has.
+fn of_order(alloc: Global, asked: Asked, text: &str, tree: &Tree) -> Result<String, NoMemory>
+    requires { ReturnsRight (tree_of tree.now) }
+{
+    let (program, paths) = match analysed(alloc, text, tree)? {
+        Ok(known) => known,
+        Err(line) => return Ok(line),
+    };
+    let program = &program;
+    let ranks = match ranked(alloc, text, program, &paths)? {
+        Ok(ranks) => ranks,
+        Err(line) => return Ok(line),
+    };
+    let told = Analysed { text, program };
+    match asked {
+        Asked::Check => Ok(String::from_str(alloc, "accepted")?),
+        Asked::Order => told.order_said(alloc, &paths, &ranks),
+        _ => told.lists_said(alloc, &paths, &ranks),
     }
 }
 
 /// The tree printed, without the last line feed.
 fn printed(alloc: Global, tree: &Tree) -> Result<String, NoMemory> {
     let printed = print_tree(alloc, tree)?;
-    let bare = printed.as_str();
-    Ok(String::from_str(alloc, bare.strip_suffix('\n').unwrap_or(bare))?)
+    without_line_feed(alloc, printed.as_str())
 }
 
 /// What is said of the text to what is asked.
@@ -108,11 +141,11 @@ pub fn said_of(alloc: Global, asked: Asked, text: &str) -> Result<String, NoMemo
         Err(line) => return Ok(line),
     };
     match asked {
-        Asked::Check => checked(alloc, text, &tree),
+        Asked::Check | Asked::Order | Asked::Lists => of_order(alloc, asked, text, &tree),
         Asked::Tree => Ok(String::from_str(alloc, "tree")?),
         Asked::Print => printed(alloc, &tree),
         Asked::Again => difference(alloc, &tree),
-        Asked::Paths | Asked::Points | Asked::Order => of_program(alloc, asked, text, &tree),
+        Asked::Paths | Asked::Points => of_paths(alloc, asked, text, &tree),
         Asked::Shape => Ok(format!(in alloc; "{tree:?}")?),
     }
 }

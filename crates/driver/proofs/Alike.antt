@@ -42,7 +42,7 @@ mapped_append f [] ys = refl
 mapped_append f (x ∷ xs) ys = ap (λ zs. f x ∷ zs) (mapped_append f xs ys)
 
 -- what the view of a list has at a place
-mapped_at : {A B : Type 0} (f : A → B) (xs : List A) (k : ℕ) → slice_get (map f xs) k ≡ option_map f (slice_get xs k)
+pub mapped_at : {A B : Type 0} (f : A → B) (xs : List A) (k : ℕ) → slice_get (map f xs) k ≡ option_map f (slice_get xs k)
 mapped_at f [] k = refl
 mapped_at f (x ∷ xs) zero = refl
 mapped_at f (x ∷ xs) (suc k) = mapped_at f xs k
@@ -51,7 +51,7 @@ looked : {A B C : Type 0} (f : A → B) (o : Option A) (g : B → Option C) → 
 looked f (Some x) g = refl
 looked f None g = refl
 
-looked_at : {A B C : Type 0} (f : A → B) (xs : List A) (k : ℕ) (g : B → Option C) → lookup (slice_get (map f xs) k) g ≡ lookup (slice_get xs k) (λ x. g (f x))
+pub looked_at : {A B C : Type 0} (f : A → B) (xs : List A) (k : ℕ) (g : B → Option C) → lookup (slice_get (map f xs) k) g ≡ lookup (slice_get xs k) (λ x. g (f x))
 looked_at f xs k g = ap (λ o. lookup o g) (mapped_at f xs k) ∙ looked f (slice_get xs k) g
 
 viewed : {A B C : Type 0} (f : B → C) (o : Option A) (g : A → Option B) → option_map f (lookup o g) ≡ lookup o (λ x. option_map f (g x))
@@ -59,7 +59,7 @@ viewed f (Some x) g = refl
 viewed f None g = refl
 
 -- what a view has, is the view of something
-viewed_as : {A B : Type 0} (f : A → B) (o : Option A) (y : B) → option_map f o ≡ Some y → (x : A) × (o ≡ Some x) × (f x ≡ y)
+pub viewed_as : {A B : Type 0} (f : A → B) (o : Option A) (y : B) → option_map f o ≡ Some y → (x : A) × (o ≡ Some x) × (f x ≡ y)
 viewed_as f (Some x) y is = (x, refl, cc)
 viewed_as f None y is = cc
 
@@ -143,11 +143,11 @@ action_alike start (While' x _ body) = condition_alike x
 
 -- ---- its points
 
-data Spot : Type 0 where
+pub data Spot : Type 0 where
   at_statement : (start : ℕ) → Action → Spot
   at_return : Return → Spot
 
-abbrev spot : Point → Spot
+abbrev pub spot : Point → Spot
 spot (statement start x) = at_statement start (core_action x)
 spot (result r) = at_return (core_return r)
 
@@ -195,20 +195,20 @@ return_alike : (r : Option the_return.Return) → map spot (point_of_return r) �
 return_alike None = refl
 return_alike (Some r) = refl
 
-abbrev spots : Section → List Spot
+abbrev pub spots : Section → List Spot
 spots x = spots_in x.body ++ spot_of_return x.result
 
-points_alike : (x : the_section.Section) → map spot (points x) ≡ spots (core_section x)
+pub points_alike : (x : the_section.Section) → map spot (points x) ≡ spots (core_section x)
 points_alike x =
     mapped_append spot (points_of_all x.body.items) (point_of_return x.result) ∙ both (all_alike x.body.items) (return_alike x.result)
 
 -- ---- its accesses
 
-abbrev accesses_of_spot : Spot → List Access
+abbrev pub accesses_of_spot : Spot → List Access
 accesses_of_spot (at_statement start x) = of_action start x
 accesses_of_spot (at_return r) = of_expr r.value
 
-accesses_at_alike : (p : Point) → accesses_at p ≡ accesses_of_spot (spot p)
+pub accesses_at_alike : (p : Point) → accesses_at p ≡ accesses_of_spot (spot p)
 accesses_at_alike (statement start x) = action_alike start x
 accesses_at_alike (result r) = expr_alike r.value
 
@@ -376,12 +376,18 @@ module _ (program : Typed) (section : the_section.Section) where
 
 module _ (program other : Typed) (same : core_of program ≡ core_of other) where
   -- a section of the one is one of the other, wherever that lies
-  section_alike : (x : the_section.Section) → HasSection program x → (y : the_section.Section) × HasSection other y × (core_section x ≡ core_section y)
-  section_alike x (k, at) =
+  pub section_at : (k : ℕ) (x : the_section.Section) → slice_get program.sections.items k ≡ Some x
+      → (y : the_section.Section) × (slice_get other.sections.items k ≡ Some y) × (core_section x ≡ core_section y)
+  section_at k x at =
       let seen : slice_get (map core_section other.sections.items) k ≡ Some (core_section x) =
       ap (λ (p : Program). slice_get p.sections k) (sym same) ∙ mapped_at core_section program.sections.items k ∙ ap (option_map core_section) at in
       let found = viewed_as core_section (slice_get other.sections.items k) (core_section x) (sym (mapped_at core_section other.sections.items k) ∙ seen) in
-      (found.0, (k, found.1), sym found.2)
+      (found.0, found.1, sym found.2)
+
+  section_alike : (x : the_section.Section) → HasSection program x → (y : the_section.Section) × HasSection other y × (core_section x ≡ core_section y)
+  section_alike x (k, at) =
+      let found = section_at k x at in
+      (found.0, (k, found.1), found.2)
 
   module _ (x y : the_section.Section) (one : core_section x ≡ core_section y) where
     accesses_same : accesses x ≡ accesses y
@@ -390,7 +396,7 @@ module _ (program other : Typed) (same : core_of program ≡ core_of other) wher
     path_same : (a : Access) → lock_path program x a ≡ lock_path other y a
     path_same a = path_alike program x a.target ∙ (λ i. path_by (same i) (one i) a.target) ∙ sym (path_alike other y a.target)
 
-    paths_same : (list : List Access) → paths_of program x list ≡ paths_of other y list
+    pub paths_same : (list : List Access) → paths_of program x list ≡ paths_of other y list
     paths_same list = λ i. filter_map (λ (a : Access). path_same a i) list
 
   unstable_alike : (start : ℕ) → IsUnstable program start → IsUnstable other start

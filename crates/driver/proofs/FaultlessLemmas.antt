@@ -16,8 +16,10 @@ use Rattle.resolution.specs.CoreViews.{core_of}
 use Rattle.resolution.specs.Resolution.{resolved}
 use Rattle.resolution.specs.Resolved.{Resolves}
 use Rattle.locks.specs.Faults as paths
-use Rattle.driver.specs.Programs.{HasFault, of_text, of_tokens, of_tree, of_paths}
+use Rattle.lockorder.specs.Faults as order
+use Rattle.driver.specs.Programs.{HasFault, of_text, of_tokens, of_tree, of_paths, of_order}
 use Rattle.driver.proofs.Alike.{fault_alike}
+use Rattle.driver.proofs.OrderAlike.{order_fault_alike}
 
 -- the tokens of a text end with its end
 tokens_end : (total : ℕ) (source : List ℕ) (ts : List Tok) → AreTokens total source ts → NoEnd ts → ⊥
@@ -41,7 +43,7 @@ module _ (source : List ℕ) (ts : List Tok) (tree : List Decl) (program : Typed
     (one : (other : List Tok) → length source ≤ SOURCE_LIMIT → text.HasTokens source other → ts ≡ other)
     (has : text.HasTokens source ts) (right : grammar.HasRightTree ts tree) (placed : (s : ℕ) → IsMisplaced ts s → ⊥)
     (only : (other : List Decl) → grammar.HasRightTree ts other → tree ≡ other) (no_tree : names.HasNoFault tree)
-    (means : Resolves tree program) (no_path : paths.HasNoFault program) where
+    (means : Resolves tree program) (no_path : paths.HasNoFault program) (no_cycle : order.HasNoFault program) where
   -- there is one tree
   tree_same : (tokens : List Tok) (decls : List Decl) → length source ≤ SOURCE_LIMIT → text.HasTokens source tokens
       → grammar.HasRightTree tokens decls → tree ≡ decls
@@ -63,6 +65,9 @@ module _ (source : List ℕ) (ts : List Tok) (tree : List Decl) (program : Typed
       no_tree _ _ (subst (λ (d : List Decl). names.IsFault d fault.code fault.start) (sym (tree_same tokens decls within others rights)) refused.0)
   faultless_within within fault (of_paths tokens decls other others rights resolves refused) =
       no_path _ _ (fault_alike other program (program_same other decls (tree_same tokens decls within others rights) resolves) _ _ refused.0)
+  faultless_within within fault (of_order tokens decls other others rights resolves wrong) =
+      no_cycle fault
+      (order_fault_alike other program (program_same other decls (tree_same tokens decls within others rights) resolves) fault wrong)
 
   pub faultless : (fault : the_fault.Fault) → HasFault source fault → ⊥
   faultless fault wrong =

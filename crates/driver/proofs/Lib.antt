@@ -4,4 +4,6 @@ pub mod RunningLemmas
 pub mod SerialLemmas
 pub mod WritingLemmas
 pub mod Alike
+pub mod OrderAlike
 pub mod FaultlessLemmas
+pub mod CheckLemmas

@@ -11,7 +11,7 @@ use Rattle.resolution.specs.Resolved.{Resolves}
 use Rattle.core_lang.specs.declared.typed.Typed.{Typed}
 use Rattle.locks.specs.Faults as paths
 use Rattle.source.specs.Mistakes.{IsLeastOf}
-use Rattle.driver.specs.Programs.{IsRefusal, HasNoTextFault, HasNoTokenFault, in_text, in_tokens, in_tree, in_paths}
+use Rattle.driver.specs.Programs.{IsRefusal, IsOrderRefusal, HasNoTextFault, HasNoTokenFault, in_text, in_tokens, in_tree, in_paths, in_order}
 
 pub text_refused : (source : List ℕ) (e : Refusal) → text.IsRefusal source e → IsRefusal source e
 text_refused source NoMemory refused = tt
@@ -35,3 +35,10 @@ pub paths_refused : (source : List ℕ) (tokens : List Tok) (tree : List Decl) (
 paths_refused source tokens tree program NoMemory no_text has no_token right no_name means refused least = tt
 paths_refused source tokens tree program (Fault fault) no_text has no_token right no_name means refused least =
     in_paths tokens tree program no_text has no_token right no_name means refused least
+
+pub order_refused : (source : List ℕ) (tokens : List Tok) (tree : List Decl) (program : Typed) (e : Refusal) → HasNoTextFault source
+    → text.HasTokens source tokens → HasNoTokenFault tokens → grammar.HasRightTree tokens tree → names.HasNoFault tree
+    → Resolves tree program → paths.HasNoFault program → IsOrderRefusal program e → IsRefusal source e
+order_refused source tokens tree program NoMemory no_text has no_token right no_name means no_path refused = tt
+order_refused source tokens tree program (Fault fault) no_text has no_token right no_name means no_path refused =
+    in_order tokens tree program no_text has no_token right no_name means no_path refused

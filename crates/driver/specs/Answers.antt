@@ -5,14 +5,27 @@ use Rattle.report.specs.History.{line}
 use Rattle.source.specs.declared.fault.Fault.{Fault}
 use Rattle.source.specs.Faults.{fault_text}
 use Rattle.driver.specs.declared.answer.Answer.{Answer}
+use Rattle.driver.specs.declared.answer.Request.{Request}
+use Rattle.driver.specs.declared.answer.Request.TheVariants.{Check, Serial}
 use Rattle.driver.specs.declared.status.Status.{Status}
-use Rattle.driver.specs.declared.status.Status.TheVariants.{Refused, Failed}
+use Rattle.driver.specs.declared.status.Status.TheVariants.{Done, Refused, Failed}
+use Rattle.driver.specs.Checks.{IsChecked, CheckAnswers}
 use Rattle.driver.specs.Messages.{cannot_write}
-use Rattle.driver.specs.Serial.{RunAnswers}
+use Rattle.driver.specs.Serial.{RunAnswers, SerialAnswers}
 
 -- the answer to a program's run
 abbrev pub IsRunAnswer : ℕ → Typed → Answer → Type 0
 IsRunAnswer turns program answer = RunAnswers turns program answer.status (string_bytes answer.out) (string_bytes answer.err)
+
+-- the answer to a program that is checked
+abbrev pub IsCheckAnswer : List ℕ → Typed → Answer → Type 0
+IsCheckAnswer text program answer =
+    (answer.status ≡ Done) × IsChecked text program (string_bytes answer.out) (string_bytes answer.err)
+
+-- what is answered to a request
+abbrev pub RequestAnswers : Request → List ℕ → List ℕ → Status → List ℕ → List ℕ → Type 0
+RequestAnswers Check = CheckAnswers
+RequestAnswers (Serial turns) = SerialAnswers turns
 
 -- the answer to a fault
 abbrev pub IsFaultAnswer : List ℕ → List ℕ → Fault → Answer → Type 0

@@ -3,6 +3,7 @@ pub mod Streams
 pub mod Messages
 pub mod Programs
 pub mod Serial
+pub mod Checks
 pub mod Engines
 pub mod Running
 pub mod Answers
@@ -12,4 +13,8 @@ pub use Rattle.driver.specs.Streams.{reader_of, reading_failed, writer_of, writi
 pub use Rattle.driver.specs.Messages.{cannot_read, cannot_write, no_memory}
 pub use Rattle.driver.specs.Programs.{Accepts, IsRefusal}
 pub use Rattle.driver.specs.Serial.{SerialAnswers}
+pub use Rattle.driver.specs.Checks.{CheckAnswers}
 pub use Rattle.driver.specs.Engines.{Serves}
+pub use Rattle.core_lang.specs.WellFormed.{IsWellFormed}
+pub use Rattle.lockpaths.specs.Paths.{ArePaths}
+pub use Rattle.lockorder.specs.Edges.{AreRanksOf, RiseIn}

@@ -13,8 +13,10 @@ use Rattle.resolution.specs.Faults as names
 use Rattle.source.specs.Mistakes.{IsLeastOf}
 use Rattle.resolution.specs.Resolved.{Resolves}
 use Rattle.locks.specs.Faults as paths
+use Rattle.lockorder.specs.Faults as order
 
--- a fault of the text; of the tokens of a text that has some; of the tree of tokens that have one; of the program that a tree means
+-- a fault of the text; of the tokens of a text that has some; of the tree of tokens that have one; of the program that a tree means,
+-- in its lock paths or the order of its locks
 pub data HasFault (source : List ℕ) (fault : the_fault.Fault) : Type 0 where
   of_text : text.IsRefusal source (Fault fault) → HasFault source fault
   of_tokens : (tokens : List Tok) → text.HasTokens source tokens → grammar.IsRefusal tokens (Fault fault) → HasFault source fault
@@ -22,6 +24,8 @@ pub data HasFault (source : List ℕ) (fault : the_fault.Fault) : Type 0 where
       → names.IsRefusal tree (Fault fault) → HasFault source fault
   of_paths : (tokens : List Tok) (tree : List Decl) (program : Typed) → text.HasTokens source tokens → grammar.HasRightTree tokens tree
       → Resolves tree program → paths.IsRefusal program (Fault fault) → HasFault source fault
+  of_order : (tokens : List Tok) (tree : List Decl) (program : Typed) → text.HasTokens source tokens → grammar.HasRightTree tokens tree
+      → Resolves tree program → order.IsFault program fault → HasFault source fault
 
 -- the text has these tokens, the tokens this tree, and the program is what the tree means; and the text has no fault
 pub record Accepts (source : List ℕ) (program : Typed) : Type 0 where
@@ -40,7 +44,7 @@ abbrev pub HasNoTokenFault : List Tok → Type 0
 HasNoTokenFault tokens = (code : Code) (start : ℕ) → grammar.IsFault tokens code start → ⊥
 
 -- a true fault of the first pass that has any: of a text, which has one fault of its own at most; of its tokens; of its tree, and there
--- the least; or of the lock paths of the program that the tree means, and there the least
+-- the least; of the lock paths of the program that the tree means, and there the least; or of the order of its locks
 pub data IsOfFirstPass (source : List ℕ) (fault : the_fault.Fault) : Type 0 where
   in_text : text.IsRefusal source (Fault fault) → IsOfFirstPass source fault
   in_tokens : (tokens : List Tok) → HasNoTextFault source → text.HasTokens source tokens
@@ -51,8 +55,16 @@ pub data IsOfFirstPass (source : List ℕ) (fault : the_fault.Fault) : Type 0 wh
   in_paths : (tokens : List Tok) (tree : List Decl) (program : Typed) → HasNoTextFault source → text.HasTokens source tokens
       → HasNoTokenFault tokens → grammar.HasRightTree tokens tree → names.HasNoFault tree → Resolves tree program
       → paths.IsRefusal program (Fault fault) → paths.IsLeast program (Fault fault) → IsOfFirstPass source fault
+  in_order : (tokens : List Tok) (tree : List Decl) (program : Typed) → HasNoTextFault source → text.HasTokens source tokens
+      → HasNoTokenFault tokens → grammar.HasRightTree tokens tree → names.HasNoFault tree → Resolves tree program
+      → paths.HasNoFault program → order.IsFault program fault → IsOfFirstPass source fault
 
 -- a text was refused for such a fault, or for want of memory
 abbrev pub IsRefusal : List ℕ → Refusal → Type 0
 IsRefusal source NoMemory = Unit {0}
 IsRefusal source (Fault fault) = IsOfFirstPass source fault
+
+-- a program was refused for a cycle of its lock classes, or for want of memory
+abbrev pub IsOrderRefusal : Typed → Refusal → Type 0
+IsOrderRefusal program NoMemory = Unit {0}
+IsOrderRefusal program (Fault fault) = order.IsFault program fault

@@ -2,19 +2,36 @@
 
 ghost use Rattle.std.specs.Prelude.{◌≡◌, IfOk, string_bytes};
 ghost use Rattle.core_lang.specs.WellFormed.{IsWellFormed};
-ghost use Rattle.driver.specs.Answers.{IsRunAnswer, IsFaultAnswer};
+ghost use Rattle.driver.specs.Answers.{IsCheckAnswer, IsRunAnswer, IsFaultAnswer, RequestAnswers};
+ghost use Rattle.driver.specs.Checks.{CheckAnswers};
 ghost use Rattle.driver.specs.Serial.{SerialAnswers};
+ghost use Rattle.lockorder.specs.Edges.{AreRanksOf};
+ghost use Rattle.lockpaths.specs.Paths.{ArePaths};
 
+use crate::analysis::{Analysis, analyse};
 use crate::program::program_of;
 use crate::running::run_scripts;
 use crate::status::Status;
 use core_lang::laws;
 use core_lang::typed::Typed;
-use report::{history_text, unsettled_text};
+use inserter::place;
+use report::{Check, history_text, unsettled_text};
 use source::fault::{Fault, Refusal};
 use source::line::fault_line;
 use source::memory::NoMemory;
 use std::alloc::Global;
+
+/// What is asked of a program's text.
+#[derive(Clone, Copy, Debug, PartialEq, Eq)]
+pub enum Request {
+    /// In which order it takes its locks, and which ones before each statement.
+    Check,
+    /// The history of all its calls, run one after another.
+    Serial {
+        /// The most turns that each execution of a loop may make.
+        turns: u64,
+    },
+}
 
 /// The status, and what goes to the two outputs.
 #[derive(Debug, Drop)]
@@ -40,6 +57,38 @@ fn refused(alloc: Global, file: &str, text: &[u8], fault: &Fault) -> Result<Answ
     })
 }
 
+/// The text of what is found of a program.
+fn checked(alloc: Global, text: &[u8], found: &Analysis) -> Result<Answer, NoMemory>
+    requires paths { ArePaths found.now.program found.now.paths }
+    requires ranks { AreRanksOf found.now.program found.now.ranks.items }
+    ensures { IfOk result (IsCheckAnswer text.now found.now.program) }
+{
+    let placed = place(alloc, &found.program, &found.paths, &found.ranks)?;
+    let check = Check {
+        text,
+        program: &found.program,
+        paths: &found.paths,
+        ranks: &found.ranks,
+        placed: &placed,
+    };
+    Ok(Answer {
+        status: Status::Done,
+        out: check.text(alloc)?,
+        err: String::new(alloc),
+    })
+}
+
+/// What `check` answers for the text of the file of this name.
+fn check_answer(alloc: Global, file: &str, text: &[u8]) -> Result<Answer, NoMemory>
+    ensures { IfOk result (λ answer. CheckAnswers file.now text.now answer.status (string_bytes answer.out) (string_bytes answer.err)) }
+{
+    match analyse(alloc, text) {
+        Ok(found) => checked(alloc, text, &found),
+        Err(Refusal::Fault(fault)) => refused(alloc, file, text, &fault),
+        Err(Refusal::NoMemory) => Err(NoMemory),
+    }
+}
+
 /// The text of a program's run.
 fn ran(alloc: Global, program: &Typed, turns: u64) -> Result<Answer, NoMemory>
     requires { IsWellFormed program.now }
@@ -63,12 +112,27 @@ fn ran(alloc: Global, program: &Typed, turns: u64) -> Result<Answer, NoMemory>
 }
 
 /// What `serial` answers for the text of the file of this name.
-pub fn serial_answer(alloc: Global, file: &str, text: &[u8], turns: u64) -> Result<Answer, NoMemory>
+fn serial_answer(alloc: Global, file: &str, text: &[u8], turns: u64) -> Result<Answer, NoMemory>
     ensures { IfOk result (λ answer. SerialAnswers turns file.now text.now answer.status (string_bytes answer.out) (string_bytes answer.err)) }
 {
     match program_of(alloc, text) {
         Ok(program) => ran(alloc, &program, turns),
         Err(Refusal::Fault(fault)) => refused(alloc, file, text, &fault),
         Err(Refusal::NoMemory) => Err(NoMemory),
+    }
+}
+
+/// What is answered to a request for the text of the file of this name.
+pub fn answer_to(
+    alloc: Global,
+    request: Request,
+    file: &str,
+    text: &[u8],
+) -> Result<Answer, NoMemory>
+    ensures { IfOk result (λ answer. RequestAnswers request file.now text.now answer.status (string_bytes answer.out) (string_bytes answer.err)) }
+{
+    match request {
+        Request::Check => check_answer(alloc, file, text),
+        Request::Serial { turns } => serial_answer(alloc, file, text, turns),
     }
 }

@@ -1,13 +1,14 @@
 //! The engines over readers and writers.
 
 ghost use Rattle.std.specs.Prelude.{◌≡◌, false};
-ghost use Rattle.driver.specs.Answers.{GoesOut};
+ghost use Rattle.driver.specs.Answers.{GoesOut, RequestAnswers};
+ghost use Rattle.driver.specs.Checks.{CheckAnswers};
 ghost use Rattle.driver.specs.Engines.{Serves};
 ghost use Rattle.driver.specs.Messages.{cannot_read, cannot_write, no_memory};
 ghost use Rattle.driver.specs.Serial.{SerialAnswers};
 ghost use Rattle.driver.specs.Streams.{reading_failed, writing_failed, Writes, Tells};
 
-use crate::answer::{Answer, serial_answer};
+use crate::answer::{Answer, Request, answer_to};
 use crate::sink::Sink;
 use crate::source_text::{ReadError, SourceText};
 use crate::status::Status;
@@ -55,6 +56,65 @@ fn give<O: Write, E: Write>(answer: &Answer, out: &mut Sink<O>, err: &mut Sink<E
     answer.status
 }
 
+/// Answers a request for the text that `source` gives: writes the answer's text to `out` and its message to `err`. `file` is
+/// the name of the text in messages. Where reading fails or memory runs out, nothing is written to `out`.
+fn serve<S: Read, O: Write, E: Write>(
+    alloc: Global,
+    source: &mut SourceText<S>,
+    file: &str,
+    request: Request,
+    out: &mut Sink<O>,
+    err: &mut Sink<E>,
+) -> Status
+    requires readable { reading_failed source.old ≡ false }
+    requires writable { writing_failed out.old ≡ false }
+    ensures { Serves (RequestAnswers request file.now) file.now S.remaining source.old source.new O.contents out.old out.new
+        E.contents err.old err.new result }
+{
+    let text = match source.read_whole(alloc) {
+        Ok(text) => text,
+        Err(ReadError::Failed) => {
+            tell_cannot_read(err, file);
+            return Status::Failed;
+        }
+        Err(ReadError::OutOfMemory) => {
+            tell_no_memory(err);
+            return Status::OutOfMemory;
+        }
+    };
+    match answer_to(alloc, request, file, &text) {
+        Ok(answer) => give(&answer, out, err),
+        Err(NoMemory) => {
+            tell_no_memory(err);
+            Status::OutOfMemory
+        }
+    }
+}
+
+/// Says of the program that `source` gives in which order it takes its locks, and which ones before each statement. Answers
+/// how that ended:
+///
+/// - `Done`: the program is accepted, and that was written to `out`.
+/// - `Refused`: the program has a fault, which is told on `err`; `file` is its name there.
+/// - `Failed`: reading or writing failed, which is told on `err`.
+/// - `OutOfMemory`: a growth was refused, which is told on `err`; nothing was written to `out`.
+///
+/// Whether `err` fails changes no answer.
+pub fn check<S: Read, O: Write, E: Write>(
+    alloc: Global,
+    source: &mut SourceText<S>,
+    file: &str,
+    out: &mut Sink<O>,
+    err: &mut Sink<E>,
+) -> Status
+    requires readable { reading_failed source.old ≡ false }
+    requires writable { writing_failed out.old ≡ false }
+    ensures { Serves (CheckAnswers file.now) file.now S.remaining source.old source.new O.contents out.old out.new
+        E.contents err.old err.new result }
+{
+    serve(alloc, source, file, Request::Check, out, err)
+}
+
 /// Runs all calls of the program that `source` gives one after another, thread 0's whole script
 /// first, then thread 1's, and so on; each execution of a loop makes at most `turns` turns. Writes
 /// the history text to `out`, and answers how that ended:
@@ -80,22 +140,5 @@ pub fn serial<S: Read, O: Write, E: Write>(
     ensures { Serves (SerialAnswers turns file.now) file.now S.remaining source.old source.new O.contents out.old out.new
         E.contents err.old err.new result }
 {
-    let text = match source.read_whole(alloc) {
-        Ok(text) => text,
-        Err(ReadError::Failed) => {
-            tell_cannot_read(err, file);
-            return Status::Failed;
-        }
-        Err(ReadError::OutOfMemory) => {
-            tell_no_memory(err);
-            return Status::OutOfMemory;
-        }
-    };
-    match serial_answer(alloc, file, &text, turns) {
-        Ok(answer) => give(&answer, out, err),
-        Err(NoMemory) => {
-            tell_no_memory(err);
-            Status::OutOfMemory
-        }
-    }
+    serve(alloc, source, file, Request::Serial { turns }, out, err)
 }

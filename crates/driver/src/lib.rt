@@ -3,15 +3,19 @@
 //! An engine reads everything, then computes the status and both texts as a function of the bytes,
 //! then writes each text once. So where memory is refused, nothing of the text has been written.
 //!
+//! - [`check`]: in which order a program takes its locks, and which ones before each statement. `specs/Checks.antt` says
+//!   what it answers.
 //! - [`serial`]: all calls of a program one after another. `specs/Serial.antt` says what it answers,
 //!   and `specs/Programs.antt` which program a text is, or which fault it has.
 //! - [`program_of`]: the program of a text, or its fault.
+//! - [`analyse`]: the same program with its lock paths and the ranks of its lock classes.
 //! - [`Status`]: how a command ended, which is the exit status.
 //! - [`SourceText`], [`Sink`]: readers and writers that remember whether they failed.
 //! - [`tell_cannot_read`], [`tell_cannot_write`], [`tell_no_memory`]: the messages that the program
 //!   itself may have to give too.
 #![tactic(auto)]
 
+mod analysis;
 mod answer;
 mod engine;
 mod program;
@@ -21,7 +25,8 @@ mod sink;
 mod source_text;
 mod status;
 
-pub use engine::{serial, tell_cannot_read, tell_cannot_write, tell_no_memory};
+pub use analysis::{Analysis, analyse};
+pub use engine::{check, serial, tell_cannot_read, tell_cannot_write, tell_no_memory};
 pub use program::program_of;
 pub use sink::Sink;
 pub use source_text::{ReadError, SourceText};

@@ -4,13 +4,10 @@ ghost use Rattle.std.specs.Prelude.{IfOk, IfErr};
 ghost use Rattle.core_lang.specs.WellFormed.{IsWellFormed};
 ghost use Rattle.driver.specs.Programs.{Accepts, IsRefusal};
 
+use crate::analysis::{Analysis, analyse};
 use core_lang::typed::Typed;
-use lexer::lex;
-use lockpaths::paths;
-use parser::parse;
 use source::fault::Refusal;
 use std::alloc::Global;
-use types::program::check;
 
 /// The program that the text means, or the first pass's fault.
 pub fn program_of(alloc: Global, text: &[u8]) -> Result<Typed, Refusal>
@@ -18,9 +15,10 @@ pub fn program_of(alloc: Global, text: &[u8]) -> Result<Typed, Refusal>
     ensures well_formed { IfOk result IsWellFormed }
     ensures fault { IfErr result (IsRefusal text.now) }
 {
-    let tokens = lex(alloc, text)?;
-    let tree = parse(alloc, &tokens)?;
-    let program = check(alloc, &tree)?;
-    paths(alloc, &program)?;
+    let Analysis {
+        program,
+        paths: _,
+        ranks: _,
+    } = analyse(alloc, text)?;
     Ok(program)
 }

@@ -11,7 +11,7 @@ use core_lang::value::{Outcome, Value};
 use std::alloc::AllocError;
 
 /// A number without a sign.
-fn push_number(out: &mut String, number: usize) -> Result<(), AllocError>
+pub fn push_number(out: &mut String, number: usize) -> Result<(), AllocError>
     ensures { OnOk result (string_bytes out.new ≡ string_bytes out.old ++ decimal number) }
 {
     write!(out, "{number}")

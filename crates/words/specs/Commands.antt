@@ -38,9 +38,17 @@ with_version app = record app { top = record app.top { has_version = true } }
 abbrev pub program : App
 program = needs_subcommand (with_version (new_app (codes "autolock")))
 
--- the whole command line: autolock serial [--turns N] FILE
+-- autolock check FILE
+abbrev pub with_check : App → App
+with_check app = with_subcommand app (with_file (codes "check")).top
+
+-- autolock serial [--turns N] FILE
+abbrev pub with_serial : App → App
+with_serial app = with_subcommand app (with_turns (with_file (codes "serial"))).top
+
+-- the whole command line
 abbrev pub autolock : App
-autolock = with_subcommand program (with_turns (with_file (codes "serial"))).top
+autolock = with_serial (with_check program)
 
 -- the command is that one, and has no global argument
 abbrev pub IsCommand : App → Command → Type 0

@@ -7,7 +7,7 @@ use Rattle.clap.specs.declared.error.Error.{Error}
 use Rattle.clap.specs.declared.error.kind.ErrorKind.TheVariants.{MissingSubcommand}
 use Rattle.words.specs.Commands.{autolock}
 use Rattle.words.specs.declared.line.Line.{Line}
-use Rattle.words.specs.declared.line.Line.TheVariants.{Serial}
+use Rattle.words.specs.declared.line.Line.TheVariants.{Check, Serial}
 
 -- the value of a name, or nothing
 abbrev pub name_in : Text → List Row → Text
@@ -21,6 +21,7 @@ pub record IsTurns (rows : List Row) (turns : ℕ) : Type 0 where
 
 -- the line is that command, with the values of its arguments
 abbrev pub IsLine : Text → List Row → Line → Type 0
+IsLine command rows (Check file) = (command ≡ codes "check") × (file.now ≡ name_in (codes "FILE") rows)
 IsLine command rows (Serial file turns) =
     (command ≡ codes "serial") × (file.now ≡ name_in (codes "FILE") rows) × IsTurns rows turns
 
@@ -32,7 +33,7 @@ IsLineOf (Some (command, rows)) line = IsLine command rows line
 -- the subcommand that was met is one of the program's own
 abbrev pub IsOwn : Option (Text × List Row) → Type 0
 IsOwn None = ⊥
-IsOwn (Some (command, rows)) = command ≡ codes "serial"
+IsOwn (Some (command, rows)) = (command ≡ codes "check") ⊎ (command ≡ codes "serial")
 
 -- why words are refused: memory ran out, clap's definitions refuse them so, or they name no command of the program's own
 abbrev pub IsRefused : List Text → Error → Type 0

@@ -45,11 +45,14 @@ fn file_command<'a>(alloc: Global, name: &'a str, about: &'a str) -> Result<Comm
 pub fn command<'a>(alloc: Global) -> Result<Command<'a>, AllocError>
     ensures { IfOk result (IsCommand autolock) }
 {
+    let about = "Say in which order locks are taken, and which ones before each statement";
+    let check = file_command(alloc, "check", about)?;
     let about = "Run all calls one after another, and write the history";
     let serial = file_command(alloc, "serial", about)?.arg(turns_argument(alloc))?;
     Command::new(alloc, "autolock")
         .version(VERSION)
         .about("Programs with atomic sections: locks inferred from protected_by annotations")
         .subcommand_required(true)
+        .subcommand(check)?
         .subcommand(serial)
 }

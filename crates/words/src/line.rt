@@ -6,6 +6,11 @@ pub const DEFAULT_TURNS: u64 = 1_000_000;
 /// A command, with the names of its files as they were given.
 #[derive(Clone, Copy, Debug, PartialEq, Eq)]
 pub enum Line<'a> {
+    /// `check`: say in which order a program takes its locks, and which ones before each statement.
+    Check {
+        /// The file of the program's text.
+        file: &'a str,
+    },
     /// `serial`: run all calls of a program one after another.
     Serial {
         /// The file of the program's text.

@@ -28,10 +28,11 @@ fn turns(matches: &ArgMatches<'_>) -> u64
 /// The line of a command, or `None` where there is no such command.
 fn line<'a>(command: &str, matches: &ArgMatches<'a>) -> Option<Line<'a>>
     ensures line { IfSome result (IsLine command.now (rows_of (found_of matches.now))) }
-    ensures none { result ≡ None → command.now ≢ codes "serial" }
+    ensures none { result ≡ None → (command.now ≢ codes "check") × (command.now ≢ codes "serial") }
 {
     let file = name(matches, "FILE");
     match command {
+        "check" => Some(Line::Check { file }),
         "serial" => Some(Line::Serial {
             file,
             turns: turns(matches),

@@ -1,6 +1,6 @@
 use Rattle.std.proofs.Common.{rules}
 use Rattle.std.proofs.lemmas.Result.{IfOk-weaker}
-use Rattle.words.specs.Commands.{IsCommand, program}
+use Rattle.words.specs.Commands.{IsCommand, program, with_check}
 use Rattle.words.proofs.CommandLemmas.{arg_is, subcommand_is}
 use Rattle.words.proofs.command.command.Goals as goal
 
@@ -8,4 +8,5 @@ pub returns : goal.returns
 returns c =
     let top : IsCommand program c.subcommand_required.result = search rules in
     let serial = arg_is _ _ _ _ _ c.in_ok-file_command.ensures c.turns_argument.ensures.rule c.turns_argument.ensures.local c.in_ok-serial.ensures in
-    IfOk-weaker c.subcommand.result _ _ (λ r adds. subcommand_is _ _ _ _ _ top serial adds) c.subcommand.ensures
+    let with_it : IsCommand (with_check program) c.in_ok-subcommand.field-0 = subcommand_is _ _ _ _ _ top c.in_ok-check.ensures c.in_ok-subcommand.ensures in
+    IfOk-weaker c.subcommand-2.result _ _ (λ r adds. subcommand_is _ _ _ _ _ with_it serial adds) c.subcommand-2.ensures

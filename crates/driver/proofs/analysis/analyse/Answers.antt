@@ -1,7 +1,7 @@
 use Rattle.std.proofs.lemmas.Result.{err_from_is_err_and}
-use Rattle.driver.proofs.RefusalLemmas.{tokens_refused, tree_refused, paths_refused}
+use Rattle.driver.proofs.RefusalLemmas.{tokens_refused, tree_refused, paths_refused, order_refused}
 use Rattle.driver.proofs.FaultlessLemmas.{faultless, tokens_faultless}
-use Rattle.driver.proofs.program.program_of.Goals as goal
+use Rattle.driver.proofs.analysis.analyse.Goals as goal
 
 pub returns-in_err-tree-clause-fault : goal.returns-in_err-tree-clause-fault
 returns-in_err-tree-clause-fault c =
@@ -19,15 +19,25 @@ returns-in_err-program-clause-fault c =
     (λ code start. tokens_faultless _ _ _ code start c.in_ok-tokens.ensures.found right placed) right
     c.in_err-program.ensures.fault c.in_err-program.ensures.least)
 
-pub returns-in_err-paths-clause-fault : goal.returns-in_err-paths-clause-fault
-returns-in_err-paths-clause-fault c =
-    let p = err_from_is_err_and c.from_residual-in_err-paths.result c.from_residual-in_err-paths.ensures.1 in
+pub returns-in_err-found-clause-fault : goal.returns-in_err-found-clause-fault
+returns-in_err-found-clause-fault c =
+    let p = err_from_is_err_and c.from_residual-in_err-found.result c.from_residual-in_err-found.ensures.1 in
     let right = rw c.deref.ensures.value at c.in_ok-tree.ensures.found in
     let placed = rw c.deref.ensures.value at c.in_ok-tree.ensures.misplaced in
     rw (p.1, p.2)
-    (paths_refused _ _ _ _ c.in_err-paths.field-0.0 c.in_ok-tokens.ensures.refused c.in_ok-tokens.ensures.found
+    (paths_refused _ _ _ _ c.in_err-found.field-0.0 c.in_ok-tokens.ensures.refused c.in_ok-tokens.ensures.found
     (λ code start. tokens_faultless _ _ _ code start c.in_ok-tokens.ensures.found right placed) right c.in_ok-program.ensures.faultless
-    c.in_ok-program.ensures.resolves c.in_err-paths.ensures.fault c.in_err-paths.ensures.least)
+    c.in_ok-program.ensures.resolves c.in_err-found.ensures.fault c.in_err-found.ensures.least)
+
+pub returns-in_err-ranks-clause-fault : goal.returns-in_err-ranks-clause-fault
+returns-in_err-ranks-clause-fault c =
+    let p = err_from_is_err_and c.from_residual-in_err-ranks.result c.from_residual-in_err-ranks.ensures.1 in
+    let right = rw c.deref.ensures.value at c.in_ok-tree.ensures.found in
+    let placed = rw c.deref.ensures.value at c.in_ok-tree.ensures.misplaced in
+    rw (p.1, p.2)
+    (order_refused _ _ _ _ c.in_err-ranks.field-0.0 c.in_ok-tokens.ensures.refused c.in_ok-tokens.ensures.found
+    (λ code start. tokens_faultless _ _ _ code start c.in_ok-tokens.ensures.found right placed) right c.in_ok-program.ensures.faultless
+    c.in_ok-program.ensures.resolves c.in_ok-found.ensures.faultless c.in_err-ranks.ensures.fault)
 
 pub returns-clause-accepts : goal.returns-clause-accepts
 returns-clause-accepts c =
@@ -40,5 +50,5 @@ returns-clause-accepts c =
       resolves = c.in_ok-program.ensures.resolves;
       faultless = faultless _ _ _ _ c.in_ok-tokens.ensures.refused c.in_ok-tokens.ensures.only c.in_ok-tokens.ensures.found right
           (rw c.deref.ensures.value at c.in_ok-tree.ensures.misplaced) (rw c.deref.ensures.value at c.in_ok-tree.ensures.only)
-          c.in_ok-program.ensures.faultless c.in_ok-program.ensures.resolves c.in_ok-paths.ensures.faultless;
+          c.in_ok-program.ensures.faultless c.in_ok-program.ensures.resolves c.in_ok-found.ensures.faultless c.in_ok-ranks.ensures.faultless;
     }
