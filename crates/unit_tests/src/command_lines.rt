@@ -44,6 +44,7 @@ fn reads_lines(rt: HostRuntime) -> Result<(), Fail> {
     judge(
         rt.alloc(),
         "
+autolock check F => Check { file: \"F\" }
 autolock serial F => Serial { file: \"F\", turns: 1000000 }
 autolock serial --turns 7 F => Serial { file: \"F\", turns: 7 }
 autolock serial --turns=0 F => Serial { file: \"F\", turns: 0 }
@@ -63,6 +64,10 @@ autolock serial --help => DisplayHelp
 autolock --version => DisplayVersion
 autolock serial --version => UnknownArgument
 autolock walk => InvalidSubcommand
+autolock check => MissingRequiredArgument
+autolock check --help => DisplayHelp
+autolock check --turns 3 F => UnknownArgument
+autolock check F G => UnknownArgument
 autolock serial => MissingRequiredArgument
 autolock serial F G => UnknownArgument
 autolock serial --turns 1000000001 F => ValueValidation

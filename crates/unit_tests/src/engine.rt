@@ -2,7 +2,7 @@
 
 use crate::histories::{judge, judge_answer, judge_one, room};
 use crate::judging::compare;
-use driver::{Sink, SourceText, Status, serial};
+use driver::{Sink, SourceText, Status, check, serial};
 use std::alloc::{AllocError, Global};
 use std::io;
 use std::io::{ErrorKind, Read, Write};
@@ -104,6 +104,39 @@ atomic f() : int { }
 => 1 err
 F:2:20: E18 misplaced or missing return
 ",
+    )
+}
+
+/// Judges what `check` answers for a text.
+fn judge_check(alloc: Global, text: &str, want: &str) -> Result<(), Fail> {
+    let mut source = SourceText::new(text.as_bytes());
+    let mut out = Sink::new(room(alloc, text.as_bytes())?);
+    let mut err = Sink::new(room(alloc, text.as_bytes())?);
+    let status = check(alloc, &mut source, "F", &mut out, &mut err);
+    let out = out.into_writer();
+    let err = err.into_writer();
+    judge_answer(alloc, status, out.as_slice(), err.as_slice(), want)
+}
+
+#[test]
+fn checks(rt: HostRuntime) -> Result<(), Fail> {
+    let alloc = rt.alloc();
+    judge_check(
+        alloc,
+        LOST_UPDATE,
+        "0 out\naccepted\nrank 0 G\nsection inc\nat 3:16 take G\n",
+    )?;
+    judge_check(alloc, "", "0 out\naccepted\n")?;
+    judge_check(
+        alloc,
+        "struct Node { lock l; int v protected_by(l); ref Node next protected_by(l); }
+pool Node q[2];
+atomic walk(ref Node a) {
+  let b: ref Node = a.next;
+  b.v = 1;
+}
+",
+        "1 err\nF:4:3: E14 lock order cycle: Node.l -> Node.l\n",
     )
 }
 
