@@ -9,3 +9,4 @@ pub mod Standing
 pub mod Going
 pub mod RunLaws
 pub mod Placements
+pub mod Asked

@@ -40,6 +40,12 @@ abbrev pub AsksRise : Typed → Section → List ℕ → List (List ℕ) → ℕ
 AsksRise program section ranks lists p locals held =
     (lock other : Lock) → Asks program section ranks lists p locals held lock → Contains held other → Precedes ranks other lock
 
+-- where a listed lock isn't held, it asks for one
+abbrev pub AsksForSome : Typed → Section → List ℕ → List (List ℕ) → ℕ → List Value → List Lock → Type 0
+AsksForSome program section ranks lists p locals held =
+    (lock : Lock) → IsListed program section ranks lists p locals lock → (Contains held lock → ⊥) →
+    (asked : Lock) × Asks program section ranks lists p locals held asked
+
 -- where all listed locks are held, so is the lock that a path which the point uses names
 abbrev pub UsedAreHeld : Typed → Section → List ℕ → List (List ℕ) → ℕ → List Value → List Lock → Type 0
 UsedAreHeld program section ranks lists p locals held =

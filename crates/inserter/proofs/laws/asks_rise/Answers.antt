@@ -1,4 +1,5 @@
 use Rattle.inserter.proofs.Listed.{PathLaws}
+use Rattle.inserter.proofs.Asked.{some_asked}
 use Rattle.inserter.proofs.RunLaws.{asks_rise, used_are_held, few_are_held}
 use Rattle.inserter.proofs.laws.asks_rise.Goals as goal
 
@@ -10,4 +11,9 @@ returns c =
       classes = c.paths_have_classes.ensures;
       listed = c.each_path_once.ensures.listed;
     } in
-    record { rise = asks_rise laws; held = used_are_held laws; few = few_are_held laws }
+    record {
+      rise = asks_rise laws;
+      some = λ program section ranks lists p locals held ok run. some_asked laws c.precedes_is_strict.ensures program section ranks lists ok p locals held;
+      held = used_are_held laws;
+      few = few_are_held laws;
+    }
