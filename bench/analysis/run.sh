@@ -23,7 +23,7 @@ write("60_lets_50000_points", STRUCTS, "atomic f(ref S a) {\n", "".join(f"if (a.
 write("256_sections_64_paths", GLOBALS, "".join(f"atomic f{k}() {{\n{steps(220)}}}\n" for k in range(256)))
 # 128 classes, 256 sections with 64 paths each, about a MiB.
 CLASSES = "".join(f"lock H{i}; global int m{i} protected_by(H{i}); " for i in range(128)) + "\n"
-write("128_classes_256_sections_64_paths", CLASSES, "".join(f"atomic f{k}() {{\n" + "".join(f"m{(k + i) % 64 + k % 65} = m{(k + i * 7) % 64 + k % 65} + 1;\n" for i in range(228)) + "}\n" for k in range(256)))
+write("128_classes_256_sections_64_paths", CLASSES, "".join(f"atomic f{k}() {{\n" + "".join(f"m{(k + i) % 64 + k % 65} = m{(k + i * 7) % 64 + k % 65} + 1;\n" for i in range(266)) + "}\n" for k in range(256)))
 PYTHON
 for text in $(ls -v "$texts"); do
   printf '%-32s ' "$text"

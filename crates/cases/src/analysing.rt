@@ -15,14 +15,6 @@ use report::Check;
 use source::memory::NoMemory;
 use std::alloc::{AllocError, Global};
 
-/// Where a point starts.
-fn start_of(point: PointRef) -> usize {
-    match point {
-        PointRef::Statement(statement) => statement.start,
-        PointRef::Result(result) => result.start,
-    }
-}
-
 /// The text without the line feed at its end.
 pub fn without_line_feed(alloc: Global, text: &str) -> Result<String, NoMemory> {
     Ok(String::from_str(alloc, text.strip_suffix('\n').unwrap_or(text))?)
@@ -87,7 +79,7 @@ impl Analysed<'_> {
         let points = points_of(alloc, section)?;
         for (point, used) in points.iter().zip(found.used.iter()) {
             out.push_str("\n")?;
-            self.push_place(out, start_of(*point))?;
+            self.push_place(out, point.start())?;
             self.push_set(out, section, found, *used)?;
         }
         Ok(())
@@ -118,7 +110,7 @@ impl Analysed<'_> {
         let sets = sets.zip(points.used_later.iter());
         for (point, ((in_scope, before), later)) in points_of(alloc, section)?.iter().zip(sets) {
             out.push_str("\n")?;
-            self.push_place(out, start_of(*point))?;
+            self.push_place(out, point.start())?;
             out.push_str(" in")?;
             self.push_set(out, section, found, *in_scope)?;
             out.push_str(", before")?;
@@ -177,7 +169,7 @@ impl Analysed<'_> {
     ) -> Result<(), AllocError> {
         for (point, (wanted, held)) in starts.iter().zip(sets.0.iter().zip(sets.1.iter())) {
             out.push_str("\n")?;
-            self.push_place(out, start_of(*point))?;
+            self.push_place(out, point.start())?;
             out.push_str(" wants")?;
             self.push_set(out, section, found, *wanted)?;
             out.push_str(", holds")?;

@@ -1,7 +1,7 @@
 //! The points of a section, one after another.
 
 ghost use Rattle.std.specs.Prelude.{◌≡◌, ◌++◌, map, IfOk, OnOk};
-ghost use Rattle.flow.specs.Points.{points, points_of_all, inner_points};
+ghost use Rattle.flow.specs.Points.{points, points_of_all, inner_points, start_of};
 ghost use Rattle.flow.specs.PointList.{point_at};
 
 use core_lang::tree::{Action, Return, Section, Stmt};
@@ -15,6 +15,18 @@ pub enum PointRef<'a> {
     Statement(&'a Stmt),
     /// The `return`.
     Result(&'a Return),
+}
+
+impl PointRef<'_> {
+    /// Where its statement starts: the statement that it is, or whose condition it is, or the `return`.
+    pub fn start(self) -> usize
+        ensures { result ≡ start_of (point_at self.entry) }
+    {
+        match self {
+            PointRef::Statement(statement) => statement.start,
+            PointRef::Result(result) => result.start,
+        }
+    }
 }
 
 /// The points of a section in the order of the text; point p stands at place p.

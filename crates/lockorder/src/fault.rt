@@ -1,26 +1,15 @@
 //! The fault of a cycle.
 
 ghost use Rattle.std.specs.Prelude.{◌≡◌, IfOk};
-ghost use Rattle.flow.specs.Points.{start_of};
-ghost use Rattle.flow.specs.PointList.{point_at};
 ghost use Rattle.lockorder.specs.Faults.{IsCycleOf, IsFault};
 
 use crate::ranks::Cycle;
 use crate::text::cycle_text;
 use core_lang::typed::Typed;
-use flow::points::{PointRef, points_of};
+use flow::points::points_of;
 use source::fault::{Code, Fault};
 use source::memory::NoMemory;
 use std::alloc::Global;
-
-fn start_of(point: PointRef<'_>) -> usize
-    ensures { result ≡ start_of (point_at point.entry) }
-{
-    match point {
-        PointRef::Statement(statement) => statement.start,
-        PointRef::Result(result) => result.start,
-    }
-}
 
 impl Cycle {
     /// The fault `E14` of a program for this cycle of it, at the statement of the first edge's use point; its detail is the
@@ -31,7 +20,7 @@ impl Cycle {
     {
         let first = self.edges[0];
         let points = points_of(alloc, &program.sections[first.section])?;
-        let start = start_of(points[first.used]);
+        let start = points[first.used].start();
         let detail = cycle_text(alloc, program, &self.edges)?;
         Ok(Fault {
             code: Code::LockOrderCycle,

@@ -2,8 +2,6 @@
 
 ghost use Rattle.std.specs.Prelude.{◌≡◌, ◌++◌, OnOk, map, string_bytes};
 ghost use Rattle.std.proofs.Props.{props};
-ghost use Rattle.flow.specs.Points.{start_of};
-ghost use Rattle.flow.specs.PointList.{point_at};
 ghost use Rattle.locks.specs.LockPaths.{lock_path_of, lock_paths};
 ghost use Rattle.report.specs.Check.{position_text};
 
@@ -17,16 +15,6 @@ use locks::path::LockPath;
 use locks::text::push_path;
 use source::memory::NoMemory;
 use std::alloc::{AllocError, Global};
-
-/// Where a point's statement starts.
-fn start_of(point: PointRef<'_>) -> usize
-    ensures { result ≡ start_of (point_at point.entry) }
-{
-    match point {
-        PointRef::Statement(statement) => statement.start,
-        PointRef::Result(result) => result.start,
-    }
-}
 
 /// `LINE:COL`
 fn push_position(out: &mut String, line: usize, column: usize) -> Result<(), AllocError>
@@ -111,7 +99,7 @@ impl SectionText<'_> {
             let Some(list) = self.lists.before.get(i) else {
                 return Ok(());
             };
-            self.push_take(out, cursor, start_of(*point), list)?;
+            self.push_take(out, cursor, point.start(), list)?;
         }
         Ok(())
     }

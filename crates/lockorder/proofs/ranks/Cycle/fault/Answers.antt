@@ -10,5 +10,5 @@ returns c =
     let first = c.index-first.result.now in
     let m = first_makes program edges first c.requires c.index-first.ensures in
     is_fault program edges first _ c.requires c.index-first.ensures
-    (starts_at program first.section first.used first.bound first.class m.0 c.index.result.now c.in_ok-points.points.items c.index-2.result.now c.start_of-start.result m.1
-    c.index.ensures c.in_ok-points.ensures c.index-2.ensures c.start_of-start.ensures) refl (c.in_ok-detail.ensures ∙ ap (λ l. cycle_text program (classes_of l)) c.deref.ensures.value)
+    (starts_at program first.section first.used first.bound first.class m.0 c.index.result.now c.in_ok-points.points.items c.index-2.result.now c.start-start.result m.1
+    c.index.ensures c.in_ok-points.ensures c.index-2.ensures c.start-start.ensures) refl (c.in_ok-detail.ensures ∙ ap (λ l. cycle_text program (classes_of l)) c.deref.ensures.value)
