@@ -1,8 +1,7 @@
 -- What is answered to a text that is checked.
-use Rattle.std.proofs.Common.{◌≡◌, List, ℕ, sym, subst, string_bytes}
+use Rattle.std.proofs.Common.{List, ℕ, sym, subst, string_bytes}
 use Rattle.core_lang.specs.declared.typed.Typed.{Typed}
 use Rattle.driver.specs.declared.answer.Answer.{Answer}
-use Rattle.driver.specs.declared.status.Status.TheVariants.{Done, Refused}
 use Rattle.source.specs.declared.fault.Fault.{Fault}
 use Rattle.driver.specs.Programs.{Accepts, IsOfFirstPass}
 use Rattle.driver.specs.Checks.{CheckAnswers}

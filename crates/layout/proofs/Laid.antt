@@ -1,0 +1,82 @@
+-- The layout of a program, from what the code has put together.
+use Rattle.std.proofs.Common.{◌≡◌, ℕ, zero, suc, ◌+◌, ◌<◌, List, [], ◌∷◌, ◌++◌, length, Option, Some, None, inl, inr, refl, sym, ap, ◌∙◌, subst, arith}
+use Rattle.std.specs.Prelude.{slice_get}
+use Rattle.std.specs.List.{Contains}
+use Rattle.std.specs.Option.{option_map}
+use Rattle.std.proofs.lemmas.Bool.{cases_lt}
+use Rattle.std.proofs.lemmas.Option.{slice_get_past, slice_get-map}
+use Rattle.core_lang.specs.declared.shape.Object.{Object}
+use Rattle.core_lang.specs.declared.typed.Cell.{Cell}
+use Rattle.core_lang.specs.declared.typed.Typed.{Typed}
+use Rattle.core_lang.specs.Typing.{lookup}
+use Rattle.core_lang.specs.Serial.{opening_heap}
+use Rattle.core_lang.specs.WellFormed.{IsWellFormed}
+use Rattle.locks.specs.declared.lock.Lock.{Lock}
+use Rattle.locks.specs.Locks.{protecting, final_of, lock_of_cell}
+use Rattle.layout.specs.Layouts.{LayoutOf, object_named, all_locks, AreDistinct, IsLayoutOf}
+use Rattle.layout.specs.Numbers.{program_finals}
+use Rattle.layout.proofs.Listed.{listed}
+
+-- so many cells of a program, with their locks
+abbrev pub AreLocked : Typed → ℕ → List Lock → Type 0
+AreLocked program n locks = (k : ℕ) → k < n → slice_get locks k ≡ lock_of_cell program k
+
+pub one_locked : (program : Typed) (n : ℕ) (locks grown : List Lock) (lock : Lock) → AreLocked program n locks → length locks ≡ n →
+    lock_of_cell program n ≡ Some lock → grown ≡ locks ++ lock ∷ [] → AreLocked program (n + 1) grown
+one_locked program n locks grown lock are long is is_grown k lt =
+    elim (cases_lt k n) [
+      | inl less ↦ ap (λ (ls : List Lock). slice_get ls k) is_grown ∙ before locks (lock ∷ []) k (omega arith) ∙ are k less
+      | inr ge ↦
+          let same : k ≡ n = omega arith in
+          ap (λ (ls : List Lock). slice_get ls k) is_grown ∙ ap (slice_get (locks ++ lock ∷ [])) (same ∙ sym long) ∙ last locks lock
+          ∙ sym is ∙ ap (lock_of_cell program) (sym same)
+    ]
+  where
+    before : (xs ys : List Lock) (j : ℕ) → j < length xs → slice_get (xs ++ ys) j ≡ slice_get xs j
+    before [] ys j less = absurd (omega arith)
+    before (x ∷ xs) ys zero less = refl
+    before (x ∷ xs) ys (suc j) less = before xs ys j (omega arith)
+
+    last : (xs : List Lock) (x : Lock) → slice_get (xs ++ x ∷ []) (length xs) ≡ Some x
+    last [] x = refl
+    last (y ∷ xs) x = last xs x
+
+-- those of all cells, and of no others
+all_locked : (program : Typed) (locks : List Lock) → length locks ≡ length program.cells.items → AreLocked program (length program.cells.items) locks →
+    (cell : ℕ) → slice_get locks cell ≡ lock_of_cell program cell
+all_locked program locks long are cell =
+    elim (cases_lt cell (length program.cells.items)) [
+      | inl less ↦ are cell less
+      | inr ge ↦
+          slice_get_past locks cell (omega arith)
+          ∙ ap (λ (o : Option Cell). lookup o (λ c. protecting program c.owner)) (sym (slice_get_past program.cells.items cell (omega arith)))
+    ]
+
+lookup_map : {A B C : Type 0} (f : A → B) (go : B → Option C) (o : Option A) → lookup (option_map f o) go ≡ lookup o (λ x. go (f x))
+lookup_map f go None = refl
+lookup_map f go (Some x) = refl
+
+same_finals : (program : Typed) (layout : LayoutOf) → layout.first_finals ≡ program_finals program.shape.objects.items → layout.finals ≡ program.shape.finals.items →
+    (object final : ℕ) → object_named layout object final ≡ final_of program.shape object final
+same_finals program layout first finals object final =
+    ap (λ (fs : List ℕ). lookup (slice_get fs object) (λ f. slice_get layout.finals (f + final))) first
+    ∙ ap (λ (o : Option ℕ). lookup o (λ f. slice_get layout.finals (f + final))) (slice_get-map (λ (x : Object). x.finals) program.shape.objects.items object)
+    ∙ lookup_map (λ (x : Object). x.finals) (λ f. slice_get layout.finals (f + final)) (slice_get program.shape.objects.items object)
+    ∙ ap (λ (fs : List ℕ). lookup (slice_get program.shape.objects.items object) (λ x. slice_get fs (x.finals + final))) finals
+
+pub laid_out : (program : Typed) (layout : LayoutOf) → IsWellFormed program → layout.opening ≡ opening_heap program →
+    length layout.cell_locks ≡ length program.cells.items → AreLocked program (length program.cells.items) layout.cell_locks → layout.locks ≡ all_locks program →
+    AreDistinct layout.locks → layout.first_finals ≡ program_finals program.shape.objects.items → layout.finals ≡ program.shape.finals.items →
+    IsLayoutOf program layout
+laid_out program layout well opening long locked locks once first finals = record {
+  opening = opening;
+  cells = long;
+  cell_locks = all_locked program layout.cell_locks long locked;
+  listed = λ lock. let h = listed program well lock in (
+    λ c. h.0 (subst (λ (ls : List Lock). Contains ls lock) locks c),
+    λ is. subst (λ (ls : List Lock). Contains ls lock) (sym locks) (h.1 is),
+  );
+  distinct = once;
+  order = locks;
+  finals = same_finals program layout first finals;
+}

@@ -1,0 +1,6 @@
+pub mod Lists
+pub mod Numbered
+pub mod Placed
+pub mod Locked
+pub mod Listed
+pub mod Laid

@@ -1,0 +1,49 @@
+use Rattle.std.proofs.Common.{◌≡◌, ◌+◌, ◌++◌, ◌∷◌, [], length, take, Some, is_ok, sym, ap, ◌∙◌, subst, arith, length-append}
+use Rattle.std.specs.Prelude.{slice_get}
+use Rattle.std.proofs.lemmas.List.{length-map, length-take-le}
+use Rattle.core_lang.specs.declared.typed.LockField.{LockField}
+use Rattle.locks.specs.declared.lock.Lock.{Lock}
+use Rattle.layout.specs.declared.places.ClassPlace.TheVariants as place
+use Rattle.layout.specs.declared.places.ObjectPlace.{ObjectPlace}
+use Rattle.layout.specs.Numbers.{locks_at}
+use Rattle.layout.proofs.Lists.{read_at, last_at}
+use Rattle.layout.proofs.Numbered.{object_added, field_added}
+use Rattle.layout.proofs.numbering.Numbering.add_object.Goals as goal
+
+pub invariant_of-self : goal.invariant_of-self
+invariant_of-self c =
+    let x = c.args.self.now in
+    record {
+      numbered = object_added (is_ok c.push.result) x.classes.items x.objects.items c.push.new.self.items x.locks.items
+          (record { first_lock = c.len-first_lock.result; first_final = c.args.first_final }) x.numbered c.push.ensures.items;
+    }
+
+pub invariant_of-self-in-loop-field : goal.invariant_of-self-in-loop-field
+invariant_of-self-in-loop-field c =
+    let old = c.args.self.now in
+    let x = c.loop-field.self in
+    let i = c.loop-field.invariant in
+    let fields = c.args.fields.now in
+    let l = c.loop-field.field-index in
+    let own : ObjectPlace = record { first_lock = c.len-first_lock.result; first_final = c.args.first_final } in
+    let at = read_at fields l c.field-item.result c.loop-field-test.true c.field-item.is in
+    let class_at : slice_get x.classes.items c.field-item.result.class ≡ Some (place.Field l) =
+    subst (λ cs. slice_get cs c.field-item.result.class ≡ Some (place.Field l)) (sym i.classes) (c.requires.fields l c.field-item.result at) in
+    let own_at : slice_get (old.objects.items ++ own ∷ []) c.len-object.result ≡ Some own =
+    subst (λ n. slice_get (old.objects.items ++ own ∷ []) n ≡ Some own) (sym (c.len-object.ensures ∙ old.objects.ok.0)) (last_at old.objects.items own) in
+    let object_at : slice_get x.objects.items c.len-object.result ≡ Some own = subst (λ os. slice_get os c.len-object.result ≡ Some own) (sym i.objects) own_at in
+    let made : LockField → Lock = λ (f : LockField). record { class = f.class; object = c.len-object.result } in
+    let long : length x.locks.items ≡ c.len-first_lock.result + l =
+    omega (
+      arith,
+      ap length i.locks,
+      length-append old.locks.items (locks_at c.len-object.result (take l fields)),
+      length-map (take l fields) made,
+      length-take-le l fields (omega (arith, c.loop-field-test.true)),
+      c.len-first_lock.ensures,
+      old.locks.ok.0,
+    ) in
+    record {
+      numbered = field_added (is_ok c.push-in-loop-field.result) x.classes.items x.objects.items x.locks.items c.push-in-loop-field.new.self.items c.field-item.result.class l
+          c.len-object.result own x.numbered class_at object_at long c.push-in-loop-field.ensures.items;
+    }

@@ -1,0 +1,65 @@
+use Rattle.std.proofs.Common.{◌≡◌, ◌+◌, ◌++◌, ◌∷◌, [], length, take, Some, sym, ap, ◌∙◌, subst, arith, add-one, length-append}
+use Rattle.std.specs.Prelude.{slice_get}
+use Rattle.std.proofs.lemmas.List.{length-map}
+use Rattle.core_lang.specs.declared.shape.Object.{Object}
+use Rattle.layout.specs.declared.places.ObjectPlace.{ObjectPlace}
+use Rattle.layout.specs.Layouts.{global_locks, object_locks, lock_fields, object_struct, if_global_lock}
+use Rattle.layout.specs.Numbers.{KnowFields, AreFields, first_finals, program_finals, locks_at}
+use Rattle.layout.proofs.Lists.{read_at, map_at, take_one_more}
+use Rattle.layout.proofs.Numbered.{distinct}
+use Rattle.layout.proofs.Listed.{knows_more, fields_known, one_class, one_object}
+use Rattle.layout.proofs.numbering.Numbering.of.Goals as goal
+
+pub loop-class-preserved : goal.loop-class-preserved
+loop-class-preserved c =
+    let program = c.args.program.now in
+    let n = c.loop-class.class-index in
+    let old = c.loop-class.numbering in
+    let new = c.add_class.new.self in
+    let i = c.loop-class.invariant in
+    let at_items = read_at c.deref-class-items.result.now n c.class-item.result c.loop-class-test.true c.class-item.is in
+    let at : slice_get program.classes.items n ≡ Some c.class-item.result = subst (λ cs. slice_get cs n ≡ Some c.class-item.result) c.deref-class-items.ensures.value at_items in
+    record {
+      classes = ap length c.in_ok-add_class.ensures.classes ∙ length-append old.classes.items _ ∙ ap (λ k. k + 1) i.classes;
+      locks = c.in_ok-add_class.ensures.locks ∙ ap (λ ls. ls ++ if_global_lock (length old.classes.items) (Some c.class-item.result)) i.locks
+          ∙ ap (λ k. global_locks program n ++ if_global_lock k (Some c.class-item.result)) i.classes ∙ sym (one_class program n c.class-item.result at);
+      fields = knows_more program n (length old.locks.items) old.classes.items new.classes.items c.class-item.result i.fields i.classes at c.in_ok-add_class.ensures.classes;
+      objects = c.in_ok-add_class.ensures.objects ∙ i.objects;
+    }
+
+pub add_object-requires-clause-fields : goal.add_object-requires-clause-fields
+add_object-requires-clause-fields c =
+    subst (AreFields c.loop-object.numbering.classes.items) (sym c.lock_fields.ensures)
+    (fields_known c.args.program.now c.loop-object.object c.loop-object.numbering.classes.items c.requires c.loop-object.invariant.fields)
+
+pub loop-object-preserved : goal.loop-object-preserved
+loop-object-preserved c =
+    let program = c.args.program.now in
+    let n = c.loop-object.object in
+    let old = c.loop-object.numbering in
+    let new = c.add_object.new.self in
+    let i = c.loop-object.invariant in
+    let globals = global_locks program (length program.classes.items) in
+    let fields = lock_fields (object_struct program n) in
+    let at : slice_get program.shape.objects.items n ≡ Some c.index.result.now =
+    read_at program.shape.objects.items n c.index.result.now (omega (arith, c.loop-object-test.true, c.len-object-end.ensures, program.shape.objects.ok.0)) c.index.ensures in
+    let first : slice_get (program_finals program.shape.objects.items) n ≡ Some c.index.result.now.finals =
+    map_at (λ (x : Object). x.finals) program.shape.objects.items n c.index.result.now at in
+    let finals : first_finals new.objects.items ≡ take (n + 1) (program_finals program.shape.objects.items) =
+    c.in_ok-add_object.ensures.finals ∙ ap (λ ls. ls ++ c.index.result.now.finals ∷ []) i.finals
+    ∙ rw add-one (sym (take_one_more (program_finals program.shape.objects.items) n c.index.result.now.finals first)) in
+    record {
+      fields = subst (KnowFields program (length program.classes.items)) (sym c.in_ok-add_object.ensures.classes) i.fields;
+      locks = c.in_ok-add_object.ensures.locks ∙ ap (λ ls. ls ++ locks_at (length old.objects.items) c.lock_fields.result.now) i.locks
+          ∙ ap (λ k. (globals ++ object_locks program n) ++ locks_at k c.lock_fields.result.now) i.objects
+          ∙ ap (λ fs. (globals ++ object_locks program n) ++ locks_at n fs) c.lock_fields.ensures
+          ∙ one_object program globals n;
+      finals = finals;
+      objects = sym (length-map new.objects.items (λ (x : ObjectPlace). x.first_final)) ∙ ap length c.in_ok-add_object.ensures.finals
+          ∙ length-append (first_finals old.objects.items) _ ∙ ap (λ k. k + 1) (length-map old.objects.items (λ (x : ObjectPlace). x.first_final) ∙ i.objects);
+    }
+
+pub returns-clause-distinct : goal.returns-clause-distinct
+returns-clause-distinct c =
+    let x = c.loop-object.numbering in
+    distinct x.classes.items x.objects.items x.locks.items x.numbered

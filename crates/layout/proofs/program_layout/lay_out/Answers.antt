@@ -1,0 +1,67 @@
+use Rattle.std.proofs.Common.{◌≡◌, ℕ, ◌+◌, ◌++◌, List, ◌∷◌, [], length, Some, sym, ap, ◌∙◌, subst, arith, add-one, length-append}
+use Rattle.std.specs.Prelude.{slice_get}
+use Rattle.std.specs.List.{Contains}
+use Rattle.std.proofs.lemmas.List.{length-map}
+use Rattle.core_lang.specs.declared.typed.Cell.{Cell}
+use Rattle.core_lang.specs.Serial.{opening_heap}
+use Rattle.locks.specs.declared.lock.Lock.{Lock}
+use Rattle.layout.specs.Layouts.{LayoutOf, AreDistinct}
+use Rattle.layout.proofs.Lists.{read_at, map_at, take_one_more, taken_whole, same_items}
+use Rattle.layout.proofs.Listed.{listed}
+use Rattle.layout.proofs.Laid.{AreLocked, one_locked, laid_out}
+use Rattle.layout.proofs.program_layout.lay_out.Goals as goal
+
+pub loop-cell-init : goal.loop-cell-init
+loop-cell-init c =
+    let e = c.in_ok-layout.ensures in
+    let cell_locks = ap (λ (v : LayoutOf). v.cell_locks) e in
+    record {
+      locks = ap (λ (v : LayoutOf). v.locks) e ∙ c.in_ok-numbering.ensures.locks;
+      first_finals = ap (λ (v : LayoutOf). v.first_finals) e ∙ c.in_ok-numbering.ensures.finals;
+      finals = ap (λ (v : LayoutOf). v.finals) e ∙ same_items c.args.program.now.shape.finals.items c.in_ok-finals.finals.items c.in_ok-finals.ensures.cases.0;
+      opening = ap (λ (v : LayoutOf). v.opening) e;
+      long = ap length cell_locks;
+      cell_locks = λ k lt. absurd (omega (arith, lt));
+    }
+
+pub add-requires-clause-lock : goal.add-requires-clause-lock
+add-requires-clause-lock c =
+    subst (λ (ls : List Lock). Contains ls c.lock_of_cell.result) (sym c.loop-cell.invariant.locks)
+    ((listed c.args.program.now c.requires c.lock_of_cell.result).1 c.lock_of_cell.ensures.listed)
+
+pub add-requires-clause-few : goal.add-requires-clause-few
+add-requires-clause-few c = omega (arith, c.loop-cell.invariant.long, c.loop-cell-test.true, c.len-cell-end.ensures, c.args.program.now.cells.ok.0, c.requires.within.cells)
+
+pub loop-cell-preserved : goal.loop-cell-preserved
+loop-cell-preserved c =
+    let program = c.args.program.now in
+    let n = c.loop-cell.cell in
+    let old = c.loop-cell.layout in
+    let i = c.loop-cell.invariant in
+    let e = c.in_ok-add.ensures in
+    let at : slice_get program.cells.items n ≡ Some c.index.result.now =
+    read_at program.cells.items n c.index.result.now (omega (arith, c.loop-cell-test.true, c.len-cell-end.ensures, program.cells.ok.0)) c.index.ensures in
+    let opens : slice_get (opening_heap program) n ≡ Some c.index.result.now.opening = map_at (λ (x : Cell). x.opening) program.cells.items n c.index.result.now at in
+    let cell_locks = ap (λ (v : LayoutOf). v.cell_locks) e in
+    record {
+      locks = ap (λ (v : LayoutOf). v.locks) e ∙ i.locks;
+      first_finals = ap (λ (v : LayoutOf). v.first_finals) e ∙ i.first_finals;
+      finals = ap (λ (v : LayoutOf). v.finals) e ∙ i.finals;
+      opening = ap (λ (v : LayoutOf). v.opening) e ∙ ap (λ vs. vs ++ c.index.result.now.opening ∷ []) i.opening
+          ∙ rw add-one (sym (take_one_more (opening_heap program) n c.index.result.now.opening opens));
+      long = ap length cell_locks ∙ length-append old.cell_locks _ ∙ ap (λ k. k + 1) i.long;
+      cell_locks = one_locked program n old.cell_locks c.add.new.self.cell_locks c.lock_of_cell.result i.cell_locks i.long c.lock_of_cell.ensures.protects cell_locks;
+    }
+
+pub returns : goal.returns
+returns c =
+    let program = c.args.program.now in
+    let i = c.loop-cell.invariant in
+    let through : c.loop-cell.cell ≡ length program.cells.items =
+    omega (arith, c.loop-cell-test.false, c.loop-cell.auto.cell-end, c.len-cell-end.ensures, program.cells.ok.0) in
+    let layout = c.loop-cell.layout in
+    let opening : layout.opening ≡ opening_heap program =
+    i.opening ∙ taken_whole (opening_heap program) c.loop-cell.cell (omega (arith, through, length-map program.cells.items (λ (x : Cell). x.opening))) in
+    let locks = c.in_ok-numbering.ensures.locks ∙ sym i.locks in
+    laid_out program layout c.requires opening (i.long ∙ through) (subst (λ (n : ℕ). AreLocked program n layout.cell_locks) through i.cell_locks) i.locks
+    (subst AreDistinct locks c.in_ok-numbering.ensures.distinct) i.first_finals i.finals

@@ -1,0 +1,88 @@
+-- The layout of a program.
+use Rattle.std.specs.Prelude.{◌≡◌, ℕ, zero, suc, ◌+◌, ◌↔◌, List, [], ◌∷◌, ◌++◌, length, map, slice_get, Option, Some, None}
+use Rattle.std.specs.List.{Contains}
+use Rattle.core_lang.specs.declared.value.Value.{Value}
+use Rattle.core_lang.specs.declared.typed.LockClass.{LockClass}
+use Rattle.core_lang.specs.declared.typed.LockClass.TheVariants as class
+use Rattle.core_lang.specs.declared.typed.LockField.{LockField}
+use Rattle.core_lang.specs.declared.typed.Struct.{Struct}
+use Rattle.core_lang.specs.declared.typed.Typed.{Typed}
+use Rattle.core_lang.specs.Serial.{opening_heap}
+use Rattle.core_lang.specs.Typing.{lookup, struct_of}
+use Rattle.locks.specs.declared.lock.Lock.{Lock}
+use Rattle.locks.specs.Locks.{final_of, global_lock, lock_of_cell}
+
+-- what each cell opens with and which lock protects it, the locks by number, and what final references name
+pub record LayoutOf : Type 0 where
+  pub opening : List Value
+  pub cell_locks : List Lock
+  pub locks : List Lock
+  -- for each object the place of its final reference 0 in `finals`; the others follow
+  pub first_finals : List ℕ
+  pub finals : List ℕ
+
+-- the object that a final reference of an object names
+abbrev pub object_named : LayoutOf → ℕ → ℕ → Option ℕ
+object_named layout object final = lookup (slice_get layout.first_finals object) (λ first. slice_get layout.finals (first + final))
+
+-- ---- the locks of a program
+
+-- a global lock, or the lock of a struct's lock field at an object of the struct
+abbrev pub IsLockOfClass : Typed → Lock → Option LockClass → Type 0
+IsLockOfClass program lock None = ⊥
+IsLockOfClass program lock (Some (class.Global name)) = lock.object ≡ 0
+IsLockOfClass program lock (Some (class.Field s l)) = struct_of program.shape lock.object ≡ Some s
+
+-- a lock of the program
+abbrev pub IsLock : Typed → Lock → Type 0
+IsLock program lock = IsLockOfClass program lock (slice_get program.classes.items lock.class)
+
+-- the lock of a class, if it is a global lock
+abbrev pub if_global_lock : ℕ → Option LockClass → List Lock
+if_global_lock number None = []
+if_global_lock number (Some (class.Global name)) = global_lock number ∷ []
+if_global_lock number (Some (class.Field s l)) = []
+
+-- the global locks among the first n classes, by class
+abbrev pub global_locks : Typed → ℕ → List Lock
+global_locks program zero = []
+global_locks program (suc n) = global_locks program n ++ if_global_lock n (slice_get program.classes.items n)
+
+-- the lock fields of a struct, if there is one
+abbrev pub lock_fields : Option Struct → List LockField
+lock_fields None = []
+lock_fields (Some x) = x.locks.items
+
+-- the struct of an object
+abbrev pub object_struct : Typed → ℕ → Option Struct
+object_struct program object = lookup (struct_of program.shape object) (λ s. slice_get program.structs.items s)
+
+-- an object's locks, in the order of its struct
+abbrev pub locks_of_object : Typed → ℕ → List Lock
+locks_of_object program object = map (λ (x : LockField). record { class = x.class; object = object }) (lock_fields (object_struct program object))
+
+-- the locks of the first n objects, object after object
+abbrev pub object_locks : Typed → ℕ → List Lock
+object_locks program zero = []
+object_locks program (suc n) = object_locks program n ++ locks_of_object program n
+
+-- the global locks, and behind them those of the objects
+abbrev pub all_locks : Typed → List Lock
+all_locks program = global_locks program (length program.classes.items) ++ object_locks program (length program.shape.objects.items)
+
+-- no lock has two numbers
+abbrev pub AreDistinct : List Lock → Type 0
+AreDistinct locks = (i j : ℕ) (lock : Lock) → slice_get locks i ≡ Some lock → slice_get locks j ≡ Some lock → i ≡ j
+
+-- ---- the whole
+
+-- the layout of a program: each cell with its opening value and its lock, all locks, and what each final reference names
+pub record IsLayoutOf (program : Typed) (layout : LayoutOf) : Type 0 where
+  pub opening : layout.opening ≡ opening_heap program
+  pub cells : length layout.cell_locks ≡ length program.cells.items
+  pub cell_locks : (cell : ℕ) → slice_get layout.cell_locks cell ≡ lock_of_cell program cell
+  -- which locks there are, each once, and in which order
+  pub listed : (lock : Lock) → Contains layout.locks lock ↔ IsLock program lock
+  pub distinct : AreDistinct layout.locks
+  pub order : layout.locks ≡ all_locks program
+  pub finals : (object final : ℕ) → object_named layout object final ≡ final_of program.shape object final

@@ -1,0 +1,80 @@
+-- How the code finds the numbers of locks, and the slots of cells. Nobody has to believe these.
+use Rattle.std.specs.Prelude.{◌≡◌, ℕ, ◌+◌, ◌<◌, List, length, map, slice_get, Option, Some}
+use Rattle.core_lang.specs.declared.value.Value.{Value}
+use Rattle.core_lang.specs.declared.shape.Object.{Object}
+use Rattle.core_lang.specs.declared.typed.LockClass.{LockClass}
+use Rattle.core_lang.specs.declared.typed.LockClass.TheVariants as class
+use Rattle.core_lang.specs.declared.typed.LockField.{LockField}
+use Rattle.core_lang.specs.declared.typed.Typed.{Typed}
+use Rattle.core_lang.specs.Typing.{lookup}
+use Rattle.locks.specs.declared.lock.Lock.{Lock}
+use Rattle.layout.specs.declared.places.ClassPlace.{ClassPlace}
+use Rattle.layout.specs.declared.places.ClassPlace.TheVariants as place
+use Rattle.layout.specs.declared.places.ObjectPlace.{ObjectPlace}
+use Rattle.layout.specs.declared.places.CellPlace.{CellPlace}
+use Rattle.layout.specs.LockCells.{cells_of}
+
+-- ---- locks
+
+-- the place of a class: of a global lock its number, which is this
+abbrev pub class_place : ℕ → LockClass → ClassPlace
+class_place number (class.Global name) = place.Global number
+class_place number (class.Field s l) = place.Field l
+
+-- a lock's number, where its object has these places
+abbrev pub number_at : ClassPlace → Option ObjectPlace → Option ℕ
+number_at (place.Global number) object = Some number
+number_at (place.Field l) object = lookup object (λ (x : ObjectPlace). Some (x.first_lock + l))
+
+abbrev pub number_of : List ClassPlace → List ObjectPlace → Lock → Option ℕ
+number_of classes objects lock = lookup (slice_get classes lock.class) (λ (c : ClassPlace). number_at c (slice_get objects lock.object))
+
+-- each lock is found at its number
+abbrev pub AreNumbered : List ClassPlace → List ObjectPlace → List Lock → Type 0
+AreNumbered classes objects locks = (n : ℕ) (lock : Lock) → slice_get locks n ≡ Some lock → number_of classes objects lock ≡ Some n
+
+-- the places of the first n classes of a program tell of each lock field its number
+abbrev pub KnowFields : Typed → ℕ → List ClassPlace → Type 0
+KnowFields program n classes =
+    (number s l : ℕ) → number < n → slice_get program.classes.items number ≡ Some (class.Field s l) →
+    slice_get classes number ≡ Some (place.Field l)
+
+-- these are the lock fields of a struct, in order
+abbrev pub AreFields : List ClassPlace → List LockField → Type 0
+AreFields classes fields = (l : ℕ) (field : LockField) → slice_get fields l ≡ Some field → slice_get classes field.class ≡ Some (place.Field l)
+
+-- the locks of an object whose struct has these lock fields
+abbrev pub locks_at : ℕ → List LockField → List Lock
+locks_at object fields = map (λ (x : LockField). record { class = x.class; object = object }) fields
+
+-- where the final references of objects begin
+abbrev pub first_finals : List ObjectPlace → List ℕ
+first_finals objects = map (λ (x : ObjectPlace). x.first_final) objects
+
+abbrev pub program_finals : List Object → List ℕ
+program_finals objects = map (λ (x : Object). x.finals) objects
+
+-- of each object of the program
+abbrev pub HasFinalsOf : Typed → List ObjectPlace → Type 0
+HasFinalsOf program objects = first_finals objects ≡ program_finals program.shape.objects.items
+
+-- ---- cells
+
+abbrev pub openings_in : List CellPlace → List Value
+openings_in cells = map (λ (x : CellPlace). x.opening) cells
+
+abbrev pub locks_in : List CellPlace → List Lock
+locks_in cells = map (λ (x : CellPlace). x.lock) cells
+
+-- a cell's lock is among the locks, and the cell is at its offset
+pub record IsPlaced (locks : List Lock) (cells : List CellPlace) (cell : ℕ) (x : CellPlace) : Type 0 where
+  pub number : ℕ
+  pub lock : slice_get locks number ≡ Some x.lock
+  pub offset : slice_get (cells_of (locks_in cells) x.lock) x.offset ≡ Some cell
+
+-- each cell is placed, and for each lock this is how many cells it has
+pub record ArePlaced (locks : List Lock) (cells : List CellPlace) (sizes : List ℕ) : Type 0 where
+  pub long : length sizes ≡ length locks
+  pub each : (cell : ℕ) (x : CellPlace) → slice_get cells cell ≡ Some x → IsPlaced locks cells cell x
+  pub size : (number : ℕ) (lock : Lock) → slice_get locks number ≡ Some lock →
+      slice_get sizes number ≡ Some (length (cells_of (locks_in cells) lock))

@@ -1,0 +1,98 @@
+//! The numbers of locks.
+
+ghost use Rattle.std.specs.Prelude.{◌≡◌, ◌<◌, ◌^◌, length, slice_get, Some, IfOk, OnOk};
+ghost use Rattle.std.specs.List.{Contains};
+ghost use Rattle.core_lang.specs.WellFormed.{IsWellFormed};
+ghost use Rattle.layout.specs.Layouts.{all_locks, AreDistinct};
+ghost use Rattle.layout.specs.Numbers.{AreNumbered, AreFields, HasFinalsOf};
+
+use crate::places::{ClassPlace, ObjectPlace};
+use crate::protection::lock_fields;
+use core_lang::typed::{LockClass, LockField, Typed};
+use locks::lock::Lock;
+use source::memory::NoMemory;
+use std::alloc::Global;
+
+/// The locks by number, and where each one's number is found.
+#[derive(Drop)]
+pub struct Numbering {
+    /// The locks.
+    pub locks: Vec<Lock>,
+    /// For each class where the numbers of its locks are found.
+    pub classes: Vec<ClassPlace>,
+    /// For each object where its locks and its final references begin.
+    pub objects: Vec<ObjectPlace>,
+    ghost numbered: { AreNumbered classes.items objects.items locks.items },
+}
+
+impl Numbering {
+    ghost use Rattle.layout.specs.Growth.{AddsClass, AddsObject};
+
+    /// The locks of a program: the global locks by class, and behind them those of object after object.
+    pub fn of(alloc: Global, program: &Typed) -> Result<Numbering, NoMemory>
+        requires { IsWellFormed program.now }
+        ensures locks { IfOk result (λ x. x.locks.items ≡ all_locks program.now) }
+        ensures distinct { IfOk result (λ x. AreDistinct x.locks.items) }
+        ensures finals { IfOk result (λ x. HasFinalsOf program.now x.objects.items) }
+    {
+        let mut numbering = Numbering {
+            locks: Vec::new(alloc),
+            classes: Vec::with_capacity(alloc, program.classes.len())?,
+            objects: Vec::with_capacity(alloc, program.shape.objects.len())?,
+        };
+        for class in &program.classes {
+            numbering.add_class(class)?;
+        }
+        for object in 0..program.shape.objects.len() {
+            let finals = program.shape.objects[object].finals;
+            numbering.add_object(finals, lock_fields(program, object))?;
+        }
+        Ok(numbering)
+    }
+
+    // The next class, and its lock where it is a global one.
+    fn add_class(&mut self, class: &LockClass) -> Result<(), NoMemory>
+        ensures { OnOk result (AddsClass class.now self.old self.new) }
+    {
+        match class {
+            LockClass::Global(_) => {
+                let number = self.locks.len();
+                let class = self.classes.len();
+                self.classes.push(ClassPlace::Global(number))?;
+                self.locks.push(Lock { class, object: 0 })?;
+            }
+            LockClass::Field { lock, .. } => self.classes.push(ClassPlace::Field(*lock))?,
+        }
+        Ok(())
+    }
+
+    // The next object, with its locks.
+    fn add_object(&mut self, first_final: u32, fields: &[LockField]) -> Result<(), NoMemory>
+        requires fields { AreFields self.old.classes.items fields.now }
+        requires few { length self.old.objects.items < 2 ^ 32 }
+        ensures { OnOk result (AddsObject first_final fields.now self.old self.new) }
+    {
+        let object = self.objects.len() as u32;
+        let first_lock = self.locks.len();
+        self.objects.push(ObjectPlace {
+            first_lock,
+            first_final,
+        })?;
+        for field in fields {
+            let class = field.class;
+            self.locks.push(Lock { class, object })?;
+        }
+        Ok(())
+    }
+
+    /// The number of a lock.
+    pub fn number_of(&self, lock: Lock) -> usize
+        requires { Contains self.now.locks.items lock }
+        ensures { slice_get self.now.locks.items result ≡ Some lock }
+    {
+        match self.classes[lock.class] {
+            ClassPlace::Global(number) => number,
+            ClassPlace::Field(field) => self.objects[lock.object as usize].first_lock + field,
+        }
+    }
+}

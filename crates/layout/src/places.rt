@@ -1,0 +1,33 @@
+//! Where locks and cells are found.
+
+use core_lang::value::Value;
+use locks::lock::Lock;
+
+/// Where the number of a class's locks is found.
+#[derive(Clone, Copy)]
+pub enum ClassPlace {
+    /// A global lock has this number.
+    Global(usize),
+    /// A lock field has this number among those of its struct, and so has an object's lock among the object's.
+    Field(usize),
+}
+
+/// Where the locks and the final references of an object begin.
+#[derive(Clone, Copy)]
+pub struct ObjectPlace {
+    /// The number of its first lock.
+    pub first_lock: usize,
+    /// The place of its final reference 0 among those of all objects.
+    pub first_final: u32,
+}
+
+/// What a cell opens with, and where it lies.
+#[derive(Clone, Copy)]
+pub struct CellPlace {
+    /// What it holds before any section has run.
+    pub opening: Value,
+    /// The lock that protects it.
+    pub lock: Lock,
+    /// Its place among the cells of the lock.
+    pub offset: u32,
+}

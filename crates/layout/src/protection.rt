@@ -1,0 +1,97 @@
+//! Which lock protects a cell, and which locks an object has.
+
+ghost use Rattle.std.specs.Prelude.{◌≡◌, ◌<◌, ◌^◌, length, Some};
+ghost use Rattle.core_lang.specs.WellFormed.{IsWellFormed};
+ghost use Rattle.core_lang.specs.declared.typed.Owner.TheVariants as owner;
+ghost use Rattle.locks.specs.Locks as locking;
+ghost use Rattle.layout.specs.Layouts as layouts;
+
+use core_lang::typed::{LockClass, LockField, Owner, Protection, Typed};
+use locks::lock::Lock;
+
+/// The lock fields of an object's struct.
+pub fn lock_fields(program: &Typed, object: usize) -> &[LockField]
+    requires program { IsWellFormed program.now }
+    requires object { object < length program.now.shape.objects.items }
+    ensures { result.now ≡ layouts.lock_fields (layouts.object_struct program.now object) }
+{
+    let pool = program.shape.objects[object].pool;
+    let structure = program.shape.pools[pool].structure;
+    program.structs[structure].locks.as_slice()
+}
+
+// The object that a final reference of an object names.
+fn final_of(program: &Typed, object: u32, number: u32) -> Option<u32>
+    ensures { result ≡ locking.final_of program.now.shape object number }
+{
+    let first = program.shape.objects.get(object as usize)?.finals;
+    program
+        .shape
+        .finals
+        .get(first as usize + number as usize)
+        .copied()
+}
+
+// The object to which final references lead from an object.
+fn led_to(program: &Typed, object: u32, finals: &[u32]) -> Option<u32>
+    ensures { result ≡ locking.led_to program.now.shape object finals.now }
+{
+    let mut reached = object;
+    for number in finals {
+        reached = final_of(program, reached, *number)?;
+    }
+    Some(reached)
+}
+
+// The lock of an annotation, walked from an object. A global lock is the same for all objects.
+fn walked(program: &Typed, protection: &Protection, object: u32) -> Option<Lock>
+    ensures { result ≡ locking.walked program.now protection.now object }
+{
+    let class = protection.class;
+    match program.classes.get(class)? {
+        LockClass::Global(_) => Some(Lock { class, object: 0 }),
+        LockClass::Field { .. } => {
+            let object = led_to(program, object, &protection.through)?;
+            Some(Lock { class, object })
+        }
+    }
+}
+
+// The lock that protects a field of an object.
+fn of_field(program: &Typed, object: usize, field: usize) -> Option<Lock>
+    requires { length program.now.shape.objects.items < 2 ^ 32 }
+    ensures { result ≡ locking.protecting program.now (owner.Field object field) }
+{
+    let pool = program.shape.objects.get(object)?.pool;
+    let structure = program.shape.pools.get(pool)?.structure;
+    let field = program.structs.get(structure)?.fields.get(field)?;
+    walked(program, &field.protection, object as u32)
+}
+
+// The lock that protects a global, an element or a field.
+fn protecting(program: &Typed, owner: Owner) -> Option<Lock>
+    requires { length program.now.shape.objects.items < 2 ^ 32 }
+    ensures { result ≡ locking.protecting program.now owner }
+{
+    match owner {
+        Owner::Global(global) => {
+            let class = program.globals.get(global)?.class;
+            Some(Lock { class, object: 0 })
+        }
+        Owner::Element { array, .. } => {
+            let class = program.shape.arrays.get(array)?.class;
+            Some(Lock { class, object: 0 })
+        }
+        Owner::Field { object, field } => of_field(program, object, field),
+    }
+}
+
+/// The lock that protects a cell.
+pub fn lock_of_cell(program: &Typed, cell: usize) -> Lock
+    requires program { IsWellFormed program.now }
+    requires cell { cell < length program.now.cells.items }
+    ensures protects { locking.lock_of_cell program.now cell ≡ Some result }
+    ensures listed { layouts.IsLock program.now result }
+{
+    protecting(program, program.cells[cell].owner).unwrap()
+}

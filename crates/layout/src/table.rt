@@ -1,0 +1,161 @@
+//! The layout of a program.
+
+ghost use Rattle.std.specs.Prelude.{◌≡◌, ◌≢◌, ◌<◌, ◌^◌, ◌-◌, length, slice_get, Some, None, OnOk, IfOk};
+ghost use Rattle.std.specs.List.{Contains};
+ghost use Rattle.layout.specs.LockCells as lock_cells;
+ghost use Rattle.layout.specs.Layouts.{object_named};
+
+use crate::numbering::Numbering;
+use crate::places::CellPlace;
+use core_lang::value::Value;
+use locks::lock::Lock;
+use source::memory::NoMemory;
+use std::alloc::Global;
+use std::marker::Model;
+
+/// Where the cells and the locks of a program lie. As a value it is what each cell opens with and which lock protects it, the
+/// list of the locks, and what final references name.
+///
+/// Cells, classes, objects and final references go by their numbers in [`core_lang::typed::Typed`].
+#[derive(Drop)]
+pub struct Layout {
+    numbering: Numbering,
+    finals: Vec<u32>,
+    cells: Vec<CellPlace>,
+    // For each lock how many cells it protects.
+    sizes: Vec<u32>,
+}
+
+impl Model for Layout {
+    ghost use Rattle.std.specs.Prelude.{map};
+    ghost use Rattle.layout.specs.Layouts.{LayoutOf};
+
+    ghost Value = { LayoutOf };
+
+    ghost use Rattle.layout.specs.Numbers.{openings_in, locks_in, first_finals, ArePlaced};
+
+    ghost view = { λ l. record {
+      opening = openings_in l.cells.items;
+      cell_locks = locks_in l.cells.items;
+      locks = l.numbering.locks.items;
+      first_finals = first_finals l.numbering.objects.items;
+      finals = l.finals.items;
+    } };
+
+    ghost invariant = { λ l. ArePlaced l.numbering.locks.items l.cells.items l.sizes.items };
+}
+
+impl Layout {
+    ghost use Rattle.layout.specs.Growth.{without_cells, with_cell};
+
+    // The locks and finals of a program, and no cells.
+    pub(crate) fn without_cells(
+        alloc: Global,
+        numbering: Numbering,
+        finals: Vec<u32>,
+        cells: usize,
+    ) -> Result<Layout, NoMemory>
+        ensures { IfOk result (λ layout. layout ≡ without_cells numbering finals.items) }
+    {
+        let sizes = vec![in alloc; 0u32; numbering.locks.len()]?;
+        let cells = Vec::with_capacity(alloc, cells)?;
+        Ok(Layout {
+            numbering,
+            finals,
+            cells,
+            sizes,
+        })
+    }
+
+    // The next cell. It lies behind the cells that its lock has so far.
+    pub(crate) fn add(&mut self, opening: Value, lock: Lock) -> Result<(), NoMemory>
+        requires lock { Contains self.old.locks lock }
+        requires few { length self.old.cell_locks < 2 ^ 32 - 1 }
+        ensures { OnOk result (self.new ≡ with_cell self.old opening lock) }
+    {
+        let number = self.numbering.number_of(lock);
+        let offset = self.sizes[number];
+        self.cells.push(CellPlace {
+            opening,
+            lock,
+            offset,
+        })?;
+        self.sizes[number] = offset + 1;
+        Ok(())
+    }
+
+    /// The lock that protects a cell.
+    #[inline]
+    pub fn lock_of(&self, cell: usize) -> Lock
+        requires { cell < length self.now.cell_locks }
+        ensures lock { slice_get self.now.cell_locks cell ≡ Some result }
+        ensures listed { Contains self.now.locks result }
+    {
+        self.cells[cell].lock
+    }
+
+    /// What a cell holds before any section has run.
+    #[inline]
+    pub fn opening(&self, cell: usize) -> Value
+        requires { cell < length self.now.opening }
+        ensures { slice_get self.now.opening cell ≡ Some result }
+    {
+        self.cells[cell].opening
+    }
+
+    /// The lock that protects a cell, and the cell's place among the cells of this lock, which are counted from 0 in order of
+    /// their numbers.
+    #[inline]
+    pub fn slot_of(&self, cell: usize) -> (Lock, u32)
+        requires { cell < length self.now.cell_locks }
+        ensures slot { lock_cells.IsSlot self.now.cell_locks cell result.0 result.1 }
+        ensures listed { Contains self.now.locks result.0 }
+    {
+        let place = self.cells[cell];
+        (place.lock, place.offset)
+    }
+
+    /// How many cells a lock protects.
+    #[inline]
+    pub fn cells_of(&self, lock: Lock) -> u32
+        requires { Contains self.now.locks lock }
+        ensures { result ≡ length (lock_cells.cells_of self.now.cell_locks lock) }
+    {
+        self.sizes[self.numbering.number_of(lock)]
+    }
+
+    /// The object that a final reference of an object names.
+    #[inline]
+    pub fn final_of(&self, object: u32, number: u32) -> u32
+        requires { object_named self.now object number ≢ None }
+        ensures { object_named self.now object number ≡ Some result }
+    {
+        let first = self.numbering.objects[object as usize].first_final;
+        self.finals[first as usize + number as usize]
+    }
+
+    /// The number of a lock: its place in the list of locks.
+    #[inline]
+    pub fn lock_number(&self, lock: Lock) -> usize
+        requires { Contains self.now.locks lock }
+        ensures { slice_get self.now.locks result ≡ Some lock }
+    {
+        self.numbering.number_of(lock)
+    }
+
+    /// The locks, each at its number.
+    #[inline]
+    pub fn locks(&self) -> &[Lock]
+        ensures { result.now ≡ self.now.locks }
+    {
+        self.numbering.locks.as_slice()
+    }
+
+    /// How many locks there are.
+    #[inline]
+    pub fn locks_count(&self) -> usize
+        ensures { result ≡ length self.now.locks }
+    {
+        self.numbering.locks.len()
+    }
+}
