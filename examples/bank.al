@@ -3,6 +3,9 @@
 // Every account has its own lock, a member of its struct, so two transfers between four different
 // accounts need not wait for each other. total reads all accounts in one section: it always
 // returns 100.
+//
+// check: one class, Account.held. transfer takes the locks of both accounts before its first if,
+// and total those of all four before its return.
 
 struct Account {
   lock held;

@@ -3,6 +3,9 @@
 // A buffer is an object: its places and how many are filled stand in one struct, under the lock of
 // that struct. put and take work on one buffer and need one lock. move works on two and needs two
 // locks of the same kind; given one buffer twice it needs one, and turns its values round.
+//
+// check: one class, Buffer.l. put and take take their buffer's lock before their first if, and move
+// the locks of both buffers before its outer if.
 
 struct Buffer {
   lock l;

@@ -3,6 +3,10 @@
 // A bucket owns two slots. What a slot holds is protected by the lock of the bucket that owns it:
 // home is a final reference, so which lock that is never changes. A section on one key needs one
 // lock, and two sections on keys of different buckets need not wait for each other.
+//
+// check: one class, Bucket.l. find and store take their locks before their first if, remove before
+// it reads entries, size before its return. at.l, at.a.home.l and at.b.home.l are three paths, and
+// a section that uses them takes all three, though here they name one lock.
 
 struct Bucket { lock l; final ref Slot a; final ref Slot b; int entries protected_by(l); }
 struct Slot {

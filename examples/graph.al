@@ -3,6 +3,9 @@
 // A walk follows references that are found on the way, and so it can't be said beforehand which
 // nodes it will meet. Therefore all nodes share the one lock Graph, and a struct needs no lock of
 // its own. Under a global lock a field may be reached through any reference, as in at.a.distance.
+//
+// check: one class, Graph. measure takes it in its first loop, and again behind that loop, whose
+// body may not be run; connect takes it before its outer if, distance before its return.
 
 lock Graph;
 

@@ -3,6 +3,10 @@
 // An item and a customer have a lock each. An order has none: it is its buyer's, so its fields are
 // under the buyer's lock, which the final reference buyer leads to. fill needs two locks, that of
 // the item and that of the buyer; o.quantity and o.buyer.money stand under the same one.
+//
+// check: first Item.l, then Customer.l, as declared. fill and cancel take the item's lock and the
+// buyer's before their first statement, in this order, although both read the order first: it is
+// under the buyer's lock. deliver and reprice take the item's.
 
 struct Item { lock l; int stock protected_by(l); int price protected_by(l); }
 struct Customer { lock l; int money protected_by(l); }

@@ -4,6 +4,10 @@
 // the book. So a reader's lock comes first, then a book's, then a shelf's. give_back is told whose
 // book it is: found through the book, the reader's lock would have to come behind the book's, and
 // with borrow that would be a cycle.
+//
+// check: first Reader.l, then Book.l, then Shelf.l: the other way round than declared. borrow takes
+// these three locks at three places, the book's and the shelf's once the references to them were
+// read; give_back takes the first two before its if, and the shelf's where it counts the book.
 
 struct Shelf { lock l; int books protected_by(l); }
 

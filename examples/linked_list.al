@@ -3,6 +3,9 @@
 // Objects are never made while sections run: all cells there are stand in the pool. Those that the
 // list doesn't use hang in a list of their own, free. A var walks along the references; && and ||
 // stop early, so at.value is never read where at is null.
+//
+// check: one class, List. insert takes it where it reads free, remove and show where they read
+// head.
 
 lock List;
 

@@ -3,6 +3,9 @@
 // Trap 1 is a field of null, trap 2 an index that is out of range, trap 6 one print more than the
 // 256 that a section may make. A left side comes before its right side: set(3) and change(null)
 // meet the traps of their left sides, and the division by 0 on their right sides is never reached.
+//
+// check: first Box.l, then Shelf, as declared. value, has_next and change take the lock of their
+// box; set, count and how_far take Shelf; pick takes nothing.
 
 struct Box {
   lock l;

@@ -3,6 +3,10 @@
 // All figures of a company are under its one lock. A person's salary names it by a path of three
 // final references, team.department.company.l, the longest that there may be. What a person owns is
 // under a lock of that person, so looking at an account waits for no one's pay day.
+//
+// check: first Company.l, then Person.own, as declared. pay takes the company's lock before its
+// first statement, and the person's own where it pays in; raise takes the company's. The section
+// check takes three paths before it reads what was paid; its if saw to it that they name one lock.
 
 struct Company { lock l; int paid protected_by(l); }
 struct Department { final ref Company company; int paid protected_by(company.l); }

@@ -4,6 +4,10 @@
 // the fork on either side. Where each takes the left one by hand and then waits for the right one,
 // all five may wait for ever. Here a fork has a lock of its own, and eat uses both forks in one
 // section: no philosopher says which lock comes first, so none can say it wrongly.
+//
+// check: first Fork.l, then Philosopher.l, as declared. eat takes the locks of both forks before
+// its first statement, and the philosopher's where it counts the meal; unaccounted takes the fork's
+// and those of both philosophers in its if.
 
 struct Fork {
   lock l;

@@ -3,6 +3,8 @@
 // The four numbers belong together, and they are protected by one lock. A section that uses several
 // of them sees them as they were at one moment: mean never divides a new sum by an old count. let
 // names a value that stays, var one that is assigned to again.
+//
+// check: one class, Sensor. record takes it where it reads last, mean before its first statement.
 
 lock Sensor;
 

@@ -2,6 +2,8 @@
 //
 // put refuses when the ring is full, and take when it is empty; both say so in what they return.
 // The places and the two counts share one lock, so no one sees a place filled and not yet counted.
+//
+// check: one class, Ring. put and take take it before their if, show before its while.
 
 lock Ring;
 

@@ -2,6 +2,9 @@
 //
 // The whole array is under one lock, so search never sees it half sorted. A local that is declared
 // in a loop is bound anew at each turn: j opens at i each time, and high keeps one value a turn.
+//
+// check: one class, Numbers. set takes it before its only statement, sort before its inner while,
+// search before the first if in its loop.
 
 lock Numbers;
 

@@ -3,6 +3,9 @@
 // A row's lock protects its own count and, through the final reference row, all its seats. Two
 // seats of one row need one lock, two seats of two rows need two. Whoever asks how many seats are
 // free sees both seats of a couple taken, or neither.
+//
+// check: one class, Row.l. reserve takes the locks of both seats' rows before its if, exchange
+// before its first statement; leave takes that of its seat's row, free_seats those of its two rows.
 
 struct Row { lock l; int free protected_by(l); }
 struct Seat { final ref Row row; int guest protected_by(row.l); }

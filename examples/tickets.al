@@ -3,6 +3,9 @@
 // take reads the next number, steps it and gives the number back, all in one section. So whichever
 // thread comes first, no two calls return the same number, and none is left out. How many tickets
 // are waiting is kept under another lock; waiting uses both.
+//
+// check: first Next, then Called, as declared. take takes Next, call_up takes Called, and waiting
+// both, each before its first statement.
 
 lock Next;
 lock Called;

@@ -3,6 +3,9 @@
 // A trap ends the section where it happens. What the section wrote and printed before stays, the
 // trap's number is the outcome of the call, and the thread goes on with its next call. Trap 3 is a
 // number that 64 bits don't hold, trap 4 a division by zero.
+//
+// check: one class, G. compute takes it before its first statement; overflow and divide take
+// nothing.
 
 lock G;
 global int average protected_by(G) = -1;

@@ -3,6 +3,8 @@
 // Sections don't call each other and there is no recursion: the walk keeps its way back in an array
 // of references, under the same lock as the tree. Where the pool is used up, node[used] is an index
 // out of range: trap 2 ends the section before it has written anything.
+//
+// check: one class, Tree. add takes it before its first statement, walk where it reads root.
 
 lock Tree;
 

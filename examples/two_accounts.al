@@ -3,6 +3,10 @@
 // Each account has a lock of its own, and save and withdraw use both. audit reads both accounts in
 // one section, so it never sees money that has left one account and not yet reached the other: it
 // always returns 150.
+//
+// check: first Checking, then Savings, as declared. save takes each before the statement that uses
+// it. withdraw uses Savings first and Checking later, and so takes both before its first statement,
+// Checking first. audit takes both before its return.
 
 lock Checking;
 lock Savings;

@@ -3,6 +3,10 @@
 // The line's ends and the links between jobs share the lock Line. What a job holds is under the
 // job's own lock, and what a worker has in hand under the worker's. take uses all three in one
 // section, so a job is never both in the line and in a hand, nor in two hands.
+//
+// check: first Line, then Worker.l, then Job.l, since finish finds the job through the worker.
+// submit takes Line and the job's lock before its first if. take takes Line, the worker's lock and
+// the job's at three places, finish the worker's and then the job's.
 
 lock Line;
 

@@ -1,20 +1,43 @@
 #!/bin/sh
-# Runs each program of examples/ through `serial` and compares what it writes with the file kept
-# beside it. Its argument is the program to run, by default ./autolock at the top.
+# Runs each program of examples/ through `serial` and `check`, and compares what they write with the
+# files kept beside it, NAME.out and NAME.check. Where NAME.refused stands beside it, both have to
+# refuse it with that line. Its argument is the program to run, by default ./autolock at the top.
 set -u
 
 top=$(cd -- "$(dirname -- "$0")/.." && pwd -P)
-program=${1:-$top/autolock}
+program=$(realpath -- "${1:-$top/autolock}")
+"$program" --help >/dev/null 2>&1 # so that it is built before the first program
+work=$(mktemp -d)
+trap 'rm -rf "$work"' EXIT
+cd "$top/examples" || exit 1
 failed=0
-for source in "$top"/examples/*.al; do
-    wanted=${source%.al}.out
-    got=$("$program" serial "$source"; echo "status $?")
-    if [ "$got" = "$(cat "$wanted"; echo "status 0")" ]; then
-        echo "ok $(basename "$source")"
+count=0
+
+# A command, an example's name, the status, and the files of what stands on standard output and on
+# standard error.
+judge() {
+    "$program" "$1" "$2.al" >"$work/out" 2>"$work/err" </dev/null
+    status=$?
+    if [ "$status" = "$3" ] && cmp -s "$4" "$work/out" && cmp -s "$5" "$work/err"; then
+        echo "ok $1 $2"
     else
-        echo "FAILED $(basename "$source")"
-        printf '%s\n' "$got" | diff "$wanted" - | head -n 5
+        echo "FAILED $1 $2: status $status"
+        cat "$4" "$5" >"$work/wanted"
+        cat "$work/out" "$work/err" | diff "$work/wanted" - | head -n 5
         failed=1
     fi
+    count=$((count + 1))
+}
+
+for source in *.al; do
+    name=${source%.al}
+    if [ -e "$name.refused" ]; then
+        judge serial "$name" 1 /dev/null "$name.refused"
+        judge check "$name" 1 /dev/null "$name.refused"
+    else
+        judge serial "$name" 0 "$name.out" /dev/null
+        judge check "$name" 0 "$name.check" /dev/null
+    fi
 done
+echo "$count runs"
 exit $failed

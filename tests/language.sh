@@ -1,10 +1,16 @@
 #!/bin/sh
-# Runs each program of docs/LANGUAGE.md through `serial` and compares what it writes with what the
-# page says. Its argument is the program to run, by default ./autolock at the top.
+# Runs each program of docs/LANGUAGE.md and compares what is written with what the page says. Its
+# argument is the program to run, by default ./autolock at the top.
 #
-# A program is a block ```al. On the line behind it begins its answer: a block ```text, which is
-# standard output, or one line `FILE:..`, which is standard error; the other one has to be empty.
-# FILE stands for the file's name. Words behind ```text come between `serial` and the file.
+# A program is a block ```al. On the line behind it begins its answer; behind an answer may stand
+# another one. An answer is
+#
+# - a block ```text, which is what `serial` writes to standard output; words behind ```text come
+#   between `serial` and the file;
+# - a block ```text check, which is what `check` writes there;
+# - or one line `FILE:..`, which both write to standard error; FILE stands for the file's name.
+#
+# The other output has to be empty.
 set -u
 
 top=$(cd -- "$(dirname -- "$0")/.." && pwd -P)
@@ -14,43 +20,51 @@ work=$(mktemp -d)
 trap 'rm -rf "$work"' EXIT
 cd "$work" || exit 1
 
-# The program that begins behind line N goes into N.al, and its answer into N.out and N.err. The
-# words are in N.words, and the exit status in N.status.
+# The program that begins on line N goes into N.al. Its first run, N.1, has its words in N.1.words,
+# the wanted outputs in N.1.out and N.1.err, and the exit status in N.1.status; so have further ones.
 awk '
+    function begin(words) {
+        run = name "." ++runs
+        print words >(run ".words")
+        printf "" >(run ".out")
+        printf "" >(run ".err")
+    }
+    function refuse(words, line) {
+        begin(words)
+        print line >(run ".err")
+        print 1 >(run ".status")
+    }
     block == "al" && /^```$/ { block = ""; answer = 1; next }
-    block == "text" && /^```$/ { block = ""; print status >(name ".status"); next }
+    block == "text" && /^```$/ { block = ""; answer = 1; print status >(run ".status"); next }
     block == "al" { print >(name ".al"); next }
-    block == "text" { print >(name ".out"); status = /^unsettled / ? 7 : 0; next }
+    block == "text" { print >(run ".out"); status = /^unsettled / ? 7 : 0; next }
     /^```al$/ {
         block = "al"
         name = NR
+        runs = 0
         printf "" >(name ".al")
-        printf "" >(name ".out")
-        printf "" >(name ".err")
     }
-    answer && /^```text/ { block = "text"; print substr($0, 9) >(name ".words") }
+    answer && /^```text/ {
+        block = "text"
+        begin(/^```text check$/ ? "check" : "serial" substr($0, 8))
+    }
     answer && /^`FILE:.*`$/ {
-        print substr($0, 2, length($0) - 2) >(name ".err")
-        print "" >(name ".words")
-        print 1 >(name ".status")
+        refuse("serial", substr($0, 2, length($0) - 2))
+        refuse("check", substr($0, 2, length($0) - 2))
     }
     { answer = 0 }
 ' "$top/docs/LANGUAGE.md"
 
-# One program, by its number.
+# One run, by its name.
 judge() {
-    if [ ! -e "$1.status" ]; then
-        echo "FAILED line $1: no answer stands behind the program"
-        return 1
-    fi
-    sed -i "s/FILE/$1.al/" "$1.err"
+    sed -i "s/FILE/${1%.*}.al/" "$1.err"
     # shellcheck disable=SC2046 # the words, one by one
-    "$program" serial $(cat "$1.words") "$1.al" >out 2>err </dev/null
+    "$program" $(cat "$1.words") "${1%.*}.al" >out 2>err </dev/null
     status=$?
     if [ "$status" = "$(cat "$1.status")" ] && cmp -s "$1.out" out && cmp -s "$1.err" err; then
-        echo "ok line $1"
+        echo "ok line ${1%.*}: $(cat "$1.words")"
     else
-        echo "FAILED line $1: status $status"
+        echo "FAILED line ${1%.*}: $(cat "$1.words"): status $status"
         cat "$1.out" "$1.err" >wanted
         cat out err | diff wanted - | head -n 5
         return 1
@@ -60,8 +74,15 @@ judge() {
 failed=0
 count=0
 for number in $(ls | sed -n 's/\.al$//p' | sort -n); do
-    judge "$number" || failed=1
     count=$((count + 1))
+    if [ ! -e "$number.1.status" ]; then
+        echo "FAILED line $number: no answer stands behind the program"
+        failed=1
+        continue
+    fi
+    for words in "$number".*.words; do
+        judge "${words%.words}" || failed=1
+    done
 done
 echo "$count programs"
 [ "$count" -gt 0 ] || failed=1

@@ -12,9 +12,18 @@ cd "$work" || exit 1
 failed=0
 printf 'lock G;\nglobal int n protected_by(G);\natomic f() { n = 1; }\nthread t { f(); }\n' >right.al
 printf 'lock G;\nglobal int n;\n' >wrong.al
+cat >cycle.al <<'end'
+struct Node { lock l; int v protected_by(l); ref Node next protected_by(l); }
+atomic walk(ref Node a) {
+  let b: ref Node = a.next;
+  b.v = 1;
+}
+end
 mkdir folder
 : >none
 echo 'wrong.al:2:12: E10 neither final nor protected' >fault
+echo 'cycle.al:3:3: E14 lock order cycle: Node.l -> Node.l' >circle
+printf 'accepted\nrank 0 G\nsection f\nat 3:14 take G\n' >checked
 printf 'history 1\ncall 0 0 f() ends\ncells\nn 1\nend\n' >history
 for name in missing.al folder; do echo "autolock: cannot read $name" >"no_$name"; done
 echo 'autolock: cannot write' >unwritten
@@ -46,26 +55,48 @@ run() {
 
 run "done" 0 history none serial right.al
 run "turns" 0 history none serial --turns 0 right.al
+run "check" 0 checked none check right.al
 run "a fault" 1 none fault serial wrong.al
+run "a fault, of check" 1 none fault check wrong.al
+run "a lock order cycle" 1 none circle serial cycle.al
+run "a lock order cycle, of check" 1 none circle check cycle.al
 run "no words" 2 none some
 run "another command" 2 none some walk right.al
 run "no file" 2 none some serial
+run "no file, of check" 2 none some check
 run "two files" 2 none some serial right.al wrong.al
+run "two files, of check" 2 none some check right.al wrong.al
+run "turns, of check" 2 none some check --turns 3 right.al
 run "too many turns" 2 none some serial --turns 1000000001 right.al
 run "turns that are no number" 2 none some serial --turns many right.al
 run "help" 0 some none --help
+for command in check serial; do
+    if grep -q "^  $command  " out; then
+        echo "ok help lists $command"
+    else
+        echo "FAILED help lists $command"
+        failed=1
+    fi
+done
 run "version" 0 version none --version
 run "help on a command" 0 some none serial --help
+run "help on check" 0 some none check --help
 run "a file that is not there" 3 none no_missing.al serial missing.al
+run "a file that is not there, of check" 3 none no_missing.al check missing.al
 run "a folder" 3 none no_folder serial folder
+run "a folder, of check" 3 none no_folder check folder
 
 : >out
 "$program" serial right.al >/dev/full 2>err </dev/null
 judge "an output that is full" 3 $? none unwritten
+"$program" check right.al >/dev/full 2>err </dev/null
+judge "an output that is full, of check" 3 $? none unwritten
 "$program" --help >/dev/full 2>err </dev/null
 judge "help on an output that is full" 3 $? none unwritten
 : >err
 "$program" serial wrong.al >out 2>/dev/full </dev/null
 judge "a standard error that is full" 1 $? none none
+"$program" check wrong.al >out 2>/dev/full </dev/null
+judge "a standard error that is full, of check" 1 $? none none
 
 exit $failed

@@ -16,6 +16,8 @@ mod history_texts;
 #[cfg(test)]
 mod judging;
 #[cfg(test)]
+mod layouts;
+#[cfg(test)]
 mod section_runs;
 #[cfg(test)]
 mod skeletons;
