@@ -1,0 +1,160 @@
+-- What the instructions do, over any memory of cells.
+use Rattle.std.specs.Prelude.{ℕ, zero, suc, ◌+◌, ◌-◌, ℤ, pos, negsuc, Bool, true, false, not, nat_lt, if◌then◌else◌, List, [], ◌∷◌, ◌++◌, length, slice_get, slice_set, Option, Some, None, Result, Ok, Err}
+use Rattle.core_lang.specs.declared.value.Value.{Value}
+use Rattle.core_lang.specs.declared.value.Value.TheVariants.{Int, Ref}
+use Rattle.core_lang.specs.declared.value.Trap.TheVariants.{TooManyPrints}
+use Rattle.core_lang.specs.declared.value.Failure.{Failure}
+use Rattle.core_lang.specs.declared.value.Failure.TheVariants.{Trap, Wrong}
+use Rattle.core_lang.specs.declared.value.Outcome.{Outcome}
+use Rattle.core_lang.specs.declared.value.Outcome.TheVariants.{Ends, Returns, Traps}
+use Rattle.core_lang.specs.declared.shape.Shape.{Shape}
+use Rattle.core_lang.specs.Arithmetic.{on_values, negated, compared}
+use Rattle.core_lang.specs.Cells.{with, found, element_cell, member_of, field_cell, final_value, not_null}
+use Rattle.code.specs.declared.instr.Instr.{Instr}
+use Rattle.code.specs.declared.instr.Instr.TheVariants.{PushNumber, PushNull, GetLocal, PutLocal, LoadGlobal, PutGlobal, LoadElement, Bound, PutElement, GetMember, LoadFinal, LoadField, NonNull, PutField, NegateTop, NotTop, Operate, Test, Jump, JumpBack, JumpIfFalse, JumpIfTrue, PrintTop, Acquire, Return, End}
+
+-- a machine: its place in the code, its operand stack, locals and memory, and what it has printed
+pub record Machine (M : Type 0) : Type 0 where
+  pub place : ℕ
+  pub stack : List Value
+  pub locals : List Value
+  pub memory : M
+  pub prints : List ℤ
+
+-- what an instruction does: the machine moves; or it passes on, and locks are asked for before a point; or there is an
+-- outcome; or the instruction has no case here
+pub data Effect (M : Type 0) : Type 0 where
+  Moves : Machine M → Effect M
+  Asks : ℕ → Effect M
+  Finishes : Outcome → Effect M
+  Undefined : Effect M
+
+-- how a machine stands after some instructions: somewhere, at an outcome, or where it has no next instruction
+pub data Standing (M : Type 0) : Type 0 where
+  At : Machine M → Standing M
+  Halted : Outcome → M → List ℤ → Standing M
+  Stuck : Standing M
+
+-- truth values on the stack are 0 and 1
+abbrev pub truth : Bool → Value
+truth true = Int (pos 1)
+truth false = Int (pos 0)
+
+-- whether a truth value on the stack is true
+abbrev pub is_true : Value → Result Bool Failure
+is_true (Int (pos zero)) = Ok false
+is_true (Int (pos (suc n))) = Ok true
+is_true (Int (negsuc n)) = Err Wrong
+is_true (Ref r) = Err Wrong
+
+-- the other truth value
+abbrev pub negation : Value → Result Value Failure
+negation v = with (is_true v) (λ b. Ok (truth (not b)))
+
+-- the prints with one more number, of at most 256
+abbrev pub printed : List ℤ → Value → Result (List ℤ) Failure
+printed prints (Int n) = if nat_lt (length prints) 256 then Ok (prints ++ n ∷ []) else Err (Trap TooManyPrints)
+printed prints (Ref r) = Err Wrong
+
+-- at the next place
+abbrev pub passed : {M : Type 0} → Machine M → Machine M
+passed m = record m { place = m.place + 1 }
+
+-- at the next place, with this stack
+abbrev pub advances : {M : Type 0} → Machine M → List Value → Effect M
+advances m stack = Moves (record m { place = m.place + 1; stack = stack })
+
+-- behind so many instructions, with this stack
+abbrev pub jumps : {M : Type 0} → Machine M → ℕ → List Value → Effect M
+jumps m over stack = Moves (record m { place = m.place + 1 + over; stack = stack })
+
+-- jumps where the truth value says so, and goes on otherwise
+abbrev pub jumps_if : {M : Type 0} → Bool → Machine M → ℕ → List Value → Effect M
+jumps_if true m over stack = jumps m over stack
+jumps_if false m over stack = advances m stack
+
+-- with what there is, or at a trap
+abbrev pub or_trap : {A M : Type 0} → Result A Failure → (A → Effect M) → Effect M
+or_trap (Ok a) go = go a
+or_trap (Err (Trap t)) go = Finishes (Traps t)
+or_trap (Err Wrong) go = Undefined
+
+-- with the top of the stack, and what is below
+abbrev pub on_top : {M : Type 0} → List Value → (Value → List Value → Effect M) → Effect M
+on_top [] go = Undefined
+on_top (top ∷ rest) go = go top rest
+
+-- with the two on top, the left one below the right one, and what is below
+abbrev pub on_two : {M : Type 0} → List Value → (Value → Value → List Value → Effect M) → Effect M
+on_two [] go = Undefined
+on_two (right ∷ []) go = Undefined
+on_two (right ∷ left ∷ rest) go = go left right rest
+
+-- goes on with the memory that there is
+abbrev pub if_there : {A M : Type 0} → Option A → (A → Effect M) → Effect M
+if_there (Some a) go = go a
+if_there None go = Undefined
+
+-- over a memory: what a cell holds, with the memory after reading it; and the memory after a write; neither where the
+-- cell isn't there
+module _ {M : Type 0} (load : M → ℕ → Option (Value × M)) (store : M → ℕ → Value → Option M) (shape : Shape) where
+  -- pushes what a cell holds
+  abbrev pub loads : Machine M → ℕ → List Value → Effect M
+  loads m cell rest = if_there (load m.memory cell) (λ r. advances (record m { memory = r.1 }) (r.0 ∷ rest))
+
+  -- writes a cell
+  abbrev pub stores : Machine M → ℕ → Value → List Value → Effect M
+  stores m cell v rest = if_there (store m.memory cell v) (λ memory. advances (record m { memory = memory }) rest)
+
+  -- one instruction; past the code there is none
+  abbrev pub act : Option Instr → Machine M → Effect M
+  act None m = Undefined
+  act (Some (PushNumber n)) m = advances m (Int n ∷ m.stack)
+  act (Some PushNull) m = advances m (Ref None ∷ m.stack)
+  act (Some (GetLocal k)) m = or_trap (found (slice_get m.locals k)) (λ v. advances m (v ∷ m.stack))
+  act (Some (PutLocal k)) m =
+      on_top m.stack (λ v rest. or_trap (found (slice_get m.locals k))
+      (λ old. advances (record m { locals = slice_set m.locals k v }) rest))
+  act (Some (LoadGlobal cell)) m = loads m cell m.stack
+  act (Some (PutGlobal cell)) m = on_top m.stack (λ v rest. stores m cell v rest)
+  act (Some (LoadElement array)) m =
+      on_top m.stack (λ i rest. or_trap (element_cell shape array i) (λ cell. loads m cell rest))
+  act (Some (Bound array)) m =
+      on_top m.stack (λ i rest. or_trap (element_cell shape array i) (λ cell. advances m m.stack))
+  act (Some (PutElement array)) m =
+      on_two m.stack (λ i v rest. or_trap (element_cell shape array i) (λ cell. stores m cell v rest))
+  act (Some (GetMember pool)) m =
+      on_top m.stack (λ i rest. or_trap (member_of shape pool i) (λ r. advances m (r ∷ rest)))
+  act (Some (LoadFinal structure f)) m =
+      on_top m.stack (λ r rest. or_trap (final_value shape r f) (λ v. advances m (v ∷ rest)))
+  act (Some (LoadField structure f)) m =
+      on_top m.stack (λ r rest. or_trap (field_cell shape r f) (λ cell. loads m cell rest))
+  act (Some NonNull) m = on_top m.stack (λ r rest. or_trap (not_null r) (λ same. advances m m.stack))
+  act (Some (PutField structure f)) m =
+      on_two m.stack (λ r v rest. or_trap (field_cell shape r f) (λ cell. stores m cell v rest))
+  act (Some NegateTop) m = on_top m.stack (λ v rest. or_trap (negated v) (λ w. advances m (w ∷ rest)))
+  act (Some NotTop) m = on_top m.stack (λ v rest. or_trap (negation v) (λ w. advances m (w ∷ rest)))
+  act (Some (Operate o)) m = on_two m.stack (λ a b rest. or_trap (on_values o a b) (λ w. advances m (w ∷ rest)))
+  act (Some (Test c)) m =
+      on_two m.stack (λ a b rest. or_trap (compared c a b) (λ holds. advances m (truth holds ∷ rest)))
+  act (Some (Jump over)) m = jumps m over m.stack
+  act (Some (JumpBack back)) m = Moves (record m { place = m.place - back })
+  act (Some (JumpIfFalse over)) m = on_top m.stack (λ v rest. or_trap (is_true v) (λ b. jumps_if (not b) m over rest))
+  act (Some (JumpIfTrue over)) m = on_top m.stack (λ v rest. or_trap (is_true v) (λ b. jumps_if b m over rest))
+  act (Some PrintTop) m =
+      on_top m.stack (λ v rest. or_trap (printed m.prints v) (λ prints. advances (record m { prints = prints }) rest))
+  act (Some (Acquire point)) m = Asks point
+  act (Some Return) m = on_top m.stack (λ v rest. Finishes (Returns v))
+  act (Some End) m = Finishes Ends
+
+  -- goes on after an instruction; alone, a machine that asks for locks passes on
+  abbrev pub proceed : Machine M → Effect M → (Machine M → Standing M) → Standing M
+  proceed m (Moves next) go = go next
+  proceed m (Asks point) go = go (passed m)
+  proceed m (Finishes outcome) go = Halted outcome m.memory m.prints
+  proceed m Undefined go = Stuck
+
+  -- how a machine stands after n instructions of a code, or at the outcome that it came to before
+  abbrev pub exec : List Instr → ℕ → Machine M → Standing M
+  exec code zero m = At m
+  exec code (suc n) m = proceed m (act (slice_get code m.place) m) (exec code n)
