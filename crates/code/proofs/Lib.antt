@@ -2,3 +2,5 @@ pub mod Over
 pub mod Values
 pub mod Alike
 pub mod AlikeLaws
+pub mod points
+pub mod runs

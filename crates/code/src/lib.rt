@@ -1,19 +1,25 @@
 //! The instructions of a stack machine: what one does, and which of them a section is.
 //!
 //! - [`laws`]: what holds of every run of a code.
+//! - [`point_laws`]: what holds of the code of a section's points, and that it is never stuck.
+//! - [`run_laws`]: a section's code behaves as the section.
 //! - [`instr::Instr`]: one instruction.
 //! - [`section_code::Code`]: the code of a program.
 //! - [`listing`]: its listing, a line for each instruction.
 //!
-//! `specs/` says what an instruction does over any memory (`Machine`), which memories there are (`Memory`), which
-//! instructions a section is (`Lowering`), how deep its operand stack grows (`Needs`), what it is for a code to behave
-//! as its section (`Alone`), what the laws claim (`Laws`), and the text of a code (`Listing`).
+//! `specs/` says what an instruction does over any memory (`Machine`), which memories there are (`Memory`) and what is
+//! seen of them (`Seen`), which instructions a section is (`Lowering`), where those of its points begin (`Spots`),
+//! how deep its operand stack grows (`Needs`), what it is for a code to behave as its section (`Alone`), what is ahead
+//! of a machine (`Ahead`), what the laws claim (`Laws`, `PointLaws`, `RunLaws`), and the text of a code (`Listing`). `Safety` has
+//! lemmas for the crates above.
 #![tactic(auto)]
 
 pub mod instr;
 pub mod laws;
 mod lines;
 pub mod names;
+pub mod point_laws;
+pub mod run_laws;
 pub mod section_code;
 
 pub use lines::listing;
