@@ -1,7 +1,8 @@
 #!/bin/sh
-# Runs each program of examples/ through `serial` and `check`, and compares what they write with the
-# files kept beside it, NAME.out and NAME.check. Where NAME.refused stands beside it, both have to
-# refuse it with that line. Its argument is the program to run, by default ./autolock at the top.
+# Runs each program of examples/ through `serial` and `check`, and through `listing` where NAME.listing
+# stands beside it, and compares what they write with the files kept beside it, NAME.out, NAME.check
+# and NAME.listing. Where NAME.refused stands beside it, all have to refuse it with that line. Its
+# argument is the program to run, by default ./autolock at the top.
 set -u
 
 top=$(cd -- "$(dirname -- "$0")/.." && pwd -P)
@@ -34,9 +35,11 @@ for source in *.al; do
     if [ -e "$name.refused" ]; then
         judge serial "$name" 1 /dev/null "$name.refused"
         judge check "$name" 1 /dev/null "$name.refused"
+        judge listing "$name" 1 /dev/null "$name.refused"
     else
         judge serial "$name" 0 "$name.out" /dev/null
         judge check "$name" 0 "$name.check" /dev/null
+        [ ! -e "$name.listing" ] || judge listing "$name" 0 "$name.listing" /dev/null
     fi
 done
 echo "$count runs"

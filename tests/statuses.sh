@@ -24,6 +24,7 @@ mkdir folder
 echo 'wrong.al:2:12: E10 neither final nor protected' >fault
 echo 'cycle.al:3:3: E14 lock order cycle: Node.l -> Node.l' >circle
 printf 'accepted\nrank 0 G\nsection f\nat 3:14 take G\n' >checked
+printf 'section f\n0 acquire G\n1 int 1\n2 store n\n3 end\n' >listed
 printf 'history 1\ncall 0 0 f() ends\ncells\nn 1\nend\n' >history
 for name in missing.al folder; do echo "autolock: cannot read $name" >"no_$name"; done
 echo 'autolock: cannot write' >unwritten
@@ -56,21 +57,26 @@ run() {
 run "done" 0 history none serial right.al
 run "turns" 0 history none serial --turns 0 right.al
 run "check" 0 checked none check right.al
+run "listing" 0 listed none listing right.al
 run "a fault" 1 none fault serial wrong.al
 run "a fault, of check" 1 none fault check wrong.al
+run "a fault, of listing" 1 none fault listing wrong.al
 run "a lock order cycle" 1 none circle serial cycle.al
 run "a lock order cycle, of check" 1 none circle check cycle.al
+run "a lock order cycle, of listing" 1 none circle listing cycle.al
 run "no words" 2 none some
 run "another command" 2 none some walk right.al
 run "no file" 2 none some serial
 run "no file, of check" 2 none some check
+run "no file, of listing" 2 none some listing
 run "two files" 2 none some serial right.al wrong.al
 run "two files, of check" 2 none some check right.al wrong.al
 run "turns, of check" 2 none some check --turns 3 right.al
+run "turns, of listing" 2 none some listing --turns 3 right.al
 run "too many turns" 2 none some serial --turns 1000000001 right.al
 run "turns that are no number" 2 none some serial --turns many right.al
 run "help" 0 some none --help
-for command in check serial; do
+for command in check listing serial; do
     if grep -q "^  $command  " out; then
         echo "ok help lists $command"
     else
@@ -83,6 +89,7 @@ run "help on a command" 0 some none serial --help
 run "help on check" 0 some none check --help
 run "a file that is not there" 3 none no_missing.al serial missing.al
 run "a file that is not there, of check" 3 none no_missing.al check missing.al
+run "a file that is not there, of listing" 3 none no_missing.al listing missing.al
 run "a folder" 3 none no_folder serial folder
 run "a folder, of check" 3 none no_folder check folder
 
@@ -91,6 +98,8 @@ run "a folder, of check" 3 none no_folder check folder
 judge "an output that is full" 3 $? none unwritten
 "$program" check right.al >/dev/full 2>err </dev/null
 judge "an output that is full, of check" 3 $? none unwritten
+"$program" listing right.al >/dev/full 2>err </dev/null
+judge "an output that is full, of listing" 3 $? none unwritten
 "$program" --help >/dev/full 2>err </dev/null
 judge "help on an output that is full" 3 $? none unwritten
 : >err

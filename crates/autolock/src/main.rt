@@ -14,7 +14,8 @@ ghost use Rattle.driver.specs.{Serves, Tells, cannot_read, cannot_write, no_memo
 use clap::Error;
 use clap::error::ErrorKind;
 use driver::{
-    Sink, SourceText, Status, check, serial, tell_cannot_read, tell_cannot_write, tell_no_memory,
+    Sink, SourceText, Status, check, list, serial, tell_cannot_read, tell_cannot_write,
+    tell_no_memory,
 };
 use std::alloc::{AllocError, Global};
 use std::io::{Read, Write};
@@ -28,6 +29,7 @@ fn file_name<'a>(line: Line<'a>) -> &'a str
 {
     match line {
         Line::Check { file } => file,
+        Line::Listing { file } => file,
         Line::Serial { file, .. } => file,
     }
 }
@@ -47,6 +49,7 @@ fn run_opened<S: Read, O: Write, E: Write>(
 {
     match line {
         Line::Check { file } => check(alloc, source, file, out, err),
+        Line::Listing { file } => list(alloc, source, file, out, err),
         Line::Serial { file, turns } => serial(alloc, source, file, turns, out, err),
     }
 }

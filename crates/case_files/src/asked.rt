@@ -23,10 +23,12 @@ pub enum Asked {
     Order,
     /// The lock paths that are listed before its points, as the command `check` writes them.
     Lists,
+    /// The instructions of its sections, as the command `listing` writes them.
+    Listing,
 }
 
 impl Asked {
-    /// What this word asks: nothing, unless it is one of the nine.
+    /// What this word asks: nothing, unless it is one of the ten.
     pub fn named(word: &str) -> Option<Asked>
         ensures check { (result ≡ Some Asked.Check) ↔ (word.now ≡ codes "check") }
         ensures tree { (result ≡ Some Asked.Tree) ↔ (word.now ≡ codes "tree") }
@@ -37,6 +39,7 @@ impl Asked {
         ensures points { (result ≡ Some Asked.Points) ↔ (word.now ≡ codes "points") }
         ensures order { (result ≡ Some Asked.Order) ↔ (word.now ≡ codes "order") }
         ensures lists { (result ≡ Some Asked.Lists) ↔ (word.now ≡ codes "lists") }
+        ensures listing { (result ≡ Some Asked.Listing) ↔ (word.now ≡ codes "listing") }
     {
         match word {
             "check" => Some(Asked::Check),
@@ -48,6 +51,7 @@ impl Asked {
             "points" => Some(Asked::Points),
             "order" => Some(Asked::Order),
             "lists" => Some(Asked::Lists),
+            "listing" => Some(Asked::Listing),
             _ => None,
         }
     }

@@ -5,13 +5,11 @@ ghost use Rattle.lockpaths.specs.Paths.{ArePaths};
 use core_lang::tree::Section;
 use core_lang::typed::Typed;
 use flow::points::{PointRef, points_of};
-use inserter::place;
 use lockpaths::table::{Paths, SectionPaths};
 use locks::path_set::PathSet;
 use locks::text::{push_class, push_path};
 use points::points;
 use points::table::Points;
-use report::Check;
 use source::memory::NoMemory;
 use std::alloc::{AllocError, Global};
 
@@ -203,25 +201,5 @@ impl Analysed<'_> {
             }
         }
         Ok(out)
-    }
-
-    /// What `check` writes of it, without the last line feed.
-    pub fn lists_said(
-        &self,
-        alloc: Global,
-        paths: &Paths,
-        ranks: &[u32],
-    ) -> Result<String, NoMemory>
-        requires { ArePaths self.now.program.now paths.now }
-    {
-        let placed = place(alloc, self.program, paths, ranks)?;
-        let check = Check {
-            text: self.text.as_bytes(),
-            program: self.program,
-            paths,
-            ranks,
-            placed: &placed,
-        };
-        without_line_feed(alloc, check.text(alloc)?.as_str())
     }
 }

@@ -1,5 +1,5 @@
-//! The program `cases`: texts and what must be said of them, judged by the lexer, the parser, and the passes of names
-//! and types, of lock paths, of points and of the order of classes. Its words are the names of files of cases.
+//! The program `cases`: texts and what must be said of them, judged by the lexer, the parser, the passes of names and
+//! types, of lock paths and of points, and by `compile`. Its words are the names of files of cases.
 //!
 //! A file is paragraphs, which stand apart by one empty line:
 //!
@@ -18,7 +18,8 @@
 //!   - `order`: a line with `order:` and the lock classes by rising rank; for each section a line with its name and `:`;
 //!     and a line for each of its points, with its line and column, the lock paths that are wanted there and those that
 //!     are surely held; or the line of the text's fault;
-//!   - `lists`: what `check` writes, without the last line feed; or the line of the text's fault.
+//!   - `lists`: what `check` writes, without the last line feed; or the line of the text's fault;
+//!   - `listing`: what `listing` writes, without the last line feed; or the line of the text's fault.
 //! - `@head` alone on a line, with lines below it: those and a line feed stand ahead of each text below. With no lines
 //!   below it, nothing does from there on.
 //! - Anything else is a case: a text, then a line that begins with `=> ` and has what must be said of the text, which

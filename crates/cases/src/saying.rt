@@ -10,13 +10,15 @@ ghost use Rattle.syntax.specs.Views.{tree_of};
 use crate::analysing::{Analysed, without_line_feed};
 use crate::rereading::difference;
 use case_files::asked::Asked;
+use code::listing;
+use compiler::compile;
+use compiler::compiled::Program;
 use core_lang::typed::Typed;
 use lexer::lex;
-use lockorder::order;
-use lockorder::ranks::{OrderRefusal, Ranks};
 use lockpaths::paths;
 use lockpaths::table::Paths;
 use parser::parse;
+use report::Check;
 use source::fault::{Fault, Refusal};
 use source::line::fault_line;
 use source::memory::NoMemory;
@@ -68,26 +70,6 @@ fn analysed(
     }
 }
 
-/// The ranks of the program's lock classes, or the line of the fault of a cycle.
-fn ranked(
-    alloc: Global,
-    text: &str,
-    program: &Typed,
-    paths: &Paths,
-) -> Result<Result<Ranks, String>, NoMemory>
-    requires program { IsWellFormed program.now }
-    requires paths { ArePaths program.now paths.now }
-{
-    match order(alloc, program, paths) {
-        Ok(ranks) => Ok(Ok(ranks)),
-        Err(OrderRefusal::Cycle(cycle)) => {
-            let fault = cycle.fault(alloc, program)?;
-            Ok(Err(fault_line(alloc, "F", text.as_bytes(), &fault)?))
-        }
-        Err(OrderRefusal::NoMemory) => Err(NoMemory),
-    }
-}
-
 /// What is said to what is asked of the lock paths of the text with this tree: to `points` of its points, and else of the
 /// lock paths; or the line of the fault that it has, where the order of its classes counts for none.
 fn of_paths(alloc: Global, asked: Asked, text: &str, tree: &Tree) -> Result<String, NoMemory>
@@ -105,26 +87,38 @@ fn of_paths(alloc: Global, asked: Asked, text: &str, tree: &Tree) -> Result<Stri
     }
 }
 
-/// What is said to what is asked of the order of the locks of the text with this tree: to `check` that it is accepted, to
-/// `order` of the order and what it makes of points, and else of the lists before points; or the line of the fault that it
-/// has.
-fn of_order(alloc: Global, asked: Asked, text: &str, tree: &Tree) -> Result<String, NoMemory>
-    requires { ReturnsRight (tree_of tree.now) }
-{
-    let (program, paths) = match analysed(alloc, text, tree)? {
-        Ok(known) => known,
-        Err(line) => return Ok(line),
+/// What `check` writes of the text with this program, without the last line feed.
+fn lists_of(alloc: Global, text: &str, program: &Program) -> Result<String, NoMemory> {
+    let check = Check {
+        text: text.as_bytes(),
+        program: program.typed(),
+        paths: program.paths(),
+        ranks: program.ranks(),
+        placed: program.placed(),
     };
-    let program = &program;
-    let ranks = match ranked(alloc, text, program, &paths)? {
-        Ok(ranks) => ranks,
-        Err(line) => return Ok(line),
+    without_line_feed(alloc, check.text(alloc)?.as_str())
+}
+
+/// What is said to what is asked of the compiled program of the text: to `check` that it is accepted, to `order` of the order
+/// of its lock classes and what that makes of points, to `listing` its instructions, and else the lists before its points; or
+/// the line of the fault that the text has.
+fn of_program(alloc: Global, asked: Asked, text: &str) -> Result<String, NoMemory> {
+    let program = match compile(alloc, text.as_bytes()) {
+        Ok(program) => program,
+        Err(refusal) => return line_of(alloc, text, &refusal),
     };
-    let told = Analysed { text, program };
+    let told = Analysed {
+        text,
+        program: program.typed(),
+    };
     match asked {
         Asked::Check => Ok(String::from_str(alloc, "accepted")?),
-        Asked::Order => told.order_said(alloc, &paths, &ranks),
-        _ => told.lists_said(alloc, &paths, &ranks),
+        Asked::Order => told.order_said(alloc, program.paths(), program.ranks()),
+        Asked::Listing => {
+            let listed = listing(alloc, program.code())?;
+            without_line_feed(alloc, listed.as_str())
+        }
+        _ => lists_of(alloc, text, &program),
     }
 }
 
@@ -136,16 +130,21 @@ fn printed(alloc: Global, tree: &Tree) -> Result<String, NoMemory> {
 
 /// What is said of the text to what is asked.
 pub fn said_of(alloc: Global, asked: Asked, text: &str) -> Result<String, NoMemory> {
+    if matches!(
+        asked,
+        Asked::Check | Asked::Order | Asked::Lists | Asked::Listing
+    ) {
+        return of_program(alloc, asked, text);
+    }
     let tree = match read(alloc, text)? {
         Ok(tree) => tree,
         Err(line) => return Ok(line),
     };
     match asked {
-        Asked::Check | Asked::Order | Asked::Lists => of_order(alloc, asked, text, &tree),
         Asked::Tree => Ok(String::from_str(alloc, "tree")?),
         Asked::Print => printed(alloc, &tree),
         Asked::Again => difference(alloc, &tree),
-        Asked::Paths | Asked::Points => of_paths(alloc, asked, text, &tree),
         Asked::Shape => Ok(format!(in alloc; "{tree:?}")?),
+        _ => of_paths(alloc, asked, text, &tree),
     }
 }

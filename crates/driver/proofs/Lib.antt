@@ -1,9 +1,6 @@
-pub mod RefusalLemmas
 pub mod CallLemmas
 pub mod RunningLemmas
 pub mod SerialLemmas
 pub mod WritingLemmas
-pub mod Alike
-pub mod OrderAlike
-pub mod FaultlessLemmas
 pub mod CheckLemmas
+pub mod ServingLemmas

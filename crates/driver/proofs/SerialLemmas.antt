@@ -10,7 +10,7 @@ use Rattle.source.specs.declared.fault.Fault.{Fault}
 use Rattle.driver.specs.declared.answer.Answer.{Answer}
 use Rattle.driver.specs.declared.status.Status.{Status}
 use Rattle.driver.specs.declared.status.Status.TheVariants.{Done, Refused, BadWords, Failed, OutOfMemory, Unsettled}
-use Rattle.driver.specs.Programs.{Accepts, IsOfFirstPass}
+use Rattle.compiler.specs.Programs.{Accepts, IsOfFirstPass}
 use Rattle.driver.specs.Running.{StopsAt}
 use Rattle.driver.specs.Answers.{IsRunAnswer, IsFaultAnswer}
 use Rattle.driver.specs.Serial.{calls_of, entry, entries, IsHistory, StopsAtCall, RunAnswers, SerialAnswers}

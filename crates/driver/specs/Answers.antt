@@ -1,15 +1,17 @@
 -- What this crate's functions compute of a text's answer.
 use Rattle.std.specs.Prelude.{◌≡◌, ℕ, Bool, true, false, List, [], string_bytes}
 use Rattle.core_lang.specs.declared.typed.Typed.{Typed}
+use Rattle.lowering.specs.Plans.{Plan}
 use Rattle.report.specs.History.{line}
 use Rattle.source.specs.declared.fault.Fault.{Fault}
 use Rattle.source.specs.Faults.{fault_text}
 use Rattle.driver.specs.declared.answer.Answer.{Answer}
 use Rattle.driver.specs.declared.answer.Request.{Request}
-use Rattle.driver.specs.declared.answer.Request.TheVariants.{Check, Serial}
+use Rattle.driver.specs.declared.answer.Request.TheVariants.{Check, Listing, Serial}
 use Rattle.driver.specs.declared.status.Status.{Status}
 use Rattle.driver.specs.declared.status.Status.TheVariants.{Done, Refused, Failed}
 use Rattle.driver.specs.Checks.{IsChecked, CheckAnswers}
+use Rattle.driver.specs.Listings.{IsListed, ListingAnswers}
 use Rattle.driver.specs.Messages.{cannot_write}
 use Rattle.driver.specs.Serial.{RunAnswers, SerialAnswers}
 
@@ -17,14 +19,17 @@ use Rattle.driver.specs.Serial.{RunAnswers, SerialAnswers}
 abbrev pub IsRunAnswer : ℕ → Typed → Answer → Type 0
 IsRunAnswer turns program answer = RunAnswers turns program answer.status (string_bytes answer.out) (string_bytes answer.err)
 
--- the answer to a program that is checked
-abbrev pub IsCheckAnswer : List ℕ → Typed → Answer → Type 0
-IsCheckAnswer text program answer =
-    (answer.status ≡ Done) × IsChecked text program (string_bytes answer.out) (string_bytes answer.err)
+-- the answer to a program that is checked, and to one whose code is listed
+abbrev pub IsCheckAnswer : List ℕ → Plan → Answer → Type 0
+IsCheckAnswer text plan answer = (answer.status ≡ Done) × IsChecked text plan (string_bytes answer.out) (string_bytes answer.err)
+
+abbrev pub IsListingAnswer : Plan → Answer → Type 0
+IsListingAnswer plan answer = (answer.status ≡ Done) × IsListed plan (string_bytes answer.out) (string_bytes answer.err)
 
 -- what is answered to a request
 abbrev pub RequestAnswers : Request → List ℕ → List ℕ → Status → List ℕ → List ℕ → Type 0
 RequestAnswers Check = CheckAnswers
+RequestAnswers Listing = ListingAnswers
 RequestAnswers (Serial turns) = SerialAnswers turns
 
 -- the answer to a fault

@@ -1,25 +1,18 @@
 -- What `check` answers.
 use Rattle.std.specs.Prelude.{◌≡◌, ℕ, List, []}
-use Rattle.core_lang.specs.declared.typed.Typed.{Typed}
-use Rattle.lockorder.specs.Edges.{AreRanksOf}
-use Rattle.inserter.specs.Placement.{IsPlacement}
+use Rattle.lowering.specs.Plans.{Plan, IsCompiled}
+use Rattle.compiler.specs.Programs.{Accepts}
 use Rattle.report.specs.Check.{check_text}
 use Rattle.driver.specs.declared.status.Status.{Status}
 use Rattle.driver.specs.declared.status.Status.TheVariants.{Done, Refused}
-use Rattle.driver.specs.Programs.{Accepts}
 use Rattle.driver.specs.Serial.{IsRefused}
 
 -- out says the ranks of the program's lock classes, and the lists before its points; err is empty
-pub record IsChecked (text : List ℕ) (program : Typed) (out err : List ℕ) : Type 0 where
-  pub ranks : List ℕ
-  pub lists : List (List (List ℕ))
-  pub ranked : AreRanksOf program ranks
-  pub placed : IsPlacement program ranks lists
-  pub written : out ≡ check_text text program ranks lists
-  pub told : err ≡ []
+abbrev pub IsChecked : List ℕ → Plan → List ℕ → List ℕ → Type 0
+IsChecked text plan out err = (out ≡ check_text text plan.program plan.ranks plan.lists) × (err ≡ [])
 
 -- what `check` answers for a text
 abbrev pub CheckAnswers : List ℕ → List ℕ → Status → List ℕ → List ℕ → Type 0
-CheckAnswers file text Done out err = (program : Typed) × Accepts text program × IsChecked text program out err
+CheckAnswers file text Done out err = (plan : Plan) × Accepts text plan.program × IsCompiled plan × IsChecked text plan out err
 CheckAnswers file text Refused out err = IsRefused file text out err
 CheckAnswers file text status out err = ⊥

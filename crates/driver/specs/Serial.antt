@@ -9,7 +9,7 @@ use Rattle.source.specs.declared.fault.Fault.{Fault}
 use Rattle.source.specs.Faults.{fault_text}
 use Rattle.driver.specs.declared.status.Status.{Status}
 use Rattle.driver.specs.declared.status.Status.TheVariants.{Done, Refused, Unsettled}
-use Rattle.driver.specs.Programs.{Accepts, IsOfFirstPass}
+use Rattle.compiler.specs.Programs.{Accepts, IsOfFirstPass}
 
 -- what is called
 abbrev pub calls_of : List Scheduled → List Invocation

@@ -2,19 +2,18 @@
 
 ghost use Rattle.std.specs.Prelude.{◌≡◌, IfOk, string_bytes};
 ghost use Rattle.core_lang.specs.WellFormed.{IsWellFormed};
-ghost use Rattle.driver.specs.Answers.{IsCheckAnswer, IsRunAnswer, IsFaultAnswer, RequestAnswers};
+ghost use Rattle.driver.specs.Answers.{IsCheckAnswer, IsListingAnswer, IsRunAnswer, IsFaultAnswer, RequestAnswers};
 ghost use Rattle.driver.specs.Checks.{CheckAnswers};
+ghost use Rattle.driver.specs.Listings.{ListingAnswers};
 ghost use Rattle.driver.specs.Serial.{SerialAnswers};
-ghost use Rattle.lockorder.specs.Edges.{AreRanksOf};
-ghost use Rattle.lockpaths.specs.Paths.{ArePaths};
 
-use crate::analysis::{Analysis, analyse};
-use crate::program::program_of;
 use crate::running::run_scripts;
 use crate::status::Status;
+use code::listing;
+use compiler::compile;
+use compiler::compiled::Program;
 use core_lang::laws;
 use core_lang::typed::Typed;
-use inserter::place;
 use report::{Check, history_text, unsettled_text};
 use source::fault::{Fault, Refusal};
 use source::line::fault_line;
@@ -26,6 +25,8 @@ use std::alloc::Global;
 pub enum Request {
     /// In which order it takes its locks, and which ones before each statement.
     Check,
+    /// The instructions of its sections.
+    Listing,
     /// The history of all its calls, run one after another.
     Serial {
         /// The most turns that each execution of a loop may make.
@@ -58,18 +59,15 @@ fn refused(alloc: Global, file: &str, text: &[u8], fault: &Fault) -> Result<Answ
 }
 
 /// The text of what is found of a program.
-fn checked(alloc: Global, text: &[u8], found: &Analysis) -> Result<Answer, NoMemory>
-    requires paths { ArePaths found.now.program found.now.paths }
-    requires ranks { AreRanksOf found.now.program found.now.ranks.items }
-    ensures { IfOk result (IsCheckAnswer text.now found.now.program) }
+fn checked(alloc: Global, text: &[u8], program: &Program) -> Result<Answer, NoMemory>
+    ensures { IfOk result (IsCheckAnswer text.now program.now) }
 {
-    let placed = place(alloc, &found.program, &found.paths, &found.ranks)?;
     let check = Check {
         text,
-        program: &found.program,
-        paths: &found.paths,
-        ranks: &found.ranks,
-        placed: &placed,
+        program: program.typed(),
+        paths: program.paths(),
+        ranks: program.ranks(),
+        placed: program.placed(),
     };
     Ok(Answer {
         status: Status::Done,
@@ -82,8 +80,30 @@ fn checked(alloc: Global, text: &[u8], found: &Analysis) -> Result<Answer, NoMem
 fn check_answer(alloc: Global, file: &str, text: &[u8]) -> Result<Answer, NoMemory>
     ensures { IfOk result (λ answer. CheckAnswers file.now text.now answer.status (string_bytes answer.out) (string_bytes answer.err)) }
 {
-    match analyse(alloc, text) {
-        Ok(found) => checked(alloc, text, &found),
+    match compile(alloc, text) {
+        Ok(program) => checked(alloc, text, &program),
+        Err(Refusal::Fault(fault)) => refused(alloc, file, text, &fault),
+        Err(Refusal::NoMemory) => Err(NoMemory),
+    }
+}
+
+/// The text of a program's code.
+fn listed(alloc: Global, program: &Program) -> Result<Answer, NoMemory>
+    ensures { IfOk result (IsListingAnswer program.now) }
+{
+    Ok(Answer {
+        status: Status::Done,
+        out: listing(alloc, program.code())?,
+        err: String::new(alloc),
+    })
+}
+
+/// What `listing` answers for the text of the file of this name.
+fn listing_answer(alloc: Global, file: &str, text: &[u8]) -> Result<Answer, NoMemory>
+    ensures { IfOk result (λ answer. ListingAnswers file.now text.now answer.status (string_bytes answer.out) (string_bytes answer.err)) }
+{
+    match compile(alloc, text) {
+        Ok(program) => listed(alloc, &program),
         Err(Refusal::Fault(fault)) => refused(alloc, file, text, &fault),
         Err(Refusal::NoMemory) => Err(NoMemory),
     }
@@ -115,8 +135,8 @@ fn ran(alloc: Global, program: &Typed, turns: u64) -> Result<Answer, NoMemory>
 fn serial_answer(alloc: Global, file: &str, text: &[u8], turns: u64) -> Result<Answer, NoMemory>
     ensures { IfOk result (λ answer. SerialAnswers turns file.now text.now answer.status (string_bytes answer.out) (string_bytes answer.err)) }
 {
-    match program_of(alloc, text) {
-        Ok(program) => ran(alloc, &program, turns),
+    match compile(alloc, text) {
+        Ok(program) => ran(alloc, program.typed(), turns),
         Err(Refusal::Fault(fault)) => refused(alloc, file, text, &fault),
         Err(Refusal::NoMemory) => Err(NoMemory),
     }
@@ -133,6 +153,7 @@ pub fn answer_to(
 {
     match request {
         Request::Check => check_answer(alloc, file, text),
+        Request::Listing => listing_answer(alloc, file, text),
         Request::Serial { turns } => serial_answer(alloc, file, text, turns),
     }
 }

@@ -4,6 +4,7 @@ ghost use Rattle.std.specs.Prelude.{◌≡◌, false};
 ghost use Rattle.driver.specs.Answers.{GoesOut, RequestAnswers};
 ghost use Rattle.driver.specs.Checks.{CheckAnswers};
 ghost use Rattle.driver.specs.Engines.{Serves};
+ghost use Rattle.driver.specs.Listings.{ListingAnswers};
 ghost use Rattle.driver.specs.Messages.{cannot_read, cannot_write, no_memory};
 ghost use Rattle.driver.specs.Serial.{SerialAnswers};
 ghost use Rattle.driver.specs.Streams.{reading_failed, writing_failed, Writes, Tells};
@@ -113,6 +114,29 @@ pub fn check<S: Read, O: Write, E: Write>(
         E.contents err.old err.new result }
 {
     serve(alloc, source, file, Request::Check, out, err)
+}
+
+/// Writes the instructions of each section of the program that `source` gives. Answers how that ended:
+///
+/// - `Done`: the program is accepted, and its listing was written to `out`.
+/// - `Refused`: the program has a fault, which is told on `err`; `file` is its name there.
+/// - `Failed`: reading or writing failed, which is told on `err`.
+/// - `OutOfMemory`: a growth was refused, which is told on `err`; nothing was written to `out`.
+///
+/// Whether `err` fails changes no answer.
+pub fn list<S: Read, O: Write, E: Write>(
+    alloc: Global,
+    source: &mut SourceText<S>,
+    file: &str,
+    out: &mut Sink<O>,
+    err: &mut Sink<E>,
+) -> Status
+    requires readable { reading_failed source.old ≡ false }
+    requires writable { writing_failed out.old ≡ false }
+    ensures { Serves (ListingAnswers file.now) file.now S.remaining source.old source.new O.contents out.old out.new
+        E.contents err.old err.new result }
+{
+    serve(alloc, source, file, Request::Listing, out, err)
 }
 
 /// Runs all calls of the program that `source` gives one after another, thread 0's whole script

@@ -5,29 +5,23 @@
 //!
 //! - [`check`]: in which order a program takes its locks, and which ones before each statement. `specs/Checks.antt` says
 //!   what it answers.
-//! - [`serial`]: all calls of a program one after another. `specs/Serial.antt` says what it answers,
-//!   and `specs/Programs.antt` which program a text is, or which fault it has.
-//! - [`program_of`]: the program of a text, or its fault.
-//! - [`analyse`]: the same program with its lock paths and the ranks of its lock classes.
+//! - [`list`]: the instructions of each section. `specs/Listings.antt` says what it answers.
+//! - [`serial`]: all calls of a program one after another. `specs/Serial.antt` says what it answers.
 //! - [`Status`]: how a command ended, which is the exit status.
 //! - [`SourceText`], [`Sink`]: readers and writers that remember whether they failed.
 //! - [`tell_cannot_read`], [`tell_cannot_write`], [`tell_no_memory`]: the messages that the program
 //!   itself may have to give too.
 #![tactic(auto)]
 
-mod analysis;
 mod answer;
 mod engine;
-mod program;
 mod running;
 mod schedule;
 mod sink;
 mod source_text;
 mod status;
 
-pub use analysis::{Analysis, analyse};
-pub use engine::{check, serial, tell_cannot_read, tell_cannot_write, tell_no_memory};
-pub use program::program_of;
+pub use engine::{check, list, serial, tell_cannot_read, tell_cannot_write, tell_no_memory};
 pub use sink::Sink;
 pub use source_text::{ReadError, SourceText};
 pub use status::Status;

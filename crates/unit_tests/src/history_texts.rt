@@ -1,8 +1,7 @@
 //! Tests of the crate `report`: of the printed forms of each kind of cell, value, outcome and print.
 
-use crate::judging::compare;
+use crate::judging::{compare, program_of};
 use core_lang::value::{Outcome, Trap, Value};
-use driver::program_of;
 use report::{Record, history_text, unsettled_text};
 use std::alloc::{AllocError, Global};
 use std::test::Fail;
@@ -48,7 +47,7 @@ fn records(alloc: Global) -> Result<Vec<Record>, AllocError> {
 #[test]
 fn writes_histories(rt: HostRuntime) -> Result<(), Fail> {
     let alloc = rt.alloc();
-    let program = program_of(alloc, PROGRAM.as_bytes())?;
+    let program = program_of(alloc, PROGRAM)?;
     assert!(rt; program.cells.len() == 5);
     let values = [
         Value::Int(-3),
@@ -78,7 +77,7 @@ end
 #[test]
 fn writes_unsettled_calls(rt: HostRuntime) -> Result<(), Fail> {
     let alloc = rt.alloc();
-    let program = program_of(alloc, PROGRAM.as_bytes())?;
+    let program = program_of(alloc, PROGRAM)?;
     let text = unsettled_text(alloc, &program, &[], 12, 345)?;
     compare(alloc, text.as_str(), "history 1\nunsettled 12 345\n")
 }

@@ -1,8 +1,7 @@
 //! Tests of the crate `layout`: a program is laid out.
 
 use crate::judging::compare;
-use driver::program_of;
-use layout::lay_out;
+use compiler::compile;
 use std::test::Fail;
 
 /// Two objects whose field is under the lock of a third one.
@@ -17,15 +16,15 @@ init q[1].owner = b[0];
 #[test]
 fn lays_out(rt: HostRuntime) -> Result<(), Fail> {
     let alloc = rt.alloc();
-    let Ok(program) = program_of(alloc, SHARED_OWNER.as_bytes()) else {
+    let Ok(program) = compile(alloc, SHARED_OWNER.as_bytes()) else {
         return compare(alloc, "refused", "a program");
     };
-    let layout = lay_out(alloc, &program)?;
+    let layout = program.layout();
     let mut text = String::new(alloc);
     for lock in layout.locks() {
         write!(&mut text, "lock {} of {}\n", lock.class, lock.object)?;
     }
-    for cell in 0..program.cells.len() {
+    for cell in 0..program.typed().cells.len() {
         let (lock, offset) = layout.slot_of(cell);
         let size = layout.cells_of(lock);
         let opening = layout.opening(cell);

@@ -1,10 +1,9 @@
 //! Tests of the crate `meaning`: worked examples. The values wanted are those of the language's own examples.
 
-use crate::judging::compare;
+use crate::judging::{compare, program_of};
 use core_lang::calls::can_call;
 use core_lang::typed::Typed;
 use core_lang::value::Value;
-use driver::program_of;
 use meaning::heap::Heap;
 use meaning::run::{End, run_whole};
 use source::memory::NoMemory;
@@ -26,7 +25,7 @@ impl Machine {
             struct S {{ lock l; int x protected_by(l); }} pool S p[1];
             {sections}"
         )?;
-        let program = program_of(alloc, text.as_bytes())?;
+        let program = program_of(alloc, text.as_str())?;
         let heap = Heap::open(alloc, &program)?;
         Ok(Machine { program, heap })
     }

@@ -42,13 +42,17 @@ program = needs_subcommand (with_version (new_app (codes "autolock")))
 abbrev pub with_check : App → App
 with_check app = with_subcommand app (with_file (codes "check")).top
 
+-- autolock listing FILE
+abbrev pub with_listing : App → App
+with_listing app = with_subcommand app (with_file (codes "listing")).top
+
 -- autolock serial [--turns N] FILE
 abbrev pub with_serial : App → App
 with_serial app = with_subcommand app (with_turns (with_file (codes "serial"))).top
 
 -- the whole command line
 abbrev pub autolock : App
-autolock = with_serial (with_check program)
+autolock = with_serial (with_listing (with_check program))
 
 -- the command is that one, and has no global argument
 abbrev pub IsCommand : App → Command → Type 0

@@ -7,7 +7,7 @@ use Rattle.clap.specs.declared.error.Error.{Error}
 use Rattle.clap.specs.declared.error.kind.ErrorKind.TheVariants.{MissingSubcommand}
 use Rattle.words.specs.Commands.{autolock}
 use Rattle.words.specs.declared.line.Line.{Line}
-use Rattle.words.specs.declared.line.Line.TheVariants.{Check, Serial}
+use Rattle.words.specs.declared.line.Line.TheVariants.{Check, Listing, Serial}
 
 -- the value of a name, or nothing
 abbrev pub name_in : Text → List Row → Text
@@ -22,6 +22,7 @@ pub record IsTurns (rows : List Row) (turns : ℕ) : Type 0 where
 -- the line is that command, with the values of its arguments
 abbrev pub IsLine : Text → List Row → Line → Type 0
 IsLine command rows (Check file) = (command ≡ codes "check") × (file.now ≡ name_in (codes "FILE") rows)
+IsLine command rows (Listing file) = (command ≡ codes "listing") × (file.now ≡ name_in (codes "FILE") rows)
 IsLine command rows (Serial file turns) =
     (command ≡ codes "serial") × (file.now ≡ name_in (codes "FILE") rows) × IsTurns rows turns
 
@@ -30,10 +31,14 @@ abbrev pub IsLineOf : Option (Text × List Row) → Line → Type 0
 IsLineOf None line = ⊥
 IsLineOf (Some (command, rows)) line = IsLine command rows line
 
+-- a name of the program's own subcommands
+abbrev pub IsOwnName : Text → Type 0
+IsOwnName command = (command ≡ codes "check") ⊎ ((command ≡ codes "listing") ⊎ (command ≡ codes "serial"))
+
 -- the subcommand that was met is one of the program's own
 abbrev pub IsOwn : Option (Text × List Row) → Type 0
 IsOwn None = ⊥
-IsOwn (Some (command, rows)) = (command ≡ codes "check") ⊎ (command ≡ codes "serial")
+IsOwn (Some (command, rows)) = IsOwnName command
 
 -- why words are refused: memory ran out, clap's definitions refuse them so, or they name no command of the program's own
 abbrev pub IsRefused : List Text → Error → Type 0

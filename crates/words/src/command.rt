@@ -47,6 +47,8 @@ pub fn command<'a>(alloc: Global) -> Result<Command<'a>, AllocError>
 {
     let about = "Say in which order locks are taken, and which ones before each statement";
     let check = file_command(alloc, "check", about)?;
+    let about = "Write the instructions of each section";
+    let listing = file_command(alloc, "listing", about)?;
     let about = "Run all calls one after another, and write the history";
     let serial = file_command(alloc, "serial", about)?.arg(turns_argument(alloc))?;
     Command::new(alloc, "autolock")
@@ -54,5 +56,6 @@ pub fn command<'a>(alloc: Global) -> Result<Command<'a>, AllocError>
         .about("Programs with atomic sections: locks inferred from protected_by annotations")
         .subcommand_required(true)
         .subcommand(check)?
+        .subcommand(listing)?
         .subcommand(serial)
 }

@@ -11,6 +11,11 @@ pub enum Line<'a> {
         /// The file of the program's text.
         file: &'a str,
     },
+    /// `listing`: write the instructions of a program's sections.
+    Listing {
+        /// The file of the program's text.
+        file: &'a str,
+    },
     /// `serial`: run all calls of a program one after another.
     Serial {
         /// The file of the program's text.

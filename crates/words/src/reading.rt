@@ -1,9 +1,9 @@
 //! From words to a line.
 
-ghost use Rattle.std.specs.Prelude.{◌≡◌, ◌≢◌, IfOk, IfErr, IfSome, OnOk, None, [], codes, map};
+ghost use Rattle.std.specs.Prelude.{◌≡◌, IfOk, IfErr, IfSome, OnOk, None, [], map};
 ghost use Rattle.clap.specs.Words.{fault_of, found_of, rows_of, subcommand_of};
 ghost use Rattle.words.specs.Commands.{autolock};
-ghost use Rattle.words.specs.Lines.{name_in, IsTurns, IsLine, IsLineOf, IsRefused};
+ghost use Rattle.words.specs.Lines.{name_in, IsTurns, IsLine, IsLineOf, IsOwnName, IsRefused};
 
 use crate::command::command;
 use crate::line::{DEFAULT_TURNS, Line};
@@ -28,11 +28,12 @@ fn turns(matches: &ArgMatches<'_>) -> u64
 /// The line of a command, or `None` where there is no such command.
 fn line<'a>(command: &str, matches: &ArgMatches<'a>) -> Option<Line<'a>>
     ensures line { IfSome result (IsLine command.now (rows_of (found_of matches.now))) }
-    ensures none { result ≡ None → (command.now ≢ codes "check") × (command.now ≢ codes "serial") }
+    ensures none { result ≡ None → IsOwnName command.now → ⊥ }
 {
     let file = name(matches, "FILE");
     match command {
         "check" => Some(Line::Check { file }),
+        "listing" => Some(Line::Listing { file }),
         "serial" => Some(Line::Serial {
             file,
             turns: turns(matches),

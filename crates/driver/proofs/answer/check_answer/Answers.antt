@@ -4,7 +4,8 @@ use Rattle.driver.proofs.answer.check_answer.Goals as goal
 
 pub returns-in-Ok : goal.returns-in-Ok
 returns-in-Ok c =
-    IfOk-weaker c.checked.result _ _ (λ answer is. check_answers c.args.file.now c.args.text.now c.in-Ok.found.program answer c.in-Ok.ensures.accepts is) c.checked.ensures
+    IfOk-weaker c.checked.result _ _
+    (λ answer is. check_answers _ _ _ answer c.in-Ok.ensures.accepts c.in-Ok.ensures.compiled is) c.checked.ensures
 
 pub returns-in-Err-Fault : goal.returns-in-Err-Fault
 returns-in-Err-Fault c =

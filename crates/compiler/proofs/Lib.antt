@@ -1,0 +1,4 @@
+pub mod RefusalLemmas
+pub mod Alike
+pub mod OrderAlike
+pub mod FaultlessLemmas

@@ -1,0 +1,44 @@
+-- A refusal by one pass is a refusal of the text.
+use Rattle.std.proofs.Common.{ℕ, List}
+use Rattle.source.specs.declared.fault.Refusal.{Refusal}
+use Rattle.source.specs.declared.fault.Refusal.TheVariants.{Fault, NoMemory}
+use Rattle.source.specs.Tokens.{Tok}
+use Rattle.source.specs.Texts as text
+use Rattle.syntax.specs.Trees.{Decl}
+use Rattle.syntax.specs.Faults as grammar
+use Rattle.resolution.specs.Faults as names
+use Rattle.resolution.specs.Resolved.{Resolves}
+use Rattle.core_lang.specs.declared.typed.Typed.{Typed}
+use Rattle.locks.specs.Faults as paths
+use Rattle.source.specs.Mistakes.{IsLeastOf}
+use Rattle.compiler.specs.Programs.{IsRefusal, IsOrderRefusal, HasNoTextFault, HasNoTokenFault, in_text, in_tokens, in_tree, in_paths, in_order}
+
+pub text_refused : (source : List ℕ) (e : Refusal) → text.IsRefusal source e → IsRefusal source e
+text_refused source NoMemory refused = tt
+text_refused source (Fault fault) refused = in_text refused
+
+pub tokens_refused : (source : List ℕ) (tokens : List Tok) (e : Refusal) → HasNoTextFault source → text.HasTokens source tokens
+    → grammar.IsRefusal tokens e → IsRefusal source e
+tokens_refused source tokens NoMemory no_text has refused = tt
+tokens_refused source tokens (Fault fault) no_text has refused = in_tokens tokens no_text has refused
+
+pub tree_refused : (source : List ℕ) (tokens : List Tok) (tree : List Decl) (e : Refusal) → HasNoTextFault source
+    → text.HasTokens source tokens → HasNoTokenFault tokens → grammar.HasRightTree tokens tree
+    → names.IsRefusal tree e → IsLeastOf (names.IsFault tree) e → IsRefusal source e
+tree_refused source tokens tree NoMemory no_text has no_token right refused least = tt
+tree_refused source tokens tree (Fault fault) no_text has no_token right refused least =
+    in_tree tokens tree no_text has no_token right refused least
+
+pub paths_refused : (source : List ℕ) (tokens : List Tok) (tree : List Decl) (program : Typed) (e : Refusal) → HasNoTextFault source
+    → text.HasTokens source tokens → HasNoTokenFault tokens → grammar.HasRightTree tokens tree → names.HasNoFault tree
+    → Resolves tree program → paths.IsRefusal program e → paths.IsLeast program e → IsRefusal source e
+paths_refused source tokens tree program NoMemory no_text has no_token right no_name means refused least = tt
+paths_refused source tokens tree program (Fault fault) no_text has no_token right no_name means refused least =
+    in_paths tokens tree program no_text has no_token right no_name means refused least
+
+pub order_refused : (source : List ℕ) (tokens : List Tok) (tree : List Decl) (program : Typed) (e : Refusal) → HasNoTextFault source
+    → text.HasTokens source tokens → HasNoTokenFault tokens → grammar.HasRightTree tokens tree → names.HasNoFault tree
+    → Resolves tree program → paths.HasNoFault program → IsOrderRefusal program e → IsRefusal source e
+order_refused source tokens tree program NoMemory no_text has no_token right no_name means no_path refused = tt
+order_refused source tokens tree program (Fault fault) no_text has no_token right no_name means no_path refused =
+    in_order tokens tree program no_text has no_token right no_name means no_path refused

@@ -1,0 +1,65 @@
+//! The passes in order.
+
+ghost use Rattle.std.specs.Prelude.{IfOk, IfErr, OnOk};
+ghost use Rattle.core_lang.specs.WellFormed.{IsWellFormed};
+ghost use Rattle.lockpaths.specs.Paths.{ArePaths};
+ghost use Rattle.lockorder.specs.Edges.{AreRanksOf, RiseIn};
+ghost use Rattle.lockorder.specs.Faults.{HasNoFault};
+ghost use Rattle.lowering.specs.Plans.{IsCompiled};
+ghost use Rattle.compiler.specs.Programs.{Accepts, IsOrderRefusal, IsRefusal};
+
+use crate::compiled::Program;
+use core_lang::typed::Typed;
+use lexer::lex;
+use lockorder::order;
+use lockorder::ranks::{OrderRefusal, Ranks};
+use lockpaths::paths;
+use lockpaths::table::Paths;
+use parser::parse;
+use source::fault::Refusal;
+use source::memory::NoMemory;
+use std::alloc::Global;
+use types::program::check;
+
+// The ranks of the lock classes, or the fault of a cycle.
+fn ranked(alloc: Global, program: &Typed, paths: &Paths) -> Result<Ranks, Refusal>
+    requires program { IsWellFormed program.now }
+    requires paths { ArePaths program.now paths.now }
+    ensures ranks { IfOk result (λ ranks. AreRanksOf program.now ranks.items) }
+    ensures rise { IfOk result (λ ranks. RiseIn program.now ranks.items) }
+    ensures faultless { OnOk result (HasNoFault program.now) }
+    ensures fault { IfErr result (IsOrderRefusal program.now) }
+{
+    let cycle = match order(alloc, program, paths) {
+        Ok(ranks) => return Ok(ranks),
+        Err(OrderRefusal::Cycle(cycle)) => cycle,
+        Err(OrderRefusal::NoMemory) => return Err(Refusal::NoMemory),
+    };
+    match cycle.fault(alloc, program) {
+        Ok(fault) => Err(Refusal::Fault(fault)),
+        Err(NoMemory) => Err(Refusal::NoMemory),
+    }
+}
+
+/// The program that the text means, compiled; or the fault of the first pass that has one.
+///
+/// # Errors
+///
+/// The fault, or want of memory.
+pub fn compile(alloc: Global, text: &[u8]) -> Result<Program, Refusal>
+    ensures accepts { IfOk result (λ made. Accepts text.now made.program) }
+    ensures compiled { IfOk result IsCompiled }
+    ensures fault { IfErr result (IsRefusal text.now) }
+{
+    let tokens = lex(alloc, text)?;
+    let tree = parse(alloc, &tokens)?;
+    drop(tokens);
+    let typed = check(alloc, &tree)?;
+    drop(tree);
+    let found = paths(alloc, &typed)?;
+    let ranks = ranked(alloc, &typed, &found)?;
+    match Program::of(alloc, typed, found, ranks) {
+        Ok(program) => Ok(program),
+        Err(NoMemory) => Err(Refusal::NoMemory),
+    }
+}

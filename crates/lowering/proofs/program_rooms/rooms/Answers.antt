@@ -1,0 +1,64 @@
+use Rattle.std.proofs.Common.{◌≡◌, ◌∙◌, ◌<◌, ◌≤◌, length, slice_index, get_or, map, Some, inl, inr, refl, sym, ap, subst, arith, ℕ}
+use Rattle.std.specs.Prelude.{slice_get}
+use Rattle.std.specs.List.{sum_by}
+use Rattle.std.proofs.lemmas.List.{length-map}
+use Rattle.std.proofs.lemmas.Option.{same_Some, slice_get_read}
+use Rattle.core_lang.specs.declared.tree.Section.{Section}
+use Rattle.core_lang.specs.declared.typed.Typed.{Typed}
+use Rattle.locks.specs.LockPaths.{LockPath, lock_path_of, lock_paths}
+use Rattle.lockpaths.specs.declared.table.Paths.{Paths}
+use Rattle.lockpaths.specs.declared.table.SectionPaths.{SectionPaths}
+use Rattle.lockpaths.specs.Paths.{AreSectionPaths, ArePaths}
+use Rattle.layout.specs.declared.room.Room.{Room}
+use Rattle.lowering.specs.Rooms.{IsRoomOf, most_cells}
+use Rattle.lowering.proofs.Pushes.{push_cases}
+use Rattle.lowering.proofs.Most.{cells_same}
+use Rattle.lowering.proofs.program_rooms.rooms.Goals as goal
+
+-- what is known of the lock paths of the section at hand
+known : (program : Typed) (paths : Paths) (k : ℕ) (section : Section) (found : SectionPaths) → ArePaths program paths → k < length program.sections.items →
+    section ≡ get_or program.sections.items k section → found ≡ get_or paths.sections.items k found → AreSectionPaths program section found
+known program paths k section found are lt at is =
+    are.each k section found (slice_get_read program.sections.items (length program.sections.items) k section refl lt at)
+    (slice_get_read paths.sections.items (length paths.sections.items) k found refl (omega (arith, lt, are.sections)) is)
+
+pub cells_under-requires : goal.cells_under-requires
+cells_under-requires c =
+    let program = c.args.program.now in
+    let lt : c.loop-k.k < length program.sections.items = omega (arith, c.loop-k-test.true, c.len-k-end.ensures, program.sections.ok.0) in
+    let are = known program c.args.paths.now c.loop-k.k c.index-section.result.now c.index.result.now c.requires.paths lt c.index-section.ensures c.index.ensures in
+    let limit : length c.index.result.now.paths.items ≤ 64 = are.limit in
+    omega (arith, ap length c.deref.ensures.value, limit)
+
+pub loop-k-preserved : goal.loop-k-preserved
+loop-k-preserved c =
+    let program = c.args.program.now in
+    let layout = c.args.layout.now in
+    let here = c.index-section.result.now in
+    let found = c.index.result.now in
+    let room : Room = record { locks = c.len-in-loop-k.result; cells = c.cells_under.result; operands = c.in_ok-of_section.field-0; locals = c.len-in-loop-k-2.result } in
+    let lt : c.loop-k.k < length program.sections.items = omega (arith, c.loop-k-test.true, c.len-k-end.ensures, program.sections.ok.0) in
+    let are = known program c.args.paths.now c.loop-k.k here found c.requires.paths lt c.index-section.ensures c.index.ensures in
+    let there : slice_get program.sections.items c.loop-k.k ≡ Some here =
+    slice_get_read program.sections.items (length program.sections.items) c.loop-k.k here refl lt c.index-section.ensures in
+    let listed : map lock_path_of found.paths.items ≡ lock_paths program here = are.paths in
+    let done : IsRoomOf program layout here room = record {
+      locks = c.len-in-loop-k.ensures ∙ found.paths.ok.0 ∙ sym (length-map found.paths.items lock_path_of) ∙ ap length listed;
+      cells =
+          c.cells_under.ensures
+          ∙ cells_same layout c.deref-in-loop-k.result.now (λ class. ap (λ t. slice_index t class) c.deref-in-loop-k.ensures.value ∙ c.in_ok-most.ensures class) c.deref.result.now
+          ∙ ap (sum_by (λ (path : LockPath). most_cells layout path.class)) (ap (map lock_path_of) c.deref.ensures.value ∙ listed);
+      operands = c.in_ok-of_section.ensures;
+      locals = c.len-in-loop-k-2.ensures ∙ here.locals.ok.0;
+    } in
+    record {
+      long = omega (arith, c.in_ok-push.ensures.len, c.loop-k.invariant.long, c.loop-k.rooms.ok.0, c.push.new.self.ok.0);
+      each = λ j section r at e.
+          elim (push_cases c.loop-k.rooms.items room j r (subst (λ l. slice_get l j ≡ Some r) c.in_ok-push.ensures.items e)) [
+            | inl old ↦ c.loop-k.invariant.each j section r at old
+            | inr new ↦
+                let k : j ≡ c.loop-k.k = new.0 ∙ c.loop-k.invariant.long in
+                let same : section ≡ here = same_Some section here (sym at ∙ ap (slice_get program.sections.items) k ∙ there) in
+                subst (λ m. IsRoomOf program layout section m) new.1 (subst (λ s. IsRoomOf program layout s room) (sym same) done)
+          ];
+    }

@@ -1,0 +1,31 @@
+-- The instructions of a tree's parts, over the items of each `Vec`. Nobody has to believe these: `proofs/CodeViews` proves
+-- that they are those of the tree.
+use Rattle.std.specs.Prelude.{ℕ, ◌+◌, List, [], ◌∷◌, ◌++◌, length}
+use Rattle.core_lang.specs.declared.tree.Operation.{Operation}
+use Rattle.core_lang.specs.declared.tree.Condition.{Condition}
+use Rattle.core_lang.specs.declared.tree.Stmt.{Stmt}
+use Rattle.code.specs.declared.instr.Instr.{Instr}
+use Rattle.code.specs.declared.instr.Instr.TheVariants.{Operate}
+use Rattle.code.specs.Lowering.{expr_code, test_code, points_of, stmt_code}
+
+-- further operands, each followed by its operator
+abbrev pub operations_code : List Operation → List Instr
+operations_code [] = []
+operations_code (o ∷ os) = (expr_code o.operand ++ Operate o.operator ∷ []) ++ operations_code os
+
+-- operands of && or of ||, each with this jump behind it, and the last
+abbrev pub conditions_code : (ℕ → Instr) → List Condition → List Instr → List Instr
+conditions_code jump [] last = last
+conditions_code jump (c ∷ cs) last =
+    test_code c ++ (jump (length (conditions_code jump cs last)) ∷ conditions_code jump cs last)
+
+-- how many points statements have
+abbrev pub points_of_all : List Stmt → ℕ
+points_of_all [] = 0
+points_of_all (s ∷ ss) = points_of s.action + points_of_all ss
+
+-- statements, the first of whose points has this number
+abbrev pub sequence_code : {P : Type 0} → List (List P) → List Stmt → ℕ → List Instr
+sequence_code lists [] point = []
+sequence_code lists (s ∷ ss) point =
+    stmt_code lists s.action point ++ sequence_code lists ss (point + points_of s.action)

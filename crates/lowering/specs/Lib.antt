@@ -1,0 +1,11 @@
+pub mod Lowered
+pub mod Rooms
+pub mod Plans
+pub mod CodeLists
+pub mod NeedLists
+pub mod Assembly
+pub mod Emission
+-- what the public clauses cite
+pub use Rattle.lowering.specs.Lowered.{StructTexts, AreNames, IsLowered, lists_at, IsCodeOf}
+pub use Rattle.lowering.specs.Rooms.{most_cells, IsRoomOf, AreRoomsOf}
+pub use Rattle.lowering.specs.Plans.{Plan, IsCompiled, CodesBehave}

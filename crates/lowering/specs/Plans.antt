@@ -1,0 +1,40 @@
+-- A compiled program as data.
+use Rattle.std.specs.Prelude.{◌≡◌, ℕ, List, slice_get, Some}
+use Rattle.core_lang.specs.declared.tree.Section.{Section}
+use Rattle.core_lang.specs.declared.typed.Typed.{Typed}
+use Rattle.core_lang.specs.WellFormed.{IsWellFormed}
+use Rattle.locks.specs.Faults as paths
+use Rattle.lockorder.specs.Edges.{AreRanksOf, RiseIn}
+use Rattle.inserter.specs.Placement.{IsPlacement}
+use Rattle.layout.specs.Layouts.{LayoutOf, IsLayoutOf}
+use Rattle.code.specs.declared.section_code.SectionCode.{SectionCode}
+use Rattle.code.specs.declared.section_code.Code.{Code}
+use Rattle.code.specs.Needs.{operand_need}
+use Rattle.code.specs.Alone.{Behaves}
+use Rattle.lowering.specs.Lowered.{IsCodeOf}
+
+-- a program, the ranks of its lock classes, for each section the lists of lock paths before its points, each path by its number among
+-- the section's, and where cells and locks lie. Its code is that of `code`, for these lists
+pub record Plan : Type 0 where
+  pub program : Typed
+  pub ranks : List ℕ
+  pub lists : List (List (List ℕ))
+  pub layout : LayoutOf
+
+-- the program is well formed; each of its accesses has a lock path, and no section too many; locks that have to be taken before others
+-- are of a lesser rank; before each point stand the paths that are due there; and the layout is the program's
+pub record IsCompiled (plan : Plan) : Type 0 where
+  pub well_formed : IsWellFormed plan.program
+  pub stable : paths.HasNoFault plan.program
+  pub ranked : AreRanksOf plan.program plan.ranks
+  pub rise : RiseIn plan.program plan.ranks
+  pub placed : IsPlacement plan.program plan.ranks plan.lists
+  pub laid_out : IsLayoutOf plan.program plan.layout
+
+-- the code of a well-formed program behaves as its sections
+abbrev pub CodesBehave : Type 0
+CodesBehave =
+    (program : Typed) (lists : List (List (List ℕ))) (code : Code) (k : ℕ) (section : Section) (made : SectionCode) →
+    IsWellFormed program → IsCodeOf program lists code →
+    slice_get program.sections.items k ≡ Some section → slice_get code.sections.items k ≡ Some made →
+    Behaves program section made.instructions.items (operand_need section)

@@ -1,0 +1,37 @@
+-- What one run of a section can need at most.
+use Rattle.std.specs.Prelude.{◌≡◌, ℕ, ◌==◌, max, if◌then◌else◌, List, [], ◌∷◌, length, slice_get, Some}
+use Rattle.std.specs.List.{sum_by}
+use Rattle.core_lang.specs.declared.tree.Section.{Section}
+use Rattle.core_lang.specs.declared.typed.Typed.{Typed}
+use Rattle.locks.specs.declared.lock.Lock.{Lock}
+use Rattle.locks.specs.LockPaths.{LockPath, lock_paths}
+use Rattle.layout.specs.declared.room.Room.{Room}
+use Rattle.layout.specs.LockCells.{cells_of}
+use Rattle.layout.specs.Layouts.{LayoutOf}
+use Rattle.code.specs.Needs.{operand_need}
+
+-- the most cells that one of these locks protects, of those that have the class; 0, where none has it
+abbrev pub most_among : List Lock → List Lock → ℕ → ℕ
+most_among cell_locks [] class = 0
+most_among cell_locks (lock ∷ locks) class =
+    if lock.class == class
+    then max (length (cells_of cell_locks lock)) (most_among cell_locks locks class)
+    else most_among cell_locks locks class
+
+-- the most cells that a lock of a class protects
+abbrev pub most_cells : LayoutOf → ℕ → ℕ
+most_cells layout class = most_among layout.cell_locks layout.locks class
+
+-- what one run of a section needs at most: a lock for each of its lock paths, with the most cells that a lock of the path's
+-- class protects; as many operands as its deepest stack has; and its locals
+pub record IsRoomOf (program : Typed) (layout : LayoutOf) (section : Section) (room : Room) : Type 0 where
+  pub locks : room.locks ≡ length (lock_paths program section)
+  pub cells : room.cells ≡ sum_by (λ (path : LockPath). most_cells layout path.class) (lock_paths program section)
+  pub operands : room.operands ≡ operand_need section
+  pub locals : room.locals ≡ length section.locals.items
+
+-- that of each section
+pub record AreRoomsOf (program : Typed) (layout : LayoutOf) (rooms : List Room) : Type 0 where
+  pub long : length rooms ≡ length program.sections.items
+  pub each : (k : ℕ) (section : Section) (room : Room) → slice_get program.sections.items k ≡ Some section →
+      slice_get rooms k ≡ Some room → IsRoomOf program layout section room

@@ -1,0 +1,21 @@
+//! Makes the code of a program.
+//!
+//! - [`lower`]: the code of each section, and the names that its listing shows.
+//! - [`rooms`]: what one run of each section can need at most.
+//!
+//! `specs/` says what the code of a program is (`Lowered`), and what its sections need (`Rooms`). Its other files only say
+//! what the code has done (`Assembly`, `Emission`), and what instructions and needs are over lists (`CodeLists`,
+//! `NeedLists`); nobody has to believe them.
+#![tactic(auto)]
+
+mod assembler;
+mod emitter;
+pub mod laws;
+mod names;
+mod needs;
+mod program_code;
+mod program_rooms;
+mod section_code;
+
+pub use program_code::lower;
+pub use program_rooms::rooms;

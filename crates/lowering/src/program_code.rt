@@ -1,0 +1,50 @@
+//! The code of a program.
+
+ghost use Rattle.std.specs.Prelude.{◌≡◌, IfOk};
+ghost use Rattle.lockpaths.specs.Paths.{ArePaths};
+ghost use Rattle.inserter.specs.Placement.{all_lists};
+ghost use Rattle.lowering.specs.Lowered.{IsCodeOf, lists_at, number_lists};
+
+use crate::names::names_of;
+use crate::section_code::Lowering;
+use code::section_code::Code;
+use core_lang::typed::Typed;
+use inserter::placed::Placed;
+use lockpaths::table::Paths;
+use source::memory::NoMemory;
+use std::alloc::Global;
+
+// The lists before the points of the section of this number; none, where there are none for it.
+fn lists_before(placed: &Placed, section: usize) -> &[Vec<u8>]
+    ensures { number_lists result.now ≡ lists_at (all_lists placed.now) section }
+{
+    match placed.sections.get(section) {
+        Some(lists) => &lists.before,
+        None => &[],
+    }
+}
+
+/// The code of a program, whose sections ask before their points for the lock paths of these lists.
+///
+/// # Errors
+///
+/// Want of memory.
+pub fn lower(
+    alloc: Global,
+    program: &Typed,
+    paths: &Paths,
+    placed: &Placed,
+) -> Result<Code, NoMemory>
+    requires { ArePaths program.now paths.now }
+    ensures { IfOk result (IsCodeOf program.now (all_lists placed.now)) }
+{
+    let names = names_of(alloc, program)?;
+    let mut sections = Vec::with_capacity(alloc, program.sections.len())?;
+    for k in 0..program.sections.len() {
+        let section = &program.sections[k];
+        let lowering = Lowering { program, section };
+        let lists = lists_before(placed, k);
+        sections.push(lowering.code(alloc, &paths.sections[k].paths, lists)?)?;
+    }
+    Ok(Code { names, sections })
+}

@@ -1,0 +1,78 @@
+//! The code of a section.
+
+ghost use Rattle.std.specs.Prelude.{◌≡◌, map, IfOk};
+ghost use Rattle.locks.specs.LockPaths.{lock_path_of, lock_paths};
+ghost use Rattle.locks.specs.Texts.{path_text};
+ghost use Rattle.code.specs.Lowering.{section_code};
+ghost use Rattle.lowering.specs.Lowered.{IsLowered, number_lists, texts};
+
+use crate::emitter::Emitter;
+use code::instr::Instr;
+use code::section_code::SectionCode;
+use core_lang::tree::Section;
+use core_lang::typed::Typed;
+use locks::path::LockPath;
+use locks::text::push_path;
+use source::memory::NoMemory;
+use std::alloc::Global;
+
+/// A section of a program.
+#[derive(Drop)]
+pub struct Lowering<'a> {
+    /// The program.
+    pub program: &'a Typed,
+    /// The section.
+    pub section: &'a Section,
+}
+
+impl Lowering<'_> {
+    /// The code of the section, by its lock paths and the lists before its points.
+    pub fn code(
+        &self,
+        alloc: Global,
+        paths: &[LockPath],
+        lists: &[Vec<u8>],
+    ) -> Result<SectionCode, NoMemory>
+        requires { map lock_path_of paths.now ≡ lock_paths self.now.program.now self.now.section.now }
+        ensures { IfOk result (IsLowered self.now.program.now self.now.section.now (number_lists lists.now)) }
+    {
+        Ok(SectionCode {
+            name: self.section.name.clone()?,
+            instructions: self.instructions(alloc, lists)?,
+            lists: copy_of(alloc, lists)?,
+            paths: self.texts(alloc, paths)?,
+        })
+    }
+
+    fn instructions(&self, alloc: Global, lists: &[Vec<u8>]) -> Result<Vec<Instr>, NoMemory>
+        ensures { IfOk result (λ code. code.items ≡ section_code (number_lists lists.now) self.now.section.now) }
+    {
+        let mut emitter = Emitter::new(alloc, lists);
+        emitter.block(&self.section.body)?;
+        emitter.end(&self.section.result)?;
+        Ok(emitter.code.instructions)
+    }
+
+    fn texts(&self, alloc: Global, paths: &[LockPath]) -> Result<Vec<String>, NoMemory>
+        ensures { IfOk result (λ made. texts made.items
+            ≡ map (path_text self.now.program.now self.now.section.now) (map lock_path_of paths.now)) }
+    {
+        let mut texts = Vec::with_capacity(alloc, paths.len())?;
+        for path in paths {
+            let mut text = String::new(alloc);
+            push_path(&mut text, self.program, self.section, path)?;
+            texts.push(text)?;
+        }
+        Ok(texts)
+    }
+}
+
+fn copy_of(alloc: Global, lists: &[Vec<u8>]) -> Result<Vec<Vec<u8>>, NoMemory>
+    ensures { IfOk result (λ copy. number_lists copy.items ≡ number_lists lists.now) }
+{
+    let mut copy = Vec::with_capacity(alloc, lists.len())?;
+    for list in lists {
+        copy.push(Vec::from_slice(alloc, list)?)?;
+    }
+    Ok(copy)
+}
