@@ -4,3 +4,4 @@ pub mod Alike
 pub mod AlikeLaws
 pub mod points
 pub mod runs
+pub mod Indexes

@@ -11,6 +11,7 @@ pub mod Safety
 pub mod PointLaws
 pub mod RunLaws
 pub mod Listing
+pub mod Naming
 -- what the public clauses cite
 pub use Rattle.code.specs.Memory.{HeldCells, opened, overwritten, Agrees, IsCovered, IsConsistent, IsPartOf, Keeps}
 pub use Rattle.code.specs.Laws.{IsOver, InRuns, StaysOver, EndsOnce, HasWritten, KeepsUnwritten, KeepsSize, on_heap}

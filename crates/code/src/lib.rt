@@ -11,7 +11,7 @@
 //! seen of them (`Seen`), which instructions a section is (`Lowering`), where those of its points begin (`Spots`),
 //! how deep its operand stack grows (`Needs`), what it is for a code to behave as its section (`Alone`), what is ahead
 //! of a machine (`Ahead`), what the laws claim (`Laws`, `PointLaws`, `RunLaws`), and the text of a code (`Listing`). `Safety` has
-//! lemmas for the crates above.
+//! lemmas for the crates above; `Naming` only says what the code has done.
 #![tactic(auto)]
 
 pub mod instr;

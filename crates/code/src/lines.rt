@@ -1,29 +1,29 @@
 //! The listing of a program's code, put together piece by piece. The one error is a refused growth.
 
-ghost use Rattle.std.specs.Prelude.{◌≡◌, ◌+◌, ◌==◌, ◌++◌, OnOk, IfOk, string_bytes};
-ghost use Rattle.std.specs.Option.{option_copied};
-ghost use Rattle.std.specs.List.{find};
-ghost use Rattle.std.specs.Fmt.{decimal, signed_decimal};
-ghost use Rattle.code.specs.declared.names.GlobalName.{GlobalName};
+ghost use Rattle.std.specs.Prelude.{◌≡◌, ◌+◌, OnOk, IfOk, string_bytes};
+ghost use Rattle.std.specs.Fmt.{decimal};
+ghost use Rattle.std.proofs.Props.{props};
 ghost use Rattle.code.specs.Listing.{named, global_text, final_text, field_text, operator_text, comparison_text, paths_text, acquired_text, instr_text, code_text, section_text, listing_text};
+ghost use Rattle.code.specs.Naming.{AddsText, IsIndexOf, IsMnemonic, operand_text};
 
 use crate::instr::Instr;
 use crate::names::{GlobalName, Names};
 use crate::section_code::{Code, SectionCode};
 use core_lang::tree::{Comparison, Operator};
+use indexmap::IndexMap;
 use source::memory::NoMemory;
 use std::alloc::{AllocError, Global};
 
 /// A number.
 fn push_number(out: &mut String, number: usize) -> Result<(), AllocError>
-    ensures { OnOk result (string_bytes out.new ≡ string_bytes out.old ++ decimal number) }
+    ensures { OnOk result (AddsText (decimal number) out.old out.new) }
 {
     write!(out, "{number}")
 }
 
 /// A name by its number.
 fn push_named(out: &mut String, names: &[String], number: usize) -> Result<(), AllocError>
-    ensures { OnOk result (string_bytes out.new ≡ string_bytes out.old ++ named names.now number) }
+    ensures { OnOk result (AddsText (named names.now number) out.old out.new) }
 {
     match names.get(number) {
         Some(name) => out.push_str(name.as_str()),
@@ -31,60 +31,9 @@ fn push_named(out: &mut String, names: &[String], number: usize) -> Result<(), A
     }
 }
 
-/// The first global with a cell.
-fn global_with(names: &Names, cell: u32) -> Option<&GlobalName>
-    ensures { option_copied result ≡ find (λ (g : GlobalName). g.cell == cell) names.now.globals.items }
-{
-    names.globals.iter().find(|global| global.cell == cell)
-}
-
-/// The name of the global with a cell.
-fn push_global(out: &mut String, names: &Names, cell: u32) -> Result<(), AllocError>
-    ensures { OnOk result (string_bytes out.new ≡ string_bytes out.old ++ global_text names.now cell) }
-{
-    match global_with(names, cell) {
-        Some(global) => out.push_str(global.name.as_str()),
-        None => Ok(()),
-    }
-}
-
-/// A final reference of a struct, as `S.f`.
-fn push_final(
-    out: &mut String,
-    names: &Names,
-    structure: usize,
-    number: u32,
-) -> Result<(), AllocError>
-    ensures { OnOk result (string_bytes out.new ≡ string_bytes out.old ++ final_text names.now structure number) }
-{
-    let Some(structure) = names.structs.get(structure) else {
-        return Ok(());
-    };
-    out.push_str(structure.name.as_str())?;
-    out.push_str(".")?;
-    push_named(out, &structure.finals, number as usize)
-}
-
-/// A field of a struct, as `S.f`.
-fn push_field(
-    out: &mut String,
-    names: &Names,
-    structure: usize,
-    number: u32,
-) -> Result<(), AllocError>
-    ensures { OnOk result (string_bytes out.new ≡ string_bytes out.old ++ field_text names.now structure number) }
-{
-    let Some(structure) = names.structs.get(structure) else {
-        return Ok(());
-    };
-    out.push_str(structure.name.as_str())?;
-    out.push_str(".")?;
-    push_named(out, &structure.fields, number as usize)
-}
-
 /// The place behind `over` instructions after the one at `place`.
 fn push_target(out: &mut String, place: usize, over: usize) -> Result<(), AllocError>
-    ensures { OnOk result (string_bytes out.new ≡ string_bytes out.old ++ decimal (place + 1 + over)) }
+    ensures { OnOk result (AddsText (decimal (place + 1 + over)) out.old out.new) }
 {
     // in 128 bits, so that there is no jump whose target does not fit
     let target = place as u128 + 1 + over as u128;
@@ -92,36 +41,69 @@ fn push_target(out: &mut String, place: usize, over: usize) -> Result<(), AllocE
 }
 
 /// The word for an operator.
-fn push_operator(out: &mut String, operator: Operator) -> Result<(), AllocError>
-    ensures { OnOk result (string_bytes out.new ≡ string_bytes out.old ++ operator_text operator) }
+fn operator_word(operator: Operator) -> &'static str
+    ensures { result.now ≡ operator_text operator }
 {
     match operator {
-        Operator::Plus => out.push_str("add"),
-        Operator::Minus => out.push_str("sub"),
-        Operator::Times => out.push_str("mul"),
-        Operator::Divide => out.push_str("div"),
-        Operator::Remainder => out.push_str("rem"),
+        Operator::Plus => "add",
+        Operator::Minus => "sub",
+        Operator::Times => "mul",
+        Operator::Divide => "div",
+        Operator::Remainder => "rem",
     }
 }
 
 /// The word for a comparison.
-fn push_comparison(out: &mut String, comparison: Comparison) -> Result<(), AllocError>
-    ensures { OnOk result (string_bytes out.new ≡ string_bytes out.old ++ comparison_text comparison) }
+fn comparison_word(comparison: Comparison) -> &'static str
+    ensures { result.now ≡ comparison_text comparison }
 {
     match comparison {
-        Comparison::Equal => out.push_str("eq"),
-        Comparison::Unequal => out.push_str("ne"),
-        Comparison::Less => out.push_str("lt"),
-        Comparison::LessEqual => out.push_str("le"),
-        Comparison::Greater => out.push_str("gt"),
-        Comparison::GreaterEqual => out.push_str("ge"),
+        Comparison::Equal => "eq",
+        Comparison::Unequal => "ne",
+        Comparison::Less => "lt",
+        Comparison::LessEqual => "le",
+        Comparison::Greater => "gt",
+        Comparison::GreaterEqual => "ge",
+    }
+}
+
+/// The word for an instruction, with the space behind it where an operand follows.
+fn mnemonic(instr: Instr) -> &'static str
+    ensures { IsMnemonic instr result.now }
+{
+    match instr {
+        Instr::PushNumber(_) => "int ",
+        Instr::PushNull => "null",
+        Instr::GetLocal(_) => "get ",
+        Instr::PutLocal(_) => "set ",
+        Instr::LoadGlobal(_) => "load ",
+        Instr::PutGlobal(_) => "store ",
+        Instr::LoadElement(_) => "elem ",
+        Instr::Bound(_) => "bound ",
+        Instr::PutElement(_) => "putelem ",
+        Instr::GetMember(_) => "member ",
+        Instr::LoadFinal { .. } => "final ",
+        Instr::LoadField { .. } => "field ",
+        Instr::NonNull => "nonnull",
+        Instr::PutField { .. } => "putfield ",
+        Instr::NegateTop => "neg",
+        Instr::NotTop => "not",
+        Instr::Operate(operator) => operator_word(operator),
+        Instr::Test(comparison) => comparison_word(comparison),
+        Instr::Jump(_) | Instr::JumpBack(_) => "jump ",
+        Instr::JumpIfFalse(_) => "jfalse ",
+        Instr::JumpIfTrue(_) => "jtrue ",
+        Instr::PrintTop => "print",
+        Instr::Acquire(_) => "acquire",
+        Instr::Return => "ret",
+        Instr::End => "end",
     }
 }
 
 impl SectionCode {
     // Lock paths, a space before each.
     fn push_paths(&self, out: &mut String, list: &[u8]) -> Result<(), AllocError>
-        ensures { OnOk result (string_bytes out.new ≡ string_bytes out.old ++ paths_text self.now list.now) }
+        ensures { OnOk result (AddsText (paths_text self.now list.now) out.old out.new) }
     {
         for number in list {
             out.push_str(" ")?;
@@ -132,123 +114,150 @@ impl SectionCode {
 
     // The lock paths before a point.
     fn push_acquired(&self, out: &mut String, point: usize) -> Result<(), AllocError>
-        ensures { OnOk result (string_bytes out.new ≡ string_bytes out.old ++ acquired_text self.now point) }
+        ensures { OnOk result (AddsText (acquired_text self.now point) out.old out.new) }
     {
         match self.lists.get(point) {
             Some(list) => self.push_paths(out, list),
             None => Ok(()),
         }
     }
+}
 
-    // An instruction, which stands at this place.
-    fn push_instr(
-        &self,
-        out: &mut String,
-        names: &Names,
-        at: usize,
-        instr: Instr,
-    ) -> Result<(), AllocError>
-        ensures { OnOk result (string_bytes out.new ≡ string_bytes out.old ++ instr_text names.now self.now at instr) }
+/// For each cell the first global that has it. The one error is a refused growth.
+fn index_by_cell<'a>(
+    alloc: Global,
+    globals: &'a [GlobalName],
+) -> Result<IndexMap<u32, &'a GlobalName>, AllocError>
+    ensures { IfOk result (IsIndexOf globals.now) }
+{
+    let mut index = IndexMap::new(alloc);
+    // from the last on, so that the first of a cell is the one that stays
+    for global in globals.iter().rev() {
+        index.insert(global.cell, global)?;
+    }
+    Ok(index)
+}
+
+/// What the lines are made from beside the sections.
+#[derive(Drop)]
+struct Lister<'a> {
+    /// The names of the program.
+    names: &'a Names,
+    /// For each cell the first global that has it. A line may name any global, so the globals are not gone through.
+    globals: IndexMap<u32, &'a GlobalName>,
+    ghost indexed: { IsIndexOf names.now.globals.items globals } by { Prim.hlevel props },
+}
+
+impl<'a> Lister<'a> {
+    // A lister of code with these names.
+    fn new(alloc: Global, names: &'a Names) -> Result<Lister<'a>, AllocError>
+        ensures { IfOk result (λ lister. lister.names.now ≡ names.now) }
     {
-        match instr {
-            Instr::PushNumber(number) => write!(out, "int {number}"),
-            Instr::PushNull => out.push_str("null"),
-            Instr::GetLocal(local) => {
-                out.push_str("get ")?;
-                push_number(out, local)
-            }
-            Instr::PutLocal(local) => {
-                out.push_str("set ")?;
-                push_number(out, local)
-            }
-            Instr::LoadGlobal(cell) => {
-                out.push_str("load ")?;
-                push_global(out, names, cell)
-            }
-            Instr::PutGlobal(cell) => {
-                out.push_str("store ")?;
-                push_global(out, names, cell)
-            }
-            Instr::LoadElement(array) => {
-                out.push_str("elem ")?;
-                push_named(out, &names.arrays, array)
-            }
-            Instr::Bound(array) => {
-                out.push_str("bound ")?;
-                push_named(out, &names.arrays, array)
-            }
-            Instr::PutElement(array) => {
-                out.push_str("putelem ")?;
-                push_named(out, &names.arrays, array)
-            }
-            Instr::GetMember(pool) => {
-                out.push_str("member ")?;
-                push_named(out, &names.pools, pool)
-            }
-            Instr::LoadFinal { structure, number } => {
-                out.push_str("final ")?;
-                push_final(out, names, structure, number)
-            }
-            Instr::LoadField { structure, number } => {
-                out.push_str("field ")?;
-                push_field(out, names, structure, number)
-            }
-            Instr::NonNull => out.push_str("nonnull"),
-            Instr::PutField { structure, number } => {
-                out.push_str("putfield ")?;
-                push_field(out, names, structure, number)
-            }
-            Instr::NegateTop => out.push_str("neg"),
-            Instr::NotTop => out.push_str("not"),
-            Instr::Operate(operator) => push_operator(out, operator),
-            Instr::Test(comparison) => push_comparison(out, comparison),
-            Instr::Jump(over) => {
-                out.push_str("jump ")?;
-                push_target(out, at, over)
-            }
-            Instr::JumpBack(back) => {
-                out.push_str("jump ")?;
-                push_number(out, at.saturating_sub(back))
-            }
-            Instr::JumpIfFalse(over) => {
-                out.push_str("jfalse ")?;
-                push_target(out, at, over)
-            }
-            Instr::JumpIfTrue(over) => {
-                out.push_str("jtrue ")?;
-                push_target(out, at, over)
-            }
-            Instr::PrintTop => out.push_str("print"),
-            Instr::Acquire(point) => {
-                out.push_str("acquire")?;
-                self.push_acquired(out, point)
-            }
-            Instr::Return => out.push_str("ret"),
-            Instr::End => out.push_str("end"),
+        let globals = index_by_cell(alloc, &names.globals)?;
+        Ok(Lister { names, globals })
+    }
+
+    // The name of the global with a cell.
+    fn push_global(&self, out: &mut String, cell: u32) -> Result<(), AllocError>
+        ensures { OnOk result (AddsText (global_text self.now.names.now cell) out.old out.new) }
+    {
+        match self.globals.get(&cell) {
+            Some(global) => out.push_str(global.name.as_str()),
+            None => Ok(()),
         }
     }
 
-    // The lines of the instructions.
-    fn push_instrs(&self, out: &mut String, names: &Names) -> Result<(), AllocError>
-        ensures { OnOk result (string_bytes out.new ≡ string_bytes out.old ++ code_text names.now self.now) }
+    // A final reference of a struct, as `S.f`.
+    fn push_final(&self, out: &mut String, structure: usize, number: u32) -> Result<(), AllocError>
+        ensures { OnOk result (AddsText (final_text self.now.names.now structure number) out.old out.new) }
     {
-        for (place, instr) in self.instructions.iter().enumerate() {
+        let Some(structure) = self.names.structs.get(structure) else {
+            return Ok(());
+        };
+        out.push_str(structure.name.as_str())?;
+        out.push_str(".")?;
+        push_named(out, &structure.finals, number as usize)
+    }
+
+    // A field of a struct, as `S.f`.
+    fn push_field(&self, out: &mut String, structure: usize, number: u32) -> Result<(), AllocError>
+        ensures { OnOk result (AddsText (field_text self.now.names.now structure number) out.old out.new) }
+    {
+        let Some(structure) = self.names.structs.get(structure) else {
+            return Ok(());
+        };
+        out.push_str(structure.name.as_str())?;
+        out.push_str(".")?;
+        push_named(out, &structure.fields, number as usize)
+    }
+
+    // What stands behind the word of an instruction at this place of a section.
+    fn push_operand(
+        &self,
+        out: &mut String,
+        section: &SectionCode,
+        place: usize,
+        instr: Instr,
+    ) -> Result<(), AllocError>
+        ensures { OnOk result (AddsText (operand_text self.now.names.now section.now place instr) out.old out.new) }
+    {
+        match instr {
+            Instr::PushNumber(number) => write!(out, "{number}"),
+            Instr::GetLocal(local) | Instr::PutLocal(local) => push_number(out, local),
+            Instr::LoadGlobal(cell) | Instr::PutGlobal(cell) => self.push_global(out, cell),
+            Instr::LoadElement(array) | Instr::Bound(array) | Instr::PutElement(array) => {
+                push_named(out, &self.names.arrays, array)
+            }
+            Instr::GetMember(pool) => push_named(out, &self.names.pools, pool),
+            Instr::LoadFinal { structure, number } => self.push_final(out, structure, number),
+            Instr::LoadField { structure, number } | Instr::PutField { structure, number } => {
+                self.push_field(out, structure, number)
+            }
+            Instr::Jump(over) | Instr::JumpIfFalse(over) | Instr::JumpIfTrue(over) => {
+                push_target(out, place, over)
+            }
+            Instr::JumpBack(back) => push_number(out, place.saturating_sub(back)),
+            Instr::Acquire(point) => section.push_acquired(out, point),
+            // the others are words alone
+            _ => Ok(()),
+        }
+    }
+
+    // An instruction, which stands at this place of a section.
+    fn push_instr(
+        &self,
+        out: &mut String,
+        section: &SectionCode,
+        place: usize,
+        instr: Instr,
+    ) -> Result<(), AllocError>
+        ensures { OnOk result (AddsText (instr_text self.now.names.now section.now place instr) out.old out.new) }
+    {
+        out.push_str(mnemonic(instr))?;
+        self.push_operand(out, section, place, instr)
+    }
+
+    // The lines of a section's instructions.
+    fn push_instrs(&self, out: &mut String, section: &SectionCode) -> Result<(), AllocError>
+        ensures { OnOk result (AddsText (code_text self.now.names.now section.now) out.old out.new) }
+    {
+        for (place, instr) in section.instructions.iter().enumerate() {
             push_number(out, place)?;
             out.push_str(" ")?;
-            self.push_instr(out, names, place, *instr)?;
+            self.push_instr(out, section, place, *instr)?;
             out.push_str("\n")?;
         }
         Ok(())
     }
 
-    // The lines of the section.
-    fn push(&self, out: &mut String, names: &Names) -> Result<(), AllocError>
-        ensures { OnOk result (string_bytes out.new ≡ string_bytes out.old ++ section_text names.now self.now) }
+    // The lines of a section.
+    fn push(&self, out: &mut String, section: &SectionCode) -> Result<(), AllocError>
+        ensures { OnOk result (AddsText (section_text self.now.names.now section.now) out.old out.new) }
     {
         out.push_str("section ")?;
-        out.push_str(self.name.as_str())?;
+        out.push_str(section.name.as_str())?;
         out.push_str("\n")?;
-        self.push_instrs(out, names)
+        self.push_instrs(out, section)
     }
 }
 
@@ -256,9 +265,10 @@ impl SectionCode {
 pub fn listing(alloc: Global, code: &Code) -> Result<String, NoMemory>
     ensures { IfOk result (λ listed. string_bytes listed ≡ listing_text code.now) }
 {
+    let lister = Lister::new(alloc, &code.names)?;
     let mut out = String::new(alloc);
     for section in &code.sections {
-        section.push(&mut out, &code.names)?;
+        lister.push(&mut out, section)?;
     }
     Ok(out)
 }

@@ -2,10 +2,11 @@
 //!
 //! - [`lower`]: the code of each section, and the names that its listing shows.
 //! - [`rooms`]: what one run of each section can need at most.
+//! - [`laws`]: the code of a program behaves as its sections.
 //!
-//! `specs/` says what the code of a program is (`Lowered`), and what its sections need (`Rooms`). Its other files only say
-//! what the code has done (`Assembly`, `Emission`), and what instructions and needs are over lists (`CodeLists`,
-//! `NeedLists`); nobody has to believe them.
+//! `specs/` says what the code of a program is (`Lowered`), what its sections need (`Rooms`), and what a compiled program is
+//! (`Plans`). Its other files only say what the code has done (`Assembly`, `Emission`), and what instructions and needs are
+//! over lists (`CodeLists`, `NeedLists`); nobody has to believe them.
 #![tactic(auto)]
 
 mod assembler;

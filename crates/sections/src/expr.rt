@@ -148,7 +148,7 @@ impl<'a> Checker<'a> {
         ensures value { IfOk result (λ r. option_map (λ os. core_operations os.items) r ≡ typed_links (scope self.now) (links_of links.now)) }
         ensures faults { OnOk result (least.new ≡ least_of least.old (link_faults (scope self.now) Sum (links_of links.now))) }
     {
-        let mut operations = Some(Vec::new(self.alloc()));
+        let mut operations = Some(Vec::with_capacity(self.alloc(), links.len())?);
         for link in links {
             let op = operator(link.op, start_of(&link.operand), least);
             let operand = self.number(&link.operand, least)?;
@@ -163,7 +163,7 @@ impl<'a> Checker<'a> {
         ensures value { IfOk result (λ r. option_map tests_of r ≡ typed_tests (scope self.now) (option_map core_condition first) (links_of links.now)) }
         ensures faults { OnOk result (least.new ≡ least_of least.old (link_faults (scope self.now) Conjunction (links_of links.now))) }
     {
-        let mut tests = one_test(self.alloc(), first);
+        let mut tests = one_test(self.alloc(), first, links.len())?;
         for link in links {
             let operand = self.test(&link.operand, least)?;
             tests = with_test(tests, operand)?;

@@ -240,16 +240,16 @@ pub fn with_operation(
     }
 }
 
-/// One operand of a chain of conditions.
-pub fn one_test(alloc: Global, c: Option<Condition>) -> Option<Tests>
-    ensures { option_map so_far result ≡ first_test c }
+/// One operand of a chain of conditions, with room for so many more.
+pub fn one_test(alloc: Global, c: Option<Condition>, more: usize) -> Judged<Tests>
+    ensures { IfOk result (λ r. option_map so_far r ≡ first_test c) }
 {
     match c {
-        Some(last) => Some(Tests {
-            before: Vec::new(alloc),
+        Some(last) => Ok(Some(Tests {
+            before: Vec::with_capacity(alloc, more)?,
             last,
-        }),
-        None => None,
+        })),
+        None => Ok(None),
     }
 }
 

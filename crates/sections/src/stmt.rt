@@ -356,7 +356,7 @@ impl<'a> Checker<'a> {
         ensures scope { OnOk result (scope self.new ≡ after_all (scope self.old) (stmts_of stmts.now)) }
     {
         let mut body = Some(Body {
-            stmts: Vec::new(self.alloc()),
+            stmts: Vec::with_capacity(self.alloc(), stmts.len())?,
             result: None,
         });
         for s in stmts {

@@ -49,7 +49,7 @@ pub tests-loop-link-init : goal.tests-loop-link-init
 tests-loop-link-init t c =
     let sc = scope c.args.self.now in
     record {
-      value = ap (λ x. tests_joined sc x (links_of c.args.links.now)) c.one_test-tests.ensures ∙ tests_first sc c.args.first (links_of c.args.links.now);
+      value = ap (λ x. tests_joined sc x (links_of c.args.links.now)) c.in_ok-tests.ensures ∙ tests_first sc c.args.first (links_of c.args.links.now);
       faults = refl;
     }
 
@@ -57,7 +57,7 @@ pub tests-loop-link-preserved : goal.tests-loop-link-preserved
 tests-loop-link-preserved t c =
     let sc = scope c.args.self.now in
     record {
-      value = test_step sc c.args.links.now c.loop-link.link-index c.link-item.result c.loop-link-test.true c.link-item.is _ _ _ _ c.in_ok-tests.ensures c.in_ok-operand.ensures.value c.loop-link.invariant.value;
+      value = test_step sc c.args.links.now c.loop-link.link-index c.link-item.result c.loop-link-test.true c.link-item.is _ _ _ _ c.in_ok-tests-2.ensures c.in_ok-operand.ensures.value c.loop-link.invariant.value;
       faults = test_fault_step sc c.args.links.now c.loop-link.link-index c.link-item.result c.loop-link-test.true c.link-item.is _ _ c.in_ok-operand.ensures.faults c.loop-link.invariant.faults;
     }
 
