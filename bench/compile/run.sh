@@ -26,6 +26,8 @@ write("one_long_sum", fill(ONE + "atomic f() {\nn = n", lambda i: " + n", ";\n}\
 write("one_long_and", fill(ONE + "atomic f() {\nif (n > 0", lambda i: "&&n>0", ") { n = 1; }\n}\n"), fill(C + "void f(void) {\nif (n > 0", lambda i: "&&n>0", ") { n = 1; }\n}\n"))
 write("one_long_or_of_ands", fill(ONE + "atomic f() {\nif (n > 0", lambda i: "||n>0&&n<9", ") { n = 1; }\n}\n"), fill(C + "void f(void) {\nif (n > 0", lambda i: "||n>0&&n<9", ") { n = 1; }\n}\n"))
 write("assignments", fill(ONE + "atomic f() {\n", lambda i: "n=1;", "}\n"), fill(C + "void f(void) {\n", lambda i: "n=1;", "}\n"))
+write("products", fill(ONE + "atomic f() {\n", lambda i: "n=n*n+n*n;", "}\n"), fill(C + "void f(void) {\n", lambda i: "n=n*n+n*n;", "}\n"))
+write("parentheses_60_deep", fill(ONE + "atomic f() {\n", lambda i: "n=" + "(" * 60 + "n" + ")" * 60 + ";\n", "}\n"), fill(C + "void f(void) {\n", lambda i: "n=" + "(" * 60 + "n" + ")" * 60 + ";\n", "}\n"))
 write("sums_of_products", fill(ONE + "atomic f(int a, int b) {\n", lambda i: "n = n + a * b - 2 * a;\n", "}\n"), fill(C + "void f(long long a, long long b) {\n", lambda i: "n = n + a * b - 2 * a;\n", "}\n"))
 DEEP = "while (n > 0) { " * 60
 write("blocks_60_deep", fill(ONE + "atomic f() {\n" + DEEP, lambda i: "n = n + 1;\n", "} " * 60 + "}\n"), fill(C + "void f(void) {\n" + DEEP, lambda i: "n = n + 1;\n", "} " * 60 + "}\n"))
@@ -53,7 +55,7 @@ for text in $(ls -v "$texts" | sed -n 's/\.al$//p'); do
   kib=$(/usr/bin/time -f '%M' "$program" "$texts/$text.al" once 2>&1 | tail -n 1)
   printf '%s, %s KiB, %s times the source' "$("$program" "$texts/$text.al")" "$kib" "$((kib * 1024 / bytes))"
   if command -v clang >/dev/null; then
-    /usr/bin/time -f '; clang %e s, %M KiB' clang -w -fsyntax-only -fbracket-depth=100000 "$texts/$text.c" 2>&1 | tail -n 1
+    timeout 60 /usr/bin/time -f '; clang %e s, %M KiB' clang -w -fsyntax-only -fbracket-depth=100000 "$texts/$text.c" 2>&1 | tail -n 1 || echo "; clang: nothing in 60 s"
   else
     echo
   fi
