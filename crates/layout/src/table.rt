@@ -151,6 +151,14 @@ impl Layout {
         self.numbering.locks.as_slice()
     }
 
+    /// How many cells there are.
+    #[inline]
+    pub fn cells_count(&self) -> usize
+        ensures { result ≡ length self.now.cell_locks }
+    {
+        self.cells.len()
+    }
+
     /// How many locks there are.
     #[inline]
     pub fn locks_count(&self) -> usize

@@ -1,0 +1,6 @@
+pub mod Commits
+pub mod Histories
+pub mod Laws
+pub use Rattle.code.specs.Memory.{overwritten, Agrees}
+pub use Rattle.history.specs.Commits.{Commit, call_of, answer_of, finished_on, script_call, committed, IsLegal, IsTrueCommit, AreTrue, WritesNot, NoneWrites}
+pub use Rattle.history.specs.Histories.{HistoryOf}

@@ -1,0 +1,10 @@
+pub mod Lists
+pub mod Numbers
+pub mod Heaps
+pub mod Queued
+pub mod Members
+pub mod GivenBack
+pub mod Slots
+pub mod Keeping
+pub mod Sound
+pub mod Rules

@@ -1,0 +1,75 @@
+-- Who waits, with some gone and some come.
+use Rattle.std.proofs.Common.{◌≡◌, ◌≢◌, ℕ, zero, suc, ◌+◌, ◌<◌, ◌≤◌, List, [], ◌∷◌, ◌++◌, length, take, drop, get_or, inl, inr, refl, sym, ap, ◌∙◌, subst, arith}
+use Rattle.std.specs.Prelude.{nat_eq, if◌then◌else◌}
+use Rattle.std.specs.List.{All, Contains}
+use Rattle.std.proofs.lemmas.Bool.Decides.{eqb_tells}
+use Rattle.lock_manager.specs.declared.queue.Waiter.{Waiter}
+use Rattle.lock_manager.specs.Queues.{leaving}
+use Rattle.lock_manager.proofs.Lists.{first_or_rest, later, first}
+
+goes : (t : ℕ) (w : Waiter) (ws : List Waiter) → w.thread ≡ t → leaving t (w ∷ ws) ≡ leaving t ws
+goes t w ws e = elim (eqb_tells w.thread t) [ inl h ↦ ap (λ b. if b then leaving t ws else w ∷ leaving t ws) h.0 | inr h ↦ absurd (h.1 e) ]
+
+stays : (t : ℕ) (w : Waiter) (ws : List Waiter) → w.thread ≢ t → leaving t (w ∷ ws) ≡ w ∷ leaving t ws
+stays t w ws ne = elim (eqb_tells w.thread t) [ inl h ↦ absurd (ne h.1) | inr h ↦ ap (λ b. if b then leaving t ws else w ∷ leaving t ws) h.0 ]
+
+leaving-removed_suc : (t : ℕ) (ws : List Waiter) (i : ℕ) (d : Waiter) → i < length ws → (get_or ws i d).thread ≡ t → leaving t (take i ws ++ drop (suc i) ws) ≡ leaving t ws
+leaving-removed_suc t [] i d lt e = absurd (omega (arith, lt))
+leaving-removed_suc t (w ∷ ws) zero d lt e = sym (goes t w ws e)
+leaving-removed_suc t (w ∷ ws) (suc i) d lt e = ap (λ xs. if nat_eq w.thread t then xs else w ∷ xs) (leaving-removed_suc t ws i d (omega (arith, lt)) e)
+
+pub leaving-removed : (t : ℕ) (ws : List Waiter) (i : ℕ) (d : Waiter) → i < length ws → (get_or ws i d).thread ≡ t → leaving t (take i ws ++ drop (i + 1) ws) ≡ leaving t ws
+leaving-removed t ws i d lt e =
+    let sum : suc i ≡ i + 1 = omega arith in
+    subst (λ (n : ℕ). leaving t (take i ws ++ drop n ws) ≡ leaving t ws) sum (leaving-removed_suc t ws i d lt e)
+
+pub take-removed : (ws rest : List Waiter) (i : ℕ) → i < length ws → take i (take i ws ++ rest) ≡ take i ws
+take-removed [] rest i lt = absurd (omega (arith, lt))
+take-removed (w ∷ ws) rest zero lt = refl
+take-removed (w ∷ ws) rest (suc i) lt = ap (λ xs. w ∷ xs) (take-removed ws rest i (omega (arith, lt)))
+
+pub leaving-others : (t : ℕ) (ws : List Waiter) → All (λ (w : Waiter). w.thread ≢ t) ws → leaving t ws ≡ ws
+leaving-others t [] all = refl
+leaving-others t (w ∷ ws) all = stays t w ws (all 0 w (omega arith)) ∙ ap (λ xs. w ∷ xs) (leaving-others t ws (λ k d lt. all (suc k) d (omega (arith, lt))))
+
+-- ---- who is left
+
+pub still_waits : (t : ℕ) (ws : List Waiter) (w : Waiter) → Contains ws w → w.thread ≢ t → Contains (leaving t ws) w
+still_waits t [] w c ne = absurd (omega (arith, c.1))
+still_waits t (x ∷ ws) w c ne = elim (eqb_tells x.thread t) [
+  | inl h ↦ subst (λ (xs : List Waiter). Contains xs w) (sym (goes t x ws h.1)) (elim (first_or_rest x ws w c) [
+    | inl e ↦ absurd (ne (sym (ap (λ (y : Waiter). y.thread) e) ∙ h.1))
+    | inr r ↦ still_waits t ws w r ne
+  ])
+  | inr h ↦ subst (λ (xs : List Waiter). Contains xs w) (sym (stays t x ws h.1)) (elim (first_or_rest x ws w c) [
+    | inl e ↦ first x (leaving t ws) w e
+    | inr r ↦ later x (leaving t ws) w (still_waits t ws w r ne)
+  ])
+]
+
+pub waited : (t : ℕ) (ws : List Waiter) (w : Waiter) → Contains (leaving t ws) w → Contains ws w × (w.thread ≢ t)
+waited t [] w c = absurd (omega (arith, c.1))
+waited t (x ∷ ws) w c = elim (eqb_tells x.thread t) [
+  | inl h ↦ (let r = waited t ws w (subst (λ (xs : List Waiter). Contains xs w) (goes t x ws h.1) c) in (later x ws w r.0, r.1))
+  | inr h ↦ elim (first_or_rest x (leaving t ws) w (subst (λ (xs : List Waiter). Contains xs w) (stays t x ws h.1) c)) [
+    | inl e ↦ (first x ws w e, λ q. h.1 (ap (λ (y : Waiter). y.thread) e ∙ q))
+    | inr r ↦ (let s = waited t ws w r in (later x ws w s.0, s.1))
+  ]
+]
+
+pub no_longer : (t : ℕ) (ws : List Waiter) → length (leaving t ws) ≤ length ws
+no_longer t [] = omega arith
+no_longer t (x ∷ ws) = elim (eqb_tells x.thread t) [
+  | inl h ↦ omega (arith, ap length (goes t x ws h.1), no_longer t ws)
+  | inr h ↦ omega (arith, ap length (stays t x ws h.1), no_longer t ws)
+]
+
+pub one_less : (t : ℕ) (ws : List Waiter) (w : Waiter) → Contains ws w → w.thread ≡ t → length (leaving t ws) + 1 ≤ length ws
+one_less t [] w c e = absurd (omega (arith, c.1))
+one_less t (x ∷ ws) w c e = elim (eqb_tells x.thread t) [
+  | inl h ↦ omega (arith, ap length (goes t x ws h.1), no_longer t ws)
+  | inr h ↦ elim (first_or_rest x ws w c) [
+    | inl q ↦ absurd (h.1 (ap (λ (y : Waiter). y.thread) q ∙ e))
+    | inr r ↦ omega (arith, ap length (stays t x ws h.1), one_less t ws w r e)
+  ]
+]

@@ -1,0 +1,95 @@
+-- The open sections, with one changed.
+use Rattle.std.proofs.Common.{◌≡◌, ◌≢◌, ℕ, zero, suc, ◌+◌, ◌<◌, ◌≤◌, List, [], ◌∷◌, length, set, Option, Some, None, ◌⊎◌, inl, inr, refl, sym, ap, ◌∙◌, arith}
+use Rattle.std.specs.Prelude.{slice_get}
+use Rattle.std.specs.List.{Contains}
+use Rattle.std.proofs.lemmas.Bool.{cases_eq}
+use Rattle.std.proofs.lemmas.Option.{none-some, slice_get_within}
+use Rattle.core_lang.specs.Typing.{lookup}
+use Rattle.locks.specs.declared.lock.Lock.{Lock}
+use Rattle.lock_manager.specs.Sessions.{SessionOf}
+use Rattle.lock_manager.specs.Managers.{session_in, Holds, Asks}
+use Rattle.lock_manager.specs.Ties.{sum_over, one_if_asking, one_if_some}
+use Rattle.lock_manager.proofs.Lists.{set_same, set_other, some_same}
+
+pub lookup_some : {A B : Type 0} (r : Option A) (go : A → Option B) (b : B) → lookup r go ≡ Some b → (a : A) × (r ≡ Some a) × (go a ≡ Some b)
+lookup_some (Some a) go b e = (a, refl, e)
+lookup_some None go b e = absurd (none-some b e)
+
+pub slot_of : (slots : List (Option SessionOf)) (t : ℕ) (s : SessionOf) → session_in slots t ≡ Some s → slice_get slots t ≡ Some (Some s)
+slot_of slots t s e = let r = lookup_some (slice_get slots t) (λ x. x) s e in r.1 ∙ ap Some r.2
+
+pub slot_within : (slots : List (Option SessionOf)) (t : ℕ) (s : SessionOf) → session_in slots t ≡ Some s → t < length slots
+slot_within slots t s e = slice_get_within slots t (Some s) (slot_of slots t s e)
+
+pub closed_slot : (slots : List (Option SessionOf)) (t : ℕ) → t < length slots → session_in slots t ≡ None → slice_get slots t ≡ Some None
+closed_slot [] t lt e = absurd (omega (arith, lt))
+closed_slot (x ∷ slots) zero lt e = ap Some e
+closed_slot (x ∷ slots) (suc t) lt e = closed_slot slots t (omega (arith, lt)) e
+
+pub session_same : (slots : List (Option SessionOf)) (t : ℕ) (s : Option SessionOf) → t < length slots → session_in (set slots t s) t ≡ s
+session_same slots t s lt = ap (λ o. lookup o (λ x. x)) (set_same slots t s lt)
+
+pub session_other : (slots : List (Option SessionOf)) (t u : ℕ) (s : Option SessionOf) → t ≢ u → session_in (set slots t s) u ≡ session_in slots u
+session_other slots t u s ne = ap (λ o. lookup o (λ x. x)) (set_other slots t u s ne)
+
+pub closed_asks_nothing : (slots : List (Option SessionOf)) (t : ℕ) (lock : Lock) (s : SessionOf) → session_in slots t ≡ Some s → s.ask ≡ None → Asks slots t lock → ⊥
+closed_asks_nothing slots t lock s e free a =
+    let same : a.session ≡ s = some_same a.session s (sym a.is ∙ e) in
+    none-some lock (sym free ∙ ap (λ (x : SessionOf). x.ask) (sym same) ∙ a.ask)
+
+module _ (slots : List (Option SessionOf)) (t : ℕ) (s : Option SessionOf) (lt : t < length slots) where
+  -- who holds then
+  pub holds_cases : (u : ℕ) (lock : Lock) → Holds (set slots t s) u lock → ((t ≡ u) × (x : SessionOf) × (s ≡ Some x) × Contains x.held lock) ⊎ ((t ≢ u) × Holds slots u lock)
+  holds_cases u lock h = elim (cases_eq t u) [
+    | inl e ↦ inl (e, h.session, sym (session_same slots t s lt) ∙ ap (session_in (set slots t s)) e ∙ h.is, h.held)
+    | inr ne ↦ inr (ne, record { session = h.session; is = sym (session_other slots t u s ne) ∙ h.is; held = h.held })
+  ]
+
+  pub holds_other : (u : ℕ) (lock : Lock) → t ≢ u → Holds slots u lock → Holds (set slots t s) u lock
+  holds_other u lock ne h = record { session = h.session; is = session_other slots t u s ne ∙ h.is; held = h.held }
+
+  pub holds_same : (x : SessionOf) (u : ℕ) (lock : Lock) → t ≡ u → s ≡ Some x → Contains x.held lock → Holds (set slots t s) u lock
+  holds_same x u lock e is c = record { session = x; is = ap (session_in (set slots t s)) (sym e) ∙ session_same slots t s lt ∙ is; held = c }
+
+  -- who asks then
+  pub asks_cases : (u : ℕ) (lock : Lock) → Asks (set slots t s) u lock → ((t ≡ u) × (x : SessionOf) × (s ≡ Some x) × (x.ask ≡ Some lock)) ⊎ ((t ≢ u) × Asks slots u lock)
+  asks_cases u lock a = elim (cases_eq t u) [
+    | inl e ↦ inl (e, a.session, sym (session_same slots t s lt) ∙ ap (session_in (set slots t s)) e ∙ a.is, a.ask)
+    | inr ne ↦ inr (ne, record { session = a.session; is = sym (session_other slots t u s ne) ∙ a.is; ask = a.ask })
+  ]
+
+  -- what the changed slot says of its ask
+  pub asked_session : (x : SessionOf) (u : ℕ) (lock : Lock) → t ≡ u → s ≡ Some x → (a : Asks (set slots t s) u lock) → x ≡ a.session
+  asked_session x u lock e is a = some_same x a.session (sym (ap (session_in (set slots t s)) (sym e) ∙ session_same slots t s lt ∙ is) ∙ a.is)
+
+  pub asks_back : (u : ℕ) (lock : Lock) (a : Asks (set slots t s) u lock) → t ≢ u → Asks slots u lock
+  asks_back u lock a ne = record { session = a.session; is = sym (session_other slots t u s ne) ∙ a.is; ask = a.ask }
+
+  pub as_it_asked : (P : SessionOf → Type 0) (u : ℕ) (lock : Lock) (a : Asks (set slots t s) u lock) → t ≢ u → ((b : Asks slots u lock) → P b.session) → P a.session
+  as_it_asked P u lock a ne f = f (record { session = a.session; is = sym (session_other slots t u s ne) ∙ a.is; ask = a.ask })
+
+  pub asks_other : (u : ℕ) (lock : Lock) → t ≢ u → Asks slots u lock → Asks (set slots t s) u lock
+  asks_other u lock ne a = record { session = a.session; is = session_other slots t u s ne ∙ a.is; ask = a.ask }
+
+  pub asks_same : (x : SessionOf) (u : ℕ) (lock : Lock) → t ≡ u → s ≡ Some x → x.ask ≡ Some lock → Asks (set slots t s) u lock
+  asks_same x u lock e is q = record { session = x; is = ap (session_in (set slots t s)) (sym e) ∙ session_same slots t s lt ∙ is; ask = q }
+
+-- ---- sums
+
+pub sum_set : (f : Option SessionOf → ℕ) (ss : List (Option SessionOf)) (t : ℕ) (old new : Option SessionOf) → slice_get ss t ≡ Some old →
+    f old + sum_over f (set ss t new) ≡ f new + sum_over f ss
+sum_set f [] t old new at = absurd (none-some old at)
+sum_set f (x ∷ ss) zero old new at = let same : f x ≡ f old = ap f (some_same x old at) in omega (arith, same)
+sum_set f (x ∷ ss) (suc t) old new at = omega (arith, sum_set f ss t old new at)
+
+at_most_one : (s : Option SessionOf) → one_if_asking s ≤ 1
+at_most_one None = omega arith
+at_most_one (Some s) = some_at_most s.ask
+  where
+    some_at_most : (o : Option Lock) → one_if_some o ≤ 1
+    some_at_most None = omega arith
+    some_at_most (Some l) = omega arith
+
+pub few_ask : (ss : List (Option SessionOf)) → sum_over one_if_asking ss ≤ length ss
+few_ask [] = omega arith
+few_ask (s ∷ ss) = omega (arith, at_most_one s, few_ask ss)

@@ -1,0 +1,29 @@
+use Rattle.std.proofs.Common.{◌∙◌, ◌∷◌, [], subst}
+use Rattle.std.specs.List.{All, Contains}
+use Rattle.std.proofs.Math.ListN.{length-set}
+use Rattle.moved_cells.specs.Grants.{GrantOf, IsWhole}
+use Rattle.lock_manager.proofs.Lists.{all_front}
+use Rattle.lock_manager.proofs.GivenBack.{one_restored}
+use Rattle.lock_manager.proofs.committed.Committed.restore.Goals as goal
+
+pub loop-grant-preserved-in-Some : goal.loop-grant-preserved-in-Some
+loop-grant-preserved-in-Some c = record {
+  all = one_restored c.args.self.now c.loop-grant.places.items c.loop-grant.grants.items c.pop.new.self.items c.in-Some.grant _ _ c.number_of-number.result
+      c.in-Some.ensures.items c.into_parts-cells.ensures.lock c.reset.ensures c.number_of-number.ensures.found ∙ c.loop-grant.invariant.all;
+  count = length-set c.loop-grant.places.items c.number_of-number.result _ ∙ c.loop-grant.invariant.count;
+  whole = all_front (IsWhole c.args.self.now.layout.cell_locks) c.pop.new.self.items (c.in-Some.grant ∷ [])
+      (subst (All (IsWhole c.args.self.now.layout.cell_locks)) c.in-Some.ensures.items c.loop-grant.invariant.whole);
+  listed = all_front (λ (g : GrantOf). Contains c.args.self.now.layout.locks g.lock) c.pop.new.self.items (c.in-Some.grant ∷ [])
+      (subst (All (λ (g : GrantOf). Contains c.args.self.now.layout.locks g.lock)) c.in-Some.ensures.items c.loop-grant.invariant.listed);
+}
+
+pub loop-grant-preserved : goal.loop-grant-preserved
+loop-grant-preserved c = record {
+  all = one_restored c.args.self.now c.loop-grant.places.items c.loop-grant.grants.items c.pop.new.self.items c.in-Some.grant _ _ c.number_of-number.result
+      c.in-Some.ensures.items c.into_parts-cells.ensures.lock c.reset.ensures c.number_of-number.ensures.found ∙ c.loop-grant.invariant.all;
+  count = length-set c.loop-grant.places.items c.number_of-number.result _ ∙ c.loop-grant.invariant.count;
+  whole = all_front (IsWhole c.args.self.now.layout.cell_locks) c.pop.new.self.items (c.in-Some.grant ∷ [])
+      (subst (All (IsWhole c.args.self.now.layout.cell_locks)) c.in-Some.ensures.items c.loop-grant.invariant.whole);
+  listed = all_front (λ (g : GrantOf). Contains c.args.self.now.layout.locks g.lock) c.pop.new.self.items (c.in-Some.grant ∷ [])
+      (subst (All (λ (g : GrantOf). Contains c.args.self.now.layout.locks g.lock)) c.in-Some.ensures.items c.loop-grant.invariant.listed);
+}

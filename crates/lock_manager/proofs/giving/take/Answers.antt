@@ -1,0 +1,10 @@
+use Rattle.std.proofs.Common.{ap, ◌∙◌, sym, Some}
+use Rattle.lock_manager.specs.declared.places.Place.TheVariants.{Taken}
+use Rattle.lock_manager.proofs.Lists.{set_set, set_itself, read_at}
+use Rattle.lock_manager.proofs.giving.take.Goals as goal
+
+pub returns-in-Taken-clause-stay : goal.returns-in-Taken-clause-stay
+returns-in-Taken-clause-stay c =
+    set_set c.args.places.now.items c.args.number c.replace.new.dest (Taken c.in-Taken.holder)
+    ∙ set_itself c.args.places.now.items c.args.number (Taken c.in-Taken.holder)
+    (read_at c.args.places.now.items c.args.number c.index_mut.result.now c.requires c.index_mut.ensures.value ∙ ap Some (sym c.replace.ensures.value ∙ c.in-Taken.is))

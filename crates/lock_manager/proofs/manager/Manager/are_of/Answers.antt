@@ -1,0 +1,26 @@
+use Rattle.std.proofs.Common.{List, ap, subst, sym}
+use Rattle.std.specs.List.{All, Contains}
+use Rattle.locks.specs.declared.lock.Lock.{Lock}
+use Rattle.moved_cells.specs.Grants.{GrantOf, IsWhole}
+use Rattle.lock_manager.specs.Managers.{Managed}
+use Rattle.lock_manager.proofs.Lists.{all_contained, all_from}
+use Rattle.lock_manager.proofs.manager.Manager.are_of.Goals as goal
+
+pub are_whole-requires : goal.are_whole-requires
+are_whole-requires c =
+    subst (λ (v : Managed). All (λ (g : GrantOf). Contains v.layout.locks g.lock) c.args.grants.now) (sym c.self.view_is)
+    (all_from (λ (g : GrantOf). Contains c.args.self.now.layout.locks g.lock) c.args.grants.now (λ g there.
+    all_contained (Contains c.args.self.now.layout.locks) c.args.held.now g.lock c.requires
+    (all_contained (λ (x : GrantOf). Contains c.args.held.now x.lock) c.args.grants.now g (c.all_held.ensures.0 c.if-not-all_held.false) there)))
+
+pub returns : goal.returns
+returns c =
+    let layout = ap (λ (v : Managed). v.layout.cell_locks) c.self.view_is in (
+      λ e. record {
+        count = c.if-grants-held.false;
+        all = c.all_granted.ensures.0 c.if-not-all_granted.false;
+        only = c.all_held.ensures.0 c.if-not-all_held.false;
+        whole = subst (λ (ls : List Lock). All (IsWhole ls) c.args.grants.now) layout (c.are_whole.ensures.0 e);
+      },
+      λ own. c.are_whole.ensures.1 (subst (λ (ls : List Lock). All (IsWhole ls) c.args.grants.now) (sym layout) own.whole),
+    )

@@ -1,0 +1,55 @@
+use Rattle.std.proofs.Common.{◌<◌, ℕ, None, set, subst, sym, ap, ◌∙◌}
+use Rattle.std.specs.List.{All, Contains}
+use Rattle.code.specs.Memory.{overwritten}
+use Rattle.moved_cells.specs.Grants.{GrantOf}
+use Rattle.lock_manager.specs.Committed.{CommittedOf, IsWithin}
+use Rattle.lock_manager.specs.Managers.{Managed, managed, given_back, threads}
+use Rattle.lock_manager.specs.Calls.{Knows, Fits}
+use Rattle.lock_manager.proofs.Rules.{listed_held, listed_grants, thread_within, writes_within}
+use Rattle.lock_manager.proofs.Sound.{Sound, promised_one, sound_release}
+use Rattle.lock_manager.proofs.manager.Manager.release.Goals as goal
+
+pub overwrite-requires : goal.overwrite-requires
+overwrite-requires c =
+    let x = c.self.inside in
+    let m = managed x.committed x.ranks.now x.places.items x.queue x.sections x.history.commits in
+    let fits = subst (λ (v : Managed). Fits v c.args.ticket c.args.grants.items c.args.entry) (sym c.self.view_is) c.requires.fits in
+    subst (IsWithin x.committed) (sym c.writes.ensures) (writes_within m c.args.ticket.session.held c.args.entry.writes c.self.invariant.0 c.one_entry_more.ensures.size fits.writes)
+
+pub enter-requires : goal.enter-requires
+enter-requires c =
+    let x = c.self.inside in
+    let m = managed x.committed x.ranks.now x.places.items x.queue x.sections x.history.commits in
+    promised_one m x.history.promised c.args.ticket.thread c.args.ticket.session c.self.invariant (subst (λ (v : Managed). Knows v c.args.ticket) (sym c.self.view_is) c.requires.known)
+
+pub put_back-requires-clause-listed : goal.put_back-requires-clause-listed
+put_back-requires-clause-listed c =
+    let x = c.self.inside in
+    let m = managed x.committed x.ranks.now x.places.items x.queue x.sections x.history.commits in
+    let known = subst (λ (v : Managed). Knows v c.args.ticket) (sym c.self.view_is) c.requires.known in
+    let fits = subst (λ (v : Managed). Fits v c.args.ticket c.args.grants.items c.args.entry) (sym c.self.view_is) c.requires.fits in
+    subst (λ (v : CommittedOf). All (λ (g : GrantOf). Contains v.layout.locks g.lock) c.args.grants.items) (sym c.overwrite.ensures)
+    (listed_grants m c.args.ticket.session.held c.args.grants.items (listed_held m c.args.ticket.thread c.args.ticket.session c.self.invariant.0 known) fits.own)
+
+pub close-requires : goal.close-requires
+close-requires c =
+    let x = c.self.inside in
+    let m = managed x.committed x.ranks.now x.places.items x.queue x.sections x.history.commits in
+    let known = subst (λ (v : Managed). Knows v c.args.ticket) (sym c.self.view_is) c.requires.known in
+    subst (λ (t : ℕ). t < threads) (sym c.woken-thread.ensures.thread) (thread_within m c.args.ticket.thread c.args.ticket.session c.self.invariant.0 known)
+
+pub invariant_of-self : goal.invariant_of-self
+invariant_of-self c =
+    let x = c.self.inside in
+    let m = managed x.committed x.ranks.now x.places.items x.queue x.sections x.history.commits in
+    let known = subst (λ (v : Managed). Knows v c.args.ticket) (sym c.self.view_is) c.requires.known in
+    let fits = subst (λ (v : Managed). Fits v c.args.ticket c.args.grants.items c.args.entry) (sym c.self.view_is) c.requires.fits in
+    subst (λ (v : CommittedOf). Sound (managed v x.ranks.now c.put_back.new.places.items x.queue c.close.new.self c.enter.new.self.commits) c.enter.new.self.promised) (sym c.overwrite.ensures)
+    (sound_release m x.history.promised c.args.ticket c.args.grants.items c.args.entry c.put_back.new.places.items c.close.new.self c.enter.new.self.commits
+    (overwritten x.committed.values c.writes.result.now) c.enter.new.self.promised c.self.invariant known fits
+    c.commuting.ensures.writes c.one_entry_more.ensures.heap c.one_entry_more.ensures.legal
+    (c.put_back.ensures ∙ ap (λ (v : CommittedOf). given_back v.layout.locks x.places.items c.args.grants.items) c.overwrite.ensures)
+    (c.close.ensures ∙ ap (λ (t : ℕ). set x.sections t None) c.woken-thread.ensures.thread)
+    c.enter.ensures.commits
+    (ap (overwritten x.committed.values) c.writes.ensures)
+    c.enter.ensures.promised)

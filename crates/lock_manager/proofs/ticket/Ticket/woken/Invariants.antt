@@ -1,0 +1,10 @@
+use Rattle.std.proofs.Common.{◌≡◌, ◌≤◌, ◌++◌, drop, length, vec_len, vec_capacity}
+use Rattle.lock_manager.specs.Calls.{first_waiters}
+use Rattle.lock_manager.proofs.ticket.Ticket.woken.Given as goal
+
+abbrev pub invariant-loop-lock : goal.invariant-loop-lock
+invariant-loop-lock l = record {
+  so_far : first_waiters l.queue l.held ≡ l.wake.items ++ first_waiters l.queue (drop l.lock-index l.held);
+  few : vec_len l.wake ≤ l.lock-index;
+  room : length l.held ≤ vec_capacity l.wake;
+}

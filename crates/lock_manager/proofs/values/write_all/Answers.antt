@@ -1,0 +1,16 @@
+use Rattle.std.proofs.Common.{◌-◌, ◌<◌, ap, length, drop, arith}
+use Rattle.core_lang.specs.declared.value.Value.TheVariants.{Int}
+use Rattle.std.specs.Prelude.{pos}
+use Rattle.lock_manager.proofs.Heaps.{length-overwritten}
+use Rattle.lock_manager.proofs.values.write_all.Goals as goal
+
+pub index_mut-requires : goal.index_mut-requires
+index_mut-requires c =
+    let lt : c.loop-left.left - 1 < length c.args.writes.now = omega (arith, c.loop-left.invariant.within, c.loop-left-test.true) in
+    omega (
+      arith,
+      c.requires (c.loop-left.left - 1) (0, Int (pos 0)) lt,
+      ap length c.loop-left.invariant.made,
+      length-overwritten c.args.values.now.items (drop c.loop-left.left c.args.writes.now),
+      c.loop-left.values.ok.0,
+    )

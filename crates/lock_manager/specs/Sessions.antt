@@ -1,0 +1,34 @@
+-- Open sections, and the tickets for them.
+use Rattle.std.specs.Prelude.{ℕ, List, [], ◌∷◌, ◌++◌, Option, Some, None}
+use Rattle.locks.specs.declared.lock.Lock.{Lock}
+use Rattle.layout.specs.declared.room.Room.{Room}
+
+-- an open section: how long the history was when it began, the locks that it holds, the oldest first, the lock that
+-- it asked for and wasn't granted yet, and the room that it was given
+pub record SessionOf : Type 0 where
+  pub begun : ℕ
+  pub held : List Lock
+  pub ask : Option Lock
+  pub room : Room
+
+-- one that begins
+abbrev pub fresh : ℕ → Room → SessionOf
+fresh begun room = record { begun = begun; held = []; ask = None; room = room }
+
+-- with a lock granted
+abbrev pub with_lock : SessionOf → Lock → SessionOf
+with_lock s lock = record s { held = s.held ++ lock ∷ []; ask = None }
+
+-- with a lock asked for
+abbrev pub with_ask : SessionOf → Lock → SessionOf
+with_ask s lock = record s { ask = Some lock }
+
+-- the right to ask for locks for a thread's section, and to end it
+pub record TicketOf : Type 0 where
+  pub thread : ℕ
+  pub session : SessionOf
+
+-- the position of an entry, and whom to wake
+pub record ReceiptOf : Type 0 where
+  pub position : ℕ
+  pub wake : List ℕ

@@ -1,0 +1,208 @@
+//! What the entries leave in each cell.
+
+ghost use Rattle.std.specs.Prelude.{◌≡◌, ◌↔◌, ◌<◌, length, map, slice_get, Some, IfOk, IsTrue};
+ghost use Rattle.std.specs.List.{Contains, All};
+ghost use Rattle.locks.specs.declared.lock.Lock.{Lock as LockOf};
+ghost use Rattle.code.specs.Memory.{overwritten, Agrees};
+ghost use Rattle.layout.specs.LockCells.{cells_of};
+ghost use Rattle.moved_cells.specs.Grants.{IsWhole, cells_in, values_on};
+ghost use Rattle.lock_manager.specs.declared.places.Place.TheVariants as place;
+ghost use Rattle.lock_manager.specs.Managers.{IsLayout, number_from, given_back, locks_of};
+ghost use Rattle.lock_manager.specs.Calls.{IsOwnWrite};
+ghost use Rattle.lock_manager.specs.Ties.{all_restored, AreNow};
+ghost use Rattle.lock_manager.specs.Committed.{at_opening, with_writes, lock_values, restored, IsWithin};
+
+use crate::fitting::{are_whole, holds};
+use crate::opening::{members, opening_values};
+use crate::places::Place;
+use crate::values::{agrees, cells_with, have, reset, write_all};
+use crate::writes::Writes;
+use core_lang::value::Value;
+use history::entry::CellValue;
+use layout::table::Layout;
+use locks::lock::Lock;
+use moved_cells::cells::Cells;
+use moved_cells::grant::Grant;
+use source::memory::NoMemory;
+use std::alloc::Global;
+use std::marker::Model;
+
+/// The layout of a program, and what the entries leave in each of its cells.
+#[derive(Drop)]
+pub struct Committed<'p> {
+    layout: &'p Layout,
+    // The cells of each lock, by the lock's number.
+    members: Vec<Vec<usize>>,
+    // By cell. A section that gives up takes from here what it may have changed.
+    values: Vec<Value>,
+}
+
+impl<'p> Model for Committed<'p> {
+    ghost use Rattle.lock_manager.specs.Committed.{CommittedOf, IsComplete, rows};
+
+    ghost Value = { CommittedOf };
+
+    ghost view = { λ c. record { layout = c.layout.now; values = c.values.items } };
+
+    ghost invariant = { λ c. IsComplete c.layout.now (rows c.members.items) c.values.items };
+}
+
+impl<'p> Committed<'p> {
+    /// No entries.
+    pub fn open(alloc: Global, layout: &'p Layout) -> Result<Committed<'p>, NoMemory>
+        requires { IsLayout layout.now }
+        ensures { IfOk result (λ committed. committed ≡ at_opening layout.now) }
+    {
+        let members = members(alloc, layout)?;
+        let values = opening_values(alloc, layout)?;
+        Ok(Committed {
+            layout,
+            members,
+            values,
+        })
+    }
+
+    /// All cells are with the manager.
+    pub fn free_places(&self, alloc: Global) -> Result<Vec<Place>, NoMemory>
+        ensures { IfOk result (λ places. places.items ≡ map (λ l. place.Free (lock_values self.now l)) self.now.layout.locks) }
+    {
+        let mut places = Vec::with_capacity(alloc, self.members.len())?;
+        for row in &self.members {
+            places.push(Place::Free(cells_with(alloc, row, &self.values)?))?;
+        }
+        Ok(places)
+    }
+
+    /// The number of a lock.
+    pub fn number_of(&self, lock: Lock) -> usize
+        requires { Contains self.now.layout.locks lock }
+        ensures at { slice_get self.now.layout.locks result ≡ Some lock }
+        ensures found { number_from 0 self.now.layout.locks lock ≡ Some result }
+    {
+        self.layout.lock_number(lock)
+    }
+
+    // The cells of a lock.
+    fn row(&self, lock: Lock) -> &[usize]
+        requires { Contains self.now.layout.locks lock }
+        ensures cells { result.now ≡ cells_of self.now.layout.cell_locks lock }
+        ensures within { All (λ cell. cell < length self.now.values) result.now }
+    {
+        self.members[self.number_of(lock)].as_slice()
+    }
+
+    /// The lock of a cell.
+    pub fn lock_of(&self, cell: usize) -> Option<Lock>
+        ensures lock { result ≡ slice_get self.now.layout.cell_locks cell }
+        ensures listed { (lock : LockOf) → result ≡ Some lock → Contains self.now.layout.locks lock }
+    {
+        if cell < self.layout.cells_count() {
+            Some(self.layout.lock_of(cell))
+        } else {
+            None
+        }
+    }
+
+    /// Makes an entry's writes.
+    pub fn overwrite(&mut self, writes: &[CellValue])
+        requires { IsWithin self.old writes.now }
+        ensures { self.new ≡ with_writes self.old writes.now }
+    {
+        write_all(&mut self.values, writes);
+    }
+
+    /// The cells of these grants are back.
+    pub fn put_back(&self, places: &mut Vec<Place>, mut grants: Vec<Grant>)
+        requires count { length places.old.items ≡ length self.now.layout.locks }
+        requires listed { All (λ g. Contains self.now.layout.locks g.lock) grants.items }
+        ensures { places.new.items ≡ given_back self.now.layout.locks places.old.items grants.items }
+    {
+        while let Some(grant) = grants.pop() {
+            let (lock, cells) = grant.into_parts();
+            let number = self.number_of(lock);
+            places[number] = Place::Free(cells);
+        }
+        grants.destroy_empty();
+    }
+
+    /// The cells of these grants are back, with what the entries leave in them.
+    pub fn restore(&self, places: &mut Vec<Place>, mut grants: Vec<Grant>)
+        requires count { length places.old.items ≡ length self.now.layout.locks }
+        requires listed { All (λ g. Contains self.now.layout.locks g.lock) grants.items }
+        requires whole { All (IsWhole self.now.layout.cell_locks) grants.items }
+        ensures { places.new.items ≡ all_restored self.now places.old.items grants.items }
+    {
+        while let Some(grant) = grants.pop() {
+            let (lock, mut cells) = grant.into_parts();
+            self.reset(lock, &mut cells);
+            let number = self.number_of(lock);
+            places[number] = Place::Free(cells);
+        }
+        grants.destroy_empty();
+    }
+
+    // The cells of a lock get what the entries leave in them.
+    fn reset(&self, lock: Lock, cells: &mut Cells)
+        requires listed { Contains self.now.layout.locks lock }
+        requires count { length cells.old ≡ length (cells_of self.now.layout.cell_locks lock) }
+        ensures { cells.new ≡ lock_values self.now lock }
+    {
+        let count = self.layout.cells_of(lock);
+        reset(cells, self.row(lock), &self.values, count);
+    }
+
+    /// What the entries leave in a cell.
+    pub fn value(&self, cell: usize) -> Value
+        requires { cell < length self.now.values }
+        ensures { slice_get self.now.values cell ≡ Some result }
+    {
+        self.values[cell]
+    }
+
+    /// Whether the cells have what was read.
+    pub fn agrees(&self, reads: &[CellValue]) -> bool
+        ensures { IsTrue result ↔ Agrees self.now.values reads.now }
+    {
+        agrees(&self.values, reads)
+    }
+
+    /// Whether each grant has all cells of its lock.
+    pub fn are_whole(&self, grants: &[Grant]) -> bool
+        requires { All (λ g. Contains self.now.layout.locks g.lock) grants.now }
+        ensures { IsTrue result ↔ All (IsWhole self.now.layout.cell_locks) grants.now }
+    {
+        are_whole(self.layout, grants)
+    }
+
+    /// Whether each write is of a cell that one of these locks protects.
+    pub fn are_own(&self, held: &[Lock], writes: &[CellValue]) -> bool
+        ensures { IsTrue result ↔ All (IsOwnWrite self.now.layout.cell_locks held.now) writes.now }
+    {
+        for (cell, _value) in writes {
+            let cell = *cell as usize;
+            if cell >= self.layout.cells_count() {
+                return false;
+            }
+            if !holds(held, self.layout.lock_of(cell)) {
+                return false;
+            }
+        }
+        true
+    }
+
+    /// Whether the grants are what the entries leave, with these writes made.
+    pub fn are_now(&self, grants: &[Grant], writes: &[CellValue]) -> bool
+        requires listed { All (λ g. Contains self.now.layout.locks g.lock) grants.now }
+        requires whole { All (IsWhole self.now.layout.cell_locks) grants.now }
+        ensures { IsTrue result ↔ AreNow self.now writes.now grants.now }
+    {
+        let made = Writes::of(writes);
+        for grant in grants {
+            let row = self.row(grant.lock());
+            if !have(&self.values, &made, row, grant.values()) {
+                return false;
+            }
+        }
+        true
+    }
+}

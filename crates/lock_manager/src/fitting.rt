@@ -1,0 +1,72 @@
+//! Which locks are held, and which grants are brought.
+
+ghost use Rattle.std.specs.Prelude.{◌↔◌, IsTrue};
+ghost use Rattle.std.specs.List.{Contains, All};
+ghost use Rattle.moved_cells.specs.Grants.{IsWhole};
+ghost use Rattle.lock_manager.specs.Managers.{locks_of};
+
+use layout::table::Layout;
+use locks::lock::Lock;
+use moved_cells::grant::Grant;
+
+/// Whether a lock is among these.
+pub fn holds(held: &[Lock], lock: Lock) -> bool
+    ensures { IsTrue result ↔ Contains held.now lock }
+{
+    for other in held {
+        if *other == lock {
+            return true;
+        }
+    }
+    false
+}
+
+// Whether a grant is of the lock.
+fn has_grant(grants: &[Grant], lock: Lock) -> bool
+    ensures { IsTrue result ↔ Contains (locks_of grants.now) lock }
+{
+    for grant in grants {
+        if grant.lock() == lock {
+            return true;
+        }
+    }
+    false
+}
+
+/// Whether each of these locks has a grant.
+pub fn all_granted(held: &[Lock], grants: &[Grant]) -> bool
+    ensures { IsTrue result ↔ All (Contains (locks_of grants.now)) held.now }
+{
+    for lock in held {
+        if !has_grant(grants, *lock) {
+            return false;
+        }
+    }
+    true
+}
+
+/// Whether each grant is of one of these locks.
+pub fn all_held(grants: &[Grant], held: &[Lock]) -> bool
+    ensures { IsTrue result ↔ All (λ g. Contains held.now g.lock) grants.now }
+{
+    for grant in grants {
+        if !holds(held, grant.lock()) {
+            return false;
+        }
+    }
+    true
+}
+
+/// Whether each grant has all cells of its lock.
+pub fn are_whole(layout: &Layout, grants: &[Grant]) -> bool
+    requires { All (λ g. Contains layout.now.locks g.lock) grants.now }
+    ensures { IsTrue result ↔ All (IsWhole layout.now.cell_locks) grants.now }
+{
+    for grant in grants {
+        let count = layout.cells_of(grant.lock());
+        if grant.values().len() != count as usize {
+            return false;
+        }
+    }
+    true
+}

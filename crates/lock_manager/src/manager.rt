@@ -1,0 +1,281 @@
+//! The manager of locks.
+
+ghost use Rattle.std.specs.Prelude.{◌≡◌, ◌↔◌, ◌<◌, length, slice_get, IfOk, OnErr, IsTrue, is_some};
+ghost use Rattle.std.specs.List.{Contains, All};
+ghost use Rattle.locks.specs.Waiting.{HasNoCycle};
+ghost use Rattle.lock_manager.specs.Managers.{IsLayout, IsKept, opened, waiting_for, session_of, holder_of, cell_of, askers_of};
+ghost use Rattle.lock_manager.specs.Calls.{Begins, Answers, CanAsk, Knows, Fits, CanRelease, Releases, GivesUp, AreOf, AreItsGrants};
+
+use crate::answer::Answer;
+use crate::committed::Committed;
+use crate::fitting::{all_granted, all_held};
+use crate::giving::{let_go, take};
+use crate::places::Place;
+use crate::queue::{Queue, Waiter};
+use crate::sections::Sections;
+use crate::session::Session;
+use crate::ticket::{Receipt, Ticket};
+use core_lang::value::Value;
+use history::entries::History;
+use history::entry::Entry;
+use layout::room::Room;
+use layout::table::Layout;
+use locks::lock::Lock;
+use moved_cells::grant::Grant;
+use source::memory::NoMemory;
+use std::alloc::Global;
+use std::marker::Model;
+
+/// Where the cells of each lock are, who waits for them, the open sections and the history. As a value it is all of
+/// these.
+///
+/// A section begins by [`Manager::begin`], which makes every growth that it can need here; what follows takes no
+/// memory.
+#[derive(Drop)]
+pub struct Manager<'p> {
+    // By class.
+    ranks: &'p [u32],
+    // By the lock's number.
+    places: Vec<Place>,
+    queue: Queue,
+    sections: Sections,
+    history: History,
+    committed: Committed<'p>,
+}
+
+impl<'p> Model for Manager<'p> {
+    ghost use Rattle.lock_manager.specs.Managers.{Managed, managed, IsKept};
+    ghost use Rattle.lock_manager.specs.Ties.{IsTied};
+
+    ghost Value = { Managed };
+
+    ghost view = { λ m. managed m.committed m.ranks.now m.places.items m.queue m.sections m.history.commits };
+
+    ghost invariant = { λ m.
+        let value = managed m.committed m.ranks.now m.places.items m.queue m.sections m.history.commits in
+        IsKept value × IsTied value m.history.promised };
+}
+
+impl<'p> Manager<'p> {
+    /// All cells are here, no section is open, and there are no entries. There can be 64 threads.
+    ///
+    /// # Errors
+    ///
+    /// Want of memory.
+    pub fn open(
+        alloc: Global,
+        layout: &'p Layout,
+        ranks: &'p [u32],
+    ) -> Result<Manager<'p>, NoMemory>
+        requires { IsLayout layout.now }
+        ensures { IfOk result (λ manager. manager ≡ opened layout.now ranks.now) }
+    {
+        let committed = Committed::open(alloc, layout)?;
+        let places = committed.free_places(alloc)?;
+        let queue = Queue::empty(alloc)?;
+        let sections = Sections::none(alloc)?;
+        Ok(Manager {
+            ranks,
+            places,
+            queue,
+            sections,
+            history: History::empty(alloc),
+            committed,
+        })
+    }
+
+    /// Opens a section of a thread, and makes all growths that it can need.
+    ///
+    /// # Errors
+    ///
+    /// Want of memory; the manager is as it was.
+    pub fn begin(&mut self, alloc: Global, thread: u32, room: Room) -> Result<Ticket, NoMemory>
+        requires thread { thread < 64 }
+        requires closed { session_of self.old thread ≡ None }
+        ensures ok { IfOk result (λ ticket. Begins self.old thread room ticket self.new) }
+        ensures err { OnErr result (self.new ≡ self.old) }
+    {
+        let begun = self.history.len();
+        let session = Session::new(alloc, begun, room)?;
+        let slot = Session::new(alloc, begun, room)?;
+        let wake = Vec::with_capacity(alloc, room.locks)?;
+        self.history.promise()?;
+        self.sections.open(thread, slot);
+        Ok(Ticket {
+            thread,
+            session,
+            wake,
+        })
+    }
+
+    /// Asks for a lock.
+    pub fn request(&mut self, ticket: &mut Ticket, lock: Lock) -> Answer
+        requires known { Knows self.old ticket.old }
+        requires asks { CanAsk self.old ticket.old lock }
+        ensures { Answers self.old ticket.old lock result self.new ticket.new }
+    {
+        locks::laws::precedes_is_strict();
+        let thread = ticket.thread();
+        let number = self.committed.number_of(lock);
+        match take(&mut self.places, number, thread) {
+            Ok(cells) => {
+                self.queue.leave(thread);
+                self.sections.grant(thread, lock);
+                ticket.grant(lock);
+                Answer::Granted(Grant::new(lock, cells))
+            }
+            Err(holder) => {
+                self.queue.wait(ticket.ask(), Waiter { thread, lock });
+                self.sections.note(thread, lock);
+                ticket.note(lock);
+                Answer::Held(holder)
+            }
+        }
+    }
+
+    /// Ends a section: its cells come back, and its entry goes last into the history.
+    pub fn release(&mut self, ticket: Ticket, grants: Vec<Grant>, entry: Entry) -> Receipt
+        requires known { Knows self.old ticket }
+        requires fits { Fits self.old ticket grants.items entry }
+        ensures { Releases self.old ticket grants.items entry result self.new }
+    {
+        history::laws::one_entry_more();
+        history::laws::commuting();
+        let position = self.history.len();
+        let (thread, wake) = ticket.woken(&self.queue);
+        self.committed.overwrite(entry.writes());
+        self.history.enter(entry);
+        self.committed.put_back(&mut self.places, grants);
+        self.sections.close(thread);
+        Receipt { position, wake }
+    }
+
+    /// Ends a section without an entry, where the grants are exactly those of its thread's slot.
+    pub fn give_up(&mut self, ticket: Ticket, grants: Vec<Grant>)
+        ensures { GivesUp self.old ticket grants.items self.new }
+    {
+        let thread = ticket.into_thread();
+        if self.are_its_grants(thread, &grants) {
+            self.committed.restore(&mut self.places, grants);
+            self.queue.leave(thread);
+            self.sections.close(thread);
+            self.history.forgo();
+        } else {
+            let_go(grants);
+        }
+    }
+
+    /// Whether the slot of the ticket's thread has what the ticket says.
+    pub fn knows(&self, ticket: &Ticket) -> bool
+        ensures { IsTrue result ↔ Knows self.now ticket.now }
+    {
+        match self.sections.of(ticket.thread) {
+            Some(session) => session.says(&ticket.session),
+            None => false,
+        }
+    }
+
+    /// Whether [`Manager::release`] may be called: the ticket is known, and the section may end with these grants and
+    /// this entry.
+    pub fn fits(&self, ticket: &Ticket, grants: &[Grant], entry: &Entry) -> bool
+        ensures { IsTrue result ↔ CanRelease self.now ticket.now grants.now entry.now }
+    {
+        if !self.knows(ticket) {
+            return false;
+        }
+        let _places = &self.places;
+        let session = &ticket.session;
+        if session.ask().is_some() {
+            return false;
+        }
+        if !self.are_of(session.held(), grants) {
+            return false;
+        }
+        if entry.thread() != ticket.thread || entry.begun() != session.begun() {
+            return false;
+        }
+        if !self.committed.agrees(entry.reads()) {
+            return false;
+        }
+        if !self.committed.are_own(session.held(), entry.writes()) {
+            return false;
+        }
+        self.committed.are_now(grants, entry.writes())
+    }
+
+    // Whether the grants are exactly those of the thread's open section.
+    fn are_its_grants(&self, thread: u32, grants: &[Grant]) -> bool
+        ensures { IsTrue result ↔ AreItsGrants self.now thread grants.now }
+    {
+        match self.sections.of(thread) {
+            Some(session) => self.are_of(session.held(), grants),
+            None => false,
+        }
+    }
+
+    // Whether the grants are of exactly these locks.
+    fn are_of(&self, held: &[Lock], grants: &[Grant]) -> bool
+        requires { All (Contains self.now.layout.locks) held.now }
+        ensures { IsTrue result ↔ AreOf self.now.layout.cell_locks held.now grants.now }
+    {
+        if grants.len() != held.len() {
+            return false;
+        }
+        if !all_granted(held, grants) {
+            return false;
+        }
+        if !all_held(grants, held) {
+            return false;
+        }
+        self.committed.are_whole(grants)
+    }
+
+    /// Whether a thread has an open section.
+    pub fn is_open(&self, thread: u32) -> bool
+        ensures { result ≡ is_some (session_of self.now thread) }
+    {
+        self.sections.of(thread).is_some()
+    }
+
+    /// The i-th thread that waits for a lock.
+    pub fn waiting(&self, lock: Lock, i: usize) -> Option<u32>
+        ensures { result ≡ slice_get (waiting_for self.now lock) i }
+    {
+        self.queue.nth(lock, i)
+    }
+
+    /// The thread that holds a lock.
+    pub fn holder(&self, lock: Lock) -> Option<u32>
+        ensures { result ≡ holder_of self.now lock }
+    {
+        self.sections.holder(lock)
+    }
+
+    /// What a cell holds, unless a section holds it.
+    pub fn cell(&self, cell: usize) -> Option<Value>
+        ensures { result ≡ cell_of self.now cell }
+    {
+        history::laws::one_entry_more();
+        let lock = self.committed.lock_of(cell)?;
+        match &self.places[self.committed.number_of(lock)] {
+            Place::Free(_) => Some(self.committed.value(cell)),
+            Place::Taken(_) => None,
+        }
+    }
+
+    /// The entries.
+    pub fn history(&self) -> &History
+        ensures { result.now.commits ≡ self.now.history }
+    {
+        &self.history
+    }
+
+    /// The manager keeps its rules, and nobody waits in a circle.
+    pub fn keeps_its_rules(&self)
+        ensures rules_kept { IsKept self.now }
+        ensures no_circle { HasNoCycle (askers_of self.now) }
+    {
+        locks::laws::no_circle();
+        let _places = &self.places;
+    }
+}

@@ -1,0 +1,12 @@
+//! Where the cells of a lock are.
+
+use moved_cells::cells::Cells;
+
+/// Where the cells of a lock are.
+#[derive(Drop)]
+pub enum Place {
+    /// With the manager.
+    Free(Cells),
+    /// With a thread.
+    Taken(u32),
+}

@@ -1,0 +1,115 @@
+//! The open sections.
+
+ghost use Rattle.std.specs.Prelude.{◌≡◌, ◌≢◌, ◌↔◌, ◌<◌, ℕ, IsTrue, length, replicate, slice_get, slice_set, Some, None, IfOk, MatchOption};
+ghost use Rattle.std.specs.List.{Contains};
+ghost use Rattle.lock_manager.specs.Sessions.{SessionOf, with_lock, with_ask};
+ghost use Rattle.lock_manager.specs.Managers.{session_in, Holds};
+ghost use Rattle.lock_manager.specs.Ties.{HasRoom, IsChanged};
+
+use crate::fitting::holds;
+use crate::session::Session;
+use locks::lock::Lock;
+use source::memory::NoMemory;
+use std::alloc::Global;
+use std::marker::Model;
+
+/// For each thread its open section.
+#[derive(Drop)]
+pub struct Sections {
+    slots: Vec<Option<Session>>,
+}
+
+impl Model for Sections {
+    ghost use Rattle.std.specs.Prelude.{◌≡◌, List, Option, length};
+    ghost use Rattle.lock_manager.specs.Sessions.{SessionOf};
+
+    ghost Value = { List (Option SessionOf) };
+
+    ghost view = { λ s. s.slots.items };
+
+    ghost invariant = { λ s. length s.slots.items ≡ 64 };
+}
+
+impl Sections {
+    /// No section is open; there is a slot for each of 64 threads.
+    pub fn none(alloc: Global) -> Result<Sections, NoMemory>
+        ensures { IfOk result (λ sections. sections ≡ replicate 64 None) }
+    {
+        let mut slots = Vec::with_capacity(alloc, 64)?;
+        for _ in 0..64usize {
+            slots.push(None)?;
+        }
+        Ok(Sections { slots })
+    }
+
+    /// A thread's section, if one is open.
+    pub fn of(&self, thread: u32) -> Option<&Session>
+        ensures { MatchOption result (session_in self.now thread ≡ None) (λ s. session_in self.now thread ≡ Some s.now) }
+    {
+        match self.slots.get(thread as usize)? {
+            Some(session) => Some(session),
+            None => None,
+        }
+    }
+
+    /// A thread's section begins.
+    pub fn open(&mut self, thread: u32, session: Session)
+        requires { thread < 64 }
+        ensures { self.new ≡ slice_set self.old thread (Some session) }
+    {
+        self.slots[thread as usize] = Some(session);
+    }
+
+    /// A thread's section is granted a lock.
+    pub fn grant(&mut self, thread: u32, lock: Lock)
+        requires { HasRoom self.old thread }
+        ensures { IsChanged (λ s. with_lock s lock) self.old thread self.new }
+    {
+        match &mut self.slots[thread as usize] {
+            Some(session) => session.grant(lock),
+            None => unreachable!(),
+        }
+    }
+
+    /// A thread's section asked for a lock.
+    pub fn note(&mut self, thread: u32, lock: Lock)
+        requires { session_in self.old thread ≢ None }
+        ensures { IsChanged (λ s. with_ask s lock) self.old thread self.new }
+    {
+        match &mut self.slots[thread as usize] {
+            Some(session) => session.note(lock),
+            None => unreachable!(),
+        }
+    }
+
+    /// The thread whose section holds a lock.
+    pub fn holder(&self, lock: Lock) -> Option<u32>
+        ensures { MatchOption result ((t : ℕ) → Holds self.now t lock → ⊥) (λ t. Holds self.now t lock) }
+    {
+        let _slots = &self.slots;
+        for thread in 0..64u32 {
+            if self.holds(thread, lock) {
+                return Some(thread);
+            }
+        }
+        None
+    }
+
+    // Whether a thread's section holds a lock.
+    fn holds(&self, thread: u32, lock: Lock) -> bool
+        ensures { IsTrue result ↔ Holds self.now thread lock }
+    {
+        match self.of(thread) {
+            Some(session) => holds(session.held(), lock),
+            None => false,
+        }
+    }
+
+    /// A thread's section is over.
+    pub fn close(&mut self, thread: u32)
+        requires { thread < 64 }
+        ensures { self.new ≡ slice_set self.old thread None }
+    {
+        self.slots[thread as usize] = None;
+    }
+}

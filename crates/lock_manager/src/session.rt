@@ -1,0 +1,118 @@
+//! What is known of an open section.
+
+ghost use Rattle.std.specs.Prelude.{◌≡◌, ◌<◌, ◌↔◌, length, IfOk, IsTrue};
+ghost use Rattle.lock_manager.specs.Sessions.{fresh, with_lock, with_ask};
+
+use layout::room::Room;
+use locks::lock::Lock;
+use source::memory::NoMemory;
+use std::alloc::Global;
+use std::marker::Model;
+
+/// What is known of an open section.
+#[derive(Drop)]
+pub struct Session {
+    begun: usize,
+    held: Vec<Lock>,
+    ask: Option<Lock>,
+    room: Room,
+}
+
+impl Model for Session {
+    ghost use Rattle.std.specs.Prelude.{◌≤◌, vec_len, vec_capacity};
+    ghost use Rattle.lock_manager.specs.Sessions.{SessionOf};
+
+    ghost Value = { SessionOf };
+
+    ghost view = { λ s. record { begun = s.begun; held = s.held.items; ask = s.ask; room = s.room } };
+
+    ghost invariant = { λ s. (vec_len s.held ≤ s.room.locks) × (s.room.locks ≤ vec_capacity s.held) };
+}
+
+impl Session {
+    /// A section begins; there is room for the locks that it can hold.
+    pub fn new(alloc: Global, begun: usize, room: Room) -> Result<Session, NoMemory>
+        ensures { IfOk result (λ session. session ≡ fresh begun room) }
+    {
+        let held = Vec::with_capacity(alloc, room.locks)?;
+        Ok(Session {
+            begun,
+            held,
+            ask: None,
+            room,
+        })
+    }
+
+    /// A lock is granted.
+    pub fn grant(&mut self, lock: Lock)
+        requires { length self.old.held < self.old.room.locks }
+        ensures { self.new ≡ with_lock self.old lock }
+    {
+        self.held.push(lock).unwrap();
+        self.ask = None;
+    }
+
+    /// A lock is asked for.
+    pub fn note(&mut self, lock: Lock)
+        ensures { self.new ≡ with_ask self.old lock }
+    {
+        self.ask = Some(lock);
+    }
+
+    /// How long the history was when it began.
+    pub fn begun(&self) -> usize
+        ensures { result ≡ self.now.begun }
+    {
+        self.begun
+    }
+
+    /// The locks that it holds, the oldest first.
+    pub fn held(&self) -> &[Lock]
+        ensures { result.now ≡ self.now.held }
+    {
+        self.held.as_slice()
+    }
+
+    /// The lock that it asked for and wasn't granted yet.
+    pub fn ask(&self) -> Option<Lock>
+        ensures { result ≡ self.now.ask }
+    {
+        self.ask
+    }
+
+    /// Whether the other says the same.
+    pub fn says(&self, other: &Session) -> bool
+        ensures { IsTrue result ↔ (self.now ≡ other.now) }
+    {
+        self.begun == other.begun
+            && same_locks(&self.held, &other.held)
+            && same_ask(self.ask, other.ask)
+            && same_room(self.room, other.room)
+    }
+}
+
+fn same_locks(a: &[Lock], b: &[Lock]) -> bool
+    ensures { IsTrue result ↔ (a.now ≡ b.now) }
+{
+    if a.len() != b.len() {
+        return false;
+    }
+    for i in 0..a.len() {
+        if a[i] != b[i] {
+            return false;
+        }
+    }
+    true
+}
+
+fn same_ask(a: Option<Lock>, b: Option<Lock>) -> bool
+    ensures { IsTrue result ↔ (a ≡ b) }
+{
+    a == b
+}
+
+fn same_room(a: Room, b: Room) -> bool
+    ensures { IsTrue result ↔ (a ≡ b) }
+{
+    a == b
+}

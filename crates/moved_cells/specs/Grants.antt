@@ -1,0 +1,34 @@
+-- Cells of a lock, moved out.
+use Rattle.std.specs.Prelude.{◌≡◌, ℕ, List, [], ◌∷◌, length, slice_get, Option, Some, None}
+use Rattle.core_lang.specs.declared.value.Value.{Value}
+use Rattle.locks.specs.declared.lock.Lock.{Lock}
+use Rattle.layout.specs.LockCells.{cells_of}
+
+-- a lock, and the values of its cells, in order of the cells' numbers
+pub record GrantOf : Type 0 where
+  pub lock : Lock
+  pub values : List Value
+
+-- cells, each beside its value
+abbrev pub numbered : List ℕ → List Value → List (ℕ × Value)
+numbered [] values = []
+numbered (c ∷ cs) [] = []
+numbered (c ∷ cs) (v ∷ vs) = (c, v) ∷ numbered cs vs
+
+-- where these are the locks of all cells: the cells of a grant, each beside its value
+abbrev pub cells_in : List Lock → GrantOf → List (ℕ × Value)
+cells_in cell_locks grant = numbered (cells_of cell_locks grant.lock) grant.values
+
+-- a grant has a value for each cell of its lock
+abbrev pub IsWhole : List Lock → GrantOf → Type 0
+IsWhole cell_locks grant = length grant.values ≡ length (cells_of cell_locks grant.lock)
+
+-- in front of others, if there is one
+abbrev pub if_there : Option Value → List Value → List Value
+if_there None values = values
+if_there (Some v) values = v ∷ values
+
+-- what a heap has in some cells, in their order
+abbrev pub values_on : List Value → List ℕ → List Value
+values_on heap [] = []
+values_on heap (c ∷ cs) = if_there (slice_get heap c) (values_on heap cs)

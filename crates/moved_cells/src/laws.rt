@@ -1,0 +1,16 @@
+//! What holds of every grant: functions that do nothing, and whose contracts are the laws.
+
+ghost use Rattle.moved_cells.specs.Laws.{HasItsCells, OffsetsFindValues, OffsetsChangeCells, ValuesAreWhole, ValuesAgree};
+
+/// The value at the offset of a cell is the cell's, and a write there changes this cell.
+pub fn slots_are_cells()
+    ensures cells { HasItsCells }
+    ensures read { OffsetsFindValues }
+    ensures write { OffsetsChangeCells }
+{}
+
+/// What a heap has in the cells of a lock makes a grant of the lock, with a value for each of its cells.
+pub fn heaps_have_values()
+    ensures whole { ValuesAreWhole }
+    ensures agree { ValuesAgree }
+{}
