@@ -1,20 +1,22 @@
 #!/usr/bin/env python3
-"""Gives hostile sources to `autolock serial --turns 1000` and looks at how each run ends.
+"""Gives hostile sources to `autolock` and looks at how each run ends: of `check`, `listing` and `serial --turns 1000`.
 
-    tests/hostile.py [--program BIN] [--cuts] [--bytes] [--random COUNT] [--every N] [--seed N] [FILE..]
+    tests/hostile.py [--program BIN] [--commands NAMES] [--cuts] [--bytes] [--random COUNT] [--every N] [--seed N] [FILE..]
 
 With no choice of kinds: --cuts --bytes --random 2000, each cut and byte at every 7th place, which takes a minute.
 
+--commands      which of the three, joined by commas; by default all
 --cuts          every beginning of each program
 --bytes         each program with one byte replaced by each of `(`, `}`, `0`, `.`, 0x00 and 0x80
 --random COUNT  so many programs made from the given ones by a few random changes each
 --every N       only every N-th place of --cuts and --bytes
 FILE..          the programs to begin with; by default those of examples/
 
-A run must end within 20 seconds with status 0, 1 or 7. With 0, standard output is a whole history and
-standard error is empty; with 1, standard error is one line and standard output is empty; with 7, the last
-line of standard output begins with `unsettled` and standard error is empty. What doesn't is kept as
-hostile-NUMBER.al in the current folder. The last line is 'N runs, M failed'; exit status 1 where M is not 0.
+A run must end within 20 seconds with status 0 or 1, or of `serial` with 7. With 0, standard output is a whole text of
+the command and standard error is empty; with 1, standard error is one line, the same of each command, and standard
+output is empty; with 7, the last line of standard output begins with `unsettled` and standard error is empty. A source
+of which that doesn't hold is kept as hostile-NUMBER.al in the current folder. The last line is 'N runs, M failed'; exit
+status 1 where M is not 0.
 """
 import argparse
 import multiprocessing
@@ -76,23 +78,50 @@ def mutated(programs, seed):
     return b"".join(tokens)
 
 
-def fault_of(run):
+ARGUMENTS = {"check": ["check"], "listing": ["listing"], "serial": ["serial", "--turns", "1000"]}
+LINE = re.compile(rb"section \w+|\d+ [a-z][ -~]*")
+
+
+def is_whole(command, out):
+    """Whether that is a whole text of the command, as far as its shape goes."""
+    if command == "serial":
+        return out.startswith(b"history 1\n") and out.endswith(b"end\n")
+    if command == "check":
+        return out.startswith(b"accepted\n") and out.endswith(b"\n")
+    return all(LINE.fullmatch(line) for line in out.splitlines()) and (not out or out.endswith(b"\n"))
+
+
+def fault_of(command, run):
     """What is wrong with the way a run ended, or nothing."""
     out, err = run.stdout, run.stderr
     if run.returncode == 0:
-        whole = out.startswith(b"history 1\n") and out.endswith(b"end\n")
-        return None if whole and not err else "status 0 without a whole history alone"
+        return None if is_whole(command, out) and not err else f"{command}: status 0 without a whole text alone"
     if run.returncode == 1:
         one_line = err.count(b"\n") == 1 and err.endswith(b"\n")
-        return None if one_line and not out else "status 1 without one line alone"
-    if run.returncode == 7:
+        return None if one_line and not out else f"{command}: status 1 without one line alone"
+    if run.returncode == 7 and command == "serial":
         unsettled = out.rstrip(b"\n").rsplit(b"\n", 1)[-1].startswith(b"unsettled ")
         return None if unsettled and not err else "status 7 without an unsettled call"
-    return f"status {run.returncode}"
+    return f"{command}: status {run.returncode}"
+
+
+def try_one(program, commands, path):
+    """What is wrong with the runs of these commands over a source, or nothing."""
+    told = set()
+    for command in commands:
+        try:
+            run = subprocess.run([program, *ARGUMENTS[command], path], capture_output=True, timeout=20)
+        except subprocess.TimeoutExpired:
+            return f"{command}: no end within 20 seconds"
+        fault = fault_of(command, run)
+        if fault:
+            return fault
+        told.add(run.stderr)
+    return None if len(told) == 1 else "the commands tell different faults"
 
 
 def try_all(part):
-    program, programs, kind, seeds, every, scratch = part
+    program, commands, programs, kind, seeds, every, scratch = part
     inputs = {
         "cuts": lambda: cuts(programs, every),
         "bytes": lambda: replaced(programs, every),
@@ -103,12 +132,8 @@ def try_all(part):
     for text in inputs:
         with open(path, "wb") as file:
             file.write(text)
-        runs += 1
-        try:
-            run = subprocess.run([program, "serial", "--turns", "1000", path], capture_output=True, timeout=20)
-            fault = fault_of(run)
-        except subprocess.TimeoutExpired:
-            fault = "no end within 20 seconds"
+        runs += len(commands)
+        fault = try_one(program, commands, path)
         if fault:
             failed.append((fault, text))
     return runs, failed
@@ -117,6 +142,7 @@ def try_all(part):
 def main():
     p = argparse.ArgumentParser(formatter_class=argparse.RawDescriptionHelpFormatter, description=__doc__)
     p.add_argument("--program", default=str(TOP / "autolock"))
+    p.add_argument("--commands", default=",".join(ARGUMENTS))
     p.add_argument("--cuts", action="store_true")
     p.add_argument("--bytes", action="store_true")
     p.add_argument("--random", type=int, default=0, metavar="COUNT")
@@ -129,13 +155,14 @@ def main():
         a.cuts, a.bytes, a.random, a.every = True, True, 2000, a.every or 7
     every = a.every or 1
     program = str(pathlib.Path(a.program).resolve())
+    commands = a.commands.split(",")
     programs = [f.read_bytes() for f in a.files or sorted((TOP / "examples").glob("*.al"))]
     shm = "/dev/shm" if os.access("/dev/shm", os.W_OK) else None
     with tempfile.TemporaryDirectory(dir=shm) as scratch:
-        parts = [(program, [text], kind, (), every, scratch) for kind in ("cuts", "bytes") if getattr(a, kind) for text in programs]
+        parts = [(program, commands, [text], kind, (), every, scratch) for kind in ("cuts", "bytes") if getattr(a, kind) for text in programs]
         step = 500
         parts += [
-            (program, programs, "random", range(first, min(first + step, a.seed + a.random)), every, scratch)
+            (program, commands, programs, "random", range(first, min(first + step, a.seed + a.random)), every, scratch)
             for first in range(a.seed, a.seed + a.random, step)
         ]
         runs, failed = 0, []

@@ -22,7 +22,7 @@ def write(name, text, c):
     (top / f"{name}.al").write_text(text); (top / f"{name}.c").write_text(c)
 ONE = "lock G; global int n protected_by(G);\n"
 C = "long long n;\n"
-write("one_long_sum", fill(ONE + "atomic f() {\nn = n", lambda i: " + n", ";\n}\n"), fill(C + "void f(void) {\nn = n", lambda i: "+ n\n" if i % 64 == 0 else "+n", ";\n}\n"))
+write("one_long_sum", fill(ONE + "atomic f() {\nn = n", lambda i: "+n", ";\n}\n"), fill(C + "void f(void) {\nn = n", lambda i: "+n", ";\n}\n"))
 write("one_long_and", fill(ONE + "atomic f() {\nif (n > 0", lambda i: "&&n>0", ") { n = 1; }\n}\n"), fill(C + "void f(void) {\nif (n > 0", lambda i: "&&n>0", ") { n = 1; }\n}\n"))
 write("one_long_or_of_ands", fill(ONE + "atomic f() {\nif (n > 0", lambda i: "||n>0&&n<9", ") { n = 1; }\n}\n"), fill(C + "void f(void) {\nif (n > 0", lambda i: "||n>0&&n<9", ") { n = 1; }\n}\n"))
 write("assignments", fill(ONE + "atomic f() {\n", lambda i: "n=1;", "}\n"), fill(C + "void f(void) {\n", lambda i: "n=1;", "}\n"))
@@ -55,7 +55,7 @@ for text in $(ls -v "$texts" | sed -n 's/\.al$//p'); do
   kib=$(/usr/bin/time -f '%M' "$program" "$texts/$text.al" once 2>&1 | tail -n 1)
   printf '%s, %s KiB, %s times the source' "$("$program" "$texts/$text.al")" "$kib" "$((kib * 1024 / bytes))"
   if command -v clang >/dev/null; then
-    timeout 60 /usr/bin/time -f '; clang %e s, %M KiB' clang -w -fsyntax-only -fbracket-depth=100000 "$texts/$text.c" 2>&1 | tail -n 1 || echo "; clang: nothing in 60 s"
+    timeout 60 /usr/bin/time -f '; clang %e s, %M KiB' clang -w -fsyntax-only -fbracket-depth=100000 "$texts/$text.c" 2>&1 | tail -n 1 || echo "; clang: no answer within 60 s"
   else
     echo
   fi
