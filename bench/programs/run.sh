@@ -16,7 +16,7 @@ fi
 python3 - "$program" "$here" "$rounds" <<'PYTHON'
 import re, subprocess, sys, time
 program, here, rounds = sys.argv[1], sys.argv[2], int(sys.argv[3])
-NAMES = ["arithmetic", "sum", "sort", "walk"]
+NAMES = ["arithmetic", "sum", "sort", "walk", "sieve", "divisors", "tree", "ring", "matrix", "scan"]
 WORDS = {
     "serial": lambda name: [program, "serial", "--turns", "1000000000", f"{here}/{name}.al"],
     "lua": lambda name: ["lua5.4", f"{here}/{name}.lua"],

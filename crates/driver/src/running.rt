@@ -10,7 +10,8 @@ ghost use Rattle.driver.specs.Serial.{entry};
 use crate::schedule::{ScheduledCall, schedule};
 use core_lang::typed::Typed;
 use meaning::heap::Heap;
-use meaning::run::{End, run_whole};
+use meaning::prepared::Prepared;
+use meaning::run::End;
 use report::Record;
 use source::memory::NoMemory;
 use std::alloc::Global;
@@ -49,18 +50,12 @@ pub fn run_scripts(alloc: Global, typed: &Typed, turns: u64) -> Result<Ran, NoMe
     ensures cells { IfOk result (λ ran. HasCells typed.now ran.heap) }
 {
     let calls = schedule(alloc, typed)?;
+    let prepared = Prepared::new(alloc, typed)?;
     let mut heap = Heap::open(alloc, typed)?;
     let mut records = Vec::with_capacity(alloc, calls.len())?;
     for next in &calls {
         let call = next.call;
-        let run = run_whole(
-            alloc,
-            typed,
-            call.section,
-            &call.arguments,
-            &mut heap,
-            turns,
-        )?;
+        let run = prepared.run_whole(alloc, call.section, &call.arguments, &mut heap, turns)?;
         let Some(end) = run else {
             let unsettled = Some((next.thread, next.step));
             return Ok(Ran {

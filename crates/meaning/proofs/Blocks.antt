@@ -57,7 +57,7 @@ while_is x c body items shape n s is all =
     ∙ sym (effect_of-While c body shape n s)
     ∙ ap (λ y. effect_of y shape n s) (sym is)
 
-turn : (left : ℕ) (test : State → Result Bool Failure) (body : State → Flow) (s s' : State) → left ≢ 0 → test s ≡ Ok true → body s ≡ GoesOn s' →
+pub turn : (left : ℕ) (test : State → Result Bool Failure) (body : State → Flow) (s s' : State) → left ≢ 0 → test s ≡ Ok true → body s ≡ GoesOn s' →
     turns (left - 1) test body s' ≡ turns left test body s
 turn zero test body s s' some holds goes = absurd (some refl)
 turn (suc left) test body s s' some holds goes =

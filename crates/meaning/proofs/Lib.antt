@@ -3,3 +3,9 @@ pub mod Steps
 pub mod Blocks
 pub mod Kept
 pub mod CanBeCalled
+pub mod Runs
+pub mod Gives
+pub mod Statements
+pub mod Choices
+pub mod PreparedCodes
+pub mod Tests

@@ -92,7 +92,7 @@ pub fn cell_of_field(shape: &Shape, base: Value, field: u32) -> Result<usize, Fa
 }
 
 #[inline(always)]
-fn value_of_final(shape: &Shape, base: Value, field: u32) -> Result<Value, Failure>
+pub fn value_of_final(shape: &Shape, base: Value, field: u32) -> Result<Value, Failure>
     ensures { result ≡ final_value shape.now base field }
 {
     let object = object(shape, base)?;

@@ -1,0 +1,28 @@
+// The sieve of Eratosthenes, several times.
+lock G;
+global int composite[50001] protected_by(G);
+
+atomic run(int rounds) : int {
+  var r: int = 0;
+  var count: int = 0;
+  var i: int = 0;
+  var k: int = 0;
+  while (r < rounds) {
+    i = 0;
+    while (i <= 50000) { composite[i] = 0; i = i + 1; }
+    i = 2;
+    count = 0;
+    while (i <= 50000) {
+      if (composite[i] == 0) {
+        count = count + 1;
+        k = i + i;
+        while (k <= 50000) { composite[k] = 1; k = k + i; }
+      }
+      i = i + 1;
+    }
+    r = r + 1;
+  }
+  return count;
+}
+
+thread t { run(60); }
