@@ -55,7 +55,8 @@ for text in $(ls -v "$texts" | sed -n 's/\.al$//p'); do
   kib=$(/usr/bin/time -f '%M' "$program" "$texts/$text.al" once 2>&1 | tail -n 1)
   printf '%s, %s KiB, %s times the source' "$("$program" "$texts/$text.al")" "$kib" "$((kib * 1024 / bytes))"
   if command -v clang >/dev/null; then
-    timeout 60 /usr/bin/time -f '; clang %e s, %M KiB' clang -w -fsyntax-only -fbracket-depth=100000 "$texts/$text.c" 2>&1 | tail -n 1 || echo "; clang: no answer within 60 s"
+    line=$(timeout 60 /usr/bin/time -f '; clang %e s, %M KiB' clang -w -fsyntax-only -fbracket-depth=100000 "$texts/$text.c" 2>&1 | tail -n 1 || true)
+    case $line in "; clang"*) echo "$line" ;; *) echo "; clang: no answer within 60 s" ;; esac
   else
     echo
   fi
