@@ -4,8 +4,9 @@
 #
 #     bench/build.sh NAME
 #
-# A program bench/NAME is main.rattle and crate.txt, the line "NAME: what it stands on". The ending
-# keeps it out of the gate, which wants every .rt file to be part of a crate of the repository.
+# A program bench/NAME is main.rattle and crate.txt, the line "NAME: what it stands on", and FUNCTION.answers
+# for what the search doesn't prove of one of its functions. The endings keep it out of the gate, which wants
+# every .rt file and .antt file to be part of a crate of the repository.
 set -euo pipefail
 name=$1
 top=$(cd "$(dirname "$0")/.." && pwd)
@@ -24,6 +25,13 @@ program="bench_$name"
 mkdir -p "$work/crates/$program"
 mkdir -p "$work/crates/$program/src"
 cp "$top/bench/$name/main.rattle" "$work/crates/$program/src/main.rt"
+for answers in "$top/bench/$name"/*.answers; do
+  [ -f "$answers" ] || continue
+  to="$work/crates/$program/proofs/$(basename "$answers" .answers)"
+  mkdir -p "$to"
+  cp "$answers" "$to/Answers.antt"
+  : > "$work/crates/$program/proofs/Lib.antt"
+done
 cp "$top/HANDLES" "$work/HANDLES"
 { cat "$top/crates.txt"; sed "s/^$name:/$program:/" "$top/bench/$name/crate.txt"; } > "$work/crates.txt"
 cd "$work/crates/$program"

@@ -20,12 +20,17 @@ pub record IsFound (classes : List ClassPlace) (objects : List ObjectPlace) (loc
   pub class_is : slice_get classes lock.class ≡ Some class
   pub number_is : number_at class (slice_get objects lock.object) ≡ Some number
 
+pub found_at : (classes : List ClassPlace) (objects : List ObjectPlace) (locks : List Lock) (lock : Lock) → AreNumbered classes objects locks →
+    (n : ℕ) → slice_get locks n ≡ Some lock → IsFound classes objects locks lock
+found_at classes objects locks lock are n here =
+    let l = lookup_some (slice_get classes lock.class) (λ (p : ClassPlace). number_at p (slice_get objects lock.object)) n (are n lock here) in
+    record { number = n; here = here; class = l.0; class_is = l.1; number_is = l.2 }
+
 pub found : (classes : List ClassPlace) (objects : List ObjectPlace) (locks : List Lock) (lock : Lock) → AreNumbered classes objects locks →
     Contains locks lock → IsFound classes objects locks lock
 found classes objects locks lock are c =
     let n = there_contains locks lock c in
-    let l = lookup_some (slice_get classes lock.class) (λ (p : ClassPlace). number_at p (slice_get objects lock.object)) n.0 (are n.0 lock n.1) in
-    record { number = n.0; here = n.1; class = l.0; class_is = l.1; number_is = l.2 }
+    found_at classes objects locks lock are n.0 n.1
 
 -- the place of an object's lock
 pub record IsAt (objects : List ObjectPlace) (object l number : ℕ) : Type 0 where
@@ -100,7 +105,7 @@ distinct classes objects locks are i j lock at_i at_j = let e : Some i ≡ Some 
 
 module _ (classes : List ClassPlace) (objects : List ObjectPlace) (locks : List Lock) (lock : Lock) (f : IsFound classes objects locks lock) (read : ClassPlace)
     (is_read : read ≡ get_or classes lock.class read) where
-  class_read : f.class ≡ read
+  pub class_read : f.class ≡ read
   class_read =
       let e : Some f.class ≡ Some read = sym f.class_is ∙ read_at classes lock.class read (slice_get_within classes lock.class f.class f.class_is) is_read in
       cc

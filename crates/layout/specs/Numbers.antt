@@ -1,5 +1,5 @@
 -- How the code finds the numbers of locks, and the slots of cells. Nobody has to believe these.
-use Rattle.std.specs.Prelude.{◌≡◌, ℕ, ◌+◌, ◌<◌, List, length, map, slice_get, Option, Some}
+use Rattle.std.specs.Prelude.{◌≡◌, ℕ, ◌+◌, ◌^◌, ◌<◌, List, length, map, slice_get, Option, Some}
 use Rattle.core_lang.specs.declared.value.Value.{Value}
 use Rattle.core_lang.specs.declared.shape.Object.{Object}
 use Rattle.core_lang.specs.declared.typed.LockClass.{LockClass}
@@ -38,6 +38,11 @@ abbrev pub KnowFields : Typed → ℕ → List ClassPlace → Type 0
 KnowFields program n classes =
     (number s l : ℕ) → number < n → slice_get program.classes.items number ≡ Some (class.Field s l) →
     slice_get classes number ≡ Some (place.Field l)
+
+-- the number of a lock field of an object is this, where there is the object and the number is one of the machine
+abbrev pub FindsField : List ObjectPlace → ℕ → ℕ → Option ℕ → Type 0
+FindsField objects object l number =
+    (n : ℕ) → n < 2 ^ 64 → number_at (place.Field l) (slice_get objects object) ≡ Some n → number ≡ Some n
 
 -- these are the lock fields of a struct, in order
 abbrev pub AreFields : List ClassPlace → List LockField → Type 0

@@ -1,10 +1,10 @@
 //! The numbers of locks.
 
-ghost use Rattle.std.specs.Prelude.{◌≡◌, ◌<◌, ◌^◌, length, slice_get, Some, IfOk, OnOk};
+ghost use Rattle.std.specs.Prelude.{◌≡◌, ◌↔◌, ◌<◌, ◌^◌, ℕ, length, slice_get, Some, IfOk, IsTrue, OnOk};
 ghost use Rattle.std.specs.List.{Contains};
 ghost use Rattle.core_lang.specs.WellFormed.{IsWellFormed};
 ghost use Rattle.layout.specs.Layouts.{all_locks, AreDistinct};
-ghost use Rattle.layout.specs.Numbers.{AreNumbered, AreFields, HasFinalsOf};
+ghost use Rattle.layout.specs.Numbers.{AreNumbered, AreFields, HasFinalsOf, FindsField};
 
 use crate::places::{ClassPlace, ObjectPlace};
 use crate::protection::lock_fields;
@@ -94,5 +94,48 @@ impl Numbering {
             ClassPlace::Global(number) => number,
             ClassPlace::Field(field) => self.objects[lock.object as usize].first_lock + field,
         }
+    }
+
+    /// Whether it is one of the locks.
+    pub fn has(&self, lock: Lock) -> bool
+        ensures { IsTrue result ↔ Contains self.now.locks.items lock }
+    {
+        match self.find(lock) {
+            Some(number) => self.is_at(number, lock),
+            None => false,
+        }
+    }
+
+    // Whether this number is the lock's.
+    fn is_at(&self, number: usize, lock: Lock) -> bool
+        ensures { IsTrue result ↔ (slice_get self.now.locks.items number ≡ Some lock) }
+    {
+        match self.locks.get(number) {
+            Some(other) => *other == lock,
+            None => false,
+        }
+    }
+
+    // The number that a lock has, if it is one of the locks.
+    fn find(&self, lock: Lock) -> Option<usize>
+        ensures { (n : ℕ) → slice_get self.now.locks.items n ≡ Some lock → result ≡ Some n }
+    {
+        if lock.class >= self.classes.len() {
+            return None;
+        }
+        match self.classes[lock.class] {
+            ClassPlace::Global(number) => Some(number),
+            ClassPlace::Field(field) => self.in_object(lock.object, field),
+        }
+    }
+
+    // The number of a lock field of an object, if there is the object.
+    fn in_object(&self, object: u32, field: usize) -> Option<usize>
+        ensures { FindsField self.now.objects.items object field result }
+    {
+        if object as usize >= self.objects.len() {
+            return None;
+        }
+        self.objects[object as usize].first_lock.checked_add(field)
     }
 }

@@ -1,6 +1,6 @@
 //! The layout of a program.
 
-ghost use Rattle.std.specs.Prelude.{◌≡◌, ◌≢◌, ◌<◌, ◌^◌, ◌-◌, length, slice_get, Some, None, OnOk, IfOk};
+ghost use Rattle.std.specs.Prelude.{◌≡◌, ◌≢◌, ◌↔◌, ◌<◌, ◌^◌, ◌-◌, length, slice_get, Some, None, OnOk, IfOk, IsTrue};
 ghost use Rattle.std.specs.List.{Contains};
 ghost use Rattle.layout.specs.LockCells as lock_cells;
 ghost use Rattle.layout.specs.Layouts.{object_named};
@@ -141,6 +141,14 @@ impl Layout {
         ensures { slice_get self.now.locks result ≡ Some lock }
     {
         self.numbering.number_of(lock)
+    }
+
+    /// Whether it is one of the locks.
+    #[inline]
+    pub fn has_lock(&self, lock: Lock) -> bool
+        ensures { IsTrue result ↔ Contains self.now.locks lock }
+    {
+        self.numbering.has(lock)
     }
 
     /// The locks, each at its number.

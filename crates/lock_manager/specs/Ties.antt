@@ -2,6 +2,7 @@
 use Rattle.std.specs.Prelude.{◌≡◌, ◌<◌, ◌≤◌, ℕ, ◌+◌, List, [], ◌∷◌, length, map, slice_set, slice_index_or, Option, Some, None}
 use Rattle.std.specs.List.{All}
 use Rattle.core_lang.specs.declared.value.Value.{Value}
+use Rattle.locks.specs.declared.lock.Lock.{Lock}
 use Rattle.code.specs.Memory.{overwritten, Agrees}
 use Rattle.moved_cells.specs.Grants.{GrantOf, cells_in}
 use Rattle.lock_manager.specs.declared.places.Place.{Place}
@@ -13,6 +14,11 @@ use Rattle.lock_manager.specs.Managers.{Managed, session_in, given_back, locks_o
 pub record HasRoom (slots : List (Option SessionOf)) (t : ℕ) : Type 0 where
   pub session : SessionOf
   pub is : session_in slots t ≡ Some session
+  pub room : length session.held < session.room.locks
+
+-- an open section has room for one more lock, and where it asked for one, it is this
+pub record MayTake (session : SessionOf) (lock : Lock) : Type 0 where
+  pub same : (other : Lock) → session.ask ≡ Some other → other ≡ lock
   pub room : length session.held < session.room.locks
 
 -- a thread's open section is changed in this way, if there is one

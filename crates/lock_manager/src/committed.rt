@@ -82,6 +82,13 @@ impl<'p> Committed<'p> {
         self.layout.lock_number(lock)
     }
 
+    /// Whether it is one of the program's locks.
+    pub fn has_lock(&self, lock: Lock) -> bool
+        ensures { IsTrue result ↔ Contains self.now.layout.locks lock }
+    {
+        self.layout.has_lock(lock)
+    }
+
     // The cells of a lock.
     fn row(&self, lock: Lock) -> &[usize]
         requires { Contains self.now.layout.locks lock }

@@ -12,6 +12,7 @@
 #![tactic(auto)]
 
 pub mod answer;
+mod asking;
 mod committed;
 mod fitting;
 mod giving;

@@ -7,6 +7,7 @@ ghost use Rattle.lock_manager.specs.Managers.{IsLayout, IsKept, opened, waiting_
 ghost use Rattle.lock_manager.specs.Calls.{Begins, Answers, CanAsk, Knows, Fits, CanRelease, Releases, GivesUp, AreOf, AreItsGrants};
 
 use crate::answer::Answer;
+use crate::asking::comes_after;
 use crate::committed::Committed;
 use crate::fitting::{all_granted, all_held};
 use crate::giving::{let_go, take};
@@ -173,6 +174,20 @@ impl<'p> Manager<'p> {
             Some(session) => session.says(&ticket.session),
             None => false,
         }
+    }
+
+    /// Whether the section of a ticket may ask for this lock.
+    pub fn can_ask(&self, ticket: &Ticket, lock: Lock) -> bool
+        ensures { IsTrue result ↔ CanAsk self.now ticket.now lock }
+    {
+        let session = &ticket.session;
+        if !session.may_take(lock) {
+            return false;
+        }
+        if !comes_after(self.ranks, session.held(), lock) {
+            return false;
+        }
+        self.committed.has_lock(lock)
     }
 
     /// Whether [`Manager::release`] may be called: the ticket is known, and the section may end with these grants and

@@ -2,6 +2,7 @@
 
 ghost use Rattle.std.specs.Prelude.{◌≡◌, ◌<◌, ◌↔◌, length, IfOk, IsTrue};
 ghost use Rattle.lock_manager.specs.Sessions.{fresh, with_lock, with_ask};
+ghost use Rattle.lock_manager.specs.Ties.{MayTake};
 
 use layout::room::Room;
 use locks::lock::Lock;
@@ -78,6 +79,19 @@ impl Session {
         ensures { result ≡ self.now.ask }
     {
         self.ask
+    }
+
+    /// Whether it has room for one lock more, and asked for no other.
+    pub fn may_take(&self, lock: Lock) -> bool
+        ensures { IsTrue result ↔ MayTake self.now lock }
+    {
+        if self.held.len() >= self.room.locks {
+            return false;
+        }
+        match self.ask {
+            Some(other) => other == lock,
+            None => true,
+        }
     }
 
     /// Whether the other says the same.

@@ -1,0 +1,12 @@
+pub mod Places
+pub mod Turns
+pub mod Ends
+pub mod Scripts
+pub mod Cells
+pub mod Alone
+pub mod Sound
+pub mod Well
+pub mod Steps
+pub mod Headline
+pub mod Rising
+pub mod InTurn

@@ -1,0 +1,81 @@
+-- What a change of one thread needs to keep a world sound.
+use Rattle.std.proofs.Common.{◌≡◌, ◌⊎◌, ℕ, true, List, length, Option, Some, None, slice_get, set, sym, ap, ◌∙◌, inl, inr}
+use Rattle.std.proofs.lemmas.Bool.{cases_eq}
+use Rattle.core_lang.specs.declared.value.Value.{Value}
+use Rattle.locks.specs.declared.lock.Lock.{Lock}
+use Rattle.history.specs.Commits.{Commit, committed, IsLegal, AreTrue}
+use Rattle.lowering.specs.Plans.{Plan}
+use Rattle.worlds.specs.Asking.{among}
+use Rattle.worlds.specs.Worlds.{World, ThreadState, Activation}
+use Rattle.worlds.specs.Claims.{HasOpen}
+use Rattle.worlds.specs.States.{HoldsCell, IsWell, IsFit, IsSound}
+use Rattle.worlds.proofs.Places.{get_set_other, get_set_same, get_set_is}
+
+-- another thread than t holds the cell
+pub record ElsewhereHeld (w : World) (t cell : ℕ) : Type 0 where
+  pub by : ℕ
+  pub section : Activation
+  pub is_open : HasOpen w by section
+  pub other : t ≡ by → ⊥
+  pub holds : HoldsCell section cell
+
+-- this thread holds it
+pub record HoldsHere (thread : ThreadState) (cell : ℕ) : Type 0 where
+  pub section : Activation
+  pub is_open : thread.active ≡ Some section
+  pub holds : HoldsCell section cell
+
+-- one thread, the cells and the history change, and all that is true of the world stays so
+pub record Changes (plan : Plan) (w : World) (t : ℕ) (thread : ThreadState) (cells : List (Option Value)) (history : List Commit) : Type 0 where
+  pub before : ThreadState
+  pub at : slice_get w.threads t ≡ Some before
+  pub legal : IsLegal plan.layout.opening history
+  pub true_commits : AreTrue plan.program history
+  pub size : length cells ≡ length plan.layout.opening
+  pub values : (c : ℕ) (v : Value) → slice_get cells c ≡ Some (Some v) → slice_get (committed plan.layout.opening history) c ≡ Some v
+  pub others : (u : ℕ) (b : Activation) → (t ≡ u → ⊥) → HasOpen w u b → IsFit cells (committed plan.layout.opening history) b
+  pub mine : (a : Activation) → thread.active ≡ Some a → IsWell plan a × IsFit cells (committed plan.layout.opening history) a
+  pub apart : (u : ℕ) (a b : Activation) (lock : Lock) → (t ≡ u → ⊥) → thread.active ≡ Some a → HasOpen w u b →
+      among a.held lock ≡ true → among b.held lock ≡ true → ⊥
+  pub somewhere : (c : ℕ) → slice_get cells c ≡ Some None → ElsewhereHeld w t c ⊎ HoldsHere thread c
+
+abbrev pub changed : World → ℕ → ThreadState → List (Option Value) → List Commit → World
+changed w t thread cells history = record { cells = cells; history = history; threads = set w.threads t thread }
+
+pub sound_changed : (plan : Plan) (w : World) (t : ℕ) (thread : ThreadState) (cells : List (Option Value)) (history : List Commit) →
+    IsSound plan w → Changes plan w t thread cells history → IsSound plan (changed w t thread cells history)
+sound_changed plan w t thread cells history s c = record {
+  legal = c.legal;
+  true_commits = c.true_commits;
+  size = c.size;
+  values = c.values;
+  well = λ u b o. elim (cases_eq t u) [
+    | inl e ↦ (c.mine b (here u b e o)).0
+    | inr ne ↦ s.well u b (away u b ne o)
+  ];
+  fit = λ u b o. elim (cases_eq t u) [
+    | inl e ↦ (c.mine b (here u b e o)).1
+    | inr ne ↦ c.others u b ne (away u b ne o)
+  ];
+  somewhere = λ cell none. elim (c.somewhere cell none) [
+    | inl h ↦ (h.by, h.section, (h.is_open.0, get_set_other w.threads t h.by thread h.other ∙ h.is_open.1, h.is_open.2), h.holds)
+    | inr h ↦ (t, h.section, (thread, get_set_same w.threads t c.before thread c.at, h.is_open), h.holds)
+  ];
+  apart = λ u k a b lock oa ob ha hb. elim (cases_eq t u) [
+    | inl e ↦ elim (cases_eq t k) [
+      | inl f ↦ sym e ∙ f
+      | inr nf ↦ absurd (c.apart k a b lock nf (here u a e oa) (away k b nf ob) ha hb)
+    ]
+    | inr ne ↦ elim (cases_eq t k) [
+      | inl f ↦ absurd (c.apart u b a lock ne (here k b f ob) (away u a ne oa) hb ha)
+      | inr nf ↦ s.apart u k a b lock (away u a ne oa) (away k b nf ob) ha hb
+    ]
+  ];
+} where
+  here : (u : ℕ) (b : Activation) → t ≡ u → HasOpen (changed w t thread cells history) u b → thread.active ≡ Some b
+  here u b e o =
+      let same : thread ≡ o.0 = get_set_is w.threads t thread o.0 (ap (slice_get (set w.threads t thread)) e ∙ o.1) in
+      ap (λ x. x.active) same ∙ o.2
+
+  away : (u : ℕ) (b : Activation) → (t ≡ u → ⊥) → HasOpen (changed w t thread cells history) u b → HasOpen w u b
+  away u b ne o = (o.0, sym (get_set_other w.threads t u thread ne) ∙ o.1, o.2)

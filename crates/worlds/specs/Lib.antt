@@ -1,0 +1,12 @@
+pub mod Asking
+pub mod Worlds
+pub mod Claims
+pub mod Waiting
+pub mod InTurn
+pub mod States
+-- what the public clauses cite
+pub use Rattle.worlds.specs.Worlds.{World, ThreadState, Activation, happens, final, trace}
+pub use Rattle.worlds.specs.Claims.{Headline, EveryRunHasIt}
+pub use Rattle.worlds.specs.States.{IsSound, OpeningIsSound, StepsKeepSound}
+pub use Rattle.worlds.specs.Waiting.{NobodyWaitsInACircle, SomeoneGoesOn, PendingRises, RisingHasNoCycle, RisingGoesOn}
+pub use Rattle.worlds.specs.InTurn.{RiseBehind, AskedInTurn}

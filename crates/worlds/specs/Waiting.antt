@@ -1,0 +1,53 @@
+-- Who waits for whom in a world, and who goes on.
+use Rattle.std.specs.Prelude.{◌≡◌, ℕ, Bool, true, false, List, [], ◌∷◌, map, Option, Some, None, ⊤}
+use Rattle.std.specs.List.{Contains}
+use Rattle.locks.specs.declared.lock.Lock.{Lock}
+use Rattle.locks.specs.Order.{Precedes}
+use Rattle.locks.specs.Waiting.{Asker, HasNoCycle}
+use Rattle.lowering.specs.Plans.{Plan}
+use Rattle.worlds.specs.declared.event.Event.{Event}
+use Rattle.worlds.specs.declared.event.Event.TheVariants.{Waits}
+use Rattle.worlds.specs.Worlds.{World, ThreadState, Activation, happens}
+use Rattle.worlds.specs.Claims.{HasOpen}
+
+-- the first of the pending locks, if it was asked for
+abbrev pub first_if : Bool → List Lock → Option Lock
+first_if true (lock ∷ rest) = Some lock
+first_if true [] = None
+first_if false locks = None
+
+-- what a thread holds, and what it asked for and wasn't granted yet
+abbrev pub asker_of : Option Activation → Asker
+asker_of None = record { held = []; ask = None }
+asker_of (Some a) = record { held = a.held; ask = first_if a.asked a.pending }
+
+abbrev pub asker : ThreadState → Asker
+asker thread = asker_of thread.active
+
+-- no threads wait for each other in a circle
+abbrev pub NobodyWaitsInACircle : World → Type 0
+NobodyWaitsInACircle w = HasNoCycle (map asker w.threads)
+
+abbrev pub IsNoWait : Event → Type 0
+IsNoWait (Waits lock h) = ⊥
+IsNoWait _ = ⊤
+
+-- where a section is open, the next step of some open section is no wait
+abbrev pub SomeoneGoesOn : Plan → World → Type 0
+SomeoneGoesOn plan w =
+    (t : ℕ) (a : Activation) → HasOpen w t a →
+    (u : ℕ) × (b : Activation) × HasOpen w u b × IsNoWait (happens plan w u).0
+
+-- each lock that an open section is to be granted next comes after all that it holds
+abbrev pub PendingRises : List ℕ → World → Type 0
+PendingRises ranks w =
+    (t : ℕ) (a : Activation) (lock other : Lock) (rest : List Lock) → HasOpen w t a → a.pending ≡ lock ∷ rest →
+    Contains a.held other → Precedes ranks other lock
+
+-- where pending locks rise, nobody waits in a circle
+abbrev pub RisingHasNoCycle : Type 0
+RisingHasNoCycle = (ranks : List ℕ) (w : World) → PendingRises ranks w → NobodyWaitsInACircle w
+
+-- and someone goes on
+abbrev pub RisingGoesOn : Type 0
+RisingGoesOn = (plan : Plan) (w : World) → PendingRises plan.ranks w → SomeoneGoesOn plan w
