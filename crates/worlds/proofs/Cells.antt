@@ -2,6 +2,7 @@
 use Rattle.std.proofs.Common.{◌≡◌, ◌==◌, ◌⊎◌, ℕ, zero, suc, ◌+◌, Bool, true, false, if◌then◌else◌, List, [], ◌∷◌, ◌++◌, length, Option, Some, None, slice_get, set, refl, sym, ap, ◌∙◌, subst, arith, inl, inr, nat_eq, true≢false}
 use Rattle.std.proofs.lemmas.Bool.{eqb-true, eq-eqb, ne_eqb, cases_Bool, cases_eq, cond-true, cond-false, and_parts, and_from, or_cases, or_left, or_right}
 use Rattle.std.proofs.lemmas.List.{length-set}
+use Rattle.std.specs.List.{Contains}
 use Rattle.core_lang.specs.declared.value.Value.{Value}
 use Rattle.locks.specs.declared.lock.Lock.{Lock}
 use Rattle.layout.specs.LockCells.{same_lock, cells_from, cells_of}
@@ -45,6 +46,19 @@ among_push (x ∷ xs) k l h = elim (or_cases (same_lock x l) (among (xs ++ k ∷
     | inl q ↦ inl (or_right (same_lock x l) (among xs l) q)
     | inr q ↦ inr q
   ]
+]
+
+-- the same as a relation
+pub contains_among : (xs : List Lock) (l : Lock) → Contains xs l → among xs l ≡ true
+contains_among [] l (k, less, e) = absurd (omega (arith, less))
+contains_among (x ∷ xs) l (zero, less, e) = or_left (same_lock x l) (among xs l) (same_refl x l e)
+contains_among (x ∷ xs) l (suc k, less, e) = or_right (same_lock x l) (among xs l) (contains_among xs l (k, omega (arith, less), e))
+
+pub among_contains : (xs : List Lock) (l : Lock) → among xs l ≡ true → Contains xs l
+among_contains [] l h = absurd (true≢false (sym h))
+among_contains (x ∷ xs) l h = elim (or_cases (same_lock x l) (among xs l) h) [
+  | inl e ↦ (0, omega arith, same_is x l e)
+  | inr e ↦ (let c = among_contains xs l e in let less = c.1 in (suc c.0, omega (arith, less), c.2))
 ]
 
 -- ---- numbers among numbers

@@ -6,10 +6,10 @@ use Rattle.history.specs.Commits.{Commit}
 use Rattle.lowering.specs.Plans.{Plan}
 use Rattle.worlds.specs.declared.event.Event.{Event}
 use Rattle.worlds.specs.declared.event.Event.TheVariants.{Began, Ended}
-use Rattle.worlds.specs.Worlds.{World, ThreadState, Activation, commit, taken, instructed, next_effect, happens, world_after, events, opening_world}
+use Rattle.worlds.specs.Worlds.{World, ThreadState, Activation, commit, taken, instructed, next_effect, happens, world_after, events, opening_world, HasOpen}
 use Rattle.code.specs.Machine.{Effect, Moves, Asks, Finishes, Undefined}
 use Rattle.code.specs.Memory.{HeldCells}
-use Rattle.worlds.specs.Claims.{HasOpen, EndsInOrder, NotesItsBegin}
+use Rattle.worlds.specs.Claims.{EndsInOrder, NotesItsBegin}
 use Rattle.worlds.proofs.Turns.{Active, Turn, idles, starts, gets, waits, over, moves, turn}
 use Rattle.worlds.proofs.Places.{get_set_other, get_set_same, get_more, get_last}
 

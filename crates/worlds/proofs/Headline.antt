@@ -1,37 +1,19 @@
--- What a sound world at the end of a run says.
-use Rattle.std.proofs.Common.{◌≡◌, ℕ, zero, suc, true, List, [], ◌∷◌, length, map, Some, slice_get, sym, ap, ◌∙◌, subst, arith, inl, inr, true≢false}
-use Rattle.std.proofs.lemmas.List.{length-map}
-use Rattle.std.proofs.lemmas.Bool.{or_cases, or_left, or_right}
-use Rattle.std.specs.List.{Contains}
-use Rattle.core_lang.specs.declared.typed.Cell.{Cell}
+-- What a sound and ready world at the end of a run says.
+use Rattle.std.proofs.Common.{◌≡◌, ℕ, true, List, [], ◌∷◌, map, Some, slice_get, sym, ◌∙◌, subst}
 use Rattle.core_lang.specs.Serial.{Serial}
-use Rattle.locks.specs.declared.lock.Lock.{Lock}
-use Rattle.layout.specs.LockCells.{same_lock}
 use Rattle.history.specs.Commits.{call_of, answer_of, committed}
+use Rattle.history.specs.Laws.{LegalIsSerial}
 use Rattle.lowering.specs.Plans.{Plan, IsCompiled}
 use Rattle.worlds.specs.Asking.{among}
-use Rattle.worlds.specs.Worlds.{World, opening_world, final}
-use Rattle.worlds.specs.Claims.{IsSerial, HeldCellsAre, Headline}
-use Rattle.worlds.specs.States.{IsSound}
-use Rattle.worlds.proofs.Cells.{same_is, same_refl}
-use Rattle.worlds.proofs.Well.{Laws}
-use Rattle.worlds.proofs.Steps.{opening_sound, sound_after}
+use Rattle.worlds.specs.Worlds.{World, happens, world_after, opening_world, final}
+use Rattle.worlds.specs.Claims.{IsSerial, HeldCellsAre, EveryRunHasIt}
+use Rattle.worlds.specs.Waiting.{RisingHasNoCycle, RisingGoesOn, InstructionsHaveTheirCase}
+use Rattle.worlds.specs.States.{IsSound, OpeningIsSound, StepsKeepSound}
+use Rattle.worlds.specs.Ahead.{IsReadyWorld, WorldsStayReady}
+use Rattle.worlds.proofs.Cells.{contains_among, among_contains}
+use Rattle.worlds.proofs.Well.{opening_size}
 use Rattle.worlds.proofs.Ends.{in_order, notes_begin}
 use Rattle.worlds.proofs.Scripts.{follows_scripts}
-
--- ---- locks among locks
-
-pub contains_among : (xs : List Lock) (l : Lock) → Contains xs l → among xs l ≡ true
-contains_among [] l (k, less, e) = absurd (omega (arith, less))
-contains_among (x ∷ xs) l (zero, less, e) = or_left (same_lock x l) (among xs l) (same_refl x l e)
-contains_among (x ∷ xs) l (suc k, less, e) = or_right (same_lock x l) (among xs l) (contains_among xs l (k, omega (arith, less), e))
-
-pub among_contains : (xs : List Lock) (l : Lock) → among xs l ≡ true → Contains xs l
-among_contains [] l h = absurd (true≢false (sym h))
-among_contains (x ∷ xs) l h = elim (or_cases (same_lock x l) (among xs l) h) [
-  | inl e ↦ (0, omega arith, same_is x l e)
-  | inr e ↦ (let c = among_contains xs l e in let less = c.1 in (suc c.0, omega (arith, less), c.2))
-]
 
 -- ---- the fields
 
@@ -52,25 +34,55 @@ held_cells plan w ok s cell lock is =
           ((s.well h.by h.section h.is_open).all cell (lock, here, contains_among h.section.held lock h.holds)),
     )
 
-opening_size : (plan : Plan) → IsCompiled plan → length plan.layout.opening ≡ length plan.program.cells.items
-opening_size plan ok = ap length ok.laid_out.opening ∙ length-map plan.program.cells.items (λ (c : Cell). c.opening)
-
-serial : Laws → (plan : Plan) (w : World) → IsCompiled plan → IsSound plan w → IsSerial plan w (committed plan.layout.opening w.history)
-serial laws plan w ok s =
+serial : LegalIsSerial → (plan : Plan) (w : World) → IsCompiled plan → IsSound plan w → IsSerial plan w (committed plan.layout.opening w.history)
+serial law plan w ok s =
     subst (λ h. Serial plan.program h (map call_of w.history) (map answer_of w.history) (committed plan.layout.opening w.history)) ok.laid_out.opening
-    (laws.serial plan.program plan.layout.opening w.history (opening_size plan ok) s.legal s.true_commits)
+    (law plan.program plan.layout.opening w.history (opening_size plan ok) s.legal s.true_commits)
 
-pub headline : Laws → (plan : Plan) (steps : List ℕ) → IsCompiled plan → Headline plan steps
+-- ---- the whole
+
+pub record HeadlineLaws : Type 0 where
+  pub opening : OpeningIsSound
+  pub step : StepsKeepSound
+  pub ready : WorldsStayReady
+  pub no_cycle : RisingHasNoCycle
+  pub goes_on : RisingGoesOn
+  pub serial : LegalIsSerial
+
+record IsKept (plan : Plan) (w : World) : Type 0 where
+  sound : IsSound plan w
+  ready : IsReadyWorld plan w
+
+kept_after : StepsKeepSound → WorldsStayReady → (plan : Plan) (w : World) (steps : List ℕ) → IsCompiled plan → IsKept plan w →
+    IsKept plan (world_after plan w steps)
+kept_after step ready plan w [] ok x = x
+kept_after step ready plan w (t ∷ ts) ok x =
+    kept_after step ready plan (happens plan w t).1 ts ok
+    (record { sound = step plan w t ok x.sound; ready = ready.step plan w t ok x.sound x.ready })
+
+-- what holds of each world that is reached
+kept : OpeningIsSound → StepsKeepSound → WorldsStayReady → (plan : Plan) (steps : List ℕ) → IsCompiled plan → IsKept plan (final plan steps)
+kept opening step ready plan steps ok =
+    kept_after step ready plan (opening_world plan) steps ok (record { sound = opening plan; ready = ready.opening plan ok })
+
+pub headline : HeadlineLaws → EveryRunHasIt
 headline laws plan steps ok =
     let w = final plan steps in
-    let s = sound_after laws plan (opening_world plan) steps ok (opening_sound plan) in
+    let is = kept laws.opening laws.step laws.ready plan steps ok in
+    let rises = laws.ready.rises plan w is.ready in
     record {
       heap = committed plan.layout.opening w.history;
-      results_and_prints = serial laws plan w ok s;
-      free_cells = s.values;
-      held_cells = held_cells plan w ok s;
-      all_cells = s.size ∙ opening_size plan ok;
+      results_and_prints = serial laws.serial plan w ok is.sound;
+      free_cells = is.sound.values;
+      held_cells = held_cells plan w ok is.sound;
+      all_cells = is.sound.size ∙ opening_size plan ok;
       order = in_order plan steps;
       scripts = follows_scripts plan steps;
       begun = notes_begin plan steps;
+      no_cycle = laws.no_cycle plan.ranks w rises;
+      goes_on = laws.goes_on plan w rises;
     }
+
+pub have_their_case : OpeningIsSound → StepsKeepSound → WorldsStayReady → InstructionsHaveTheirCase
+have_their_case opening step ready plan steps ok =
+    let is = kept opening step ready plan steps ok in ready.next plan (final plan steps) ok is.sound is.ready

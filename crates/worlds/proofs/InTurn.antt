@@ -24,8 +24,7 @@ use Rattle.inserter.specs.Runs.{IsListed, Asks, Run, gets}
 use Rattle.inserter.specs.Laws.{IsOrdered, InRuns, AsksRise}
 use Rattle.worlds.specs.Asking.{among, precedes, insert, insert_new, lock_numbered, to_ask}
 use Rattle.worlds.specs.InTurn.{RiseBehind, AskedInTurn}
-use Rattle.worlds.proofs.Cells.{same_is, same_refl}
-use Rattle.worlds.proofs.Headline.{contains_among, among_contains}
+use Rattle.worlds.proofs.Cells.{same_is, same_refl, contains_among, among_contains}
 
 pub record OrderLaws : Type 0 where
   pub classes : PathsHaveClasses
@@ -180,13 +179,13 @@ named_by : (program : Typed) (section : Section) (locals : List Value) (i : ℕ)
 named_by program section locals i l None e h = absurd cc
 named_by program section locals i l (Some path) e h = record { path = path; is_path = e; named = h }
 
-in_first : {X : Type 0} (x : X) (xs : List X) → Contains (x ∷ xs) x
+pub in_first : {X : Type 0} (x : X) (xs : List X) → Contains (x ∷ xs) x
 in_first x xs = (0, omega arith, refl)
 
-in_rest : {X : Type 0} (x y : X) (xs : List X) → Contains xs y → Contains (x ∷ xs) y
+pub in_rest : {X : Type 0} (x y : X) (xs : List X) → Contains xs y → Contains (x ∷ xs) y
 in_rest x y xs c = (let less = c.1 in (suc c.0, omega (arith, less), c.2))
 
-in_cases : {X : Type 0} (x y : X) (xs : List X) → Contains (x ∷ xs) y → (x ≡ y) ⊎ Contains xs y
+pub in_cases : {X : Type 0} (x y : X) (xs : List X) → Contains (x ∷ xs) y → (x ≡ y) ⊎ Contains xs y
 in_cases x y xs (zero, lt, e) = inl e
 in_cases x y xs (suc i, lt, e) = inr (i, omega (arith, lt), e)
 
@@ -271,11 +270,11 @@ asked_rises laws program section ranks lists ok held locals (i ∷ is) =
 not_among : (held : List Lock) (l : Lock) → (Contains held l → ⊥) → among held l ≡ false
 not_among held l not = elim (cases_Bool (among held l)) [ inl e ↦ absurd (not (among_contains held l e)) | inr e ↦ e ]
 
-behind : (xs : List Lock) (x : Lock) (ys : List Lock) → (xs ++ x ∷ []) ++ ys ≡ xs ++ x ∷ ys
+pub behind : (xs : List Lock) (x : Lock) (ys : List Lock) → (xs ++ x ∷ []) ++ ys ≡ xs ++ x ∷ ys
 behind [] x ys = refl
 behind (z ∷ xs) x ys = ap (λ rest. z ∷ rest) (behind xs x ys)
 
-with_none : (xs : List Lock) → xs ++ [] ≡ xs
+pub with_none : (xs : List Lock) → xs ++ [] ≡ xs
 with_none [] = refl
 with_none (x ∷ xs) = ap (λ rest. x ∷ rest) (with_none xs)
 

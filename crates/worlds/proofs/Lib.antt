@@ -7,6 +7,11 @@ pub mod Alone
 pub mod Sound
 pub mod Well
 pub mod Steps
-pub mod Headline
 pub mod Rising
 pub mod InTurn
+pub mod Heaps
+pub mod Covering
+pub mod Going
+pub mod Ready
+pub mod Headline
+pub mod Examples

@@ -1,5 +1,5 @@
 -- Places of lists.
-use Rattle.std.proofs.Common.{◌≡◌, ◌⊎◌, ℕ, zero, suc, List, [], ◌∷◌, ◌++◌, length, Some, slice_get, set, refl, ap, inl, inr}
+use Rattle.std.proofs.Common.{◌≡◌, ◌⊎◌, ℕ, zero, suc, List, [], ◌∷◌, ◌++◌, length, ◌<◌, Some, slice_get, set, refl, ap, arith, inl, inr}
 
 pub get_set_other : {X : Type 0} (xs : List X) (i j : ℕ) (y : X) → (i ≡ j → ⊥) → slice_get (set xs i y) j ≡ slice_get xs j
 get_set_other [] i j y ne = refl
@@ -35,3 +35,9 @@ get_push [] x y zero h = inr cc
 get_push [] x y (suc i) h = absurd cc
 get_push (z ∷ xs) x y zero h = inl h
 get_push (z ∷ xs) x y (suc i) h = get_push xs x y i h
+
+-- within a list there is something at a place
+pub get_within : {X : Type 0} (xs : List X) (i : ℕ) → i < length xs → (x : X) × (slice_get xs i ≡ Some x)
+get_within [] i less = absurd (omega (arith, less))
+get_within (x ∷ xs) zero less = (x, refl)
+get_within (x ∷ xs) (suc i) less = get_within xs i (omega (arith, less))

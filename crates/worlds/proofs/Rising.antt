@@ -11,11 +11,10 @@ use Rattle.locks.specs.Waiting.{Asker, AsksRise, NoCircle}
 use Rattle.lowering.specs.Plans.{Plan}
 use Rattle.worlds.specs.declared.event.Event.{Event}
 use Rattle.worlds.specs.Asking.{among}
-use Rattle.worlds.specs.Worlds.{World, ThreadState, Activation, holds, holder_from, holder, asks, goes_on, steps_with, thread_steps, happens}
-use Rattle.worlds.specs.Claims.{HasOpen}
+use Rattle.worlds.specs.Worlds.{World, ThreadState, Activation, holds, holder_from, holder, asks, goes_on, steps_with, thread_steps, happens, HasOpen}
 use Rattle.worlds.specs.Waiting.{first_if, asker_of, asker, IsNoWait, PendingRises, RisingHasNoCycle, RisingGoesOn}
+use Rattle.worlds.proofs.Cells.{among_contains}
 use Rattle.worlds.proofs.Steps.{got_map}
-use Rattle.worlds.proofs.Headline.{among_contains}
 
 -- ---- no circle
 

@@ -6,8 +6,7 @@ use Rattle.locks.specs.declared.lock.Lock.{Lock}
 use Rattle.history.specs.Commits.{Commit, committed, IsLegal, AreTrue}
 use Rattle.lowering.specs.Plans.{Plan}
 use Rattle.worlds.specs.Asking.{among}
-use Rattle.worlds.specs.Worlds.{World, ThreadState, Activation}
-use Rattle.worlds.specs.Claims.{HasOpen}
+use Rattle.worlds.specs.Worlds.{World, ThreadState, Activation, HasOpen}
 use Rattle.worlds.specs.States.{HoldsCell, IsWell, IsFit, IsSound}
 use Rattle.worlds.proofs.Places.{get_set_other, get_set_same, get_set_is}
 
@@ -42,6 +41,17 @@ pub record Changes (plan : Plan) (w : World) (t : ℕ) (thread : ThreadState) (c
 abbrev pub changed : World → ℕ → ThreadState → List (Option Value) → List Commit → World
 changed w t thread cells history = record { cells = cells; history = history; threads = set w.threads t thread }
 
+-- the section that the thread has open then, and that another thread had open before
+pub now_open : (w : World) (t : ℕ) (thread : ThreadState) (cells : List (Option Value)) (history : List Commit) (u : ℕ) (b : Activation) → t ≡ u →
+    HasOpen (changed w t thread cells history) u b → thread.active ≡ Some b
+now_open w t thread cells history u b e o =
+    let same : thread ≡ o.0 = get_set_is w.threads t thread o.0 (ap (slice_get (set w.threads t thread)) e ∙ o.1) in
+    ap (λ x. x.active) same ∙ o.2
+
+pub still_open : (w : World) (t : ℕ) (thread : ThreadState) (cells : List (Option Value)) (history : List Commit) (u : ℕ) (b : Activation) → (t ≡ u → ⊥) →
+    HasOpen (changed w t thread cells history) u b → HasOpen w u b
+still_open w t thread cells history u b ne o = (o.0, sym (get_set_other w.threads t u thread ne) ∙ o.1, o.2)
+
 pub sound_changed : (plan : Plan) (w : World) (t : ℕ) (thread : ThreadState) (cells : List (Option Value)) (history : List Commit) →
     IsSound plan w → Changes plan w t thread cells history → IsSound plan (changed w t thread cells history)
 sound_changed plan w t thread cells history s c = record {
@@ -73,9 +83,7 @@ sound_changed plan w t thread cells history s c = record {
   ];
 } where
   here : (u : ℕ) (b : Activation) → t ≡ u → HasOpen (changed w t thread cells history) u b → thread.active ≡ Some b
-  here u b e o =
-      let same : thread ≡ o.0 = get_set_is w.threads t thread o.0 (ap (slice_get (set w.threads t thread)) e ∙ o.1) in
-      ap (λ x. x.active) same ∙ o.2
+  here u b e o = now_open w t thread cells history u b e o
 
   away : (u : ℕ) (b : Activation) → (t ≡ u → ⊥) → HasOpen (changed w t thread cells history) u b → HasOpen w u b
-  away u b ne o = (o.0, sym (get_set_other w.threads t u thread ne) ∙ o.1, o.2)
+  away u b ne o = still_open w t thread cells history u b ne o

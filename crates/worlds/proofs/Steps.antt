@@ -9,6 +9,7 @@ use Rattle.core_lang.specs.declared.value.Outcome.{Outcome}
 use Rattle.core_lang.specs.declared.tree.Section.{Section}
 use Rattle.core_lang.specs.declared.typed.Typed.{Typed}
 use Rattle.core_lang.specs.Serial.{Invocation, invocation}
+use Rattle.core_lang.specs.Typing.{Fit}
 use Rattle.core_lang.specs.WellFormed.{IsWellFormed, CanCall}
 use Rattle.locks.specs.declared.lock.Lock.{Lock}
 use Rattle.layout.specs.LockCells.{cells_of}
@@ -17,8 +18,7 @@ use Rattle.history.specs.Commits.{committed}
 use Rattle.lowering.specs.Plans.{Plan, IsCompiled}
 use Rattle.worlds.specs.declared.event.Event.{Event}
 use Rattle.worlds.specs.Asking.{among}
-use Rattle.worlds.specs.Worlds.{World, ThreadState, Activation, activation, commit, granted, taken, without, with_back, holds, holder_from, holder, instructed, next_effect, script_of, scripts, call_at, section_at, at_first, happens, world_after, opening_world}
-use Rattle.worlds.specs.Claims.{HasOpen}
+use Rattle.worlds.specs.Worlds.{World, ThreadState, Activation, activation, commit, granted, taken, without, with_back, holds, holder_from, holder, instructed, next_effect, script_of, scripts, call_at, section_at, at_first, happens, opening_world, HasOpen}
 use Rattle.worlds.specs.States.{HoldsCell, IsWell, IsFit, IsSound}
 use Rattle.worlds.proofs.Turns.{Active, Turn, idles, starts, gets, waits, over, moves, turn}
 use Rattle.worlds.proofs.Cells.{among_more, among_last, among_push, cells_of_only, some_or_none, length-without, without_some, without_none, without_none_cases, length-with_back, back_other, back_some, back_none, overwritten_cong, agrees_kept}
@@ -34,20 +34,23 @@ got_map f (x ∷ xs) zero y h = (x, refl, cc)
 got_map f (x ∷ xs) (suc i) y h = got_map f xs i y h
 
 can_call : (program : Typed) (k : ℕ) (arguments : List Value) → CanCall program k arguments →
-    (section : Section) × (slice_get program.sections.items k ≡ Some section)
+    (section : Section) × (slice_get program.sections.items k ≡ Some section) × Fit program section arguments
 unfolding CanCall
-can_call program k arguments c = (c.0, c.1)
+can_call program k arguments c = c
 
-section_of_call : (plan : Plan) → IsWellFormed plan.program → (t step : ℕ) (call : Invocation) → call_at plan t step ≡ Some call →
-    (section : Section) × (section_at plan call.section ≡ Some section)
+pub section_of_call : (plan : Plan) → IsWellFormed plan.program → (t step : ℕ) (call : Invocation) → call_at plan t step ≡ Some call →
+    (section : Section) × (section_at plan call.section ≡ Some section) × Fit plan.program section call.arguments
 section_of_call plan well t step call h = elim (some_or_none (slice_get (scripts plan) t)) [
   | inl s ↦ (let inside : slice_get s.0 step ≡ Some call =
       sym (ap (λ x. option_map_or (λ (calls : List Invocation). slice_get calls step) x None) s.1) ∙ h in
       let thread = got_map script_of plan.program.threads.items t s.0 s.1 in
       let of_thread : slice_get (map invocation thread.0.calls.items) step ≡ Some call = ap (λ xs. slice_get xs step) thread.2 ∙ inside in
       let called = got_map invocation thread.0.calls.items step call of_thread in
-      let found = can_call plan.program called.0.section called.0.arguments.items (well.scripts t step thread.0 called.0 thread.1 called.1) in
-      (found.0, ap (λ (x : Invocation). section_at plan x.section) (sym called.2) ∙ found.1))
+      let found = can_call plan.program called.0.section called.0.arguments.items (well.scripts t step thread.0 called.0 thread.1 called.1) in (
+        found.0,
+        ap (λ (x : Invocation). section_at plan x.section) (sym called.2) ∙ found.1,
+        subst (λ (x : Invocation). Fit plan.program found.0 x.arguments) called.2 found.2,
+      ))
   | inr n ↦ absurd (let bad : None ≡ Some call = sym (ap (λ x. option_map_or (λ (calls : List Invocation). slice_get calls step) x None) n) ∙ h in cc bad)
 ]
 
@@ -230,7 +233,7 @@ sound_ends laws plan w t thread a outcome ok s at out =
       before = thread;
       at = at.at;
       legal = laws.legal opening w.history c s.legal fit.part.reads;
-      true_commits = laws.all_true plan.program w.history c s.true_commits (true_commit laws plan ok t thread.step a outcome well out);
+      true_commits = laws.all_true plan.program w.history c s.true_commits (true_commit laws.ends_only plan ok t thread.step a outcome well out);
       size = length-with_back w.cells a.machine.memory.cells ∙ s.size;
       values = λ cell v h. elim (back_some w.cells a.machine.memory.cells cell v h) [
         | inl e ↦ ap (λ x. slice_get x cell) is_after ∙ fit.part.now cell v e
@@ -288,7 +291,7 @@ turn_sound laws plan w t e after ok s (moves {thread} {a} at none out) =
 pub sound_step : Laws → (plan : Plan) (w : World) (t : ℕ) → IsCompiled plan → IsSound plan w → IsSound plan (happens plan w t).1
 sound_step laws plan w t ok s = turn_sound laws plan w t (happens plan w t).0 (happens plan w t).1 ok s (turn plan w t)
 
--- ---- runs
+-- ---- before any step
 
 opening_values : (xs : List Value) (c : ℕ) (v : Value) → slice_get (map (λ (v : Value). Some v) xs) c ≡ Some (Some v) → slice_get xs c ≡ Some v
 opening_values [] c v h = absurd cc
@@ -300,7 +303,7 @@ opening_there [] c h = cc
 opening_there (x ∷ xs) zero h = cc
 opening_there (x ∷ xs) (suc c) h = opening_there xs c h
 
-none_open : (ss : List (List Invocation)) (t : ℕ) (thread : ThreadState) (a : Activation) → slice_get (map at_first ss) t ≡ Some thread →
+pub none_open : (ss : List (List Invocation)) (t : ℕ) (thread : ThreadState) (a : Activation) → slice_get (map at_first ss) t ≡ Some thread →
     thread.active ≡ Some a → ⊥
 none_open ss t thread a at is =
     let x = got_map at_first ss t thread at in
@@ -317,7 +320,3 @@ opening_sound plan = record {
   somewhere = λ c h. absurd (opening_there plan.layout.opening c h);
   apart = λ t u a b lock oa ob ha hb. absurd (none_open (scripts plan) t oa.0 a oa.1 oa.2);
 }
-
-pub sound_after : Laws → (plan : Plan) (w : World) (steps : List ℕ) → IsCompiled plan → IsSound plan w → IsSound plan (world_after plan w steps)
-sound_after laws plan w [] ok s = s
-sound_after laws plan w (t ∷ ts) ok s = sound_after laws plan (happens plan w t).1 ts ok (sound_step laws plan w t ok s)

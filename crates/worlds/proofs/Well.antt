@@ -19,7 +19,7 @@ use Rattle.code.specs.Alone.{alone, starting}
 use Rattle.code.specs.Lowering.{section_code}
 use Rattle.code.specs.Laws.{KeepsHeld, MovesAlike, AsksAlike, FinishesAlike, KeepsUnwritten, on_heap}
 use Rattle.code.specs.RunLaws.{EndsOnlyAsSection}
-use Rattle.history.specs.Laws.{CommittedOfOneMore, LegalOfOneMore, TrueOfOneMore, LegalIsSerial, CommittedKeepsSize}
+use Rattle.history.specs.Laws.{CommittedOfOneMore, LegalOfOneMore, TrueOfOneMore}
 use Rattle.history.specs.Commits.{IsTrueCommit}
 use Rattle.lowering.specs.Lowered.{lists_at}
 use Rattle.lowering.specs.Plans.{Plan, IsCompiled}
@@ -29,7 +29,7 @@ use Rattle.worlds.proofs.Alone.{one_more}
 use Rattle.worlds.proofs.Cells.{among_more, among_last, among_push, cells_of_has, cells_of_only, value_more, value_behind, value_cases, some_or_none, taken_only, taken_has, without_none, without_away}
 use Rattle.worlds.specs.Worlds.{without}
 
--- the laws that all this stands on
+-- the laws that this stands on
 pub record Laws : Type 0 where
   pub keeps : KeepsHeld
   pub moves : MovesAlike
@@ -40,12 +40,12 @@ pub record Laws : Type 0 where
   pub heap : CommittedOfOneMore
   pub legal : LegalOfOneMore
   pub all_true : TrueOfOneMore
-  pub size : CommittedKeepsSize
-  pub serial : LegalIsSerial
+
+pub opening_size : (plan : Plan) → IsCompiled plan → length plan.layout.opening ≡ length plan.program.cells.items
+opening_size plan ok = ap length ok.laid_out.opening ∙ length-map plan.program.cells.items (λ (c : Cell). c.opening)
 
 pub cells_are : (plan : Plan) → IsCompiled plan → length plan.layout.cell_locks ≡ length plan.layout.opening
-cells_are plan ok =
-    ok.laid_out.cells ∙ sym (ap length ok.laid_out.opening ∙ length-map plan.program.cells.items (λ (c : Cell). c.opening))
+cells_are plan ok = ok.laid_out.cells ∙ sym (opening_size plan ok)
 
 -- ---- which cells are held
 
@@ -249,9 +249,9 @@ fit_granted laws plan a lock rest cells heap w f values =
 
 -- ---- an end
 
-pub true_commit : Laws → (plan : Plan) → IsCompiled plan → (t step : ℕ) (a : Activation) (outcome : Outcome) → IsWell plan a →
+pub true_commit : EndsOnlyAsSection ℕ → (plan : Plan) → IsCompiled plan → (t step : ℕ) (a : Activation) (outcome : Outcome) → IsWell plan a →
     a.outcome ≡ Some outcome → IsTrueCommit plan.program (commit t step a outcome)
-true_commit laws plan ok t step a outcome w is heap n agree =
+true_commit ends_only plan ok t step a outcome w is heap n agree =
     let size : length heap ≡ length plan.layout.opening = n ∙ (sym ok.laid_out.cells ∙ cells_are plan ok) in
     let section = w.section in
     let lists = lists_at plan.lists a.call.section in
@@ -264,4 +264,4 @@ true_commit laws plan ok t step a outcome w is heap n agree =
     ap (λ c. alone plan.program.shape c w.count (opening section a.call.arguments heap).locals heap) (sym code)
     ∙ (ap (λ l. alone plan.program.shape (code_at plan a.call.section) w.count l heap) (sym locals)
     ∙ (w.truth heap size agree ∙ ap (λ x. standing x (on_heap heap a.machine)) is)) in
-    (section, w.is, laws.ends_only lists section plan.program.shape a.call.arguments heap w.count _ halts)
+    (section, w.is, ends_only lists section plan.program.shape a.call.arguments heap w.count _ halts)

@@ -8,13 +8,10 @@ use Rattle.locks.specs.Locks.{lock_of_cell}
 use Rattle.history.specs.Commits.{Commit, call_of, answer_of, script_call}
 use Rattle.lowering.specs.Plans.{Plan, IsCompiled}
 use Rattle.worlds.specs.declared.event.Event.TheVariants.{Began, Ended}
-use Rattle.worlds.specs.Worlds.{World, ThreadState, Activation, scripts, final, trace}
+use Rattle.worlds.specs.Worlds.{World, ThreadState, Activation, HasOpen, scripts, final, trace}
+use Rattle.worlds.specs.Waiting.{NobodyWaitsInACircle, SomeoneGoesOn}
 
 -- ---- words
-
--- the section that a thread has open
-abbrev pub HasOpen : World → ℕ → Activation → Type 0
-HasOpen w t a = (thread : ThreadState) × (slice_get w.threads t ≡ Some thread) × (thread.active ≡ Some a)
 
 -- some open section holds the lock
 pub record IsHeld (w : World) (lock : Lock) : Type 0 where
@@ -79,8 +76,9 @@ NotesItsBegin plan steps =
 
 -- of every list of steps: the finished sections' results and prints, and every cell that no section holds, are those
 -- of running the history's sections whole, one after another, from the opening cells; a section that ended before
--- another began stands before it; each thread's sections are its script's calls, in order; and what is noted of their
--- begins is right
+-- another began stands before it; each thread's sections are its script's calls, in order; what is noted of their
+-- begins is right; and in the world that the steps lead to, which is any world reached, no threads wait for each other
+-- in a circle, and where a section is open, some open section goes on
 pub record Headline (plan : Plan) (steps : List ℕ) : Type 0 where
   pub heap : List Value
   pub results_and_prints : IsSerial plan (final plan steps) heap
@@ -90,6 +88,8 @@ pub record Headline (plan : Plan) (steps : List ℕ) : Type 0 where
   pub order : EndsInOrder plan steps
   pub scripts : FollowsScripts plan (final plan steps)
   pub begun : NotesItsBegin plan steps
+  pub no_cycle : NobodyWaitsInACircle (final plan steps)
+  pub goes_on : SomeoneGoesOn plan (final plan steps)
 
 -- every run of a compiled program has it
 abbrev pub EveryRunHasIt : Type 0

@@ -4,9 +4,12 @@ pub mod Claims
 pub mod Waiting
 pub mod InTurn
 pub mod States
+pub mod Ahead
 -- what the public clauses cite
 pub use Rattle.worlds.specs.Worlds.{World, ThreadState, Activation, happens, final, trace}
 pub use Rattle.worlds.specs.Claims.{Headline, EveryRunHasIt}
 pub use Rattle.worlds.specs.States.{IsSound, OpeningIsSound, StepsKeepSound}
 pub use Rattle.worlds.specs.Waiting.{NobodyWaitsInACircle, SomeoneGoesOn, PendingRises, RisingHasNoCycle, RisingGoesOn}
+pub use Rattle.worlds.specs.Waiting.{HasNext, AllHaveNext, InstructionsHaveTheirCase}
 pub use Rattle.worlds.specs.InTurn.{RiseBehind, AskedInTurn}
+pub use Rattle.worlds.specs.Ahead.{IsReadyWorld, WorldsStayReady}

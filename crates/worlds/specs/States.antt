@@ -12,8 +12,7 @@ use Rattle.code.specs.Laws.{on_heap}
 use Rattle.history.specs.Commits.{committed, IsLegal, AreTrue}
 use Rattle.lowering.specs.Plans.{Plan, IsCompiled}
 use Rattle.worlds.specs.Asking.{among}
-use Rattle.worlds.specs.Worlds.{World, Activation, section_at, code_at, locals_at, happens, opening_world}
-use Rattle.worlds.specs.Claims.{HasOpen}
+use Rattle.worlds.specs.Worlds.{World, Activation, section_at, code_at, locals_at, happens, opening_world, HasOpen}
 
 -- a section holds a cell
 abbrev pub HoldsCell : Activation → ℕ → Type 0

@@ -1,14 +1,16 @@
--- Who waits for whom in a world, and who goes on.
-use Rattle.std.specs.Prelude.{◌≡◌, ℕ, Bool, true, false, List, [], ◌∷◌, map, Option, Some, None, ⊤}
+-- Who waits for whom in a world, who goes on, and that next instructions have their case.
+use Rattle.std.specs.Prelude.{◌≡◌, ◌≢◌, ◌≤◌, ℕ, Bool, true, false, List, [], ◌∷◌, length, map, Option, Some, None, ⊤}
 use Rattle.std.specs.List.{Contains}
+use Rattle.core_lang.specs.declared.tree.Section.{Section}
 use Rattle.locks.specs.declared.lock.Lock.{Lock}
 use Rattle.locks.specs.Order.{Precedes}
 use Rattle.locks.specs.Waiting.{Asker, HasNoCycle}
-use Rattle.lowering.specs.Plans.{Plan}
+use Rattle.code.specs.Machine.{Undefined}
+use Rattle.code.specs.Needs.{operand_need}
+use Rattle.lowering.specs.Plans.{Plan, IsCompiled}
 use Rattle.worlds.specs.declared.event.Event.{Event}
 use Rattle.worlds.specs.declared.event.Event.TheVariants.{Waits}
-use Rattle.worlds.specs.Worlds.{World, ThreadState, Activation, happens}
-use Rattle.worlds.specs.Claims.{HasOpen}
+use Rattle.worlds.specs.Worlds.{World, ThreadState, Activation, HasOpen, section_at, next_effect, happens, final}
 
 -- the first of the pending locks, if it was asked for
 abbrev pub first_if : Bool → List Lock → Option Lock
@@ -51,3 +53,20 @@ RisingHasNoCycle = (ranks : List ℕ) (w : World) → PendingRises ranks w → N
 -- and someone goes on
 abbrev pub RisingGoesOn : Type 0
 RisingGoesOn = (plan : Plan) (w : World) → PendingRises plan.ranks w → SomeoneGoesOn plan w
+
+-- ---- the next instruction
+
+-- the section's next instruction has its case, and its operands fit the section's room
+pub record HasNext (plan : Plan) (a : Activation) : Type 0 where
+  pub section : Section
+  pub is : section_at plan a.call.section ≡ Some section
+  pub defined : next_effect plan a ≢ Undefined
+  pub fits : length a.machine.stack ≤ operand_need section
+
+-- so it is with each open section that has no pending lock and no outcome
+abbrev pub AllHaveNext : Plan → World → Type 0
+AllHaveNext plan w = (t : ℕ) (a : Activation) → HasOpen w t a → a.pending ≡ [] → a.outcome ≡ None → HasNext plan a
+
+-- in every world that is reached
+abbrev pub InstructionsHaveTheirCase : Type 0
+InstructionsHaveTheirCase = (plan : Plan) (steps : List ℕ) → IsCompiled plan → AllHaveNext plan (final plan steps)

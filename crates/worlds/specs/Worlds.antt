@@ -1,5 +1,5 @@
 -- Worlds of threads, and one step of a thread.
-use Rattle.std.specs.Prelude.{ℕ, ◌+◌, Bool, true, false, if◌then◌else◌, List, [], ◌∷◌, ◌++◌, length, map, slice_get, slice_set, unwrap_or, Option, Some, None}
+use Rattle.std.specs.Prelude.{◌≡◌, ℕ, ◌+◌, Bool, true, false, if◌then◌else◌, List, [], ◌∷◌, ◌++◌, length, map, slice_get, slice_set, unwrap_or, Option, Some, None}
 use Rattle.std.specs.Option.{option_map_or}
 use Rattle.core_lang.specs.declared.value.Value.{Value}
 use Rattle.core_lang.specs.declared.value.Outcome.{Outcome}
@@ -45,6 +45,10 @@ pub record World : Type 0 where
   pub cells : List (Option Value)
   pub history : List Commit
   pub threads : List ThreadState
+
+-- the section that a thread has open
+abbrev pub HasOpen : World → ℕ → Activation → Type 0
+HasOpen w t a = (thread : ThreadState) × (slice_get w.threads t ≡ Some thread) × (thread.active ≡ Some a)
 
 -- ---- reading a plan
 

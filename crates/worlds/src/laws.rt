@@ -1,9 +1,10 @@
 //! What holds of every run: functions that do nothing, and whose contracts are the laws.
 
 ghost use Rattle.worlds.specs.Claims.{EveryRunHasIt};
-ghost use Rattle.worlds.specs.Waiting.{RisingHasNoCycle, RisingGoesOn};
+ghost use Rattle.worlds.specs.Waiting.{RisingHasNoCycle, RisingGoesOn, InstructionsHaveTheirCase};
 ghost use Rattle.worlds.specs.InTurn.{AskedInTurn};
 ghost use Rattle.worlds.specs.States.{OpeningIsSound, StepsKeepSound};
+ghost use Rattle.worlds.specs.Ahead.{WorldsStayReady};
 
 /// Before any step a world is sound, and each step of a thread keeps it so: its history is legal and true, each open
 /// section keeps the rules, and each cell is either as the history leaves it or with exactly one section.
@@ -14,21 +15,53 @@ pub fn steps_keep_sound()
     code::laws::written_values_stand();
     code::laws::steps_go_alike();
     code::run_laws::sections_end_alike::<u8>();
-    history::laws::legal_is_serial();
     history::laws::one_entry_more();
+}
+
+/// Before any step a world is ready, and each step of a thread keeps a sound world so: what its history leaves is a
+/// heap of the program, and each open section runs on to an outcome or to a point, or asks for the locks of one. In a
+/// ready world each lock that a section is to be granted next comes after all that it holds; and where it is sound too,
+/// the next instruction of each open section has its case.
+pub fn worlds_stay_ready()
+    ensures { WorldsStayReady }
+{
+    core_lang::laws::never_astray();
+    flow::laws::points_are_counted();
+    flow::laws::points_stay_typed();
+    locks::laws::paths_name_the_locks();
+    locks::laws::lets_keep_agreeing();
+    locks::laws::names_stay();
+    code::laws::written_values_stand();
+    code::point_laws::points_go_on::<u8>();
+    code::point_laws::points_have_places::<u8>();
+    code::run_laws::sections_end_alike::<u8>();
+    inserter::laws::placements_are_ordered();
+    inserter::laws::asks_rise();
+    history::laws::one_entry_more();
+    locks_are_asked_in_turn();
 }
 
 /// Every run of a compiled program, whatever the steps: its finished sections' results and prints, and every cell that
 /// no section holds, are those of running these sections whole, one after another, from the opening cells; a section
-/// that ended before another began stands before it; and each thread's sections are its script's calls in order.
+/// that ended before another began stands before it; each thread's sections are its script's calls in order; and in no
+/// world that is reached do threads wait for each other in a circle: where a section is open, the next step of some
+/// open section is no wait.
 pub fn every_run()
     ensures { EveryRunHasIt }
 {
-    code::laws::written_values_stand();
-    code::laws::steps_go_alike();
-    code::run_laws::sections_end_alike::<u8>();
     history::laws::legal_is_serial();
-    history::laws::one_entry_more();
+    steps_keep_sound();
+    worlds_stay_ready();
+    rising_sections_go_on();
+}
+
+/// In every world that is reached, the next instruction of an open section has its case, and its operands fit the room
+/// that the section's code needs; unless the section still has to be granted a lock, or has an outcome.
+pub fn instructions_have_their_case()
+    ensures { InstructionsHaveTheirCase }
+{
+    steps_keep_sound();
+    worlds_stay_ready();
 }
 
 /// In a world where each lock that a section is to be granted next comes after all that it holds, nobody waits in a

@@ -17,7 +17,5 @@ returns-clause-step c =
       heap = c.one_entry_more.ensures.heap;
       legal = c.one_entry_more.ensures.legal;
       all_true = c.one_entry_more.ensures.all_true;
-      size = c.one_entry_more.ensures.size;
-      serial = c.legal_is_serial.ensures;
     } in
     sound_step laws
