@@ -41,27 +41,27 @@ use Rattle.worlds.specs.Worlds.{final, trace}
 abbrev times : ℕ → ℕ → List ℕ
 times t n = replicate n t
 
-abbrev the_lock : ℕ → ℕ → Lock
+abbrev pub the_lock : ℕ → ℕ → Lock
 the_lock c o = record { class = c; object = o }
 
 module _ (alloc : Global) (name : String Global) where
   -- ---- parts of programs
 
-  abbrev vec : {X : Type 0} (xs : List X) → length xs < 2 ^ 63 → Vec X Global
+  abbrev pub vec : {X : Type 0} (xs : List X) → length xs < 2 ^ 63 → Vec X Global
   vec xs small =
       record { ptr = null_ptr; len = length xs; cap = length xs; alloc = alloc; items = xs; ok = (refl, omega arith); small = small }
 
-  abbrev none : {X : Type 0} → Vec X Global
+  abbrev pub none : {X : Type 0} → Vec X Global
   none = vec [] (omega arith)
 
   -- what is left of the `Vec` of a tree besides its items: how many there are
-  abbrev one : Vec (Unit {0}) Global
+  abbrev pub one : Vec (Unit {0}) Global
   one = vec (tt ∷ []) (omega arith)
 
-  abbrev boxed : Box (Unit {0}) Global
+  abbrev pub boxed : Box (Unit {0}) Global
   boxed = record { ptr = null_ptr; alloc = alloc; value = tt }
 
-  abbrev joined : Operator → Expr → Expr → Expr
+  abbrev pub joined : Operator → Expr → Expr → Expr
   joined o a b = Chain' boxed a one (more_of-Operation o b end_of-Operation)
 
   abbrev a_path : ℕ → (fields : List FieldStep) → length fields < 2 ^ 63 → Path
@@ -73,25 +73,25 @@ module _ (alloc : Global) (name : String Global) where
   abbrev parameter : ValueType → Local
   parameter t = record { name = name; kind = Parameter; value_type = t }
 
-  abbrev int_global : ℕ → GlobalVariable
+  abbrev pub int_global : ℕ → GlobalVariable
   int_global k = record { name = name; cell = k; class = k }
 
-  abbrev int_cell : Owner → ℕ → Cell
+  abbrev pub int_cell : Owner → ℕ → Cell
   int_cell o n = record { owner = o; value_type = Integer; opening = Int (pos n) }
 
-  abbrev no_shape : Shape
+  abbrev pub no_shape : Shape
   no_shape = record { arrays = none; pools = none; objects = none; finals = none }
 
-  abbrev a_call : ℕ → (arguments : List Value) → length arguments < 2 ^ 63 → Call
+  abbrev pub a_call : ℕ → (arguments : List Value) → length arguments < 2 ^ 63 → Call
   a_call section arguments small = record { section = section; arguments = vec arguments small }
 
   -- a thread of one call
-  abbrev calling : Call → Thread
+  abbrev pub calling : Call → Thread
   calling call = record { name = name; calls = vec (call ∷ []) (omega arith) }
 
   -- ---- the lost update: lock G; global int n protected_by(G); atomic inc() { n = n + 1; } thread t { inc(); } thread u { inc(); }
 
-  abbrev inc : Section
+  abbrev pub inc : Section
   inc = record {
     name = name;
     parameters = 0;
@@ -101,7 +101,7 @@ module _ (alloc : Global) (name : String Global) where
     body = vec (record { start = 0; action = SetGlobal 0 (joined Plus (GlobalExpr 0 0) (Number (pos 1))) } ∷ []) (omega arith);
   }
 
-  abbrev inc_program : Typed
+  abbrev pub inc_program : Typed
   inc_program = record {
     classes = vec (class.Global name ∷ []) (omega arith);
     structs = none;
@@ -112,7 +112,7 @@ module _ (alloc : Global) (name : String Global) where
     threads = vec (calling (a_call 0 [] (omega arith)) ∷ calling (a_call 0 [] (omega arith)) ∷ []) (omega arith);
   }
 
-  abbrev lost_update : Plan
+  abbrev pub lost_update : Plan
   lost_update = record {
     program = inc_program;
     ranks = 0 ∷ [];

@@ -15,3 +15,4 @@ pub mod Going
 pub mod Ready
 pub mod Headline
 pub mod Examples
+pub mod Accepted
