@@ -8,3 +8,4 @@ pub mod Statements
 pub mod Depths
 pub mod Pushes
 pub mod Most
+pub mod Determined

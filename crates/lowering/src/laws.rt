@@ -1,6 +1,7 @@
-//! What holds of the code of a program: a function that does nothing, and whose contract is the law.
+//! What holds of a compiled program: functions that do nothing, and whose contracts are the laws.
 
 ghost use Rattle.lowering.specs.Plans.{CodesBehave};
+ghost use Rattle.lowering.specs.PlanLaws.{NothingIsTaken, ListsDependOnTheSection, RanksStay};
 
 /// The code of each section of a well-formed program behaves as the section, whatever lists stand before its points: alone
 /// it comes to an outcome exactly where the section, run whole, is over, and then to the same outcome, prints and heap; and
@@ -10,3 +11,18 @@ pub fn codes_behave()
 {
     code::run_laws::sections_behave::<u8>();
 }
+
+/// Nothing is taken in a section that accesses nothing.
+pub fn no_access_no_acquisition()
+    ensures { NothingIsTaken }
+{}
+
+/// What is taken before the points of a section depends on the section itself, the declarations and the ranks alone.
+pub fn sections_stand_alone()
+    ensures { ListsDependOnTheSection }
+{}
+
+/// A section that accesses nothing, added behind the others, changes no rank.
+pub fn ranks_stay()
+    ensures { RanksStay }
+{}
