@@ -1,16 +1,18 @@
 -- The least place of a fault of returns.
-use Rattle.std.proofs.Common.{◌≡◌, ℕ, suc, ◌-◌, ◌<◌, ◌≤◌, Bool, true, false, List, [], ◌∷◌, length, take, Option, Some, None, refl, sym, ap, ◌∙◌, subst, arith, get_or, min, inl, inr}
-use Rattle.std.specs.Prelude.{◌⊎◌}
+use Rattle.std.proofs.Common.{◌≡◌, Global, ℕ, suc, ◌-◌, ◌<◌, ◌≤◌, Bool, true, false, List, [], ◌∷◌, length, take, Option, Some, None, refl, sym, ap, ◌∙◌, subst, arith, get_or, min, inl, inr}
+use Rattle.std.specs.Prelude.{Box, ◌⊎◌}
 use Rattle.std.proofs.lemmas.Bool.{cases_lt}
 use Rattle.source.specs.declared.span.Span.{Span}
 use Rattle.syntax.specs.declared.tree.Stmt as the_stmt
-use Rattle.syntax.specs.declared.tree.Stmt.{While, If}
 use Rattle.syntax.specs.declared.tree.Expr as the_expr
-use Rattle.syntax.specs.declared.tree.Block as the_block
+use Rattle.syntax.specs.declared.tree.Stmt.{While, If, Return}
+use Rattle.syntax.specs.declared.tree.If as the_if
+use Rattle.syntax.specs.declared.tree.If.{out-If}
+use Rattle.syntax.specs.declared.tree.While as the_while
 use Rattle.syntax.specs.Returns.{IsReturn, is_return, HasReturn, this_returns, returns_inside, later_returns, HasReturnInside, in_then, in_else, in_while, HasStrayReturn, this_early, stray_inside, later_stray, EndsInReturn, last_returns, ends_later, IsSectionFault, no_result, stray, missing, IsReturnFault, this_section, later_section, ReturnsRight, IsFirstReturnFault}
 use Rattle.syntax.specs.Trees.{Ident, ValueType, Expr, Variable, Array, Struct, Pool, Init, Thread, Stmt, let_local, var_local, assign, if_then, while, print, return_value, Stmts, no_stmts, stmt, Otherwise, no_else, else_do, Section, Decl, lock, struct, global, array, pool, init, atomic, thread}
 use Rattle.syntax.specs.Views.{stmt_of, stmts_of, else_of}
-use Rattle.syntax.specs.Rows.{stmt_of_While, stmt_of_If}
+use Rattle.syntax.specs.Rows.{stmt_of-While, if_of-out}
 use Rattle.parser.specs.Returning.{earlier, own_return, least_return, inner_return, other_return, least_stray, is_return as returns, does_end, missing_at, section_fault_of, decl_fault, least_fault}
 
 -- ---- the lesser of places
@@ -38,11 +40,35 @@ stray_of (y ∷ z ∷ zs) x some e =
     ap (λ n. earlier (least_return (stmts_of (take n (y ∷ z ∷ zs)))) (inner_return (stmt_of x))) one ∙ earlier-assoc here (least_return (stmts_of (take (length zs) (z ∷ zs)))) (inner_return (stmt_of x)) ∙ ap (earlier here) (ap (λ n. earlier (least_return (stmts_of (take n (z ∷ zs)))) (inner_return (stmt_of x))) (sym two) ∙ stray_of (z ∷ zs) x (omega arith) (e ∙ ap (λ n. get_or (y ∷ z ∷ zs) n x) one ∙ ap (λ n. get_or (z ∷ zs) n x) (sym two)))
 
 -- the blocks of a statement
-pub inner_while : (s : the_stmt.Stmt) (at : Span) (test : the_expr.Expr) (body : the_block.Block) → s ≡ While at test body → inner_return (stmt_of s) ≡ least_return (stmts_of body.stmts.items)
-inner_while s at test body e = ap (λ (s : the_stmt.Stmt). inner_return (stmt_of s)) e ∙ ap inner_return (stmt_of_While at test body)
+pub inner_while : (s : the_stmt.Stmt) (b : Box the_while.While Global) → s ≡ While b
+    → inner_return (stmt_of s) ≡ least_return (stmts_of b.value.block.stmts.items)
+inner_while s b e = ap (λ (s : the_stmt.Stmt). inner_return (stmt_of s)) e ∙ ap inner_return (stmt_of-While b)
 
-pub inner_if : (s : the_stmt.Stmt) (at : Span) (test : the_expr.Expr) (body : the_block.Block) (other : Option the_block.Block) → s ≡ If at test body other → inner_return (stmt_of s) ≡ earlier (least_return (stmts_of body.stmts.items)) (other_return (else_of other))
-inner_if s at test body other e = ap (λ (s : the_stmt.Stmt). inner_return (stmt_of s)) e ∙ ap inner_return (stmt_of_If at test body other)
+pub inner_if : (s : the_stmt.Stmt) (b : Box the_if.If Global) → s ≡ If b → inner_return (stmt_of s)
+    ≡ earlier (least_return (stmts_of (out-If b.value).block.stmts.items)) (other_return (else_of (out-If b.value).otherwise))
+inner_if s b e = ap (λ (s : the_stmt.Stmt). inner_return (stmt_of s)) e ∙ ap inner_return (if_of-out b.value)
+
+-- a statement that is no `return`
+abbrev IsOther : the_stmt.Stmt → Type 0
+IsOther s = (at : Span) (e : the_expr.Expr) → s ≡ Return at e → ⊥
+
+pub other_returns : (s : the_stmt.Stmt) → IsOther s → false ≡ returns (stmt_of s)
+other_returns (the_stmt.Let l) h = refl
+other_returns (the_stmt.Var l) h = refl
+other_returns (the_stmt.Assign p e) h = refl
+other_returns (the_stmt.If' x (the_if.If' start e n row close other)) h = refl
+other_returns (the_stmt.While' x start e n row close) h = refl
+other_returns (the_stmt.Print at e) h = refl
+other_returns (the_stmt.Return at e) h = absurd (h at e refl)
+
+pub other_own : (s : the_stmt.Stmt) → IsOther s → None ≡ own_return (stmt_of s)
+other_own (the_stmt.Let l) h = refl
+other_own (the_stmt.Var l) h = refl
+other_own (the_stmt.Assign p e) h = refl
+other_own (the_stmt.If' x (the_if.If' start e n row close other)) h = refl
+other_own (the_stmt.While' x start e n row close) h = refl
+other_own (the_stmt.Print at e) h = refl
+other_own (the_stmt.Return at e) h = absurd (h at e refl)
 
 -- the last statement
 pub ends_of : (xs : List the_stmt.Stmt) (x : the_stmt.Stmt) → 1 ≤ length xs → x ≡ get_or xs (length xs - 1) x → returns (stmt_of x) ≡ does_end (stmts_of xs)

@@ -56,6 +56,12 @@ abbrev pub chained : Level → Expr → Links → Expr
 chained k e no_links = e
 chained k e (link op x more) = chain k e (link op x more)
 
+-- the links of a chain, behind the first
+abbrev pub links_behind : Reader Expr → Level → Op × Expr → Reader Links
+links_behind operand k o ts = do
+  l ← links_at operand k ts
+  Ok (add_link o l.0, l.1)
+
 unfoldable pub chain_at : Reader Expr → Level → Reader Expr
 chain_at operand k ts = do
   first ← operand ts

@@ -2,10 +2,10 @@
 
 ghost use Rattle.std.specs.Prelude.{◌≡◌, map, option_map};
 ghost use Rattle.source.specs.Tokens.{seen};
-ghost use Rattle.syntax.specs.Views.{ident, expr_of, place_of, links_of};
+ghost use Rattle.syntax.specs.Views.{ident, expr_of, place_of, link_of, links_of};
 ghost use Rattle.syntax.specs.Trees as trees;
 ghost use Rattle.parser.specs.Reading.{Gives};
-ghost use Rattle.parser.specs.Bodies.{prim_at, unary_with, sum_with, compared_with, prefix_at, comparison_at, place_at, fields_at, element_at, parens_at, inside_at, operand_at, level_at, expr_at, ended_at, condition_at, links_at, op_at};
+ghost use Rattle.parser.specs.Bodies.{prim_at, unary_with, sum_with, compared_with, prefix_at, comparison_at, place_at, fields_at, element_at, parens_at, inside_at, operand_at, level_at, expr_at, ended_at, condition_at, links_behind, op_at};
 
 use crate::growth::push;
 use crate::stop::Stop;
@@ -237,16 +237,19 @@ fn compared(alloc: Global, tokens: &[Token], room: u32) -> Result<(Expr, &[Token
     }
 }
 
+/// The links of a chain, behind the first.
 #[cycle(expr)]
 fn links(
     alloc: Global,
     level: Level,
+    first: Link,
     tokens: &[Token],
     room: u32,
 ) -> Result<(Vec<Link>, &[Token]), Stop>
-    ensures { Gives (λ x. (links_of x.0.items, seen x.1.now)) result (links_at (operand_at level room) level (seen tokens.now)) }
+    ensures { Gives (λ x. (links_of x.0.items, seen x.1.now)) result (links_behind (operand_at level room) level (link_of first) (seen tokens.now)) }
 {
     let mut links = Vec::new(alloc);
+    push(&mut links, first)?;
     let mut rest = tokens;
     while let Some((op, after)) = operator(level, rest) {
         let (right, after) = operand(alloc, level, after, room)?;
@@ -262,12 +265,18 @@ fn links(
 fn chain(alloc: Global, level: Level, tokens: &[Token], room: u32) -> Result<(Expr, &[Token]), Stop>
     ensures { Gives (λ x. (expr_of x.0, seen x.1.now)) result (level_at level room (seen tokens.now)) }
 {
-    let (first, rest) = operand(alloc, level, tokens, room)?;
-    let (links, rest) = links(alloc, level, rest, room)?;
-    if links.is_empty() {
-        return Ok((first, rest));
+    let (left, rest) = operand(alloc, level, tokens, room)?;
+    let Some((op, after)) = operator(level, rest) else {
+        return Ok((left, rest));
+    };
+    let (right, rest) = operand(alloc, level, after, room)?;
+    if operator(level, rest).is_none() {
+        let pair = Joined::Pair(op, left, right);
+        return Ok((Expr::Joined(Box::new(alloc, pair)?), rest));
     }
-    let chain = Joined::Chain(level, first, links);
+    let first = Link { op, operand: right };
+    let (links, rest) = links(alloc, level, first, rest, room)?;
+    let chain = Joined::Chain(level, left, links);
     Ok((Expr::Joined(Box::new(alloc, chain)?), rest))
 }
 

@@ -46,9 +46,13 @@ fn inner_return(stmt: &Stmt) -> Option<usize>
     ensures { result ≡ returning.inner_return (stmt_of stmt.now) }
 {
     match stmt {
-        Stmt::If(_, _, body, other) => earlier(least_return(&body.stmts), else_return(other)),
-        Stmt::While(_, _, body) => least_return(&body.stmts),
-        _ => None,
+        Stmt::If(choice) => earlier(
+            least_return(&choice.block.stmts),
+            else_return(&choice.otherwise),
+        ),
+        Stmt::While(repetition) => least_return(&repetition.block.stmts),
+        Stmt::Let(_) | Stmt::Var(_) | Stmt::Assign(_, _) | Stmt::Print(_, _) | Stmt::Return(_, _) =>
+            None,
     }
 }
 

@@ -14,7 +14,7 @@ use crate::take::{is_sign_next, is_word_next, named, take_name, take_open, take_
 use source::span::Span;
 use source::token::{Keyword, Sign, Token};
 use std::alloc::Global;
-use syntax::tree::{Block, Local, Name, Stmt};
+use syntax::tree::{Block, If, Local, Name, Stmt, While};
 
 /// What stands behind `let` or `var`, a word that stands at `start`.
 #[tactic(auto, unfolding(crate::specs::Bodies::local_at))]
@@ -66,11 +66,11 @@ fn stmt(alloc: Global, tokens: &[Token], room: u32) -> Result<(Stmt, &[Token]), 
         Token::Name(start, text) => assignment(alloc, named(*start, text)?, rest, room),
         Token::Word(span, Keyword::Let) => {
             let (local, rest) = local(alloc, *span, rest, room)?;
-            Ok((Stmt::Let(local), rest))
+            Ok((Stmt::Let(Box::new(alloc, local)?), rest))
         }
         Token::Word(span, Keyword::Var) => {
             let (local, rest) = local(alloc, *span, rest, room)?;
-            Ok((Stmt::Var(local), rest))
+            Ok((Stmt::Var(Box::new(alloc, local)?), rest))
         }
         Token::Word(span, Keyword::If) => if_rest(alloc, *span, rest, room),
         Token::Word(span, Keyword::While) => while_rest(alloc, *span, rest, room),
@@ -124,9 +124,15 @@ fn if_rest(
     ensures { Gives (λ x. (stmt_of x.0, seen x.1.now)) result (if_with room (stmts_in room) start (seen tokens.now)) }
 {
     let (condition, rest) = condition(alloc, tokens, room)?;
-    let (body, rest) = block(alloc, rest, room)?;
-    let (other, rest) = otherwise(alloc, rest, room)?;
-    Ok((Stmt::If(start, condition, body, other), rest))
+    let (block, rest) = block(alloc, rest, room)?;
+    let (otherwise, rest) = otherwise(alloc, rest, room)?;
+    let choice = If {
+        start,
+        condition,
+        block,
+        otherwise,
+    };
+    Ok((Stmt::If(Box::new(alloc, choice)?), rest))
 }
 
 /// The block behind `else`, or nothing.
@@ -155,6 +161,11 @@ fn while_rest(
     ensures { Gives (λ x. (stmt_of x.0, seen x.1.now)) result (while_with room (stmts_in room) start (seen tokens.now)) }
 {
     let (condition, rest) = condition(alloc, tokens, room)?;
-    let (body, rest) = block(alloc, rest, room)?;
-    Ok((Stmt::While(start, condition, body), rest))
+    let (block, rest) = block(alloc, rest, room)?;
+    let repetition = While {
+        start,
+        condition,
+        block,
+    };
+    Ok((Stmt::While(Box::new(alloc, repetition)?), rest))
 }

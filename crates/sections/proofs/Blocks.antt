@@ -1,18 +1,19 @@
 -- Blocks; statements and parameters one after another.
-use Rattle.std.proofs.Common.{◌≡◌, ℕ, ◌+◌, ◌<◌, List, [], ◌∷◌, ◌++◌, Option, Some, None, length, drop, get_or, refl, sym, ap, ◌∙◌}
-use Rattle.std.specs.Prelude.{option_map, map, nat_le}
+use Rattle.std.proofs.Common.{◌≡◌, Global, ℕ, ◌+◌, ◌<◌, List, [], ◌∷◌, ◌++◌, Option, Some, None, length, drop, get_or, refl, sym, ap, ◌∙◌}
+use Rattle.std.specs.Prelude.{Box, option_map, map, nat_le}
 use Rattle.source.specs.declared.fault.Code.TheVariants.{LimitExceeded}
 use Rattle.source.specs.declared.span.Span.{Span}
 use Rattle.source.specs.declared.mistake.Mistake.{Mistake}
-use Rattle.syntax.specs.declared.tree.Expr as tree
 use Rattle.syntax.specs.declared.tree.Stmt as tree_stmt
 use Rattle.syntax.specs.declared.tree.Stmt.{While, If}
-use Rattle.syntax.specs.declared.tree.Block as tree_block
+use Rattle.syntax.specs.declared.tree.If as tree_if
+use Rattle.syntax.specs.declared.tree.If.{out-If}
+use Rattle.syntax.specs.declared.tree.While as tree_while
 use Rattle.syntax.specs.declared.tree.Param as tree_param
 use Rattle.syntax.specs.Views.{expr_of, stmt_of, stmts_of, else_of, param_of}
 use Rattle.syntax.specs.Trees.{Decl, Expr, Stmt, let_local, var_local, assign, if_then, while, print, return_value, Stmts, no_stmts, stmt, Otherwise, no_else, else_do, Param, Section}
 use Rattle.core_lang.specs.declared.value.ValueType as core_type
-use Rattle.syntax.specs.Rows.{stmt_of_While, stmt_of_If}
+use Rattle.syntax.specs.Rows.{stmt_of-While, if_of-out}
 use Rattle.core_lang.specs.declared.tree.LocalKind.TheVariants.{Parameter}
 use Rattle.core_lang.specs.declared.tree.Stmt as r
 use Rattle.resolution.specs.Core as core
@@ -196,11 +197,22 @@ module _ (ds : List Decl) (s : Section) (result : Option core_type.ValueType) (s
 
 -- ---- loops and choices
 
-pub while_is : (s : tree_stmt.Stmt) (at : Span) (test : tree.Expr) (body : tree_block.Block) → s ≡ While at test body → while at (expr_of test) (stmts_of body.stmts.items) body.close ≡ stmt_of s
-while_is s at test body is = sym (ap stmt_of is ∙ stmt_of_While at test body)
+while_is : (s : tree_stmt.Stmt) (b : Box tree_while.While Global) → s ≡ While b
+    → while b.value.start (expr_of b.value.condition) (stmts_of b.value.block.stmts.items) b.value.block.close ≡ stmt_of s
+while_is s b is = sym (ap stmt_of is ∙ stmt_of-While b)
 
-pub if_is : (s : tree_stmt.Stmt) (at : Span) (test : tree.Expr) (body : tree_block.Block) (other : Option tree_block.Block) → s ≡ If at test body other → if_then at (expr_of test) (stmts_of body.stmts.items) body.close (else_of other) ≡ stmt_of s
-if_is s at test body other is = sym (ap stmt_of is ∙ stmt_of_If at test body other)
+if_is : (s : tree_stmt.Stmt) (b : Box tree_if.If Global) → s ≡ If b
+    → if_then (out-If b.value).start (expr_of (out-If b.value).condition) (stmts_of (out-If b.value).block.stmts.items) (out-If b.value).block.close (else_of (out-If b.value).otherwise) ≡ stmt_of s
+if_is s b is = sym (ap stmt_of is ∙ if_of-out b.value)
+
+-- the same, where each part was read through the box anew
+pub while_seen : (s : tree_stmt.Stmt) (b : Box tree_while.While Global) (x y z : tree_while.While) → s ≡ While b → x ≡ b.value → y ≡ b.value → z ≡ b.value
+    → while x.start (expr_of z.condition) (stmts_of y.block.stmts.items) y.block.close ≡ stmt_of s
+while_seen s b x y z is hx hy hz = rw (hx, hy, hz) (while_is s b is)
+
+pub if_seen : (s : tree_stmt.Stmt) (b : Box tree_if.If Global) (x y z w : tree_if.If) → s ≡ If b → x ≡ b.value → y ≡ b.value → z ≡ b.value → w ≡ b.value
+    → if_then (out-If z).start (expr_of (out-If x).condition) (stmts_of (out-If y).block.stmts.items) (out-If y).block.close (else_of (out-If w).otherwise) ≡ stmt_of s
+if_seen s b x y z w is hx hy hz hw = rw (hx, hy, hz, hw) (if_is s b is)
 
 module _ (sc sc2 : Scope) (at close : Span) (test : Expr) (body : Stmts) (other : Otherwise) (behind : sc2 ≡ left sc (after_all sc body)) where
   pub if_value : (cond : Option core.Condition) (block : Option core.Stmts) → cond ≡ test_resolved (typed sc test) → block ≡ block_of (typed_body sc body) →

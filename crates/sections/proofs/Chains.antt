@@ -7,7 +7,7 @@ use Rattle.syntax.specs.declared.tree.Level.{Level}
 use Rattle.syntax.specs.declared.tree.Level.TheVariants.{Term, Sum, Conjunction, Disjunction}
 use Rattle.syntax.specs.declared.tree.Expr as tree
 use Rattle.syntax.specs.declared.tree.Joined as joined
-use Rattle.syntax.specs.declared.tree.Joined.{Chain}
+use Rattle.syntax.specs.declared.tree.Joined.{Pair, Chain}
 use Rattle.syntax.specs.declared.tree.Link as tree_link
 use Rattle.syntax.specs.Trees.{Expr, Links, no_links, link, chain}
 use Rattle.core_lang.specs.declared.tree.Operator.{Operator}
@@ -15,6 +15,7 @@ use Rattle.core_lang.specs.declared.tree.Operation as o
 use Rattle.core_lang.specs.declared.tree.Expr as r
 use Rattle.core_lang.specs.declared.tree.Condition as rc
 use Rattle.syntax.specs.Views.{expr_of, joined_of, links_of}
+use Rattle.syntax.specs.Grammar.{level_of}
 use Rattle.syntax.specs.Rows.{joined_of-Chain}
 use Rattle.resolution.specs.Core as core
 use Rattle.resolution.specs.CoreViews.{core_expr, core_condition, core_operations, core_conditions}
@@ -114,8 +115,10 @@ tests_end sc (Some t) = ap (λ (cs : core.Conditions). Some (record { before = c
 
 -- ---- the chain
 
-pub chain_seen : (e : joined.Joined) (k : Level) (first : tree.Expr) (links : Vec tree_link.Link Global) → e ≡ Chain k first links → joined_of e ≡ chain k (expr_of first) (links_of links.items)
-chain_seen e k first links is = ap joined_of is ∙ joined_of-Chain k first links
+pub chain_seen : (e : joined.Joined) (k : Level) (first : tree.Expr) (links : Vec tree_link.Link Global) (items : List tree_link.Link)
+    → e ≡ Chain k first links → items ≡ links.items → chain k (expr_of first) (links_of items) ≡ joined_of e
+chain_seen e k first links items is links_is =
+    ap (λ x. chain k (expr_of first) (links_of x)) links_is ∙ sym (ap joined_of is ∙ joined_of-Chain k first links)
 
 -- the faults of further operands are the same on both levels
 term_faults : (sc : Scope) (ls : Links) → link_faults sc Term ls ≡ link_faults sc Sum ls
@@ -161,22 +164,65 @@ module _ (sc : Scope) (e : Expr) (ls : Links) where
   tests_blamed Sum f g (inl h) is = absurd (cc)
   tests_blamed Sum f g (inr h) is = absurd (cc)
 
--- a chain in the tree, by what its first operand and its links are
-module _ (sc : Scope) (e : joined.Joined) (k : Level) (first : tree.Expr) (links : Vec tree_link.Link Global) (items : List tree_link.Link) (is : e ≡ Chain k first links) (links_is : items ≡ links.items) where
-  whole : chain k (expr_of first) (links_of items) ≡ joined_of e
-  whole = ap (λ x. chain k (expr_of first) (links_of x)) links_is ∙ sym (chain_seen e k first links is)
+-- a chain that an expression is, by what its first operand and its links are
+module _ (sc : Scope) (k : Level) (first : Expr) (ls : Links) (e : Expr) (whole : chain k first ls ≡ e) where
+  pub numbers_value : (a : Option core.Expr) (b : Option core.Operations) → (k ≡ Term) ⊎ (k ≡ Sum) → a ≡ number_resolved (typed sc first) → b ≡ typed_links sc ls → chained a b ≡ typed sc e
+  numbers_value a b kind ha hb = ap (λ x. chained x b) ha ∙ ap (chained (number_resolved (typed sc first))) hb ∙ numbers_chain sc first ls k kind ∙ ap (typed sc) whole
 
-  pub numbers_value : (a : Option core.Expr) (b : Option core.Operations) → (k ≡ Term) ⊎ (k ≡ Sum) → a ≡ number_resolved (typed sc (expr_of first)) → b ≡ typed_links sc (links_of items) → chained a b ≡ typed sc (joined_of e)
-  numbers_value a b kind ha hb = ap (λ x. chained x b) ha ∙ ap (chained (number_resolved (typed sc (expr_of first)))) hb ∙ numbers_chain sc (expr_of first) (links_of items) k kind ∙ ap (typed sc) whole
+  pub tests_value : (a : Option core.Condition) (b : Option Tests) → (k ≡ Conjunction) ⊎ (k ≡ Disjunction) → a ≡ test_resolved (typed sc first) → b ≡ typed_tests sc a ls → holds k b ≡ typed sc e
+  tests_value a b kind ha hb = tests_chain sc first ls k b kind (hb ∙ ap (λ x. typed_tests sc x ls) ha) ∙ ap (typed sc) whole
 
-  pub tests_value : (a : Option core.Condition) (b : Option Tests) → (k ≡ Conjunction) ⊎ (k ≡ Disjunction) → a ≡ test_resolved (typed sc (expr_of first)) → b ≡ typed_tests sc a (links_of items) → holds k b ≡ typed sc (joined_of e)
-  tests_value a b kind ha hb = tests_chain sc (expr_of first) (links_of items) k b kind (hb ∙ ap (λ x. typed_tests sc x (links_of items)) ha) ∙ ap (typed sc) whole
+  pub numbers_faults : (f g m : Option Mistake) → (k ≡ Term) ⊎ (k ≡ Sum) → g ≡ least_of f (wanted_faults sc (Value Integer) first) → m ≡ least_of g (link_faults sc Sum ls) → m ≡ least_of f (expr_faults sc e)
+  numbers_faults f g m kind hg hm = hm ∙ numbers_blamed sc first ls k f g kind hg ∙ ap (λ x. least_of f (expr_faults sc x)) whole
 
-  pub numbers_faults : (f g m : Option Mistake) → (k ≡ Term) ⊎ (k ≡ Sum) → g ≡ least_of f (wanted_faults sc (Value Integer) (expr_of first)) → m ≡ least_of g (link_faults sc Sum (links_of items)) → m ≡ least_of f (expr_faults sc (joined_of e))
-  numbers_faults f g m kind hg hm = hm ∙ numbers_blamed sc (expr_of first) (links_of items) k f g kind hg ∙ ap (λ x. least_of f (expr_faults sc x)) whole
+  pub tests_faults : (f g m : Option Mistake) → (k ≡ Conjunction) ⊎ (k ≡ Disjunction) → g ≡ least_of f (wanted_faults sc Condition first) → m ≡ least_of g (link_faults sc Conjunction ls) → m ≡ least_of f (expr_faults sc e)
+  tests_faults f g m kind hg hm = hm ∙ tests_blamed sc first ls k f g kind hg ∙ ap (λ x. least_of f (expr_faults sc x)) whole
 
-  pub tests_faults : (f g m : Option Mistake) → (k ≡ Conjunction) ⊎ (k ≡ Disjunction) → g ≡ least_of f (wanted_faults sc Condition (expr_of first)) → m ≡ least_of g (link_faults sc Conjunction (links_of items)) → m ≡ least_of f (expr_faults sc (joined_of e))
-  tests_faults f g m kind hg hm = hm ∙ tests_blamed sc (expr_of first) (links_of items) k f g kind hg ∙ ap (λ x. least_of f (expr_faults sc x)) whole
+-- ---- a chain of two operands
+
+pub pair_seen : (e : joined.Joined) (op : Op) (left right : tree.Expr) (k : Level) → e ≡ Pair op left right → k ≡ level_of op
+    → chain k (expr_of left) (link op (expr_of right) no_links) ≡ joined_of e
+pair_seen e op left right k is level = ap (λ x. chain x (expr_of left) (link op (expr_of right) no_links)) level ∙ sym (ap joined_of is)
+
+behind_nothing : (o : Option core.Operations) → operations_joined (Some []) o ≡ o
+behind_nothing None = refl
+behind_nothing (Some o) = refl
+
+-- its one operation
+pub one_operation : (sc : Scope) (op : Op) (right : Expr) (none : List o.Operation) (p : Option Operator) (x : Option r.Expr) (made : Option (Vec o.Operation Global))
+    → none ≡ [] → p ≡ operator_of op → option_map core_expr x ≡ number_resolved (typed sc right)
+    → option_map (λ os. os.items) made ≡ pushed (Some none) (operation_with p x)
+    → option_map (λ os. core_operations os.items) made ≡ typed_links sc (link op right no_links)
+one_operation sc op right none p x made empty hp hx is =
+    sym (operations_end made)
+    ∙ ap (λ (n : Option (List o.Operation)). operations_joined n (Some core.no_operations)) (is ∙ ap (λ (n : List o.Operation). pushed (Some n) (operation_with p x)) empty)
+    ∙ operations_with (Some []) p x (Some core.no_operations)
+    ∙ behind_nothing (linked p (option_map core_expr x) (Some core.no_operations))
+    ∙ ap (λ (y : Option core.Expr). linked p y (Some core.no_operations)) hx
+    ∙ ap (λ (q : Option Operator). linked q (number_resolved (typed sc right)) (Some core.no_operations)) hp
+
+-- its two tests
+pub two_tests : (sc : Scope) (op : Op) (right : Expr) (first x : Option rc.Condition) (one made : Option the_tests.Tests)
+    → option_map so_far one ≡ first_test first → option_map core_condition x ≡ test_resolved (typed sc right)
+    → option_map so_far made ≡ tests_with (option_map so_far one) x
+    → option_map tests_of made ≡ typed_tests sc (option_map core_condition first) (link op right no_links)
+two_tests sc op right first x one made alone hx is =
+    sym (tests_end sc made)
+    ∙ ap (λ (n : Option SoFar). tests_joined sc n no_links) (is ∙ ap (λ (n : Option SoFar). tests_with n x) alone)
+    ∙ tests_more sc (first_test first) op right x no_links hx
+    ∙ tests_first sc first (link op right no_links)
+
+pub one_link_faults : (sc : Scope) (op : Op) (e : Expr) (start : ℕ) (f g h : Option Mistake) → start ≡ start_of e → g ≡ least_of f (operator_faults Sum start op)
+    → h ≡ least_of g (wanted_faults sc (Value Integer) e) → h ≡ least_of f (link_faults sc Sum (link op e no_links))
+one_link_faults sc op e start f g h hstart hg hh =
+    noted_three f g (least_of g (expr_faults sc e)) h (operator_faults Sum (start_of e) op) (expr_faults sc e) (misfit (Value Integer) (start_of e) (typed sc e)) []
+    (hg ∙ ap (λ (n : ℕ). least_of f (operator_faults Sum n op)) hstart) refl (hh ∙ least_append g (expr_faults sc e) (misfit (Value Integer) (start_of e) (typed sc e)))
+
+pub second_test_faults : (sc : Scope) (op : Op) (e : Expr) (f g : Option Mistake) → g ≡ least_of f (wanted_faults sc Condition e)
+    → g ≡ least_of f (link_faults sc Conjunction (link op e no_links))
+second_test_faults sc op e f g hg =
+    noted_two f (least_of f (expr_faults sc e)) g (expr_faults sc e) (misfit Condition (start_of e) (typed sc e)) []
+    refl (hg ∙ least_append f (expr_faults sc e) (misfit Condition (start_of e) (typed sc e)))
 
 -- ---- one link more
 

@@ -2,6 +2,7 @@
 
 ghost use Rattle.std.specs.Prelude.{◌≡◌, OnOk, IfOk, option_map};
 ghost use Rattle.syntax.specs.Views.{ident, expr_of, joined_of, element_of, path_of, place_of, links_of};
+ghost use Rattle.syntax.specs.Trees.{no_links, link};
 ghost use Rattle.syntax.specs.declared.tree.Level.TheVariants.{Sum, Conjunction};
 ghost use Rattle.core_lang.specs.declared.value.ValueType.TheVariants.{Integer};
 ghost use Rattle.resolution.specs.declared.wanted.Want.TheVariants as wanted;
@@ -26,7 +27,7 @@ use core_lang::value::ValueType;
 use resolution::wanted::{Sort, Want};
 use std::alloc::AllocError;
 use syntax::tree;
-use syntax::tree::{Element, Joined, Level, Link, Name, Path, Place, Prefix};
+use syntax::tree::{Element, Joined, Level, Link, Name, Op, Path, Place, Prefix};
 
 /// The name with which a place begins.
 pub fn first_name(p: &Place) -> &Name
@@ -52,6 +53,7 @@ fn start_of(e: &tree::Expr) -> usize
         tree::Expr::Paren(at, _) => at.start as usize,
         tree::Expr::Prefix(_, at, _) => at.start as usize,
         tree::Expr::Joined(joined) => match &**joined {
+            Joined::Pair(_, left, _) => start_of(left),
             Joined::Chain(_, first, _) => start_of(first),
             Joined::Compare(_, left, _) => start_of(left),
         },
@@ -98,6 +100,19 @@ impl<'a> Checker<'a> {
         ensures faults { OnOk result (least.new ≡ least_of least.old (expr_faults (scope self.now) (joined_of e.now))) }
     {
         match e {
+            Joined::Pair(op, left, right) => match op.level() {
+                Level::Term | Level::Sum => {
+                    let first = self.number(left, least)?;
+                    let rest = self.operation(*op, right, least)?;
+                    chained(self.alloc(), first, rest)
+                }
+                Level::Conjunction | Level::Disjunction => {
+                    let first = self.test(left, least)?;
+                    let operand = self.test(right, least)?;
+                    let tests = with_test(one_test(self.alloc(), first, 1)?, operand)?;
+                    tested(self.alloc(), op.level(), tests)
+                }
+            },
             Joined::Chain(level, first, links) => match level {
                 Level::Term | Level::Sum => {
                     let first = self.number(first, least)?;
@@ -140,6 +155,18 @@ impl<'a> Checker<'a> {
         let m = self.meaning(&path.first);
         let w = self.walk(start, m, &path.fields, least)?;
         Ok(path_value(start, m, w))
+    }
+
+    // The further operand of a chain of two numbers.
+    #[cycle(exprs)]
+    fn operation(&self, op: Op, operand: &tree::Expr, least: &mut Least) -> Judged<Vec<Operation>>
+        ensures value { IfOk result (λ r. option_map (λ os. core_operations os.items) r ≡ typed_links (scope self.now) (link op (expr_of operand.now) no_links)) }
+        ensures faults { OnOk result (least.new ≡ least_of least.old (link_faults (scope self.now) Sum (link op (expr_of operand.now) no_links))) }
+    {
+        let operator = operator(op, start_of(operand), least);
+        let number = self.number(operand, least)?;
+        let none = Some(Vec::with_capacity(self.alloc(), 1)?);
+        with_operation(none, operator, number)
     }
 
     // The further operands of a chain of numbers.

@@ -262,12 +262,12 @@ impl<'a> Checker<'a> {
             tree::Stmt::Let(local) => self.let_or_var(LocalKind::Let, local, least),
             tree::Stmt::Var(local) => self.let_or_var(LocalKind::Var, local, least),
             tree::Stmt::Assign(place, e) => self.assignment(place, e, least),
-            tree::Stmt::If(start, test, block, other) => {
-                let condition = self.test(test, least)?;
-                let block = self.block(block, least)?;
-                let start = start.start as usize;
+            tree::Stmt::If(choice) => {
+                let condition = self.test(&choice.condition, least)?;
+                let block = self.block(&choice.block, least)?;
+                let start = choice.start.start as usize;
                 self.otherwise(
-                    other,
+                    &choice.otherwise,
                     Choice {
                         start,
                         condition,
@@ -276,7 +276,12 @@ impl<'a> Checker<'a> {
                     least,
                 )
             }
-            tree::Stmt::While(start, test, block) => self.repetition(*start, block, test, least),
+            tree::Stmt::While(repetition) => self.repetition(
+                repetition.start,
+                &repetition.block,
+                &repetition.condition,
+                least,
+            ),
             tree::Stmt::Print(start, e) => {
                 let value = self.number(e, least)?;
                 Ok(print(start.start as usize, value))

@@ -1,6 +1,7 @@
 -- The view of a `Vec` in a tree is that of the same `Vec` by itself. Nobody has to believe these equations: they are proved here,
 -- for proofs of this crate and of the crates above.
-use Rattle.std.proofs.Common.{◌≡◌, Vec, Global, Option, Some, None, refl, ap, ◌∙◌}
+use Rattle.std.specs.Prelude.{Box}
+use Rattle.std.proofs.Common.{◌≡◌, Vec, Global, Option, Some, None, refl, sym, ap, ◌∙◌}
 use mathlib.Core.Former.{Count}
 use Rattle.source.specs.declared.span.Span.{Span}
 use Rattle.syntax.specs.declared.tree.Level.{Level}
@@ -11,11 +12,16 @@ use Rattle.syntax.specs.declared.tree.Joined.{Chain, Row_of-Link, end_of-Link, m
 use Rattle.syntax.specs.declared.tree.Link as the_link
 use Rattle.syntax.specs.declared.tree.Stmt as the_stmt
 use Rattle.syntax.specs.declared.tree.Stmt.{While, If, Row_of-Stmt, end_of-Stmt, more_of-Stmt, items-the_row-Stmt, items_hidden-the_row-Stmt-0}
+use Rattle.syntax.specs.declared.tree.Stmt.TheBlock.{view-If-otherwise, shown-the_row-Stmt-0, items_shown-the_row-Stmt-0}
+use Rattle.syntax.specs.declared.tree.If as the_if
+use Rattle.syntax.specs.declared.tree.If.{out-If, roll-If, out-roll-If}
+use Rattle.syntax.specs.declared.tree.While as the_while
+use Rattle.syntax.specs.declared.tree.While.{roll-While}
 use Rattle.syntax.specs.declared.tree.Block as the_block
 use Rattle.syntax.specs.declared.tree.Item as the_item
 use Rattle.syntax.specs.declared.tree.Item.{Repeat, Row_of-Item, end_of-Item, more_of-Item, items-the_row-Item, items_hidden-the_row-Item-0}
-use Rattle.syntax.specs.Trees.{chain, link, while, if_then, stmt, else_do, repeat, item}
-use Rattle.syntax.specs.Views.{expr_of, joined_of, links_of_row, links_of, stmt_of, otherwise_of, stmts_of_row, stmts_of, else_of, item_of, items_of_row, items_of}
+use Rattle.syntax.specs.Trees.{chain, link, Stmt, while, if_then, stmt, else_do, repeat, item}
+use Rattle.syntax.specs.Views.{expr_of, joined_of, links_of_row, links_of, stmt_of, if_of, otherwise_of, stmts_of_row, stmts_of, else_of, item_of, items_of_row, items_of}
 
 links_of_row-items : (n : _) (row : Row_of-Link n) → links_of_row row ≡ links_of (items-the_row-Link n row)
 links_of_row-items n end_of-Link = refl
@@ -37,33 +43,42 @@ stmts_of_row-items n end_of-Stmt = refl
 stmts_of_row-items n (more_of-Stmt x rest) = ap (stmt (stmt_of x)) (stmts_of_row-items _ rest)
 
 abbrev stmt_row : the_stmt.Stmt → (n : Count) × Row_of-Stmt n
-stmt_row (the_stmt.While' _ _ _ row _) = (_, row)
-stmt_row (the_stmt.If' _ _ _ row _ _) = (_, row)
+stmt_row (the_stmt.While' _ _ _ _ row _) = (_, row)
 stmt_row _ = (_, end_of-Stmt)
 
-pub stmt_of_While : (at : Span) (test : the_expr.Expr) (body : the_block.Block) → stmt_of (While at test body) ≡ while at (expr_of test) (stmts_of body.stmts.items) body.close
-stmt_of_While at test body =
-    let row = stmt_row (While at test body) in
-    ap (λ ss. while at (expr_of test) ss body.close) (stmts_of_row-items row.0 row.1 ∙ ap stmts_of (items_hidden-the_row-Stmt-0 body.stmts))
+abbrev pub while_of : the_while.While → Stmt
+while_of w = while w.start (expr_of w.condition) (stmts_of w.block.stmts.items) w.block.close
 
-abbrev other_row : the_stmt.Held-Stmt-If-3 → (n : Count) × Row_of-Stmt n
-other_row (the_stmt.Some' _ row _) = (_, row)
-other_row the_stmt.None' = (_, end_of-Stmt)
+pub stmt_of-While : (b : Box the_while.While Global) → stmt_of (While b) ≡ while_of b.value
+stmt_of-While b =
+    let row = stmt_row (While b) in
+    ap (λ ss. while b.value.start (expr_of b.value.condition) ss b.value.block.close) (stmts_of_row-items row.0 row.1 ∙ ap stmts_of (items_hidden-the_row-Stmt-0 b.value.block.stmts))
 
-abbrev held_other : the_stmt.Stmt → the_stmt.Held-Stmt-If-3
-held_other (the_stmt.If' _ _ _ _ _ other) = other
-held_other _ = the_stmt.None'
+-- of a loop that was put together
+pub stmt_of-made_While : (b : Box the_while.While Global) (start : Span) (condition : the_expr.Expr) (block : the_block.Block)
+    → b.value ≡ roll-While (record { start = start; condition = condition; block = block })
+    → stmt_of (While b) ≡ while start (expr_of condition) (stmts_of block.stmts.items) block.close
+stmt_of-made_While b start condition block made = stmt_of-While b ∙ ap while_of made
 
-other_of : (at : Span) (test : the_expr.Expr) (body : the_block.Block) (other : Option the_block.Block) → otherwise_of (held_other (If at test body other)) ≡ else_of other
-other_of at test body None = refl
-other_of at test body (Some b) =
-    let row = other_row (held_other (If at test body (Some b))) in
-    ap (λ ss. else_do ss b.close) (stmts_of_row-items row.0 row.1 ∙ ap stmts_of (items_hidden-the_row-Stmt-0 b.stmts))
+stmts_of_row-shown : (n : _) (row : Row_of-Stmt _) → stmts_of_row row ≡ stmts_of (shown-the_row-Stmt-0 n row).items
+stmts_of_row-shown n row = stmts_of_row-items _ row ∙ ap stmts_of (sym (items_shown-the_row-Stmt-0 n row))
 
-pub stmt_of_If : (at : Span) (test : the_expr.Expr) (body : the_block.Block) (other : Option the_block.Block) → stmt_of (If at test body other) ≡ if_then at (expr_of test) (stmts_of body.stmts.items) body.close (else_of other)
-stmt_of_If at test body other =
-    let row = stmt_row (If at test body other) in
-    ap (λ ss. if_then at (expr_of test) ss body.close (otherwise_of (held_other (If at test body other)))) (stmts_of_row-items row.0 row.1 ∙ ap stmts_of (items_hidden-the_row-Stmt-0 body.stmts)) ∙ ap (if_then at (expr_of test) (stmts_of body.stmts.items) body.close) (other_of at test body other)
+held_other : (o : the_if.Held-If-otherwise) → otherwise_of o ≡ else_of (view-If-otherwise o)
+held_other the_if.None' = refl
+held_other (the_if.Some' n row close) = ap (λ ss. else_do ss close) (stmts_of_row-shown n row)
+
+pub if_of-out : (i : the_if.If) → if_of i ≡ if_then (out-If i).start (expr_of (out-If i).condition) (stmts_of (out-If i).block.stmts.items) (out-If i).block.close (else_of (out-If i).otherwise)
+unfolding out-If shown-the_row-Stmt-0 denote.Hole.Carrier.out
+if_of-out (the_if.If' start e n row close other) =
+    ap (λ ss. if_then start (expr_of e) ss close (otherwise_of other)) (stmts_of_row-shown n row)
+    ∙ ap (if_then start (expr_of e) (stmts_of (shown-the_row-Stmt-0 n row).items) close) (held_other other)
+
+-- of a choice that was put together
+pub stmt_of-made_If : (b : Box the_if.If Global) (start : Span) (condition : the_expr.Expr) (block : the_block.Block) (otherwise : Option the_block.Block)
+    → b.value ≡ roll-If (record { start = start; condition = condition; block = block; otherwise = otherwise })
+    → stmt_of (If b) ≡ if_then start (expr_of condition) (stmts_of block.stmts.items) block.close (else_of otherwise)
+stmt_of-made_If b start condition block otherwise made =
+    if_of-out b.value ∙ rw (made, out-roll-If (record { start = start; condition = condition; block = block; otherwise = otherwise })) refl
 
 -- ---- what a thread does
 

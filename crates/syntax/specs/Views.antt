@@ -13,10 +13,12 @@ use Rattle.syntax.specs.declared.tree.Expr as the_expr
 use Rattle.syntax.specs.declared.tree.Joined as the_joined
 use Rattle.syntax.specs.declared.tree.Element as the_element
 use Rattle.syntax.specs.declared.tree.Joined.{Row_of-Link, end_of-Link, more_of-Link}
+use Rattle.syntax.specs.declared.tree.Op.{Op}
 use Rattle.syntax.specs.declared.tree.Link as the_link
 use Rattle.syntax.specs.declared.tree.Local as the_local
 use Rattle.syntax.specs.declared.tree.Stmt as the_stmt
 use Rattle.syntax.specs.declared.tree.Stmt.{Row_of-Stmt, end_of-Stmt, more_of-Stmt}
+use Rattle.syntax.specs.declared.tree.If as the_if
 use Rattle.syntax.specs.declared.tree.Block as the_block
 use Rattle.syntax.specs.declared.tree.Protection as the_protection
 use Rattle.syntax.specs.declared.tree.Variable as the_variable
@@ -38,6 +40,7 @@ use Rattle.syntax.specs.declared.tree.Decl as the_decl
 use Rattle.syntax.specs.declared.tree.Decl.TheVariants as decl_case
 use Rattle.syntax.specs.declared.tree.Tree.{Tree}
 use Rattle.syntax.specs.Trees.{Ident, ValueType, int_type, ref_type, Const, int_const, negative, null_const, member_const, Place, lone, element, path, Expr, int, null, place, paren, prefix, chain, compare, Links, no_links, link, Local, Stmt, let_local, var_local, assign, if_then, while, print, return_value, Stmts, no_stmts, stmt, Otherwise, no_else, else_do, Block, Protection, Variable, Array, Final, Field, Member, lock_member, final_member, field_member, Struct, Pool, Init, Param, Section, Call, Item, call, repeat, Items, no_items, item, Thread, Decl, lock, struct, global, array, pool, init, atomic, thread}
+use Rattle.syntax.specs.Grammar.{level_of}
 
 abbrev pub ident : the_name.Name → Ident
 ident n = record { text = rc_str_bytes n.text; span = record { start = n.start; end = n.start + length (rc_str_bytes n.text) } }
@@ -55,6 +58,10 @@ const_of (const_case.Member name index) = member_const (ident name) index
 abbrev pub path_of : the_path.Path → Place
 path_of p = path (ident p.first) (map ident p.fields.items)
 
+-- a chain of two operands
+abbrev pub pair_of : Op → Expr → Expr → Expr
+pair_of op left right = chain (level_of op) left (link op right no_links)
+
 abbrev mutual
   pub expr_of : the_expr.Expr → Expr
   expr_of (the_expr.Int n) = int n
@@ -67,6 +74,7 @@ abbrev mutual
   expr_of (the_expr.Joined' _ j) = joined_of j
 
   pub joined_of : the_joined.Joined → Expr
+  joined_of (the_joined.Pair op left right) = pair_of op (expr_of left) (expr_of right)
   joined_of (the_joined.Chain' level first _ links) = chain level (expr_of first) (links_of_row links)
   joined_of (the_joined.Compare c left right) = compare (expr_of left) c (expr_of right)
 
@@ -87,22 +95,29 @@ abbrev pub links_of : List the_link.Link → Links
 links_of [] = no_links
 links_of (l ∷ ls) = link l.op (expr_of l.operand) (links_of ls)
 
+-- an operator and its operand
+abbrev pub link_of : the_link.Link → Op × Expr
+link_of l = (l.op, expr_of l.operand)
+
 abbrev pub local_of : the_local.Local → Local
 local_of l = record { start = l.start; name = ident l.name; value_type = type_of l.value_type; value = expr_of l.value }
 
 abbrev mutual
   pub stmt_of : the_stmt.Stmt → Stmt
-  stmt_of (the_stmt.Let l) = let_local (local_of l)
-  stmt_of (the_stmt.Var l) = var_local (local_of l)
+  stmt_of (the_stmt.Let l) = let_local (local_of l.value)
+  stmt_of (the_stmt.Var l) = var_local (local_of l.value)
   stmt_of (the_stmt.Assign p e) = assign (place_of p) (expr_of e)
-  stmt_of (the_stmt.If' start e _ body close other) = if_then start (expr_of e) (stmts_of_row body) close (otherwise_of other)
-  stmt_of (the_stmt.While' start e _ body close) = while start (expr_of e) (stmts_of_row body) close
+  stmt_of (the_stmt.If' _ choice) = if_of choice
+  stmt_of (the_stmt.While' _ start e _ body close) = while start (expr_of e) (stmts_of_row body) close
   stmt_of (the_stmt.Print start e) = print start (expr_of e)
   stmt_of (the_stmt.Return start e) = return_value start (expr_of e)
 
-  pub otherwise_of : the_stmt.Held-Stmt-If-3 → Otherwise
-  otherwise_of the_stmt.None' = no_else
-  otherwise_of (the_stmt.Some' _ body close) = else_do (stmts_of_row body) close
+  pub if_of : the_if.If → Stmt
+  if_of (the_if.If' start e _ body close other) = if_then start (expr_of e) (stmts_of_row body) close (otherwise_of other)
+
+  pub otherwise_of : the_if.Held-If-otherwise → Otherwise
+  otherwise_of the_if.None' = no_else
+  otherwise_of (the_if.Some' _ body close) = else_do (stmts_of_row body) close
 
   pub stmts_of_row : {m : _} → Row_of-Stmt m → Stmts
   stmts_of_row end_of-Stmt = no_stmts

@@ -1,7 +1,7 @@
 //! The trees of programs: how declarations, statements and expressions are made up, and where
 //! each of their parts stands in the text.
 //!
-//! - [`tree`]: the types. Chains of operators are lists, and parentheses are kept.
+//! - [`tree`]: the types. Chains of more than two operands are lists, and parentheses are kept.
 //! - `specs/Trees.antt`: the same trees as plain data, and `specs/Views.antt`, which tree a value is.
 //! - `specs/Grammar.antt`: which tokens spell which tree, the bound on nesting, and the faults of
 //!   tokens that spell none.

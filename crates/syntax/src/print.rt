@@ -137,6 +137,10 @@ fn push_joined(out: &mut String, joined: &Joined) -> Result<(), AllocError>
     ensures { OnOk result (string_bytes out.new ≡ string_bytes out.old ++ expr_text (joined_of joined.now)) }
 {
     match joined {
+        Joined::Pair(op, left, right) => {
+            push_expr(out, left)?;
+            push_link(out, *op, right)
+        }
         Joined::Chain(_, first, links) => {
             push_expr(out, first)?;
             push_links(out, links)?;
@@ -165,10 +169,18 @@ fn push_links(out: &mut String, links: &[Link]) -> Result<(), AllocError>
     ensures { OnOk result (string_bytes out.new ≡ string_bytes out.old ++ links_text (links_of links.now)) }
 {
     'links: for link in links {
-        out.push_str(op_words(link.op))?;
-        push_expr(out, &link.operand)?;
+        push_link(out, link.op, &link.operand)?;
     }
     Ok(())
+}
+
+/// An operator of a chain, and the operand behind it.
+#[cycle(print_expr)]
+fn push_link(out: &mut String, op: Op, operand: &Expr) -> Result<(), AllocError>
+    ensures { OnOk result (string_bytes out.new ≡ string_bytes out.old ++ op_text op ++ expr_text (expr_of operand.now)) }
+{
+    out.push_str(op_words(op))?;
+    push_expr(out, operand)
 }
 
 /// What stands before `=` in an assignment.

@@ -55,18 +55,18 @@ fn push_stmt(out: &mut String, s: &Stmt, depth: usize) -> Result<(), AllocError>
             push_expr(out, e)?;
             out.push_str(";")
         }
-        Stmt::If(_, test, body, other) => {
+        Stmt::If(choice) => {
             out.push_str("if (")?;
-            push_expr(out, test)?;
+            push_expr(out, &choice.condition)?;
             out.push_str(")")?;
-            push_braced(out, body, depth)?;
-            push_else(out, other, depth)
+            push_braced(out, &choice.block, depth)?;
+            push_else(out, &choice.otherwise, depth)
         }
-        Stmt::While(_, test, body) => {
+        Stmt::While(repetition) => {
             out.push_str("while (")?;
-            push_expr(out, test)?;
+            push_expr(out, &repetition.condition)?;
             out.push_str(")")?;
-            push_braced(out, body, depth)
+            push_braced(out, &repetition.block, depth)
         }
         Stmt::Print(_, e) => {
             out.push_str("print ")?;

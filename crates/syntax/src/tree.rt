@@ -72,6 +72,23 @@ pub enum Level {
     Disjunction,
 }
 
+impl Op {
+    ghost use Rattle.std.specs.Prelude.{◌≡◌};
+    ghost use Rattle.syntax.specs.Grammar.{level_of};
+
+    /// How tightly the operator binds.
+    pub fn level(self) -> Level
+        ensures { result ≡ level_of self }
+    {
+        match self {
+            Op::Mul | Op::Div | Op::Rem => Level::Term,
+            Op::Add | Op::Sub => Level::Sum,
+            Op::And => Level::Conjunction,
+            Op::Or => Level::Disjunction,
+        }
+    }
+}
+
 /// An operator between two sums.
 #[derive(Clone, Copy, Debug, PartialEq, Eq)]
 pub enum Comparison {
@@ -153,7 +170,9 @@ pub struct Element {
 #[derive(Debug, Drop)]
 #[cycle(expr)]
 pub enum Joined {
-    /// `a + b - c`: an operand, and one or more operators of one level with an operand each.
+    /// `a + b`: a chain of two operands. Most chains are, and a list of one would take a block of memory of its own.
+    Pair(Op, Expr, Expr),
+    /// `a + b - c`: an operand, and operators of one level with an operand each.
     Chain(Level, Expr, Vec<Link>),
     /// `a == b`
     Compare(Comparison, Expr, Expr),
@@ -178,23 +197,48 @@ pub struct Local {
 }
 
 /// A statement.
+///
+/// A program may have one for every four bytes, so a statement takes 56 bytes: what is larger stands
+/// apart.
 #[derive(Debug, Drop)]
 #[cycle(stmt)]
 pub enum Stmt {
     /// `let x: int = e;`
-    Let(Local),
+    Let(Box<Local>),
     /// `var x: int = e;`
-    Var(Local),
+    Var(Box<Local>),
     /// `x = e;`
     Assign(Place, Expr),
-    /// `if (e) { .. }` or `if (e) { .. } else { .. }`, and where its first word stands.
-    If(Span, Expr, Block, Option<Block>),
-    /// `while (e) { .. }`, and where its first word stands.
-    While(Span, Expr, Block),
+    /// `if (e) { .. }` or `if (e) { .. } else { .. }`
+    If(Box<If>),
+    /// `while (e) { .. }`
+    While(Box<While>),
     /// `print e;`, and where its first word stands.
     Print(Span, Expr),
     /// `return e;`, and where its first word stands.
     Return(Span, Expr),
+}
+
+/// `if (e) { .. }` or `if (e) { .. } else { .. }`
+#[derive(Debug, Drop)]
+#[cycle(stmt)]
+pub struct If {
+    /// Where the statement stands, by its first word.
+    pub start: Span,
+    pub condition: Expr,
+    pub block: Block,
+    /// The block behind `else`, where there is one.
+    pub otherwise: Option<Block>,
+}
+
+/// `while (e) { .. }`
+#[derive(Debug, Drop)]
+#[cycle(stmt)]
+pub struct While {
+    /// Where the statement stands, by its first word.
+    pub start: Span,
+    pub condition: Expr,
+    pub block: Block,
 }
 
 /// Statements in braces, and where the closing one stands.

@@ -1,7 +1,8 @@
 use Rattle.std.proofs.Common.{◌≡◌, ◌+◌, ◌*◌, length}
 use Rattle.source.specs.Tokens.{seen}
 use Rattle.syntax.specs.Grammar.{rank}
-use Rattle.parser.specs.Bodies.{operand_at, links_at}
+use Rattle.syntax.specs.Views.{link_of}
+use Rattle.parser.specs.Bodies.{operand_at, links_at, links_behind}
 use Rattle.parser.proofs.Many.{with_front}
 use Rattle.parser.proofs.Chains.{links_before}
 use Rattle.parser.proofs.expr.+expr.Given as goal
@@ -34,7 +35,7 @@ abbrev pub decreases-parens : goal.decreases-parens
 decreases-parens l = 40 * l.room + 1
 
 abbrev pub invariant-links-loop-op : goal.invariant-links-loop-op
-invariant-links-loop-op l = with_front (links_before l.links.items) (links_at (operand_at l.level l.room) l.level (seen l.rest)) ≡ links_at (operand_at l.level l.room) l.level (seen l.tokens)
+invariant-links-loop-op l = with_front (links_before l.links.items) (links_at (operand_at l.level l.room) l.level (seen l.rest)) ≡ links_behind (operand_at l.level l.room) l.level (link_of l.fn.first) (seen l.tokens)
 
 abbrev pub decreases-links-loop-op : goal.decreases-links-loop-op
 decreases-links-loop-op l = length l.rest

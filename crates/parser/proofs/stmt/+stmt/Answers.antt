@@ -1,7 +1,7 @@
 use Rattle.std.proofs.Common.{sym, ◌∙◌}
 use Rattle.parser.proofs.Behind.{while_done, if_done}
-use Rattle.syntax.specs.Rows.{stmt_of_While, stmt_of_If}
 use Rattle.std.proofs.lemmas.Result.{err_from_is_err_and}
+use Rattle.syntax.specs.Rows.{stmt_of-made_While, stmt_of-made_If}
 use Rattle.source.specs.Tokens.{seen}
 use Rattle.syntax.specs.Views.{stmt_of}
 use Rattle.parser.specs.Bodies.{stmt_at}
@@ -26,7 +26,11 @@ pub stmts-returns : goal.stmts-returns
 stmts-returns t c = stmts_end c.args.room c.items.stmts.items (seen c.items.rest.now) _ (sym c.is_sign_next.ensures ∙ c.items-test.false) c.items.invariant
 
 pub while_rest-returns : goal.while_rest-returns
-while_rest-returns t c = rw (stmt_of_While c.args.start c.in_ok-condition.condition c.in_ok-body.body) (while_done c.args.room c.args.start (seen c.args.tokens.now) _ _ _ _ c.in_ok-condition.ensures c.in_ok-body.ensures)
+while_rest-returns t c =
+    rw (stmt_of-made_While c.in_ok-new.field-0 c.args.start c.in_ok-condition.condition c.in_ok-block.block c.in_ok-new.ensures.ok)
+    (while_done c.args.room c.args.start (seen c.args.tokens.now) _ _ _ _ c.in_ok-condition.ensures c.in_ok-block.ensures)
 
 pub if_rest-returns : goal.if_rest-returns
-if_rest-returns t c = rw (stmt_of_If c.args.start c.in_ok-condition.condition c.in_ok-body.body c.in_ok-other.other) (if_done c.args.room c.args.start (seen c.args.tokens.now) _ _ _ _ _ _ c.in_ok-condition.ensures c.in_ok-body.ensures c.in_ok-other.ensures)
+if_rest-returns t c =
+    rw (stmt_of-made_If c.in_ok-new.field-0 c.args.start c.in_ok-condition.condition c.in_ok-block.block c.in_ok-otherwise.otherwise c.in_ok-new.ensures.ok)
+    (if_done c.args.room c.args.start (seen c.args.tokens.now) _ _ _ _ _ _ c.in_ok-condition.ensures c.in_ok-block.ensures c.in_ok-otherwise.ensures)

@@ -3,6 +3,7 @@ use Rattle.std.proofs.lemmas.Grind.{common_steps}
 use Rattle.std.proofs.Math.ListN.{drop_of_length-le}
 use Rattle.std.specs.Prelude.{option_map, IfOk, OnOk}
 use Rattle.syntax.specs.declared.tree.Stmt as tree
+use Rattle.syntax.specs.declared.tree.If.{out-If}
 use Rattle.syntax.specs.Trees.{Stmt}
 use Rattle.syntax.specs.Views.{expr_of, stmts_of, else_of}
 use Rattle.resolution.specs.Statements.{typed_body, typed_stmt, after, after_all}
@@ -12,7 +13,7 @@ use Rattle.resolution.specs.Scopes.{left}
 use Rattle.sections.specs.Checkers.{scope}
 use Rattle.sections.specs.Targets.{row_of, part_of}
 use Rattle.symbols.specs.Steps.{on_ok_by}
-use Rattle.sections.proofs.Blocks.{body_joined, body_end, stmt_step, stmt_fault_step, stmt_scope_step, left_is, while_is, if_is, if_value, if_faults, if_scope}
+use Rattle.sections.proofs.Blocks.{body_joined, body_end, stmt_step, stmt_fault_step, stmt_scope_step, left_is, while_seen, if_seen, if_value, if_faults, if_scope}
 use Rattle.sections.proofs.checker.Checker.+stmts.Goals as goal
 
 pub body-loop-s-preserved : goal.body-loop-s-preserved
@@ -35,37 +36,37 @@ body-returns-clause-value t c =
 pub stmt-returns-in-While-clause-value : goal.stmt-returns-in-While-clause-value
 stmt-returns-in-While-clause-value t c =
     let sc = scope c.args.self.now in
-    subst (λ (s : Stmt). IfOk c.repetition.result (λ r. option_map part_of r ≡ typed_stmt sc s)) (while_is c.args.s.now c.in-While.start c.in-While.test c.in-While.block c.in-While.is) c.repetition.ensures.value
+    subst (λ (s : Stmt). IfOk c.repetition.result (λ r. option_map part_of r ≡ typed_stmt sc s)) (while_seen c.args.s.now c.in-While.repetition _ _ _ c.in-While.is c.deref-in-While.ensures c.deref-in-While-2.ensures c.deref-in-While-3.ensures) c.repetition.ensures.value
 
 pub stmt-returns-in-While-clause-faults : goal.stmt-returns-in-While-clause-faults
 stmt-returns-in-While-clause-faults t c =
     let sc = scope c.args.self.now in
-    subst (λ (s : Stmt). OnOk c.repetition.result (c.repetition.new.least ≡ least_of c.args.least.now (stmt_faults sc s))) (while_is c.args.s.now c.in-While.start c.in-While.test c.in-While.block c.in-While.is) c.repetition.ensures.faults
+    subst (λ (s : Stmt). OnOk c.repetition.result (c.repetition.new.least ≡ least_of c.args.least.now (stmt_faults sc s))) (while_seen c.args.s.now c.in-While.repetition _ _ _ c.in-While.is c.deref-in-While.ensures c.deref-in-While-2.ensures c.deref-in-While-3.ensures) c.repetition.ensures.faults
 
 pub stmt-returns-in-While-clause-scope : goal.stmt-returns-in-While-clause-scope
 stmt-returns-in-While-clause-scope t c =
     let sc = scope c.args.self.now in
-    subst (λ (s : Stmt). OnOk c.repetition.result (scope c.repetition.new.self ≡ after sc s)) (while_is c.args.s.now c.in-While.start c.in-While.test c.in-While.block c.in-While.is) c.repetition.ensures.scope
+    subst (λ (s : Stmt). OnOk c.repetition.result (scope c.repetition.new.self ≡ after sc s)) (while_seen c.args.s.now c.in-While.repetition _ _ _ c.in-While.is c.deref-in-While.ensures c.deref-in-While-2.ensures c.deref-in-While-3.ensures) c.repetition.ensures.scope
 
 pub stmt-returns-in_ok-block-in-If-clause-value : goal.stmt-returns-in_ok-block-in-If-clause-value
 stmt-returns-in_ok-block-in-If-clause-value t c =
     let sc = scope c.args.self.now in
     subst (λ p. IfOk c.otherwise.result (λ r. option_map part_of r ≡ p))
-    (if_value (scope c.args.self.now) (scope c.block.new.self) c.in-If.start c.in-If.block.close (expr_of c.in-If.test) (stmts_of c.in-If.block.stmts.items) (else_of c.in-If.other) c.in_ok-block-in-If.ensures.scope _ _ c.in_ok-condition-in-If.ensures.value c.in_ok-block-in-If.ensures.value ∙ ap (typed_stmt sc) (if_is c.args.s.now c.in-If.start c.in-If.test c.in-If.block c.in-If.other c.in-If.is))
+    (if_value (scope c.args.self.now) (scope c.block.new.self) (out-If c.deref-in-If-3.result.now).start (out-If c.deref-in-If-2.result.now).block.close (expr_of (out-If c.deref-in-If.result.now).condition) (stmts_of (out-If c.deref-in-If-2.result.now).block.stmts.items) (else_of (out-If c.deref-in-If-4.result.now).otherwise) c.in_ok-block-in-If.ensures.scope _ _ c.in_ok-condition-in-If.ensures.value c.in_ok-block-in-If.ensures.value ∙ ap (typed_stmt sc) (if_seen c.args.s.now c.in-If.choice _ _ _ _ c.in-If.is c.deref-in-If.ensures c.deref-in-If-2.ensures c.deref-in-If-3.ensures c.deref-in-If-4.ensures))
     c.otherwise.ensures.value
 
 pub stmt-returns-in_ok-block-in-If-clause-faults : goal.stmt-returns-in_ok-block-in-If-clause-faults
 stmt-returns-in_ok-block-in-If-clause-faults t c =
     let sc = scope c.args.self.now in
     on_ok_by c.otherwise.result
-    (λ h. if_faults (scope c.args.self.now) (scope c.block.new.self) c.in-If.start c.in-If.block.close (expr_of c.in-If.test) (stmts_of c.in-If.block.stmts.items) (else_of c.in-If.other) c.in_ok-block-in-If.ensures.scope _ _ _ _ c.in_ok-condition-in-If.ensures.faults c.in_ok-block-in-If.ensures.faults h ∙ ap (λ s. least_of c.args.least.now (stmt_faults sc s)) (if_is c.args.s.now c.in-If.start c.in-If.test c.in-If.block c.in-If.other c.in-If.is))
+    (λ h. if_faults (scope c.args.self.now) (scope c.block.new.self) (out-If c.deref-in-If-3.result.now).start (out-If c.deref-in-If-2.result.now).block.close (expr_of (out-If c.deref-in-If.result.now).condition) (stmts_of (out-If c.deref-in-If-2.result.now).block.stmts.items) (else_of (out-If c.deref-in-If-4.result.now).otherwise) c.in_ok-block-in-If.ensures.scope _ _ _ _ c.in_ok-condition-in-If.ensures.faults c.in_ok-block-in-If.ensures.faults h ∙ ap (λ s. least_of c.args.least.now (stmt_faults sc s)) (if_seen c.args.s.now c.in-If.choice _ _ _ _ c.in-If.is c.deref-in-If.ensures c.deref-in-If-2.ensures c.deref-in-If-3.ensures c.deref-in-If-4.ensures))
     c.otherwise.ensures.faults
 
 pub stmt-returns-in_ok-block-in-If-clause-scope : goal.stmt-returns-in_ok-block-in-If-clause-scope
 stmt-returns-in_ok-block-in-If-clause-scope t c =
     let sc = scope c.args.self.now in
     on_ok_by c.otherwise.result
-    (λ h. if_scope (scope c.args.self.now) (scope c.block.new.self) c.in-If.start c.in-If.block.close (expr_of c.in-If.test) (stmts_of c.in-If.block.stmts.items) (else_of c.in-If.other) c.in_ok-block-in-If.ensures.scope _ h ∙ ap (after sc) (if_is c.args.s.now c.in-If.start c.in-If.test c.in-If.block c.in-If.other c.in-If.is))
+    (λ h. if_scope (scope c.args.self.now) (scope c.block.new.self) (out-If c.deref-in-If-3.result.now).start (out-If c.deref-in-If-2.result.now).block.close (expr_of (out-If c.deref-in-If.result.now).condition) (stmts_of (out-If c.deref-in-If-2.result.now).block.stmts.items) (else_of (out-If c.deref-in-If-4.result.now).otherwise) c.in_ok-block-in-If.ensures.scope _ h ∙ ap (after sc) (if_seen c.args.s.now c.in-If.choice _ _ _ _ c.in-If.is c.deref-in-If.ensures c.deref-in-If-2.ensures c.deref-in-If-3.ensures c.deref-in-If-4.ensures))
     c.otherwise.ensures.scope
 
 pub block-returns-clause-scope : goal.block-returns-clause-scope
