@@ -196,12 +196,12 @@ module _ (heap : List Value) (shape : Shape) where
       two_beside m.stack m _ _ (λ i v rest. trap_beside (element_cell shape array i) m _ _ (λ cell. store_beside m cell v rest))
   act_beside (Some (GetMember pool)) m =
       top_beside m.stack m _ _ (λ i rest. trap_beside (member_of shape pool i) m _ _ (λ r. moves_beside m _ refl))
-  act_beside (Some (LoadFinal structure f)) m =
+  act_beside (Some (LoadFinal f structure)) m =
       top_beside m.stack m _ _ (λ r rest. trap_beside (final_value shape r f) m _ _ (λ v. moves_beside m _ refl))
-  act_beside (Some (LoadField structure f)) m =
+  act_beside (Some (LoadField f structure)) m =
       top_beside m.stack m _ _ (λ r rest. trap_beside (field_cell shape r f) m _ _ (λ cell. load_beside m cell rest))
   act_beside (Some NonNull) m = top_beside m.stack m _ _ (λ r rest. trap_beside (not_null r) m _ _ (λ same. moves_beside m _ refl))
-  act_beside (Some (PutField structure f)) m =
+  act_beside (Some (PutField f structure)) m =
       two_beside m.stack m _ _ (λ r v rest. trap_beside (field_cell shape r f) m _ _ (λ cell. store_beside m cell v rest))
   act_beside (Some NegateTop) m = top_beside m.stack m _ _ (λ v rest. trap_beside (negated v) m _ _ (λ w. moves_beside m _ refl))
   act_beside (Some NotTop) m = top_beside m.stack m _ _ (λ v rest. trap_beside (negation v) m _ _ (λ w. moves_beside m _ refl))

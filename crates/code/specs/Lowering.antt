@@ -18,8 +18,8 @@ use Rattle.code.specs.declared.instr.Instr.TheVariants.{PushNumber, PushNull, Ge
 -- one instruction for each field
 abbrev pub fields_code : List FieldStep → List Instr
 fields_code [] = []
-fields_code (Final structure f ∷ fs) = LoadFinal structure f ∷ fields_code fs
-fields_code (Field structure f ∷ fs) = LoadField structure f ∷ fields_code fs
+fields_code (Final structure f ∷ fs) = LoadFinal f structure ∷ fields_code fs
+fields_code (Field structure f ∷ fs) = LoadField f structure ∷ fields_code fs
 
 abbrev pub path_code : Path → List Instr
 path_code path = GetLocal path.local ∷ fields_code path.fields.items
@@ -108,7 +108,7 @@ module _ {P : Type 0} (lists : List (List P)) where
     stmt_code (SetElement array i e) point =
         acquire_code point ++ (expr_code i ++ (Bound array ∷ (expr_code e ++ PutElement array ∷ [])))
     stmt_code (SetField path structure f e) point =
-        acquire_code point ++ (path_code path ++ (NonNull ∷ (expr_code e ++ PutField structure f ∷ [])))
+        acquire_code point ++ (path_code path ++ (NonNull ∷ (expr_code e ++ PutField f structure ∷ [])))
     stmt_code (Print e) point = acquire_code point ++ (expr_code e ++ PrintTop ∷ [])
     stmt_code (If' c m block) point = if_code (acquire_code point ++ test_code c) (block_code block (point + 1))
     stmt_code (IfElse' c m block k otherwise) point =

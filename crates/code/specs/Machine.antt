@@ -125,12 +125,12 @@ module _ {M : Type 0} (load : M → ℕ → Option (Value × M)) (store : M → 
       on_two m.stack (λ i v rest. or_trap (element_cell shape array i) (λ cell. stores m cell v rest))
   act (Some (GetMember pool)) m =
       on_top m.stack (λ i rest. or_trap (member_of shape pool i) (λ r. advances m (r ∷ rest)))
-  act (Some (LoadFinal structure f)) m =
+  act (Some (LoadFinal f structure)) m =
       on_top m.stack (λ r rest. or_trap (final_value shape r f) (λ v. advances m (v ∷ rest)))
-  act (Some (LoadField structure f)) m =
+  act (Some (LoadField f structure)) m =
       on_top m.stack (λ r rest. or_trap (field_cell shape r f) (λ cell. loads m cell rest))
   act (Some NonNull) m = on_top m.stack (λ r rest. or_trap (not_null r) (λ same. advances m m.stack))
-  act (Some (PutField structure f)) m =
+  act (Some (PutField f structure)) m =
       on_two m.stack (λ r v rest. or_trap (field_cell shape r f) (λ cell. stores m cell v rest))
   act (Some NegateTop) m = on_top m.stack (λ v rest. or_trap (negated v) (λ w. advances m (w ∷ rest)))
   act (Some NotTop) m = on_top m.stack (λ v rest. or_trap (negation v) (λ w. advances m (w ∷ rest)))

@@ -12,8 +12,8 @@ use Rattle.lowering.specs.declared.assembler.Connective.TheVariants.{And, Or}
 
 -- what leads from a reference to a field of its object
 abbrev pub field_code : FieldStep → Instr
-field_code (Final structure f) = LoadFinal structure f
-field_code (Field structure f) = LoadField structure f
+field_code (Final structure f) = LoadFinal f structure
+field_code (Field structure f) = LoadField f structure
 
 -- these instructions are put behind those that there are
 abbrev pub Adds : Assembler → Assembler → List Instr → Type 0

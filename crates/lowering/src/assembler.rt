@@ -53,14 +53,14 @@ pub struct Assembler {
 impl Assembler {
     ghost use Rattle.lowering.specs.Assembly.{Adds, Lands, field_code, blank, places, closed, PointsToEnd};
 
-    /// No instructions.
-    pub fn new(alloc: Global) -> Assembler
-        ensures { result.instructions.items ≡ [] }
+    /// No instructions, with room for so many.
+    pub fn new(alloc: Global, size: usize) -> Result<Assembler, NoMemory>
+        ensures { IfOk result (λ code. code.instructions.items ≡ []) }
     {
-        Assembler {
-            instructions: Vec::new(alloc),
+        Ok(Assembler {
+            instructions: Vec::with_capacity(alloc, size)?,
             alloc,
-        }
+        })
     }
 
     /// One more instruction.

@@ -26,17 +26,17 @@ impl<'a> Emitter<'a> {
     ghost use Rattle.lowering.specs.Emission.{value_code, set_element_code, set_field_code};
     ghost use Rattle.lowering.specs.Emission.{choice_code, loop_code, statement_code, statements_code};
 
-    /// Before the first point.
-    pub fn new(alloc: Global, lists: &'a [Vec<u8>]) -> Emitter<'a>
-        ensures lists { result.lists ≡ lists.entry }
-        ensures point { result.point ≡ 0 }
-        ensures code { result.code.instructions.items ≡ [] }
+    /// Before the first point, with room for so many instructions.
+    pub fn new(alloc: Global, lists: &'a [Vec<u8>], size: usize) -> Result<Emitter<'a>, NoMemory>
+        ensures lists { IfOk result (λ emitter. emitter.lists ≡ lists.entry) }
+        ensures point { IfOk result (λ emitter. emitter.point ≡ 0) }
+        ensures code { IfOk result (λ emitter. emitter.code.instructions.items ≡ []) }
     {
-        Emitter {
+        Ok(Emitter {
             lists,
             point: 0,
-            code: Assembler::new(alloc),
-        }
+            code: Assembler::new(alloc, size)?,
+        })
     }
 
     // The next point, with an instruction where its list has a path.

@@ -17,6 +17,7 @@ mod needs;
 mod program_code;
 mod program_rooms;
 mod section_code;
+mod sizes;
 
 pub use program_code::lower;
 pub use program_rooms::rooms;

@@ -7,6 +7,7 @@ ghost use Rattle.code.specs.Lowering.{section_code};
 ghost use Rattle.lowering.specs.Lowered.{IsLowered, number_lists, texts};
 
 use crate::emitter::Emitter;
+use crate::sizes;
 use code::instr::Instr;
 use code::section_code::SectionCode;
 use core_lang::tree::Section;
@@ -47,7 +48,8 @@ impl Lowering<'_> {
     fn instructions(&self, alloc: Global, lists: &[Vec<u8>]) -> Result<Vec<Instr>, NoMemory>
         ensures { IfOk result (λ code. code.items ≡ section_code (number_lists lists.now) self.now.section.now) }
     {
-        let mut emitter = Emitter::new(alloc, lists);
+        let size = sizes::of_section(self.section);
+        let mut emitter = Emitter::new(alloc, lists, size)?;
         emitter.block(&self.section.body)?;
         emitter.end(&self.section.result)?;
         Ok(emitter.code.instructions)

@@ -4,6 +4,8 @@
 #![tactic(auto)]
 
 #[cfg(test)]
+mod calls;
+#[cfg(test)]
 mod command_lines;
 #[cfg(test)]
 mod engine;
@@ -17,6 +19,8 @@ mod history_texts;
 mod judging;
 #[cfg(test)]
 mod layouts;
+#[cfg(test)]
+mod managers;
 #[cfg(test)]
 mod section_runs;
 #[cfg(test)]

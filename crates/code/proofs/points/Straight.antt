@@ -43,7 +43,7 @@ own_code (Bind k e) = expr_code e ++ PutLocal k ∷ []
 own_code (SetLocal k e) = expr_code e ++ PutLocal k ∷ []
 own_code (SetGlobal cell e) = expr_code e ++ PutGlobal cell ∷ []
 own_code (SetElement array i e) = expr_code i ++ (Bound array ∷ (expr_code e ++ PutElement array ∷ []))
-own_code (SetField path structure f e) = path_code path ++ (NonNull ∷ (expr_code e ++ PutField structure f ∷ []))
+own_code (SetField path structure f e) = path_code path ++ (NonNull ∷ (expr_code e ++ PutField f structure ∷ []))
 own_code (Print e) = expr_code e ++ PrintTop ∷ []
 own_code _ = []
 
@@ -167,7 +167,7 @@ module _ {M : Type 0} (load : M → ℕ → Option (Value × M)) (store : M → 
       subst (λ n. Then n stack v) p g
   fields_safe start local (Final s f ∷ fs) base v place stack fit has c e g =
       let p : place + suc (length (fields_code fs)) ≡ place + 1 + length (fields_code fs) = omega arith in
-      λ memory sees. take (LoadFinal s f) (here place (v ∷ stack) memory) fit has.0
+      λ memory sees. take (LoadFinal f s) (here place (v ∷ stack) memory) fit has.0
       (on_trap (final_value shape v f) _ _
       (gives-with F (final_value shape v f) (λ w. along shape heap w fs) (Then (place + suc (length (fields_code fs))) stack) g)
       (λ w e' k. fields_safe start local fs (base ++ Final s f ∷ []) w (place + 1) stack fit has.1 c (reached-step local base (Final s f) v e ∙ e')
@@ -175,7 +175,7 @@ module _ {M : Type 0} (load : M → ℕ → Option (Value × M)) (store : M → 
   fields_safe start local (Field s f ∷ fs) base v place stack fit has c e g =
       let p : place + suc (length (fields_code fs)) ≡ place + 1 + length (fields_code fs) = omega arith in
       let end = Then (place + suc (length (fields_code fs))) stack in
-      λ memory sees. take (LoadField s f) (here place (v ∷ stack) memory) fit has.0
+      λ memory sees. take (LoadField f s) (here place (v ∷ stack) memory) fit has.0
       (on_trap (field_cell shape v f) _ _
       (gives-with F (field_cell shape v f) (λ cell. with (read heap cell) (λ w. along shape heap w fs)) end
       (subst (λ r. Gives F r end) (with-with (field_cell shape v f) (read heap) (λ w. along shape heap w fs)) g))
@@ -577,8 +577,8 @@ module _ {M : Type 0} (load : M → ℕ → Option (Value × M)) (store : M → 
       let pc1 = place + length ci in let pc2 = pc1 + 1 in let pc3 = pc2 + length ce in
       let back = has_back code place ci _ has in
       let at = (has_back code pc2 ce _ back.1).0 in
-      let end : place + length (ci ++ (NonNull ∷ (ce ++ PutField structure f ∷ []))) ≡ pc3 + 1 =
-      omega (arith, length-append ci (NonNull ∷ (ce ++ PutField structure f ∷ [])), length-append ce (PutField structure f ∷ [])) in
+      let end : place + length (ci ++ (NonNull ∷ (ce ++ PutField f structure ∷ []))) ≡ pc3 + 1 =
+      omega (arith, length-append ci (NonNull ∷ (ce ++ PutField f structure ∷ [])), length-append ce (PutField f structure ∷ [])) in
       let last = On (pc3 + 1) stack in
       let base = place_of path shape locals heap in
       let covers = back_covered (in_path path) _ c in
@@ -589,7 +589,7 @@ module _ {M : Type 0} (load : M → ℕ → Option (Value × M)) (store : M → 
       (λ o e1 g2. let same = not_null_same r o e1 in
       safely pc2 (r ∷ stack) (expr_safe e pc2 (r ∷ stack) (omega (arith, fit, n)) (has_front code pc2 ce _ back.1) covers.1
       (gives-more F (value_of e shape locals heap) _ _
-      (λ v g3 memory sees. take (PutField structure f) (here pc3 (v ∷ r ∷ stack) memory) (omega (arith, fit, n)) at
+      (λ v g3 memory sees. take (PutField f structure) (here pc3 (v ∷ r ∷ stack) memory) (omega (arith, fit, n)) at
       (on_trap (field_cell shape r f) _ _
       (gives-given F (field_cell shape r f) state _ last (subst (λ x. Leads F (given (field_cell shape x f) state (λ cell. written cell v state)) last) (sym same) g3))
       (λ cell e2 g4. store_goes cell pc3 (v ∷ r ∷ stack) stack v (slice_get heap cell) memory refl sees shows

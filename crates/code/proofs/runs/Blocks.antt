@@ -155,7 +155,7 @@ module _ (shape : Shape) (code : List Instr) where
           (λ x at' last. element_settles shape code k s array x e at' end go last h))
       stmt_settles (SetField path structure f e) point k place end s go le has h =
           let cp = path_code path in
-          let rest = NonNull ∷ (expr_code e ++ PutField structure f ∷ []) in
+          let rest = NonNull ∷ (expr_code e ++ PutField f structure ∷ []) in
           let base = place_of path shape s.locals s.heap in
           let effect = λ (b : Value). given (value_of e shape s.locals s.heap) s (λ v. given (field_cell shape b f) s (λ cell. written cell v s)) in
           acquired point k place end s (cp ++ rest) _ has (λ at here.

@@ -110,11 +110,11 @@ module _ (shape : Shape) (code : List Instr) (k : ℕ) (s : State) where
   fields_settle [] v place end stack go has h = ends_at place end (v ∷ stack) (go v) has (h v)
   fields_settle (Final structure f ∷ fs) v place end stack go has h =
       resolve-with place (v ∷ stack) (final_value shape v f) (λ w. along shape s.heap w fs) go
-      (pushes (LoadFinal structure f) (final_value shape v f) place (place + 1) (v ∷ stack) stack (λ w. resolve (along shape s.heap w fs) s go) (has.0, refl) refl
+      (pushes (LoadFinal f structure) (final_value shape v f) place (place + 1) (v ∷ stack) stack (λ w. resolve (along shape s.heap w fs) s go) (has.0, refl) refl
       (λ w. fields_settle fs w (place + 1) end stack go has.1 h))
   fields_settle (Field structure f ∷ fs) v place end stack go has h =
       resolve-with place (v ∷ stack) (with (field_cell shape v f) (read s.heap)) (λ w. along shape s.heap w fs) go
-      (loading (LoadField structure f) (field_cell shape v f) place (place + 1) (v ∷ stack) stack (λ w. resolve (along shape s.heap w fs) s go) (has.0, refl) refl
+      (loading (LoadField f structure) (field_cell shape v f) place (place + 1) (v ∷ stack) stack (λ w. resolve (along shape s.heap w fs) s go) (has.0, refl) refl
       (λ w. fields_settle fs w (place + 1) end stack go has.1 h))
 
   pub path_settles : (path : Path) (place end : ℕ) (stack : List Value) (go : Value → Run) → HasAt code place (path_code path) end →
@@ -352,7 +352,7 @@ module _ (shape : Shape) (code : List Instr) (k : ℕ) (s : State) where
 
   -- the reference is on the stack
   pub field_settles : (structure f : ℕ) (r : Value) (e : Expr) (place end : ℕ) (go : State → Run) →
-      HasAt code place (NonNull ∷ (expr_code e ++ PutField structure f ∷ [])) end → Onward shape code k end go →
+      HasAt code place (NonNull ∷ (expr_code e ++ PutField f structure ∷ [])) end → Onward shape code k end go →
       From place (r ∷ [])
       (resolve (not_null r) s (λ base. conclude (given (value_of e shape s.locals s.heap) s (λ v. given (field_cell shape base f) s (λ cell. written cell v s))) go))
   field_settles structure f r e place end go has h =
@@ -367,6 +367,6 @@ module _ (shape : Shape) (code : List Instr) (k : ℕ) (s : State) where
       (conclude-given (place + 1) (r ∷ []) value (effect r) go
       (expr_settles e (place + 1) mid (r ∷ []) (λ v. conclude (effect r v) go) (has_front code (place + 1) end ce _ has.1)
       (λ v. conclude-given mid (v ∷ r ∷ []) (field_cell shape r f) (λ cell. written cell v s) go
-      (takes shape code k (PutField structure f) (machine mid (v ∷ r ∷ []) s) (resolve (field_cell shape r f) s (λ cell. conclude (written cell v s) go)) last.0
+      (takes shape code k (PutField f structure) (machine mid (v ∷ r ∷ []) s) (resolve (field_cell shape r f) s (λ cell. conclude (written cell v s) go)) last.0
       (goes-or_trap shape code k mid (v ∷ r ∷ []) s (field_cell shape r f) _ (λ cell. conclude (written cell v s) go)
       (λ cell here. store_goes cell mid end (v ∷ r ∷ []) v go last.1 h))))))))

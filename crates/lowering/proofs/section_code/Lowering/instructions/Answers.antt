@@ -5,6 +5,6 @@ use Rattle.lowering.proofs.section_code.Lowering.instructions.Goals as goal
 
 pub returns : goal.returns
 returns c =
-    section_emitted c.new-emitter.result c.block.new.self c.end.new.self.code.instructions.items (number_lists c.args.lists.now) c.args.self.now.section.now c.deref.result.now
-    (ap (λ l. number_lists l.now) c.new-emitter.ensures.lists) c.new-emitter.ensures.point c.new-emitter.ensures.code c.deref.ensures.value
+    section_emitted c.in_ok-emitter.emitter c.block.new.self c.end.new.self.code.instructions.items (number_lists c.args.lists.now) c.args.self.now.section.now c.deref.result.now
+    (ap (λ l. number_lists l.now) c.in_ok-emitter.ensures.lists) c.in_ok-emitter.ensures.point c.in_ok-emitter.ensures.code c.deref.ensures.value
     c.in_ok-block.ensures c.in_ok-end.ensures
