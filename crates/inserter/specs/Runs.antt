@@ -52,7 +52,7 @@ module _ (program : Typed) (section : Section) (ranks : List ℕ) (lists : List 
     -- it is granted a lock that it asks for
     gets : {p : ℕ} {locals : List Value} {held : List Lock} {lock : Lock} → Run p locals held → Asks p locals held lock →
         Run p locals (held ++ lock ∷ [])
-    -- with all listed locks held it does what the point says, and goes on by flow. Only the roots that the point binds change, to anything
+    -- with all listed locks held it does what the point says, and goes on by flow. The roots of used paths that the point doesn't bind go on naming what they named; all else may change
     goes : {p q : ℕ} {locals after : List Value} {held : List Lock} → Run p locals held →
         ((lock : Lock) → IsListed p locals lock → Contains held lock) → Keeps p locals after → Follows (skeleton section) p q →
         Run q after held

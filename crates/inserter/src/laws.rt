@@ -9,7 +9,8 @@ pub fn placements_are_ordered()
 
 /// In a section whose lists have all that is due before each point, and nothing that isn't wanted there, along every walk
 /// and whatever objects the roots name: where a listed lock isn't held, a run asks for one; each lock that it asks for comes
-/// after all that it holds; each access finds its lock held; and no more locks are held than there are lock paths.
+/// after all that it holds; each access finds the lock held that its path names; and no more locks are held than there are
+/// lock paths.
 pub fn asks_rise()
     ensures rise { InRuns AsksRise }
     ensures some { InRuns AsksForSome }

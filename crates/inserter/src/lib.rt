@@ -1,8 +1,8 @@
 //! The locks that a section asks for before each of its points, and what holds of every run that does so.
 //!
 //! - [`place`]: the lists of lock paths before the points of all sections.
-//! - [`laws`]: each lock that a run asks for comes after all that it holds, each access finds its lock held, and no more
-//!   locks are held than the section has lock paths.
+//! - [`laws`]: each lock that a run asks for comes after all that it holds, the lock that an access's path names is held,
+//!   and no more locks are held than the section has lock paths.
 //! - [`placed::Placed`]: the lists.
 //!
 //! `specs/` defines the list before a point (`Placement`), the run of a section as far as its locks go (`Runs`), and what

@@ -28,7 +28,7 @@ has_edge before c d = has_class (slice_index_or before d no_classes) c
 abbrev pub InTable : List ClassSet → ℕ → ℕ → Type 0
 InTable before c d = has_edge before c d ≡ true
 
--- at most 128 classes, and edges between them alone
+-- edges lead from classes of the table alone
 abbrev pub LeadsWithin : List ClassSet → Type 0
 LeadsWithin before = (c d : ℕ) → InTable before c d → c < length before
 

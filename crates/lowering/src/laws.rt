@@ -17,12 +17,13 @@ pub fn no_access_no_acquisition()
     ensures { NothingIsTaken }
 {}
 
-/// What is taken before the points of a section depends on the section itself, the declarations and the ranks alone.
+/// What is taken before the points of a section depends on the section itself, the declarations and the ranks alone: of
+/// programs that share the values of these.
 pub fn sections_stand_alone()
     ensures { ListsDependOnTheSection }
 {}
 
-/// A section that accesses nothing, added behind the others, changes no rank.
+/// A section that accesses nothing, added behind the others, changes no rank, where the declarations stay the same values.
 pub fn ranks_stay()
     ensures { RanksStay }
 {}

@@ -76,9 +76,9 @@ NotesItsBegin plan steps =
 
 -- of every list of steps: the finished sections' results and prints, and every cell that no section holds, are those
 -- of running the history's sections whole, one after another, from the opening cells; a section that ended before
--- another began stands before it; each thread's sections are its script's calls, in order; what is noted of their
--- begins is right; and in the world that the steps lead to, which is any world reached, no threads wait for each other
--- in a circle, and where a section is open, some open section goes on
+-- another began stands before it; each thread's finished sections are the first calls of its script, in order; what is
+-- noted of their begins is right; and in the world that the steps lead to, which is any world reached, no threads wait
+-- for each other in a circle, and where a section is open, some open section goes on
 pub record Headline (plan : Plan) (steps : List ℕ) : Type 0 where
   pub heap : List Value
   pub results_and_prints : IsSerial plan (final plan steps) heap

@@ -43,9 +43,9 @@ pub fn worlds_stay_ready()
 
 /// Every run of a compiled program, whatever the steps: its finished sections' results and prints, and every cell that
 /// no section holds, are those of running these sections whole, one after another, from the opening cells; a section
-/// that ended before another began stands before it; each thread's sections are its script's calls in order; and in no
-/// world that is reached do threads wait for each other in a circle: where a section is open, the next step of some
-/// open section is no wait.
+/// that ended before another began stands before it; each thread's finished sections are the first calls of its script,
+/// in order; and in no world that is reached do threads wait for each other in a circle: where a section is open, the
+/// next step of some open section is no wait.
 pub fn every_run()
     ensures { EveryRunHasIt }
 {
