@@ -14,10 +14,10 @@ use Rattle.core_lang.specs.declared.typed.Typed.{Typed}
 use Rattle.core_lang.specs.Typing.{struct_of}
 use Rattle.core_lang.specs.WellFormed.{IsWellFormed}
 use Rattle.locks.specs.declared.lock.Lock.{Lock}
-use Rattle.locks.specs.Locks.{global_lock}
+use Rattle.locks.specs.Locks.{global_lock, IsLockOfClass, IsLock}
 use Rattle.layout.specs.declared.places.ClassPlace.{ClassPlace}
 use Rattle.layout.specs.declared.places.ClassPlace.TheVariants as place
-use Rattle.layout.specs.Layouts.{IsLockOfClass, IsLock, if_global_lock, global_locks, lock_fields, object_struct, locks_of_object, object_locks, all_locks}
+use Rattle.layout.specs.Layouts.{if_global_lock, global_locks, lock_fields, object_struct, locks_of_object, object_locks, all_locks}
 use Rattle.layout.specs.Numbers.{KnowFields, AreFields, class_place}
 use Rattle.layout.proofs.Lists.{lookup_some, lookup_at, contains_there, there_contains, still_at, last_at, map_at}
 use Rattle.layout.proofs.Locked.{object_there}

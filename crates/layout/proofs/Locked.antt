@@ -18,8 +18,7 @@ use Rattle.core_lang.specs.declared.typed.Typed.{Typed}
 use Rattle.core_lang.specs.Typing.{lookup, struct_of}
 use Rattle.core_lang.specs.WellFormed.{IsWellFormed, IsLaidOut, IsCellOf, IsGlobalLock, FinalsLead, EndsAt}
 use Rattle.locks.specs.declared.lock.Lock.{Lock}
-use Rattle.locks.specs.Locks.{final_of, led_to, global_lock, lock_of, protection_of, walked, protecting, lock_of_cell}
-use Rattle.layout.specs.Layouts.{IsLockOfClass, IsLock}
+use Rattle.locks.specs.Locks.{final_of, led_to, global_lock, IsLockOfClass, IsLock, lock_of, protection_of, walked, protecting, lock_of_cell}
 use Rattle.layout.proofs.Lists.{lookup_some, lookup_at}
 
 -- what an object's struct shows

@@ -10,7 +10,7 @@ use Rattle.core_lang.specs.declared.typed.Typed.{Typed}
 use Rattle.core_lang.specs.Serial.{opening_heap}
 use Rattle.core_lang.specs.Typing.{lookup, struct_of}
 use Rattle.locks.specs.declared.lock.Lock.{Lock}
-use Rattle.locks.specs.Locks.{final_of, global_lock, lock_of_cell}
+use Rattle.locks.specs.Locks.{final_of, global_lock, IsLock, lock_of_cell}
 
 -- what each cell opens with and which lock protects it, the locks by number, and what final references name
 pub record LayoutOf : Type 0 where
@@ -26,16 +26,6 @@ abbrev pub object_named : LayoutOf → ℕ → ℕ → Option ℕ
 object_named layout object final = lookup (slice_get layout.first_finals object) (λ first. slice_get layout.finals (first + final))
 
 -- ---- the locks of a program
-
--- a global lock, or the lock of a struct's lock field at an object of the struct
-abbrev pub IsLockOfClass : Typed → Lock → Option LockClass → Type 0
-IsLockOfClass program lock None = ⊥
-IsLockOfClass program lock (Some (class.Global name)) = lock.object ≡ 0
-IsLockOfClass program lock (Some (class.Field s l)) = struct_of program.shape lock.object ≡ Some s
-
--- a lock of the program
-abbrev pub IsLock : Typed → Lock → Type 0
-IsLock program lock = IsLockOfClass program lock (slice_get program.classes.items lock.class)
 
 -- the lock of a class, if it is a global lock
 abbrev pub if_global_lock : ℕ → Option LockClass → List Lock

@@ -91,7 +91,7 @@ pub fn lock_of_cell(program: &Typed, cell: usize) -> Lock
     requires program { IsWellFormed program.now }
     requires cell { cell < length program.now.cells.items }
     ensures protects { locking.lock_of_cell program.now cell ≡ Some result }
-    ensures listed { layouts.IsLock program.now result }
+    ensures listed { locking.IsLock program.now result }
 {
     protecting(program, program.cells[cell].owner).unwrap()
 }

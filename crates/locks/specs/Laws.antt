@@ -21,7 +21,7 @@ use Rattle.locks.specs.declared.lock.Lock.{Lock}
 use Rattle.locks.specs.declared.path.Root.{Root}
 use Rattle.locks.specs.declared.path.Root.TheVariants.{GlobalLock, Local as AtLocal}
 use Rattle.locks.specs.Accesses.{Access, accesses_at}
-use Rattle.locks.specs.Locks.{lock_of_cell}
+use Rattle.locks.specs.Locks.{IsLock, lock_of_cell}
 use Rattle.locks.specs.Reached.{Reaches}
 use Rattle.locks.specs.LockPaths.{LockPath, StablePath, Binding, IsLet, stable, stable_value, bindings, behind, normal_form, lock_path, lock_paths, lock_named, same_path, Uses, IsInScope, BindsRoot, LetsAgree}
 use Rattle.locks.specs.Faults.{HasSection}
@@ -37,6 +37,13 @@ PathsNameTheLocks =
     LetsAgree section scope program.shape locals →
     Contains (accesses_at point) a → lock_path program section a ≡ Some path → Reaches program.shape locals heap a.target cell →
     (lock : Lock) × (lock_named path program.shape locals ≡ Some lock) × (lock_of_cell program cell ≡ Some lock)
+
+-- the lock that a path which a point uses names, where each local has a value of its type, is one of the program's
+abbrev pub NamedAreLocks : Type 0
+NamedAreLocks =
+    (program : Typed) (section : Section) (p : ℕ) (path : LockPath) (locals : List Value) (lock : Lock) → IsWellFormed program →
+    HasSection program section → HaveTypes program.shape (local_types section.locals.items) locals → Uses program section p path →
+    lock_named path program.shape locals ≡ Some lock → IsLock program lock
 
 -- a path that a point uses is in scope there
 abbrev pub UsedAreInScope : Type 0

@@ -10,7 +10,7 @@ pub mod Waiting
 pub mod Laws
 pub mod Lists
 pub use Rattle.locks.specs.Accesses.{Access, Target, accesses, accesses_at}
-pub use Rattle.locks.specs.Locks.{lock_of_cell, protecting, walked}
+pub use Rattle.locks.specs.Locks.{IsLock, lock_of_cell, protecting, walked}
 pub use Rattle.locks.specs.LockPaths.{LockPath, lock_path_of, lock_path, lock_paths, lock_named, Uses, IsInScope, BindsRoot, LetsAgree}
 pub use Rattle.locks.specs.Reached.{Reaches}
 pub use Rattle.locks.specs.Faults.{IsFault, IsRefusal, IsLeast, HasNoFault}

@@ -1,7 +1,7 @@
 //! What holds of the locks and lock paths of every program: functions that do nothing, and whose contracts are the
 //! laws.
 
-ghost use Rattle.locks.specs.Laws.{PathsNameTheLocks, LetsAgreeAtFirst, LetsKeepAgreeing, NamesStay, UsedAreInScope, ScopeOfPathsGoesBack, PathsHaveClasses, NormalFormOfLet, NormalFormOfOther, NormalFormsAreNormal, SamePathDecides, EachPathOnce, UsedAreListed};
+ghost use Rattle.locks.specs.Laws.{PathsNameTheLocks, NamedAreLocks, LetsAgreeAtFirst, LetsKeepAgreeing, NamesStay, UsedAreInScope, ScopeOfPathsGoesBack, PathsHaveClasses, NormalFormOfLet, NormalFormOfOther, NormalFormsAreNormal, SamePathDecides, EachPathOnce, UsedAreListed};
 ghost use Rattle.locks.specs.Order.{PrecedesIsStrict};
 ghost use Rattle.locks.specs.Waiting.{NoCircle};
 
@@ -9,6 +9,11 @@ ghost use Rattle.locks.specs.Waiting.{NoCircle};
 /// one that protects the cell that the access reaches.
 pub fn paths_name_the_locks()
     ensures { PathsNameTheLocks }
+{}
+
+/// The lock that a path which a point uses names is one of the program's, where each local has a value of its type.
+pub fn named_are_locks()
+    ensures { NamedAreLocks }
 {}
 
 /// Each `let` in scope has the value that its initialiser had: where a run begins, and, from one point to the next,

@@ -13,7 +13,8 @@ use Rattle.locks.specs.declared.lock.Lock.{Lock}
 use Rattle.locks.specs.declared.path.LockPath as written
 use Rattle.locks.specs.LockPaths.{LockPath, lock_path_of}
 use Rattle.layout.specs.LockCells.{cells_of}
-use Rattle.layout.specs.Layouts.{LayoutOf, IsLockOfClass, IsLayoutOf}
+use Rattle.locks.specs.Locks.{IsLockOfClass}
+use Rattle.layout.specs.Layouts.{LayoutOf, IsLayoutOf}
 use Rattle.lowering.specs.Rooms.{most_among, most_cells}
 
 -- a lock of the program has one of its classes

@@ -22,9 +22,9 @@ use Rattle.lockorder.specs.Edges.{Edge, AreRanksOf, RiseIn}
 use Rattle.flow.specs.Points.{Binds, bound_at}
 use Rattle.flow.specs.Walks.{begin}
 use Rattle.points.specs.Wanted.{IsTaken}
-use Rattle.locks.specs.Locks.{lock_of_cell}
+use Rattle.locks.specs.Locks.{IsLock, lock_of_cell}
 use Rattle.inserter.specs.Placement.{IsPath, IsPlacement, AreLists, IsListBefore, IsDue}
-use Rattle.layout.specs.Layouts.{IsLayoutOf, IsLock}
+use Rattle.layout.specs.Layouts.{IsLayoutOf}
 use Rattle.lowering.specs.Plans.{IsCompiled}
 use Rattle.worlds.proofs.Examples.{inc, inc_program, int_global, int_cell, calling, a_call, the_lock, lost_update}
 
