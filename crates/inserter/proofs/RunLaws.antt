@@ -11,7 +11,7 @@ use Rattle.locks.specs.declared.lock.Lock.{Lock}
 use Rattle.locks.specs.LockPaths.{LockPath, lock_paths, lock_named}
 use Rattle.inserter.specs.Placement.{IsPath}
 use Rattle.inserter.specs.Runs.{Asks, Run, begins, gets, goes}
-use Rattle.inserter.specs.Laws.{IsOrdered, InRuns, AsksRise, UsedAreHeld, FewAreHeld}
+use Rattle.inserter.specs.Laws.{IsOrdered, InRuns, AsksRise, UsedAreHeld, HeldAreNamed, FewAreHeld}
 use Rattle.inserter.proofs.Held.{distinct_push}
 use Rattle.inserter.proofs.Few.{no_more_than}
 use Rattle.inserter.proofs.Listed.{PathLaws, named_rank, used_wanted, number_of, listed_wanted}
@@ -86,6 +86,12 @@ module _ (laws : PathLaws) (program : Typed) (section : Section) (ranks : List �
   abbrev IsNamedBy : List Value → ℕ → Lock → Type 0
   IsNamedBy locals i lock = (path : LockPath) × IsPath program section i path × (lock_named path program.shape locals ≡ Some lock)
 
+  all_named : (p : ℕ) (locals : List Value) (held : List Lock) → Run program section ranks lists p locals held → HeldAreNamed program section ranks lists p locals held
+  all_named p locals held run lock c =
+      let x = path_of laws program section ranks lists ok p locals held (stands run) lock c in
+      let i = number_of laws program section ranks lists ok x.user x.path x.uses in
+      (i.0, x.path, i.1, x.named)
+
   few : (p : ℕ) (locals : List Value) (held : List Lock) → Run program section ranks lists p locals held → FewAreHeld program section ranks lists p locals held
   few p locals held run =
       let s = stands run in (
@@ -106,6 +112,9 @@ asks_rise laws program section ranks lists p locals held ok run = rise laws prog
 
 pub used_are_held : PathLaws → InRuns UsedAreHeld
 used_are_held laws program section ranks lists p locals held ok run = held_there laws program section ranks lists ok p locals held run
+
+pub held_are_named : PathLaws → InRuns HeldAreNamed
+held_are_named laws program section ranks lists p locals held ok run = all_named laws program section ranks lists ok p locals held run
 
 pub few_are_held : PathLaws → InRuns FewAreHeld
 few_are_held laws program section ranks lists p locals held ok run = few laws program section ranks lists ok p locals held run

@@ -10,7 +10,7 @@ use Rattle.locks.specs.Faults.{HasSection}
 use Rattle.locks.specs.LockPaths.{LockPath, lock_paths, lock_named, Uses}
 use Rattle.locks.specs.Order.{Precedes}
 use Rattle.lockorder.specs.Edges.{AreRanksOf, RiseIn}
-use Rattle.inserter.specs.Placement.{IsPlacement}
+use Rattle.inserter.specs.Placement.{IsPath, IsPlacement}
 use Rattle.inserter.specs.Runs.{AreAllowed, IsListed, Asks, Run}
 
 -- a section of a well-formed program, ranks in which each edge rises, and lists that do
@@ -51,6 +51,12 @@ abbrev pub UsedAreHeld : Typed → Section → List ℕ → List (List ℕ) → 
 UsedAreHeld program section ranks lists p locals held =
     ((lock : Lock) → IsListed program section ranks lists p locals lock → Contains held lock) →
     (path : LockPath) (lock : Lock) → Uses program section p path → lock_named path program.shape locals ≡ Some lock → Contains held lock
+
+-- each lock that is held is one that a lock path of the section names
+abbrev pub HeldAreNamed : Typed → Section → List ℕ → List (List ℕ) → ℕ → List Value → List Lock → Type 0
+HeldAreNamed program section ranks lists p locals held =
+    (lock : Lock) → Contains held lock →
+    (i : ℕ) × (path : LockPath) × IsPath program section i path × (lock_named path program.shape locals ≡ Some lock)
 
 -- no lock is held twice, and there are no more of them than lock paths of the section
 abbrev pub FewAreHeld : Typed → Section → List ℕ → List (List ℕ) → ℕ → List Value → List Lock → Type 0

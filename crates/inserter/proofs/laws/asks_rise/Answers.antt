@@ -1,6 +1,6 @@
 use Rattle.inserter.proofs.Listed.{PathLaws}
 use Rattle.inserter.proofs.Asked.{some_asked}
-use Rattle.inserter.proofs.RunLaws.{asks_rise, used_are_held, few_are_held}
+use Rattle.inserter.proofs.RunLaws.{asks_rise, used_are_held, held_are_named, few_are_held}
 use Rattle.inserter.proofs.laws.asks_rise.Goals as goal
 
 pub returns : goal.returns
@@ -15,5 +15,6 @@ returns c =
       rise = asks_rise laws;
       some = λ program section ranks lists p locals held ok run. some_asked laws c.precedes_is_strict.ensures program section ranks lists ok p locals held;
       held = used_are_held laws;
+      named = held_are_named laws;
       few = few_are_held laws;
     }
