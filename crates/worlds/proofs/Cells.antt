@@ -1,5 +1,5 @@
 -- Cells that move between a world and its sections.
-use Rattle.std.proofs.Common.{◌≡◌, ◌==◌, ◌⊎◌, ℕ, zero, suc, ◌+◌, Bool, true, false, if◌then◌else◌, List, [], ◌∷◌, ◌++◌, length, Option, Some, None, slice_get, set, refl, sym, ap, ◌∙◌, subst, arith, inl, inr, nat_eq, true≢false}
+use Rattle.std.proofs.Common.{◌≡◌, ◌==◌, ◌⊎◌, ℕ, zero, suc, ◌+◌, Bool, true, false, if◌then◌else◌, List, [], ◌∷◌, ◌++◌, length, map, Option, Some, None, slice_get, set, refl, sym, ap, ◌∙◌, subst, arith, inl, inr, nat_eq, true≢false}
 use Rattle.std.proofs.lemmas.Bool.{eqb-true, eq-eqb, ne_eqb, cases_Bool, cases_eq, cond-true, cond-false, and_parts, and_from, or_cases, or_left, or_right}
 use Rattle.std.proofs.lemmas.List.{length-set}
 use Rattle.std.specs.List.{Contains}
@@ -312,3 +312,24 @@ agrees_kept h k (r ∷ rs) same g = (
   same r.0 r.1 (cond-true (nat_eq r.0 r.0) (Some r.1) (value_at rs r.0) (eq-eqb r.0 r.0 refl)) ∙ g.0,
   agrees_kept h k rs (λ c v e. let s = seen_before r rs c v e in same c s.0 s.1) g.1,
 )
+
+-- a cell that has a value is one of the cells
+pub key_only : (xs : List (ℕ × Value)) (c : ℕ) (v : Value) → value_at xs c ≡ Some v → Among (map (λ (x : ℕ × Value). x.0) xs) c
+unfolding Among
+key_only [] c v h = absurd cc
+key_only (x ∷ xs) c v h = elim (cases_eq x.0 c) [
+  | inl e ↦ inl e
+  | inr ne ↦ inr (key_only xs c v (sym (cond-false (nat_eq x.0 c) (Some x.1) (value_at xs c) (ne_eqb x.0 c ne)) ∙ h))
+]
+
+pub key_has : (xs : List (ℕ × Value)) (c : ℕ) → Among (map (λ (x : ℕ × Value). x.0) xs) c → (v : Value) × (value_at xs c ≡ Some v)
+unfolding Among
+key_has [] c a = absurd a
+key_has (x ∷ xs) c a = elim (cases_eq x.0 c) [
+  | inl e ↦ (x.1, cond-true (nat_eq x.0 c) (Some x.1) (value_at xs c) (eq-eqb x.0 c e))
+  | inr ne ↦ elim a [
+    | inl e ↦ absurd (ne e)
+    | inr more ↦ (let rest = key_has xs c more in
+        (rest.0, cond-false (nat_eq x.0 c) (Some x.1) (value_at xs c) (ne_eqb x.0 c ne) ∙ rest.1))
+  ]
+]

@@ -89,7 +89,7 @@ module _ (laws : GoingLaws) (plan : Plan) (ok : IsCompiled plan) (k : ℕ) (sect
   abbrev room : ℕ
   room = operand_need section
 
-  ordered : IsOrdered plan.program section plan.ranks lists
+  pub ordered : IsOrdered plan.program section plan.ranks lists
   ordered =
       let x = has_lists plan ok k section is in
       subst (λ ls. IsOrdered plan.program section plan.ranks ls) (sym x.at)

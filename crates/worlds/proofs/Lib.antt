@@ -13,6 +13,8 @@ pub mod Heaps
 pub mod Covering
 pub mod Going
 pub mod Ready
+pub mod Sums
+pub mod InOrder
 pub mod Headline
 pub mod Examples
 pub mod Accepted

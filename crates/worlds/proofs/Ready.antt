@@ -12,7 +12,7 @@ use Rattle.locks.specs.Locks.{lock_of_cell}
 use Rattle.locks.specs.Order.{Precedes}
 use Rattle.layout.specs.LockCells.{cells_of}
 use Rattle.code.specs.Machine.{Effect, Moves, Asks, Finishes, Undefined}
-use Rattle.code.specs.Memory.{HeldCells, value_at}
+use Rattle.code.specs.Memory.{HeldCells, value_at, overwritten, Agrees}
 use Rattle.code.specs.Seen.{held_value, IsSeen}
 use Rattle.code.specs.RunLaws.{EndsOnlyAsSection}
 use Rattle.history.specs.Commits.{Commit, committed}
@@ -60,34 +60,40 @@ section_changed plan w t thread a cells r ready =
     (λ b e. (let same : a ≡ b = cc e in subst (IsReady plan) same ready))
 
 -- each cell of a held lock is seen
-has_cells : (plan : Plan) → IsCompiled plan → (a : Activation) → IsWell plan a → (cell : ℕ) (lock : Lock) → lock_of_cell plan.program cell ≡ Some lock →
+pub has_cells : (plan : Plan) → IsCompiled plan → (a : Activation) → IsWell plan a → (cell : ℕ) (lock : Lock) → lock_of_cell plan.program cell ≡ Some lock →
     Contains a.held lock → IsSeen (held_value a.machine.memory) cell
 has_cells plan ok a well cell lock is c = well.all cell (lock, ok.laid_out.cell_locks cell ∙ is, contains_among a.held lock c)
 
 -- ---- the steps
 
-ready_instructed : (plan : Plan) (a : Activation) (r : IsReady plan a) (x : Effect HeldCells) →
+pub ready_instructed : (plan : Plan) (a : Activation) (r : IsReady plan a) (x : Effect HeldCells) →
     CanGoOn plan r.section (lists_at plan.lists a.call.section) (instructed plan a x) → IsReady plan (instructed plan a x)
 ready_instructed plan a r (Moves m) can = record { section = r.section; is = r.is; fit = r.fit; goes_on = can }
 ready_instructed plan a r (Asks point) can = record { section = r.section; is = r.is; fit = r.fit; goes_on = can }
 ready_instructed plan a r (Finishes outcome) can = record { section = r.section; is = r.is; fit = r.fit; goes_on = can }
 ready_instructed plan a r Undefined can = record { section = r.section; is = r.is; fit = r.fit; goes_on = can }
 
--- a finished section leaves a heap of the program
+-- a finished section leaves a heap of the program so, where the heap has what it read
+pub heap_overwritten : ReadyLaws → (plan : Plan) → IsCompiled plan → (a : Activation) (outcome : Outcome) (heap : List Value) → IsWell plan a →
+    IsReady plan a → a.outcome ≡ Some outcome → length heap ≡ length plan.program.cells.items → IsHeap plan.program heap →
+    Agrees heap a.machine.memory.reads → IsHeap plan.program (overwritten heap a.machine.memory.writes)
+heap_overwritten laws plan ok a outcome heap well ready out size is_heap reads =
+    let whole = true_commit laws.ends_only plan ok 0 0 a outcome well out heap size reads in
+    let both : Some ready.section ≡ Some whole.0 = sym ready.is ∙ whole.1 in
+    let same : ready.section ≡ whole.0 = cc both in
+    let fit : Fit plan.program whole.0 a.call.arguments = subst (λ section. Fit plan.program section a.call.arguments) same ready.fit in
+    let stays = laws.astray plan.program a.call.section whole.2.0 whole.0 a.call.arguments heap ok.well_formed whole.1 fit is_heap in
+    let after = subst (StaysTyped plan.program whole.0.result_type) whole.2.1 stays in
+    after.0
+
 heap_after : ReadyLaws → (plan : Plan) → IsCompiled plan → (w : World) (t step : ℕ) (a : Activation) (outcome : Outcome) → IsSound plan w →
     HasOpen w t a → a.outcome ≡ Some outcome → IsReadyWorld plan w →
     IsHeap plan.program (committed plan.layout.opening (w.history ++ commit t step a outcome ∷ []))
 heap_after laws plan ok w t step a outcome s it out r =
     let heap = committed plan.layout.opening w.history in
     let size : length heap ≡ length plan.program.cells.items = laws.size plan.layout.opening w.history ∙ opening_size plan ok in
-    let ready = r.sections t a it in
-    let whole = true_commit laws.ends_only plan ok t step a outcome (s.well t a it) out heap size (s.fit t a it).part.reads in
-    let both : Some ready.section ≡ Some whole.0 = sym ready.is ∙ whole.1 in
-    let same : ready.section ≡ whole.0 = cc both in
-    let fit : Fit plan.program whole.0 a.call.arguments = subst (λ section. Fit plan.program section a.call.arguments) same ready.fit in
-    let stays = laws.astray plan.program a.call.section whole.2.0 whole.0 a.call.arguments heap ok.well_formed whole.1 fit r.heap in
-    let after = subst (StaysTyped plan.program whole.0.result_type) whole.2.1 stays in
-    subst (IsHeap plan.program) (sym (laws.heap plan.layout.opening w.history (commit t step a outcome))) after.0
+    let after = heap_overwritten laws plan ok a outcome heap (s.well t a it) (r.sections t a it) out size r.heap (s.fit t a it).part.reads in
+    subst (IsHeap plan.program) (sym (laws.heap plan.layout.opening w.history (commit t step a outcome))) after
 
 turn_ready : ReadyLaws → (plan : Plan) (w : World) (t : ℕ) (e : Event) (after : World) → IsCompiled plan → IsSound plan w → IsReadyWorld plan w →
     Turn plan w t e after → IsReadyWorld plan after
@@ -141,7 +147,7 @@ opening_ready plan ok = record {
 
 -- ---- what it says
 
-rises_in : (plan : Plan) (a : Activation) (section : Section) (lists : List (List ℕ)) → CanGoOn plan section lists a → (lock other : Lock) (rest : List Lock) →
+pub rises_in : (plan : Plan) (a : Activation) (section : Section) (lists : List (List ℕ)) → CanGoOn plan section lists a → (lock other : Lock) (rest : List Lock) →
     a.pending ≡ lock ∷ rest → Contains a.held other → Precedes plan.ranks other lock
 rises_in plan a section lists (running p m) lock other rest e c = absurd (let bad : [] ≡ lock ∷ rest = sym p ∙ e in cc bad)
 rises_in plan a section lists (over p o) lock other rest e c = absurd (let bad : [] ≡ lock ∷ rest = sym p ∙ e in cc bad)

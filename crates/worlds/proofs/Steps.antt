@@ -21,7 +21,7 @@ use Rattle.worlds.specs.Asking.{among}
 use Rattle.worlds.specs.Worlds.{World, ThreadState, Activation, activation, commit, granted, taken, without, with_back, holds, holder_from, holder, instructed, next_effect, script_of, scripts, call_at, section_at, at_first, happens, opening_world, HasOpen}
 use Rattle.worlds.specs.States.{HoldsCell, IsWell, IsFit, IsSound}
 use Rattle.worlds.proofs.Turns.{Active, Turn, idles, starts, gets, waits, over, moves, turn}
-use Rattle.worlds.proofs.Cells.{among_more, among_last, among_push, cells_of_only, some_or_none, length-without, without_some, without_none, without_none_cases, length-with_back, back_other, back_some, back_none, overwritten_cong, agrees_kept}
+use Rattle.worlds.proofs.Cells.{among_more, among_last, among_push, cells_of_has, cells_of_only, taken_only, taken_has, some_or_none, length-without, without_some, without_none, without_none_cases, length-with_back, back_other, back_some, back_none, overwritten_cong, agrees_kept}
 use Rattle.worlds.proofs.Sound.{ElsewhereHeld, changed, sound_changed}
 use Rattle.worlds.proofs.Well.{Laws, cells_are, well_instructed, Alike, alike_instructed, well_asked, well_begun, unwritten_of, well_granted, fit_granted, true_commit}
 
@@ -33,7 +33,7 @@ got_map f [] i y h = absurd cc
 got_map f (x ∷ xs) zero y h = (x, refl, cc)
 got_map f (x ∷ xs) (suc i) y h = got_map f xs i y h
 
-can_call : (program : Typed) (k : ℕ) (arguments : List Value) → CanCall program k arguments →
+pub can_call : (program : Typed) (k : ℕ) (arguments : List Value) → CanCall program k arguments →
     (section : Section) × (slice_get program.sections.items k ≡ Some section) × Fit program section arguments
 unfolding CanCall
 can_call program k arguments c = c
@@ -180,7 +180,12 @@ sound_gets laws plan w t thread a lock rest ok s at free =
     let numbers = cells_of plan.layout.cell_locks lock in
     let b = granted a lock rest (taken w.cells numbers) in
     let mine : HasOpen w t a = (thread, at.at, at.is) in
-    let well : IsWell plan b = well_granted plan a lock rest w.cells (s.well t a mine) (free_cells plan ok w s lock free) in
+    let locks = plan.layout.cell_locks in
+    let has : (c : ℕ) → slice_get locks c ≡ Some lock → (v : Value) × (value_at (taken w.cells numbers) c ≡ Some v) =
+    λ c is. (let v = free_cells plan ok w s lock free c is in
+    (v.0, taken_has w.cells numbers c v.0 (cells_of_has locks lock c is) v.1)) in
+    let well : IsWell plan b = well_granted plan a lock rest (taken w.cells numbers) (s.well t a mine)
+    (λ c v h. cells_of_only locks lock c (taken_only w.cells numbers c v h).0) has in
     sound_changed plan w t (record { step = thread.step; active = Some b }) (without w.cells numbers) w.history s (record {
       before = thread;
       at = at.at;

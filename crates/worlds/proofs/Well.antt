@@ -26,7 +26,7 @@ use Rattle.lowering.specs.Plans.{Plan, IsCompiled}
 use Rattle.worlds.specs.Worlds.{Activation, activation, commit, granted, taken, section_at, code_at, locals_at, instructed, next_effect}
 use Rattle.worlds.specs.States.{HoldsCell, standing, IsWell, IsFit}
 use Rattle.worlds.proofs.Alone.{one_more}
-use Rattle.worlds.proofs.Cells.{among_more, among_last, among_push, cells_of_has, cells_of_only, value_more, value_behind, value_cases, some_or_none, taken_only, taken_has, without_none, without_away}
+use Rattle.worlds.proofs.Cells.{among_more, among_last, among_push, value_more, value_behind, value_cases, some_or_none, taken_only, without_none, without_away}
 use Rattle.worlds.specs.Worlds.{without}
 
 -- the laws that this stands on
@@ -193,27 +193,27 @@ unwritten_of a ok cell not = elim (some_or_none (value_at a.machine.memory.write
   | inr n ↦ n
 ]
 
-pub well_granted : (plan : Plan) (a : Activation) (lock : Lock) (rest : List Lock) (cells : List (Option Value)) → IsWell plan a →
-    ((cell : ℕ) → slice_get plan.layout.cell_locks cell ≡ Some lock → (v : Value) × (slice_get cells cell ≡ Some (Some v))) →
-    IsWell plan (granted a lock rest (taken cells (cells_of plan.layout.cell_locks lock)))
-well_granted plan a lock rest cells w free =
+pub well_granted : (plan : Plan) (a : Activation) (lock : Lock) (rest : List Lock) (more : List (ℕ × Value)) → IsWell plan a →
+    ((cell : ℕ) (v : Value) → value_at more cell ≡ Some v → slice_get plan.layout.cell_locks cell ≡ Some lock) →
+    ((cell : ℕ) → slice_get plan.layout.cell_locks cell ≡ Some lock → (v : Value) × (value_at more cell ≡ Some v)) →
+    IsWell plan (granted a lock rest more)
+well_granted plan a lock rest more w only has =
     let locks = plan.layout.cell_locks in
     let mine = a.machine.memory.cells in
-    let more = taken cells (cells_of locks lock) in
     record {
       section = w.section;
       is = w.is;
       only = λ cell h. elim (value_cases mine more cell h.0 h.1) [
         | inl e ↦ (let old = w.only cell (h.0, e) in (old.0, old.1, among_more a.held (lock ∷ []) old.0 old.2))
-        | inr e ↦ (lock, cells_of_only locks lock cell (taken_only cells (cells_of locks lock) cell h.0 e).0, among_last a.held lock)
+        | inr e ↦ (lock, only cell h.0 e, among_last a.held lock)
       ];
       all = λ cell h. elim (some_or_none (value_at mine cell)) [
         | inl s ↦ (s.0, value_more mine more cell s.0 s.1)
         | inr n ↦ elim (among_push a.held lock h.0 h.2) [
           | inl e ↦ (let old = w.all cell (h.0, h.1, e) in (old.0, value_more mine more cell old.0 old.1))
           | inr e ↦ (let is_mine : slice_get locks cell ≡ Some lock = h.1 ∙ ap (λ (x : Lock). Some x) (sym e) in
-              let v = free cell is_mine in
-              (v.0, value_behind mine more cell n ∙ taken_has cells (cells_of locks lock) cell v.0 (cells_of_has locks lock cell is_mine) v.1))
+              let v = has cell is_mine in
+              (v.0, value_behind mine more cell n ∙ v.1))
         ]
       ];
       consistent = record {

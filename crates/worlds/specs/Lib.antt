@@ -5,6 +5,7 @@ pub mod Waiting
 pub mod InTurn
 pub mod States
 pub mod Ahead
+pub mod InOrder
 -- what the public clauses cite
 pub use Rattle.worlds.specs.Worlds.{World, ThreadState, Activation, happens, final, trace}
 pub use Rattle.worlds.specs.Claims.{Headline, EveryRunHasIt}
@@ -13,3 +14,4 @@ pub use Rattle.worlds.specs.Waiting.{NobodyWaitsInACircle, SomeoneGoesOn, Pendin
 pub use Rattle.worlds.specs.Waiting.{HasNext, AllHaveNext, InstructionsHaveTheirCase}
 pub use Rattle.worlds.specs.InTurn.{RiseBehind, AskedInTurn}
 pub use Rattle.worlds.specs.Ahead.{IsReadyWorld, WorldsStayReady}
+pub use Rattle.worlds.specs.InOrder.{IsInOrder, AreCellsOf, FitRoom, SectionsStayInOrder}

@@ -5,6 +5,7 @@ ghost use Rattle.worlds.specs.Waiting.{RisingHasNoCycle, RisingGoesOn, Instructi
 ghost use Rattle.worlds.specs.InTurn.{AskedInTurn};
 ghost use Rattle.worlds.specs.States.{OpeningIsSound, StepsKeepSound};
 ghost use Rattle.worlds.specs.Ahead.{WorldsStayReady};
+ghost use Rattle.worlds.specs.InOrder.{SectionsStayInOrder};
 
 /// Before any step a world is sound, and each step of a thread keeps it so: its history is legal and true, each open
 /// section keeps the rules, and each cell is either as the history leaves it or with exactly one section.
@@ -32,6 +33,32 @@ pub fn worlds_stay_ready()
     locks::laws::lets_keep_agreeing();
     locks::laws::names_stay();
     code::laws::written_values_stand();
+    code::point_laws::points_go_on::<u8>();
+    code::point_laws::points_have_places::<u8>();
+    code::run_laws::sections_end_alike::<u8>();
+    inserter::laws::placements_are_ordered();
+    inserter::laws::asks_rise();
+    history::laws::one_entry_more();
+    locks_are_asked_in_turn();
+}
+
+/// An open section keeps the rules and can go on, by itself: from the begin of a call that fits, by each instruction, which
+/// has its case, and by each lock that it is granted with its cells. A lock that it is to be granted next comes after all
+/// that it holds; where locks are pending, all of these are locks of the program and fit the section's room; and where it
+/// has an outcome, its entry is true.
+pub fn sections_stay_in_order()
+    ensures { SectionsStayInOrder }
+{
+    core_lang::laws::never_astray();
+    flow::laws::points_are_counted();
+    flow::laws::points_stay_typed();
+    locks::laws::paths_name_the_locks();
+    locks::laws::named_are_locks();
+    locks::laws::lets_keep_agreeing();
+    locks::laws::names_stay();
+    locks::laws::each_path_once();
+    code::laws::written_values_stand();
+    code::laws::steps_go_alike();
     code::point_laws::points_go_on::<u8>();
     code::point_laws::points_have_places::<u8>();
     code::run_laws::sections_end_alike::<u8>();
