@@ -1,11 +1,4 @@
-pub mod Numbers
 pub mod Steps
 pub mod Blocks
 pub mod Kept
 pub mod CanBeCalled
-pub mod Runs
-pub mod Gives
-pub mod Statements
-pub mod Choices
-pub mod PreparedCodes
-pub mod Tests

@@ -33,15 +33,6 @@ undone-popped ws ws' cell value heap e = sym (ap (λ w. undone w heap) e ∙ und
 
 pub ruleset chains = (value_of-Chain, operations-failed)
 
-pub chain_starts : (e : Expr) (first : Box Expr Global) (rest : Vec Operation Global) (items : List Operation) (left : Expr) (shape : Shape) (locals heap : List Value) (value : Result Value Failure) →
-    e ≡ Chain first rest → items ≡ rest.items → left ≡ first.value → value ≡ value_of left shape locals heap →
-    operations items shape locals heap value ≡ value_of e shape locals heap
-chain_starts e first rest items left shape locals heap value is all one v =
-    ap (λ os. operations os shape locals heap value) all
-    ∙ ap (operations rest.items shape locals heap) (v ∙ ap (λ x. value_of x shape locals heap) one)
-    ∙ sym (value_of-Chain first rest shape locals heap)
-    ∙ ap (λ x. value_of x shape locals heap) (sym is)
-
 pub chain_fails : (items : List Operation) (i : ℕ) (item : Operation) (shape : Shape) (locals heap : List Value) (left whole : Result Value Failure) (f : Failure) →
     i < length items → item ≡ get_or items i item → joined item.operator left (value_of item.operand shape locals heap) ≡ Err f →
     operations (drop i items) shape locals heap left ≡ whole → Err f ≡ whole
@@ -66,16 +57,6 @@ or_starts e before last items shape locals heap is all =
     ap (λ cs. any_of cs shape locals heap (truth_of last.value shape locals heap)) all
     ∙ sym (truth_of-Or before last shape locals heap)
     ∙ ap (λ x. truth_of x shape locals heap) (sym is)
-
-pub chain_goes : (items : List Operation) (i : ℕ) (item : Operation) (shape : Shape) (locals heap : List Value) (left next whole : Result Value Failure) →
-    i < length items → item ≡ get_or items i item → joined item.operator left (value_of item.operand shape locals heap) ≡ next →
-    operations (drop i items) shape locals heap left ≡ whole → operations (drop (i + 1) items) shape locals heap next ≡ whole
-chain_goes items i item shape locals heap left next whole lt is goes e =
-    let one : i + 1 ≡ suc i = omega arith in
-    ap (λ k. operations (drop k items) shape locals heap next) one
-    ∙ ap (operations (drop (suc i) items) shape locals heap) (sym goes)
-    ∙ ap (λ os. operations os shape locals heap left) (ap (λ x. x ∷ drop (suc i) items) is ∙ sym (drop-cons items i item lt))
-    ∙ e
 
 pub undone-length : (ws : List (ℕ × Value)) (heap : List Value) → length (undone ws heap) ≡ length heap
 undone-length [] heap = refl

@@ -3,12 +3,12 @@
 ghost use Rattle.std.specs.Prelude.{◌≡◌};
 ghost use Rattle.core_lang.specs.Meaning.{value_of, truth_of};
 
-use crate::access::{cell_of_element, follow, member, value_at};
-use crate::operators::{compare, negate, operate};
 use crate::short::{number, reference, simple};
 use core_lang::shape::Shape;
 use core_lang::tree::{Comparison, Condition, Expr};
 use core_lang::value::{Failure, Value};
+use operations::access::{cell_of_element, follow, member, value_at};
+use operations::operators::{compare, negate, operate};
 
 /// The value of an expression, by the short way where there is one.
 #[inline(always)]

@@ -7,13 +7,13 @@ ghost use Rattle.core_lang.specs.Whole.{concluded};
 ghost use Rattle.meaning.specs.Answer.{Follows, Concludes};
 ghost use Rattle.meaning.specs.Execution.{state_of, assigned, Keeps};
 
-use crate::access::{cell_of_element, cell_of_field, follow, non_null};
 use crate::draft::Draft;
 use crate::evaluate::{evaluate, is_true};
 use crate::short;
 use core_lang::shape::Shape;
 use core_lang::tree::{Action, Condition, Expr, Section, Stmt};
 use core_lang::value::{Failure, Outcome, Trap, Value};
+use operations::access::{cell_of_element, cell_of_field, follow, non_null};
 use std::alloc::AllocError;
 
 // How many numbers one run of a section may print.

@@ -1,6 +1,6 @@
 //! The values of all cells.
 
-ghost use Rattle.std.specs.Prelude.{◌≡◌, IfOk};
+ghost use Rattle.std.specs.Prelude.{◌≡◌, [], IfOk};
 ghost use Rattle.std.specs.Bool.{Decides};
 ghost use Rattle.core_lang.specs.Serial.{opening_heap};
 ghost use Rattle.core_lang.specs.Typing.{HasCells};
@@ -63,9 +63,11 @@ impl Heap {
         self.cells.len() == program.cells.len()
     }
 
-    // A heap without cells.
+    /// A heap without cells.
     #[inline]
-    pub(crate) fn empty(alloc: Global) -> Heap {
+    pub fn empty(alloc: Global) -> Heap
+        ensures { result ≡ [] }
+    {
         Heap {
             cells: Vec::new(alloc),
             is_written: Vec::new(alloc),

@@ -6,11 +6,11 @@ ghost use Rattle.core_lang.specs.Arithmetic.{on_values, negated};
 ghost use Rattle.core_lang.specs.Cells.{element_cell, member_of, not_null, read, with};
 ghost use Rattle.core_lang.specs.Meaning.{place_of, value_of};
 
-use crate::access::{cell_of_element, follow, member, non_null};
-use crate::operators::{negate, operate};
 use core_lang::shape::Shape;
 use core_lang::tree::{Expr, Operator, Path};
 use core_lang::value::{Value, ValueType};
+use operations::access::{cell_of_element, follow, member, non_null};
+use operations::operators::{negate, operate};
 
 /// The value that an expression gives, if it is found the short way.
 #[inline(always)]

@@ -1,7 +1,8 @@
 use Rattle.std.proofs.Common.{sym, ap, ◌∙◌, Ok}
 use Rattle.std.proofs.lemmas.Result.{err_from_is_err_and}
 use Rattle.core_lang.specs.Meaning.{joined}
-use Rattle.meaning.proofs.Steps.{chain_starts, chain_fails}
+use Rattle.meaning.specs.Chains.{chain_starts}
+use Rattle.meaning.proofs.Steps.{chain_fails}
 use Rattle.meaning.proofs.evaluate.+walk.Goals as goal
 
 pub loop-operation-init : goal.loop-operation-init

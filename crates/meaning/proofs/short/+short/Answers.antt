@@ -1,6 +1,6 @@
 use Rattle.std.proofs.Common.{sym, ap, ◌∙◌, Ok}
 use Rattle.core_lang.specs.Meaning.{joined}
-use Rattle.meaning.proofs.Steps.{chain_starts, chain_goes}
+use Rattle.meaning.specs.Chains.{chain_starts, chain_goes}
 use Rattle.meaning.proofs.short.+short.Goals as goal
 
 pub chain-loop-operation-init : goal.chain-loop-operation-init

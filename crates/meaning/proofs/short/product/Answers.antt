@@ -1,6 +1,6 @@
 use Rattle.std.proofs.Common.{sym, ap, ◌∙◌, Ok}
 use Rattle.core_lang.specs.Meaning.{joined}
-use Rattle.meaning.proofs.Steps.{chain_starts, chain_goes}
+use Rattle.meaning.specs.Chains.{chain_starts, chain_goes}
 use Rattle.meaning.proofs.short.product.Goals as goal
 
 pub loop-operation-init : goal.loop-operation-init
