@@ -1,3 +1,4 @@
+#![tactic(auto)]
 //! The program `cases`: texts and what must be said of them, judged by the lexer, the parser, the passes of names and
 //! types, of lock paths and of points, and by `compile`. Its words are the names of files of cases.
 //!
@@ -36,7 +37,6 @@
 //!
 //! It exits with 0 where all are as wanted, 1 where some are not, 3 where reading or writing failed, 4 where memory ran
 //! out.
-#![tactic(auto)]
 
 mod analysing;
 mod judging;

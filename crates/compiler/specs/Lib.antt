@@ -1,5 +1,4 @@
 pub mod Programs
-pub mod Compiled
 -- what the public clauses cite
 pub use Rattle.compiler.specs.Programs.{HasFault, Accepts, IsOfFirstPass, IsRefusal}
 pub use Rattle.core_lang.specs.WellFormed.{IsWellFormed}
@@ -8,4 +7,3 @@ pub use Rattle.lockorder.specs.Edges.{AreRanksOf, RiseIn}
 pub use Rattle.inserter.specs.Placement.{all_lists}
 pub use Rattle.lowering.specs.Lowered.{IsCodeOf}
 pub use Rattle.lowering.specs.Plans.{Plan, IsCompiled}
-pub use Rattle.compiler.specs.Compiled.{IsRoomAt}

@@ -1,12 +1,10 @@
 //! From the bytes of a text to a compiled program.
 //!
 //! - [`compile`]: the passes in order, or the fault of the first that has one.
-//! - [`compiled::Program`]: a compiled program. There is no other maker of one.
 //!
 //! `specs/` says which program a text is and which fault it has (`Programs`). What a compiled program is, says `lowering`.
 #![tactic(auto)]
 
-pub mod compiled;
 mod passes;
 
 pub use passes::compile;

@@ -8,13 +8,13 @@ ghost use Rattle.lockorder.specs.Faults.{HasNoFault};
 ghost use Rattle.lowering.specs.Plans.{IsCompiled};
 ghost use Rattle.compiler.specs.Programs.{Accepts, IsOrderRefusal, IsRefusal};
 
-use crate::compiled::Program;
 use core_lang::typed::Typed;
 use lexer::lex;
 use lockorder::order;
 use lockorder::ranks::{OrderRefusal, Ranks};
 use lockpaths::paths;
 use lockpaths::table::Paths;
+use lowering::compiled::Program;
 use parser::parse;
 use source::fault::Refusal;
 use source::memory::NoMemory;

@@ -9,7 +9,7 @@ use Rattle.report.specs.History.{history_of, unsettled_of}
 use Rattle.source.specs.declared.fault.Fault.{Fault}
 use Rattle.driver.specs.declared.answer.Answer.{Answer}
 use Rattle.driver.specs.declared.status.Status.{Status}
-use Rattle.driver.specs.declared.status.Status.TheVariants.{Done, Refused, BadWords, Failed, OutOfMemory, Unsettled}
+use Rattle.driver.specs.declared.status.Status.TheVariants.{Done, Refused, BadWords, Failed, OutOfMemory, BadSteps, Unsettled}
 use Rattle.compiler.specs.Programs.{Accepts, IsOfFirstPass}
 use Rattle.driver.specs.Running.{StopsAt}
 use Rattle.driver.specs.Answers.{IsRunAnswer, IsFaultAnswer}
@@ -73,6 +73,7 @@ stop_told law turns program thread step out err stops is none =
 answers_status : (turns : ℕ) (file text : List ℕ) (program : Typed) (status : Status) (out err : List ℕ) → Accepts text program →
     RunAnswers turns program status out err → SerialAnswers turns file text status out err
 answers_status turns file text program Done out err accepts run = (program, accepts, run)
+answers_status turns file text program BadSteps out err accepts run = absurd run
 answers_status turns file text program Unsettled out err accepts run = (program, accepts, run)
 answers_status turns file text program Refused out err accepts run = absurd run
 answers_status turns file text program BadWords out err accepts run = absurd run

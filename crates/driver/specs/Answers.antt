@@ -9,11 +9,15 @@ use Rattle.driver.specs.declared.answer.Answer.{Answer}
 use Rattle.driver.specs.declared.answer.Request.{Request}
 use Rattle.driver.specs.declared.answer.Request.TheVariants.{Check, Listing, Serial}
 use Rattle.driver.specs.declared.status.Status.{Status}
-use Rattle.driver.specs.declared.status.Status.TheVariants.{Done, Refused, Failed}
+use Rattle.driver.specs.declared.status.Status.TheVariants.{Done, Refused, Failed, BadSteps}
 use Rattle.driver.specs.Checks.{IsChecked, CheckAnswers}
 use Rattle.driver.specs.Listings.{IsListed, ListingAnswers}
 use Rattle.driver.specs.Messages.{cannot_write}
 use Rattle.driver.specs.Serial.{RunAnswers, SerialAnswers}
+use Rattle.driver.specs.Simulations.{PlanAnswers, SimulationAnswers}
+use Rattle.driver.specs.declared.simulating.Texts.{Texts}
+use Rattle.steps.specs.declared.refusal.StepsFault.{StepsFault}
+use Rattle.steps.specs.Steps.{steps_fault_text}
 
 -- the answer to a program's run
 abbrev pub IsRunAnswer : ℕ → Typed → Answer → Type 0
@@ -25,6 +29,21 @@ IsCheckAnswer text plan answer = (answer.status ≡ Done) × IsChecked text plan
 
 abbrev pub IsListingAnswer : Plan → Answer → Type 0
 IsListingAnswer plan answer = (answer.status ≡ Done) × IsListed plan (string_bytes answer.out) (string_bytes answer.err)
+
+-- the answer to a program and a steps file
+abbrev pub IsPlanAnswer : Plan → List ℕ → List ℕ → Answer → Type 0
+IsPlanAnswer plan steps_file items answer =
+    PlanAnswers plan steps_file items answer.status (string_bytes answer.out) (string_bytes answer.err)
+
+abbrev pub IsBadStepsAnswer : List ℕ → List ℕ → StepsFault → Answer → Type 0
+IsBadStepsAnswer steps_file items fault answer =
+    (answer.status ≡ BadSteps) × (string_bytes answer.out ≡ []) × (string_bytes answer.err ≡ line (steps_fault_text steps_file items fault))
+
+-- the answer to two texts
+abbrev pub IsSimulationAnswer : Texts → Answer → Type 0
+IsSimulationAnswer texts answer =
+    SimulationAnswers texts.file.now texts.steps_file.now texts.text.now texts.items.now
+    answer.status (string_bytes answer.out) (string_bytes answer.err)
 
 -- what is answered to a request
 abbrev pub RequestAnswers : Request → List ℕ → List ℕ → Status → List ℕ → List ℕ → Type 0

@@ -23,3 +23,26 @@ pub record Serves {R O E : Type 0} (Answers : List ℕ → Status → List ℕ �
   pub unwritten : reading_failed source' ≡ false → writing_failed out' ≡ true → Tells told err err' cannot_write
   -- where memory runs out nothing is written
   pub memory : status ≡ OutOfMemory → (out' ≡ out) × Tells told err err' no_memory
+
+-- the same of an engine that reads two files: a program's text and a steps file
+pub record ServesBoth {R S O E : Type 0} (Answers : List ℕ → List ℕ → Status → List ℕ → List ℕ → Type 0)
+    (file steps_file : List ℕ) (remaining : R → Option (List ℕ)) (source source' : SourceText R)
+    (remaining_steps : S → Option (List ℕ)) (steps steps' : SourceText S) (contents : O → Option (List ℕ))
+    (out out' : Sink O) (told : E → Option (List ℕ)) (err err' : Sink E) (status : Status) : Type 0 where
+  -- what is written and told are the two texts that answer the texts that were read
+  pub answers : status ≢ Failed → status ≢ OutOfMemory →
+      (text : List ℕ) × (items : List ℕ) × (wrote : List ℕ) × (said : List ℕ)
+      × Reads remaining source text × Reads remaining_steps steps items × Answers text items status wrote said
+      × Writes contents out out' wrote × Tells told err err' said
+  -- no word is its to judge
+  pub words : status ≢ BadWords
+  -- it fails where reading or writing failed, and nowhere else
+  pub failed : (status ≡ Failed) ↔ ((reading_failed source' || (reading_failed steps' || writing_failed out')) ≡ true)
+  -- where reading failed nothing is written
+  pub unread : reading_failed source' ≡ true → (out' ≡ out) × Tells told err err' (cannot_read file)
+  pub unread_steps : reading_failed source' ≡ false → reading_failed steps' ≡ true →
+      (out' ≡ out) × Tells told err err' (cannot_read steps_file)
+  pub unwritten : reading_failed source' ≡ false → reading_failed steps' ≡ false → writing_failed out' ≡ true →
+      Tells told err err' cannot_write
+  -- where memory runs out nothing is written
+  pub memory : status ≡ OutOfMemory → (out' ≡ out) × Tells told err err' no_memory

@@ -4,6 +4,7 @@ pub mod Messages
 pub mod Serial
 pub mod Checks
 pub mod Listings
+pub mod Simulations
 pub mod Engines
 pub mod Running
 pub mod Answers
@@ -15,4 +16,5 @@ pub use Rattle.compiler.specs.Programs.{Accepts}
 pub use Rattle.driver.specs.Serial.{SerialAnswers}
 pub use Rattle.driver.specs.Checks.{CheckAnswers}
 pub use Rattle.driver.specs.Listings.{ListingAnswers}
-pub use Rattle.driver.specs.Engines.{Serves}
+pub use Rattle.driver.specs.Simulations.{SimulationAnswers}
+pub use Rattle.driver.specs.Engines.{Serves, ServesBoth}

@@ -11,9 +11,9 @@ use crate::running::run_scripts;
 use crate::status::Status;
 use code::listing;
 use compiler::compile;
-use compiler::compiled::Program;
 use core_lang::laws;
 use core_lang::typed::Typed;
+use lowering::compiled::Program;
 use report::{Check, history_text, unsettled_text};
 use source::fault::{Fault, Refusal};
 use source::line::fault_line;
@@ -46,7 +46,7 @@ pub struct Answer {
 }
 
 /// The line of a fault.
-fn refused(alloc: Global, file: &str, text: &[u8], fault: &Fault) -> Result<Answer, NoMemory>
+pub fn refused(alloc: Global, file: &str, text: &[u8], fault: &Fault) -> Result<Answer, NoMemory>
     ensures { IfOk result (IsFaultAnswer file.now text.now fault.now) }
 {
     let mut err = fault_line(alloc, file, text, fault)?;

@@ -42,7 +42,7 @@ pub fn tell_cannot_write<E: Write>(err: &mut Sink<E>)
 }
 
 /// Writes an answer: first its text to `out`, and, where that did not fail, its message to `err`.
-fn give<O: Write, E: Write>(answer: &Answer, out: &mut Sink<O>, err: &mut Sink<E>) -> Status
+pub fn give<O: Write, E: Write>(answer: &Answer, out: &mut Sink<O>, err: &mut Sink<E>) -> Status
     requires { writing_failed out.old ≡ false }
     ensures { GoesOut answer.now result (writing_failed out.new) (Writes O.contents out.old out.new)
         (Tells E.contents err.old err.new) }

@@ -7,6 +7,7 @@
 //!   what it answers.
 //! - [`list`]: the instructions of each section. `specs/Listings.antt` says what it answers.
 //! - [`serial`]: all calls of a program one after another. `specs/Serial.antt` says what it answers.
+//! - [`simulate`]: the world after the steps of a steps file. `specs/Simulations.antt` says what it answers.
 //! - [`Status`]: how a command ended, which is the exit status.
 //! - [`SourceText`], [`Sink`]: readers and writers that remember whether they failed.
 //! - [`tell_cannot_read`], [`tell_cannot_write`], [`tell_no_memory`]: the messages that the program
@@ -17,11 +18,14 @@ mod answer;
 mod engine;
 mod running;
 mod schedule;
+mod simulating;
+mod simulation;
 mod sink;
 mod source_text;
 mod status;
 
 pub use engine::{check, list, serial, tell_cannot_read, tell_cannot_write, tell_no_memory};
+pub use simulation::simulate;
 pub use sink::Sink;
 pub use source_text::{ReadError, SourceText};
 pub use status::Status;

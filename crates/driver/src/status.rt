@@ -16,6 +16,8 @@ pub enum Status {
     Failed,
     /// 4: a growth was refused.
     OutOfMemory,
+    /// 6: the steps file has a fault, which standard error names.
+    BadSteps,
     /// 7: a call is not settled by the turns that were given.
     Unsettled,
 }
@@ -31,6 +33,7 @@ impl Status {
             Status::BadWords => 2,
             Status::Failed => 3,
             Status::OutOfMemory => 4,
+            Status::BadSteps => 6,
             Status::Unsettled => 7,
         }
     }

@@ -55,7 +55,7 @@ pub fn push_class(out: &mut String, program: &Typed, class: usize) -> Result<(),
 }
 
 /// A class at the end of a path, as `G` or `l`.
-fn push_last(out: &mut String, program: &Typed, class: usize) -> Result<(), AllocError>
+pub fn push_last(out: &mut String, program: &Typed, class: usize) -> Result<(), AllocError>
     ensures { OnOk result (string_bytes out.new ≡ string_bytes out.old ++ text.last_name program.now class) }
 {
     match program.classes.get(class) {

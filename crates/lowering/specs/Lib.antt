@@ -1,6 +1,7 @@
 pub mod Lowered
 pub mod Rooms
 pub mod Plans
+pub mod Compiled
 pub mod PlanLaws
 pub mod CodeLists
 pub mod NeedLists
@@ -10,4 +11,5 @@ pub mod Emission
 pub use Rattle.lowering.specs.Lowered.{StructTexts, AreNames, IsLowered, lists_at, IsCodeOf}
 pub use Rattle.lowering.specs.Rooms.{most_cells, IsRoomOf, AreRoomsOf}
 pub use Rattle.lowering.specs.Plans.{Plan, IsCompiled, CodesBehave}
+pub use Rattle.lowering.specs.Compiled.{IsRoomAt}
 pub use Rattle.lowering.specs.PlanLaws.{NothingIsTaken, ListsDependOnTheSection, RanksStay}

@@ -1,15 +1,17 @@
 //! Makes the code of a program.
 //!
+//! - [`compiled::Program`]: a compiled program.
 //! - [`lower`]: the code of each section, and the names that its listing shows.
 //! - [`rooms`]: what one run of each section can need at most.
 //! - [`laws`]: the code of a program behaves as its sections; what is taken where depends on the section and the ranks alone.
 //!
 //! `specs/` says what the code of a program is (`Lowered`), what its sections need (`Rooms`), and what a compiled program is
-//! (`Plans`). Its other files only say what the code has done (`Assembly`, `Emission`), and what instructions and needs are
+//! (`Plans`, `Compiled`). Its other files only say what the code has done (`Assembly`, `Emission`), and what instructions and needs are
 //! over lists (`CodeLists`, `NeedLists`); nobody has to believe them.
 #![tactic(auto)]
 
 mod assembler;
+pub mod compiled;
 mod emitter;
 pub mod laws;
 mod names;

@@ -12,7 +12,11 @@ use Rattle.core_lang.specs.declared.shape.Pool.{Pool}
 use Rattle.core_lang.specs.declared.typed.Typed.{Typed}
 use Rattle.core_lang.specs.declared.typed.Owner.{Owner}
 use Rattle.core_lang.specs.declared.typed.Owner.TheVariants.{Global, Element, Field}
+use Rattle.core_lang.specs.declared.typed.LockClass.{LockClass}
+use Rattle.core_lang.specs.declared.typed.LockClass.TheVariants as class
 use Rattle.core_lang.specs.Traps.{trap_number}
+use Rattle.locks.specs.declared.lock.Lock.{Lock}
+use Rattle.locks.specs.Texts.{last_name}
 
 -- an index in brackets
 abbrev pub index_text : ℕ → List ℕ
@@ -29,6 +33,19 @@ pool_of shape object = option_and_then (λ o. slice_get shape.pools.items o.pool
 -- an object as p[0], by its place in its pool
 abbrev pub object_text : Shape → ℕ → List ℕ
 object_text shape object = option_map_or (λ pool. string_bytes pool.name ++ index_text (object - pool.first)) (pool_of shape object) []
+
+-- what stands before the name of a lock: of an object's, the object and a dot
+abbrev pub owner_of_lock : Typed → ℕ → Option LockClass → List ℕ
+owner_of_lock typed object (Some (class.Field s l)) = object_text typed.shape object ++ codes "."
+owner_of_lock typed object (Some (class.Global name)) = []
+owner_of_lock typed object None = []
+
+abbrev pub lock_owner : Typed → Lock → List ℕ
+lock_owner typed lock = owner_of_lock typed lock.object (slice_get typed.classes.items lock.class)
+
+-- a lock, as G or p[0].l
+abbrev pub lock_text : Typed → Lock → List ℕ
+lock_text typed lock = lock_owner typed lock ++ last_name typed lock.class
 
 -- a number, null, or an object
 abbrev pub value_text : Shape → Value → List ℕ

@@ -6,8 +6,10 @@ ghost use Rattle.std.specs.Fmt.{decimal, signed_decimal};
 ghost use Rattle.report.specs.Pieces as text;
 
 use core_lang::shape::{Pool, Shape};
-use core_lang::typed::{Owner, Typed};
+use core_lang::typed::{LockClass, Owner, Typed};
 use core_lang::value::{Outcome, Value};
+use locks::lock::Lock;
+use locks::text::push_last;
 use std::alloc::AllocError;
 
 /// A number without a sign.
@@ -75,6 +77,28 @@ pub fn push_value(out: &mut String, shape: &Shape, value: Value) -> Result<(), A
         Value::Ref(None) => out.push_str("null"),
         Value::Ref(Some(object)) => push_object(out, shape, object as usize),
     }
+}
+
+/// What stands before the name of a lock: of an object's, the object and a dot.
+fn push_lock_owner(out: &mut String, program: &Typed, lock: Lock) -> Result<(), AllocError>
+    ensures { OnOk result (string_bytes out.new ≡ string_bytes out.old ++ text.lock_owner program.now lock) }
+{
+    match program.classes.get(lock.class) {
+        Some(LockClass::Field { .. }) => {
+            push_object(out, &program.shape, lock.object as usize)?;
+            out.push_str(".")
+        }
+        Some(LockClass::Global(_)) => Ok(()),
+        None => Ok(()),
+    }
+}
+
+/// A lock, as `G` or `p[0].l`.
+pub fn push_lock(out: &mut String, program: &Typed, lock: Lock) -> Result<(), AllocError>
+    ensures { OnOk result (string_bytes out.new ≡ string_bytes out.old ++ text.lock_text program.now lock) }
+{
+    push_lock_owner(out, program, lock)?;
+    push_last(out, program, lock.class)
 }
 
 /// Values with a comma and a space between.

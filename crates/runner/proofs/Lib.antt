@@ -1,1 +1,7 @@
 pub mod Stacks
+pub mod Asked
+pub mod Opened
+pub mod Begun
+pub mod Asks
+pub mod Endings
+pub mod Along

@@ -26,12 +26,15 @@ unfoldable pub placed_text : List ℕ → ℕ → ℕ → List ℕ → List ℕ 
 placed_text file line column name text =
     file ++ codes ":" ++ decimal line ++ codes ":" ++ decimal column ++ codes ": " ++ name ++ codes " " ++ text
 
--- the line that reports a fault; one past the text's end stands at its end
+-- the same of the place of a byte; one past the text's end stands at its end
+abbrev pub place_text : List ℕ → List ℕ → ℕ → List ℕ → List ℕ → List ℕ
+place_text file text start name words =
+    let at = min start (length text) in placed_text file (line_of text at) (column_of text at) name words
+
+-- the line that reports a fault
 abbrev pub fault_text : List ℕ → List ℕ → the_fault.Fault → List ℕ
 fault_text file text fault =
-    let at = min fault.start (length text) in
-    placed_text file (line_of text at) (column_of text at) (code_name fault.code) (code_text fault.code)
-    ++ detail_text (string_bytes fault.detail)
+    place_text file text fault.start (code_name fault.code) (code_text fault.code) ++ detail_text (string_bytes fault.detail)
 
 -- how a code shows, and how a fault does where no text is at hand
 abbrev pub shown_code : Code → List ℕ

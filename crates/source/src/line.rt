@@ -1,7 +1,7 @@
 //! The line that reports a fault.
 
 ghost use Rattle.std.specs.Prelude.{◌≡◌, ◌≤◌, IfOk, length, string_bytes};
-ghost use Rattle.source.specs.Faults.{line_of, column_of, placed_text, fault_text};
+ghost use Rattle.source.specs.Faults.{line_of, column_of, placed_text, place_text, fault_text};
 
 use crate::fault::Fault;
 use crate::memory::NoMemory;
@@ -46,23 +46,46 @@ fn placed(
     format!(in alloc; "{file}:{line}:{column}: {name} {text}")
 }
 
+/// A place in a text.
+#[derive(Drop)]
+pub struct Place<'a> {
+    /// The name of the text's file.
+    pub file: &'a str,
+    /// The text.
+    pub text: &'a [u8],
+    /// The place of a byte, from 0; one past the text's end stands for its end.
+    pub start: usize,
+}
+
+impl Place<'_> {
+    /// What stands there, under a name and in words: `FILE:LINE:COL: NAME WORDS`. Lines and columns count from 1, columns
+    /// in bytes.
+    ///
+    /// # Errors
+    ///
+    /// Want of memory.
+    pub fn line(&self, alloc: Global, name: &str, words: &str) -> Result<String, NoMemory>
+        ensures { IfOk result (λ line. string_bytes line ≡ place_text self.now.file.now self.now.text.now self.now.start name.now words.now) }
+    {
+        let at = self.start.min(self.text.len());
+        let line = line_at(self.text, at);
+        let column = column_at(self.text, at);
+        Ok(placed(alloc, self.file, line, column, name, words)?)
+    }
+}
+
 /// The line that reports `fault` in the text of the file of this name: `FILE:LINE:COL: CODE TEXT`,
 /// for a cycle followed by `: ` and its classes. Lines and columns count from 1, columns in bytes.
 /// A fault past the end of the text is reported at its end. The only error is a refused growth.
 pub fn fault_line(alloc: Global, file: &str, text: &[u8], fault: &Fault) -> Result<String, NoMemory>
     ensures { IfOk result (λ line. string_bytes line ≡ fault_text file.now text.now fault.now) }
 {
-    let at = fault.start.min(text.len());
-    let line = line_at(text, at);
-    let column = column_at(text, at);
-    let mut whole = placed(
-        alloc,
+    let place = Place {
         file,
-        line,
-        column,
-        fault.code.name(),
-        fault.code.text(),
-    )?;
+        text,
+        start: fault.start,
+    };
+    let mut whole = place.line(alloc, fault.code.name(), fault.code.text())?;
     if !fault.detail.is_empty() {
         whole.push_str(": ")?;
         whole.push_str(fault.detail.as_str())?;

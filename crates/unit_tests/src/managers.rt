@@ -3,10 +3,10 @@
 use crate::calls::Calls;
 use crate::judging::compare;
 use compiler::compile;
-use compiler::compiled::Program;
 use core_lang::value::Value;
 use lock_manager::manager::Manager;
 use locks::lock::Lock;
+use lowering::compiled::Program;
 use source::memory::NoMemory;
 use std::alloc::Global;
 use std::test::Fail;

@@ -1,0 +1,119 @@
+-- Lists, and the first value of a cell.
+use Rattle.std.proofs.Common.{◌≡◌, ◌≢◌, ℕ, zero, suc, ◌+◌, ◌<◌, true, false, List, [], ◌∷◌, ◌++◌, length, set, Some, None, ◌⊎◌, inl, inr, refl, sym, ap, ◌∙◌, arith}
+use Rattle.std.specs.Prelude.{slice_get, nat_eq, if◌then◌else◌}
+use Rattle.std.specs.List.{Contains}
+use Rattle.std.proofs.lemmas.Bool.Decides.{eqb_tells}
+use Rattle.std.proofs.lemmas.List.Elements.{Contains-append_cases}
+use Rattle.std.proofs.lemmas.Option.{none-some, slice_get_within, slice_get-get_or, get_or_from_slice_get}
+use Rattle.core_lang.specs.declared.value.Value.{Value}
+use Rattle.code.specs.Memory.{value_at, with_changed}
+
+-- ---- what stands where
+
+pub contains_at : {X : Type 0} (xs : List X) (i : ℕ) (x : X) → slice_get xs i ≡ Some x → Contains xs x
+contains_at xs i x e = (i, slice_get_within xs i x e, get_or_from_slice_get xs i x x e)
+
+pub at_contained : {X : Type 0} (xs : List X) (x : X) → Contains xs x → (i : ℕ) × (slice_get xs i ≡ Some x)
+at_contained xs x c = (c.0, slice_get-get_or xs c.0 x c.1 ∙ ap Some c.2)
+
+pub first_or_rest : {X : Type 0} (y : X) (ys : List X) (x : X) → Contains (y ∷ ys) x → (y ≡ x) ⊎ Contains ys x
+first_or_rest y ys x (zero, lt, e) = inl e
+first_or_rest y ys x (suc k, lt, e) = inr (k, omega (arith, lt), e)
+
+pub later : {X : Type 0} (y : X) (ys : List X) (x : X) → Contains ys x → Contains (y ∷ ys) x
+later y ys x c = (suc c.0, omega (arith, c.1), c.2)
+
+pub first : {X : Type 0} (y : X) (ys : List X) (x : X) → y ≡ x → Contains (y ∷ ys) x
+first y ys x e = (0, omega arith, e)
+
+pub set_here : {X : Type 0} (xs : List X) (i : ℕ) (x : X) → i < length xs → slice_get (set xs i x) i ≡ Some x
+set_here [] i x lt = absurd (omega (arith, lt))
+set_here (z ∷ xs) zero x lt = refl
+set_here (z ∷ xs) (suc i) x lt = set_here xs i x (omega (arith, lt))
+
+pub item_there : {X : Type 0} (xs : List X) (i : ℕ) → i < length xs → (x : X) × (slice_get xs i ≡ Some x)
+item_there [] i lt = absurd (omega (arith, lt))
+item_there (x ∷ xs) zero lt = (x, refl)
+item_there (x ∷ xs) (suc i) lt = item_there xs i (omega (arith, lt))
+
+pub get_left : {X : Type 0} (xs ys : List X) (i : ℕ) (x : X) → slice_get xs i ≡ Some x → slice_get (xs ++ ys) i ≡ Some x
+get_left [] ys i x e = absurd (none-some x e)
+get_left (z ∷ xs) ys zero x e = e
+get_left (z ∷ xs) ys (suc i) x e = get_left xs ys i x e
+
+pub get_right : {X : Type 0} (xs ys : List X) (i n : ℕ) → i ≡ length xs + n → slice_get (xs ++ ys) i ≡ slice_get ys n
+get_right [] ys i n e = ap (slice_get ys) (let same : i ≡ n = omega (arith, e) in same)
+get_right (z ∷ xs) ys zero n e = absurd (omega (arith, e))
+get_right (z ∷ xs) ys (suc i) n e = get_right xs ys i n (omega (arith, e))
+
+-- ---- numbers that stand once
+
+-- none stands twice
+abbrev pub Distinct : List ℕ → Type 0
+Distinct [] = Unit {0}
+Distinct (c ∷ cs) = (Contains cs c → ⊥) × Distinct cs
+
+pub distinct_append : (xs ys : List ℕ) → Distinct xs → Distinct ys → ((c : ℕ) → Contains xs c → Contains ys c → ⊥) → Distinct (xs ++ ys)
+distinct_append [] ys d e apart = e
+distinct_append (x ∷ xs) ys d e apart = (
+  λ has. elim (Contains-append_cases xs ys x has) [ inl h ↦ d.0 h | inr h ↦ apart x (first x xs x refl) h ],
+  distinct_append xs ys d.1 e (λ c a b. apart c (later x xs c a) b),
+)
+
+-- ---- the value of a cell
+
+pub same_cell : (a b : ℕ) → nat_eq a b ≡ true → a ≡ b
+same_cell a b e = elim (eqb_tells a b) [ inl h ↦ h.1 | inr h ↦ absurd (let bad : true ≡ false = sym e ∙ h.0 in cc) ]
+
+pub other_cell : (a b : ℕ) → nat_eq a b ≡ false → a ≢ b
+other_cell a b e = elim (eqb_tells a b) [ inl h ↦ absurd (let bad : true ≡ false = sym h.0 ∙ e in cc) | inr h ↦ h.1 ]
+
+pub here : (x : ℕ × Value) (xs : List (ℕ × Value)) (c : ℕ) → x.0 ≡ c → value_at (x ∷ xs) c ≡ Some x.1
+here x xs c e =
+    elim (eqb_tells x.0 c) [ inl h ↦ ap (λ b. if b then Some x.1 else value_at xs c) h.0 | inr h ↦ absurd (h.1 e) ]
+
+pub past : (x : ℕ × Value) (xs : List (ℕ × Value)) (c : ℕ) → x.0 ≢ c → value_at (x ∷ xs) c ≡ value_at xs c
+past x xs c ne =
+    elim (eqb_tells x.0 c) [ inl h ↦ absurd (ne h.1) | inr h ↦ ap (λ b. if b then Some x.1 else value_at xs c) h.0 ]
+
+pub value_left : (xs ys : List (ℕ × Value)) (c : ℕ) (v : Value) → value_at xs c ≡ Some v → value_at (xs ++ ys) c ≡ Some v
+value_left [] ys c v e = absurd (none-some v e)
+value_left (x ∷ xs) ys c v e = elim (eqb_tells x.0 c) [
+  | inl h ↦ here x (xs ++ ys) c h.1 ∙ sym (here x xs c h.1) ∙ e
+  | inr h ↦ past x (xs ++ ys) c h.1 ∙ value_left xs ys c v (sym (past x xs c h.1) ∙ e)
+]
+
+pub value_right : (xs ys : List (ℕ × Value)) (c : ℕ) → value_at xs c ≡ None → value_at (xs ++ ys) c ≡ value_at ys c
+value_right [] ys c e = refl
+value_right (x ∷ xs) ys c e = elim (eqb_tells x.0 c) [
+  | inl h ↦ absurd (none-some x.1 (sym e ∙ here x xs c h.1))
+  | inr h ↦ past x (xs ++ ys) c h.1 ∙ value_right xs ys c (sym (past x xs c h.1) ∙ e)
+]
+
+-- ---- a cell's value changed
+
+changed_here : (x : ℕ × Value) (xs : List (ℕ × Value)) (c : ℕ) (v : Value) → x.0 ≡ c → with_changed (x ∷ xs) c v ≡ (c, v) ∷ xs
+changed_here x xs c v e =
+    elim (eqb_tells x.0 c) [ inl h ↦ ap (λ b. if b then (c, v) ∷ xs else x ∷ with_changed xs c v) h.0 | inr h ↦ absurd (h.1 e) ]
+
+changed_past : (x : ℕ × Value) (xs : List (ℕ × Value)) (c : ℕ) (v : Value) → x.0 ≢ c → with_changed (x ∷ xs) c v ≡ x ∷ with_changed xs c v
+changed_past x xs c v ne =
+    elim (eqb_tells x.0 c) [ inl h ↦ absurd (ne h.1) | inr h ↦ ap (λ b. if b then (c, v) ∷ xs else x ∷ with_changed xs c v) h.0 ]
+
+pub changed_left : (xs ys : List (ℕ × Value)) (c : ℕ) (w v : Value) → value_at xs c ≡ Some w →
+    with_changed (xs ++ ys) c v ≡ with_changed xs c v ++ ys
+changed_left [] ys c w v e = absurd (none-some w e)
+changed_left (x ∷ xs) ys c w v e = elim (eqb_tells x.0 c) [
+  | inl h ↦ changed_here x (xs ++ ys) c v h.1 ∙ ap (λ zs. zs ++ ys) (sym (changed_here x xs c v h.1))
+  | inr h ↦ changed_past x (xs ++ ys) c v h.1
+      ∙ ap (λ zs. x ∷ zs) (changed_left xs ys c w v (sym (past x xs c h.1) ∙ e))
+      ∙ ap (λ zs. zs ++ ys) (sym (changed_past x xs c v h.1))
+]
+
+pub changed_right : (xs ys : List (ℕ × Value)) (c : ℕ) (v : Value) → value_at xs c ≡ None →
+    with_changed (xs ++ ys) c v ≡ xs ++ with_changed ys c v
+changed_right [] ys c v e = refl
+changed_right (x ∷ xs) ys c v e = elim (eqb_tells x.0 c) [
+  | inl h ↦ absurd (none-some x.1 (sym e ∙ here x xs c h.1))
+  | inr h ↦ changed_past x (xs ++ ys) c v h.1 ∙ ap (λ zs. x ∷ zs) (changed_right xs ys c v (sym (past x xs c h.1) ∙ e))
+]

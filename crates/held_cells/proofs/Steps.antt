@@ -1,0 +1,243 @@
+-- What a read, a write and a grant leave.
+use Rattle.std.proofs.Common.{◌≡◌, ℕ, ◌+◌, ◌<◌, ◌≤◌, true, false, List, [], ◌∷◌, ◌++◌, length, set, get_or, replicate, Option, Some, None, refl, sym, ap, ◌∙◌, subst, arith, length-set, length-append}
+use Rattle.std.specs.Prelude.{slice_get}
+use Rattle.std.specs.List.{AllZip, Contains}
+use Rattle.std.proofs.lemmas.List.Elements.{All-set, All-push}
+use Rattle.std.proofs.lemmas.Option.{get_or_from_slice_get}
+use Rattle.core_lang.specs.declared.value.Value.{Value}
+use Rattle.locks.specs.declared.lock.Lock.{Lock}
+use Rattle.code.specs.Memory.{HeldCells, value_at, with_value, with_changed, noted, read_if_held, write_if_held}
+use Rattle.layout.specs.LockCells.{cells_of}
+use Rattle.layout.specs.Layouts.{LayoutOf, AreDistinct}
+use Rattle.moved_cells.specs.Grants.{GrantOf, cells_in, IsWhole}
+use Rattle.moved_cells.specs.Laws.{OffsetsFindValues, OffsetsChangeCells}
+use Rattle.held_cells.specs.Held.{HoldingOf, cells_granted, CanHold, with_grant, IsLoad, IsStore}
+use Rattle.held_cells.specs.Noted.{NotesOf, noted_in, in_order, EachOnce, IsEntryOf}
+use Rattle.held_cells.specs.Kept.{locks_of, cells_under, values_count, IsSpot, IsElsewhere, IsKept, holding_of}
+use Rattle.held_cells.proofs.Lists.{item_there, Distinct}
+use Rattle.held_cells.proofs.Rising.{in_order_values}
+use Rattle.held_cells.proofs.Noting.{noted_at, noted_with, zip_noted, noted_extended, zip_extended, zip_long, once}
+use Rattle.held_cells.proofs.Places.{distinct_under, distinct_push, under_append}
+use Rattle.held_cells.proofs.Granted.{locks_append, count_append, granted_append, append_none, length_locks, granted_count, under_count, elsewhere, granted_value, granted_changed, cell_at, locks_set, count_set, whole_at}
+
+-- with something noted at a place
+abbrev pub with_note : NotesOf → ℕ → ℕ → Value → NotesOf
+with_note notes place cell v = record notes { entries = set notes.entries place (Some (cell, v)) }
+
+-- with places more
+abbrev pub with_places : NotesOf → ℕ → NotesOf
+with_places notes count = record notes { entries = notes.entries ++ replicate count None }
+
+pub item_is : {X : Type 0} (xs : List X) (i : ℕ) (x y : X) → slice_get xs i ≡ Some x → y ≡ get_or xs i y → y ≡ x
+item_is xs i x y at e = e ∙ get_or_from_slice_get xs i x y at
+
+module _ (layout : LayoutOf) (gs : List GrantOf) (reads writes : NotesOf) (ls cs : ℕ) (kept : IsKept layout.cell_locks gs reads writes ls cs) where
+  distinct : Distinct (cells_under layout.cell_locks (locks_of gs))
+  distinct = distinct_under layout.cell_locks (locks_of gs) kept.distinct
+
+  pub reads_once : EachOnce (noted_in reads.entries)
+  reads_once = once (cells_under layout.cell_locks (locks_of gs)) reads.entries kept.reads_at distinct
+
+  pub writes_once : EachOnce (noted_in writes.entries)
+  writes_once = once (cells_under layout.cell_locks (locks_of gs)) writes.entries kept.writes_at distinct
+
+  pub reads_long : length reads.entries ≡ values_count gs
+  reads_long = zip_long (cells_under layout.cell_locks (locks_of gs)) reads.entries kept.reads_at ∙ under_count layout.cell_locks gs kept.whole
+
+  pub writes_long : length writes.entries ≡ values_count gs
+  writes_long = zip_long (cells_under layout.cell_locks (locks_of gs)) writes.entries kept.writes_at ∙ under_count layout.cell_locks gs kept.whole
+
+  pub cells_long : length (cells_granted layout.cell_locks gs) ≡ values_count gs
+  cells_long = granted_count layout.cell_locks gs kept.whole
+
+  -- ---- a cell that isn't held
+
+  module _ (old : HoldingOf) (was : holding_of layout gs reads writes ls cs ≡ old) (cell : ℕ) (out : IsElsewhere layout.cell_locks gs cell) where
+    not_there : value_at old.memory.cells cell ≡ None
+    not_there = ap (λ (h : HoldingOf). value_at h.memory.cells cell) (sym was) ∙ elsewhere layout.cell_locks gs cell out
+
+    pub none_loaded : IsLoad old cell None old
+    none_loaded = (ap (read_if_held old.memory cell) not_there, refl)
+
+    pub none_stored : (v : Value) → IsStore old cell v false old
+    none_stored v = (ap (λ (o : Option Value). write_if_held old.memory o cell v) not_there, refl)
+
+  -- ---- a cell that is
+
+  module _ (old : HoldingOf) (was : holding_of layout gs reads writes ls cs ≡ old) (cell index offset place : ℕ)
+      (spot : IsSpot layout.cell_locks gs cell index offset place) (read : OffsetsFindValues) where
+    has_place : slice_get (cells_under layout.cell_locks (locks_of gs)) place ≡ Some cell
+    has_place =
+        ap (slice_get (cells_under layout.cell_locks (locks_of gs))) spot.place_is
+        ∙ cell_at layout.cell_locks gs index spot.grant cell offset kept.whole spot.is spot.slot.offset_is
+
+    has_value : (v : Value) → slice_get spot.grant.values offset ≡ Some v → value_at (cells_granted layout.cell_locks gs) cell ≡ Some v
+    has_value v is = granted_value layout.cell_locks cell offset spot.grant spot.slot read gs index v kept.whole kept.distinct spot.is is
+
+    pub loaded_written : (g : GrantOf) (v : Value) (x : ℕ × Value) → g ≡ get_or gs index g → slice_get g.values offset ≡ Some v →
+        slice_get writes.entries place ≡ Some (Some x) → IsLoad old cell (Some v) old
+    loaded_written g v x at is there =
+        let same : g ≡ spot.grant = item_is gs index spot.grant g spot.is at in
+        let value : value_at (cells_granted layout.cell_locks gs) cell ≡ Some v = has_value v (ap (λ (h : GrantOf). slice_get h.values offset) (sym same) ∙ is) in
+        let held : HeldCells = (holding_of layout gs reads writes ls cs).memory in
+        let written : value_at held.writes cell ≡ Some x.1 =
+        in_order_values (noted_in writes.entries) cell
+        ∙ noted_at (cells_under layout.cell_locks (locks_of gs)) writes.entries place cell (Some x) kept.writes_at distinct has_place there in
+        subst (λ (h : HoldingOf). IsLoad h cell (Some v) h) was
+        (ap (read_if_held held cell) value ∙ ap (λ (o : Option Value). Some (v, noted held cell v o)) written, refl)
+
+    pub loaded_first : (g : GrantOf) (v : Value) (more : NotesOf) → g ≡ get_or gs index g → slice_get g.values offset ≡ Some v →
+        slice_get writes.entries place ≡ Some None → more ≡ with_note reads place cell v → IsLoad old cell (Some v) (holding_of layout gs more writes ls cs)
+    loaded_first g v more at is there e =
+        let same : g ≡ spot.grant = item_is gs index spot.grant g spot.is at in
+        let value : value_at (cells_granted layout.cell_locks gs) cell ≡ Some v = has_value v (ap (λ (h : GrantOf). slice_get h.values offset) (sym same) ∙ is) in
+        let held : HeldCells = (holding_of layout gs reads writes ls cs).memory in
+        let unwritten : value_at held.writes cell ≡ None =
+        in_order_values (noted_in writes.entries) cell
+        ∙ noted_at (cells_under layout.cell_locks (locks_of gs)) writes.entries place cell None kept.writes_at distinct has_place there in
+        let fits : place < length reads.entries = omega (arith, spot.place_fits, reads_long) in
+        let noting : in_order (noted_in more.entries) ≡ with_value held.reads cell v =
+        ap (λ (n : NotesOf). in_order (noted_in n.entries)) e
+        ∙ noted_with (cells_under layout.cell_locks (locks_of gs)) reads.entries place cell v kept.reads_at distinct has_place fits in
+        subst (λ (h : HoldingOf). IsLoad h cell (Some v) (holding_of layout gs more writes ls cs)) was (
+          ap (read_if_held held cell) value ∙ ap (λ (o : Option Value). Some (v, noted held cell v o)) unwritten
+              ∙ ap (λ (rs : List (ℕ × Value)). Some (v, record held { reads = rs })) (sym noting),
+          refl,
+        )
+
+    pub kept_noted : (v : Value) (more : NotesOf) → more ≡ with_note reads place cell v → IsKept layout.cell_locks gs more writes ls cs
+    kept_noted v more e = subst (λ (n : NotesOf). IsKept layout.cell_locks gs n writes ls cs) (sym e) (record {
+      whole = kept.whole;
+      distinct = kept.distinct;
+      reads_at = zip_noted (cells_under layout.cell_locks (locks_of gs)) reads.entries place cell v kept.reads_at has_place;
+      writes_at = kept.writes_at;
+      reads_room = kept.reads_room;
+      writes_room = kept.writes_room;
+      locks_fit = kept.locks_fit;
+      cells_fit = kept.cells_fit;
+    })
+
+    -- ---- a write
+
+    module _ (g h : GrantOf) (v : Value) (more : NotesOf) (at : g ≡ get_or gs index g) (changed : h ≡ record g { values = set g.values offset v })
+        (e : more ≡ with_note writes place cell v) where
+      put : h ≡ record spot.grant { values = set spot.grant.values offset v }
+      put = changed ∙ ap (λ (x : GrantOf). record x { values = set x.values offset v }) (item_is gs index spot.grant g spot.is at)
+
+      set_to : set gs index h ≡ set gs index (record spot.grant { values = set spot.grant.values offset v })
+      set_to = ap (λ (x : GrantOf). set gs index x) put
+
+      same_locks : locks_of (set gs index h) ≡ locks_of gs
+      same_locks = ap locks_of set_to ∙ locks_set gs index spot.grant (set spot.grant.values offset v) spot.is
+
+      whole_still : IsWhole layout.cell_locks h
+      whole_still =
+          subst (IsWhole layout.cell_locks) (sym put)
+          (length-set spot.grant.values offset v ∙ whole_at layout.cell_locks gs index spot.grant kept.whole spot.is)
+
+      same_count : values_count (set gs index h) ≡ values_count gs
+      same_count = ap values_count set_to ∙ count_set gs index spot.grant (set spot.grant.values offset v) spot.is (length-set spot.grant.values offset v)
+
+      pub kept_stored : IsKept layout.cell_locks (set gs index h) reads more ls cs
+      kept_stored = subst (λ (n : NotesOf). IsKept layout.cell_locks (set gs index h) reads n ls cs) (sym e) (record {
+        whole = All-set (IsWhole layout.cell_locks) gs index h whole_still kept.whole;
+        distinct = subst AreDistinct (sym same_locks) kept.distinct;
+        reads_at = subst (λ (locks : List Lock). AllZip IsEntryOf (cells_under layout.cell_locks locks) reads.entries) (sym same_locks) kept.reads_at;
+        writes_at = subst (λ (locks : List Lock). AllZip IsEntryOf (cells_under layout.cell_locks locks) (set writes.entries place (Some (cell, v)))) (sym same_locks)
+            (zip_noted (cells_under layout.cell_locks (locks_of gs)) writes.entries place cell v kept.writes_at has_place);
+        reads_room = kept.reads_room;
+        writes_room = kept.writes_room;
+        locks_fit = omega (arith, length-set gs index h, kept.locks_fit);
+        cells_fit = omega (arith, same_count, kept.cells_fit);
+      })
+
+      pub stored : OffsetsChangeCells → IsStore old cell v true (holding_of layout (set gs index h) reads more ls cs)
+      stored change =
+          let before = item_there spot.grant.values offset spot.offset_fits in
+          let held : HeldCells = (holding_of layout gs reads writes ls cs).memory in
+          let fits : place < length writes.entries = omega (arith, spot.place_fits, writes_long) in
+          let noting : in_order (noted_in more.entries) ≡ with_value held.writes cell v =
+          ap (λ (n : NotesOf). in_order (noted_in n.entries)) e
+          ∙ noted_with (cells_under layout.cell_locks (locks_of gs)) writes.entries place cell v kept.writes_at distinct has_place fits in
+          let cells : cells_granted layout.cell_locks (set gs index h) ≡ with_changed held.cells cell v =
+          ap (cells_granted layout.cell_locks) set_to
+          ∙ granted_changed layout.cell_locks cell offset spot.grant spot.slot read change gs index before.0 v kept.whole kept.distinct spot.is before.1 in
+          subst (λ (x : HoldingOf). IsStore x cell v true (holding_of layout (set gs index h) reads more ls cs)) was (
+            ap (λ (o : Option Value). write_if_held held o cell v) (has_value before.0 before.1)
+                ∙ ap (λ (xs : List (ℕ × Value)). Some (record held { cells = xs; writes = with_value held.writes cell v })) (sym cells)
+                ∙ ap (λ (ws : List (ℕ × Value)). Some (record held { cells = cells_granted layout.cell_locks (set gs index h); writes = ws })) (sym noting),
+            ap (λ (locks : List Lock). record (holding_of layout (set gs index h) reads more ls cs) { locks = locks }) same_locks,
+          )
+
+  -- ---- a grant more
+
+  module _ (old : HoldingOf) (was : holding_of layout gs reads writes ls cs ≡ old) (g : GrantOf) (can : CanHold old g) where
+    pub room_is : values_count gs + length g.values ≤ cs
+    room_is =
+        omega (arith, can.cells_fit, cells_long, ap (λ (h : HoldingOf). length h.memory.cells) was, ap (λ (h : HoldingOf). h.cell_room) was)
+
+    new_lock : Contains (locks_of gs) g.lock → ⊥
+    new_lock has = can.new (subst (λ (h : HoldingOf). Contains h.locks g.lock) was has)
+
+    all_cells : IsWhole layout.cell_locks g
+    all_cells = subst (λ (h : HoldingOf). IsWhole h.layout.cell_locks g) (sym was) can.whole
+
+    under_more : cells_under layout.cell_locks (locks_of (gs ++ g ∷ [])) ≡ cells_under layout.cell_locks (locks_of gs) ++ cells_under layout.cell_locks (g.lock ∷ [])
+    under_more = ap (cells_under layout.cell_locks) (locks_append gs (g ∷ [])) ∙ under_append layout.cell_locks (locks_of gs) (g.lock ∷ [])
+
+    new_places : length (cells_under layout.cell_locks (g.lock ∷ [])) ≡ length g.values
+    new_places = omega (arith, length-append (cells_of layout.cell_locks g.lock) [], all_cells)
+
+    places_more : (es : List (Option (ℕ × Value))) → AllZip IsEntryOf (cells_under layout.cell_locks (locks_of gs)) es →
+        AllZip IsEntryOf (cells_under layout.cell_locks (locks_of (gs ++ g ∷ []))) (es ++ replicate (length g.values) None)
+    places_more es zip =
+        subst (λ (xs : List ℕ). AllZip IsEntryOf xs (es ++ replicate (length g.values) None)) (sym under_more)
+        (zip_extended (cells_under layout.cell_locks (locks_of gs)) (cells_under layout.cell_locks (g.lock ∷ [])) es (length g.values) zip new_places)
+
+    kept_granted : IsKept layout.cell_locks (gs ++ g ∷ []) (with_places reads (length g.values)) (with_places writes (length g.values)) ls cs
+    kept_granted = record {
+      whole = All-push (IsWhole layout.cell_locks) gs g kept.whole all_cells;
+      distinct = subst AreDistinct (sym (locks_append gs (g ∷ []))) (distinct_push (locks_of gs) g.lock kept.distinct new_lock);
+      reads_at = places_more reads.entries kept.reads_at;
+      writes_at = places_more writes.entries kept.writes_at;
+      reads_room = kept.reads_room;
+      writes_room = kept.writes_room;
+      locks_fit = omega (arith, length-append gs (g ∷ []), can.lock_fits, length_locks gs, ap (λ (h : HoldingOf). length h.locks) was, ap (λ (h : HoldingOf). h.lock_room) was);
+      cells_fit = omega (arith, count_append gs (g ∷ []), room_is);
+    }
+
+    granted : holding_of layout (gs ++ g ∷ []) (with_places reads (length g.values)) (with_places writes (length g.values)) ls cs ≡ with_grant old g
+    granted =
+        (λ i. record {
+          layout = layout;
+          locks = locks_append gs (g ∷ []) i;
+          memory = record {
+            cells = cells i;
+            reads = in_order (noted_extended reads.entries (length g.values) i);
+            writes = in_order (noted_extended writes.entries (length g.values) i);
+          };
+          lock_room = ls;
+          cell_room = cs;
+        })
+        ∙ ap (λ (h : HoldingOf). with_grant h g) was
+      where
+        cells : cells_granted layout.cell_locks (gs ++ g ∷ []) ≡ cells_granted layout.cell_locks gs ++ cells_in layout.cell_locks g
+        cells =
+            granted_append layout.cell_locks gs (g ∷ [])
+            ∙ ap (λ (xs : List (ℕ × Value)). cells_granted layout.cell_locks gs ++ xs) (append_none (cells_in layout.cell_locks g))
+
+    -- as the code makes them
+    pub kept_after : (hs : List GrantOf) (rs ws : NotesOf) → hs ≡ gs ++ g ∷ [] → rs ≡ with_places reads (length g.values) → ws ≡ with_places writes (length g.values) →
+        IsKept layout.cell_locks hs rs ws ls cs
+    kept_after hs rs ws a b c =
+        subst (λ (x : List GrantOf). IsKept layout.cell_locks x rs ws ls cs) (sym a)
+        (subst (λ (x : NotesOf). IsKept layout.cell_locks (gs ++ g ∷ []) x ws ls cs) (sym b)
+        (subst (λ (x : NotesOf). IsKept layout.cell_locks (gs ++ g ∷ []) (with_places reads (length g.values)) x ls cs) (sym c) kept_granted))
+
+    pub granted_after : (hs : List GrantOf) (rs ws : NotesOf) → hs ≡ gs ++ g ∷ [] → rs ≡ with_places reads (length g.values) → ws ≡ with_places writes (length g.values) →
+        holding_of layout hs rs ws ls cs ≡ with_grant old g
+    granted_after hs rs ws a b c =
+        ap (λ (x : List GrantOf). holding_of layout x rs ws ls cs) a
+        ∙ ap (λ (x : NotesOf). holding_of layout (gs ++ g ∷ []) x ws ls cs) b
+        ∙ ap (λ (x : NotesOf). holding_of layout (gs ++ g ∷ []) (with_places reads (length g.values)) x ls cs) c
+        ∙ granted

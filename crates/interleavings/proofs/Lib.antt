@@ -1,0 +1,10 @@
+pub mod Lists
+pub mod Numbers
+pub mod Locked
+pub mod Holding
+pub mod Cells
+pub mod Ending
+pub mod Turning
+pub mod Opening
+pub mod Many
+pub mod Along

@@ -1,0 +1,34 @@
+-- The threads of a compiled program, in one world.
+use Rattle.std.specs.Prelude.{ℕ, List, slice_get, Option}
+use Rattle.core_lang.specs.declared.value.Value.{Value}
+use Rattle.core_lang.specs.Typing.{lookup}
+use Rattle.lowering.specs.Plans.{Plan}
+use Rattle.worlds.specs.Worlds.{World, Activation, HasOpen, opening_world, world_after, final}
+
+-- a program's plan, and the world that its threads are in
+pub record ThreadsOf : Type 0 where
+  pub plan : Plan
+  pub world : World
+
+abbrev pub threads_of : Plan → World → ThreadsOf
+threads_of plan world = record { plan = plan; world = world }
+
+-- before any step
+abbrev pub at_opening : Plan → ThreadsOf
+at_opening plan = threads_of plan (opening_world plan)
+
+-- after these steps from the opening
+abbrev pub after_steps : Plan → List ℕ → ThreadsOf
+after_steps plan steps = threads_of plan (final plan steps)
+
+-- after these further steps
+abbrev pub with_steps : ThreadsOf → List ℕ → ThreadsOf
+with_steps w steps = threads_of w.plan (world_after w.plan w.world steps)
+
+-- what a cell holds, unless a section holds it
+abbrev pub cell_in : World → ℕ → Option Value
+cell_in w cell = lookup (slice_get w.cells cell) (λ (v : Option Value). v)
+
+-- no section of the thread is open
+abbrev pub HasNoneOpen : World → ℕ → Type 0
+HasNoneOpen w t = (a : Activation) → HasOpen w t a → ⊥

@@ -1,0 +1,15 @@
+//! Worlds of threads that take turns.
+//!
+//! - [`world::World`]: the threads of a compiled program; one step of one of them.
+//! - [`world::run`]: the world after a list of steps, and what is claimed of it.
+//! - [`status::Status`]: what a thread can do next.
+//!
+//! `specs/` says what such a world is as a value (`Threads`) and what a thread can do
+//! next (`Statuses`). `States` ties the threads' states to the manager of locks, and `Steps` says what a step does to
+//! them; nobody has to believe these two.
+#![tactic(auto)]
+
+mod state;
+pub mod status;
+mod stepping;
+pub mod world;

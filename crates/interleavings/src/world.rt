@@ -1,0 +1,213 @@
+//! Worlds of threads that take turns.
+
+ghost use Rattle.std.specs.Prelude.{◌≡◌, ◌≤◌, replicate, IfOk, OnOk, OnErr};
+ghost use Rattle.worlds.specs.Worlds.{happens};
+ghost use Rattle.worlds.specs.Claims.{Headline};
+ghost use Rattle.interleavings.specs.Threads.{HasNoneOpen, cell_in, at_opening, after_steps, with_steps};
+ghost use Rattle.interleavings.specs.Statuses.{status_of};
+ghost use Rattle.steps.specs.Turns.{steps_of};
+
+use crate::state::State;
+use crate::status::Status;
+use crate::stepping::{all_ready, put, state_of, status, step};
+use core_lang::value::Value;
+use history::entry::Entry;
+use lock_manager::manager::Manager;
+use lowering::compiled::Program;
+use source::memory::NoMemory;
+use std::alloc::Global;
+use std::marker::Model;
+use std::mem;
+use steps::turn::Turn;
+use worlds::event::Event;
+
+/// The threads of a compiled program, each with its state, and the manager of its locks. As a value it is the program's
+/// plan and a world.
+pub struct World<'p> {
+    program: &'p Program,
+    manager: Manager<'p>,
+    // By thread.
+    states: Vec<State<'p>>,
+}
+
+impl<'p> Model for World<'p> {
+    ghost use Rattle.core_lang.specs.contracts.tree.Action as action;
+    ghost use Rattle.core_lang.specs.contracts.tree.Expr as expr;
+    ghost use Rattle.core_lang.specs.contracts.tree.Condition as condition;
+    ghost use Rattle.std.specs.Coded.{codes};
+    ghost use Rattle.interleavings.specs.Threads.{ThreadsOf};
+
+    ghost Value = { ThreadsOf };
+
+    ghost coded = { Prim.hlevel (codes, action.the_row.coded, expr.the_row.coded, condition.the_row.coded) };
+
+    ghost use Rattle.interleavings.specs.States.{world_of, IsTied};
+
+    ghost view = { λ w. record { plan = w.program.now; world = world_of w.manager w.states.items } };
+
+    ghost invariant = { λ w. IsTied w.program.now w.manager w.states.items };
+}
+
+impl<'p> World<'p> {
+    /// Before any step: all cells with their opening values, no history, and no section open.
+    ///
+    /// # Errors
+    ///
+    /// Want of memory.
+    pub fn open(alloc: Global, program: &'p Program) -> Result<World<'p>, NoMemory>
+        ensures { IfOk result (λ w. w ≡ at_opening program.now) }
+    {
+        worlds::laws::steps_keep_sound();
+        worlds::laws::worlds_stay_ready();
+        history::laws::one_entry_more();
+        let typed = program.typed();
+        let manager = Manager::open(alloc, program.layout(), program.ranks())?;
+        manager.keeps_its_rules();
+        let states = all_ready(alloc, typed.threads.len())?;
+        Ok(World {
+            program,
+            manager,
+            states,
+        })
+    }
+
+    /// One step of a thread. A thread that there isn't does nothing.
+    ///
+    /// # Errors
+    ///
+    /// Want of memory, only where its step begins a call; all is as it was.
+    pub fn step(&mut self, alloc: Global, thread: u32) -> Result<Event, NoMemory>
+        ensures ok { IfOk result (λ event. happens self.old.plan self.old.world thread ≡ (event, self.new.world)) }
+        ensures plan { self.new.plan ≡ self.old.plan }
+        ensures err { OnErr result (self.new ≡ self.old) }
+        ensures begins { OnErr result (HasNoneOpen self.old.world thread) }
+    {
+        worlds::laws::steps_keep_sound();
+        worlds::laws::worlds_stay_ready();
+        locks::laws::precedes_is_strict();
+        moved_cells::laws::slots_are_cells();
+        history::laws::one_entry_more();
+        let program = self.program;
+        let thread = thread as usize;
+        if thread >= self.states.len() {
+            return Ok(Event::Idle);
+        }
+        self.manager.keeps_its_rules();
+        let state = mem::replace(&mut self.states[thread], State::Away);
+        let (next, event) = step(alloc, program, &mut self.manager, state);
+        self.manager.keeps_its_rules();
+        put(&mut self.states[thread], next);
+        event
+    }
+
+    // As many steps of a thread as are instructions of its open section, but at most so many.
+    fn run_on(&mut self, thread: u32, most: usize) -> usize
+        ensures steps { self.new ≡ with_steps self.old (replicate result thread) }
+        ensures within { result ≤ most }
+    {
+        worlds::laws::steps_keep_sound();
+        worlds::laws::worlds_stay_ready();
+        locks::laws::precedes_is_strict();
+        history::laws::one_entry_more();
+        let thread = thread as usize;
+        if most == 0 || thread >= self.states.len() {
+            return 0;
+        }
+        let State::Running(_) = &self.states[thread] else {
+            return 0;
+        };
+        self.manager.keeps_its_rules();
+        let state = mem::replace(&mut self.states[thread], State::Away);
+        let State::Running(running) = state else {
+            unreachable!()
+        };
+        let (count, next) = running.run(most);
+        put(&mut self.states[thread], state_of(next));
+        count
+    }
+
+    // So many steps of a thread.
+    fn take(&mut self, alloc: Global, turn: Turn) -> Result<(), NoMemory>
+        ensures { OnOk result (self.new ≡ with_steps self.old (replicate turn.count turn.thread)) }
+    {
+        let mut left = turn.count;
+        while left > 0 {
+            self.step(alloc, turn.thread)?;
+            left -= 1;
+            left -= self.run_on(turn.thread, left);
+        }
+        Ok(())
+    }
+
+    /// Its program.
+    #[inline]
+    pub fn program(&self) -> &'p Program
+        ensures { result.now ≡ self.now.plan }
+    {
+        self.program
+    }
+
+    /// The entries of the sections that ended, in the order in which they did.
+    pub fn history(&self) -> &[Entry]
+        ensures { result.now ≡ self.now.world.history }
+    {
+        self.manager.history().entries()
+    }
+
+    /// What a cell holds, unless a section holds it.
+    pub fn cell(&self, cell: usize) -> Option<Value>
+        ensures { result ≡ cell_in self.now.world cell }
+    {
+        self.manager.cell(cell)
+    }
+
+    /// What a thread can do next.
+    pub fn state(&self, thread: u32) -> Status
+        ensures { result ≡ status_of self.now.plan self.now.world thread }
+    {
+        self.manager.keeps_its_rules();
+        match self.states.get(thread as usize) {
+            None => Status::Idle,
+            Some(state) => status(self.program, &self.manager, state),
+        }
+    }
+}
+
+// A world that is let go gives its open sections up.
+impl<'p> Drop for World<'p> {
+    fn drop(self) {
+        let World {
+            program: _,
+            mut manager,
+            mut states,
+        } = self;
+        while let Some(state) = states.pop() {
+            match state {
+                State::Away => {}
+                State::Ready(_ready) => {}
+                State::Running(running) => running.give_up(&mut manager),
+                State::Asking(asking) => asking.give_up(&mut manager),
+                State::Ended(ended) => ended.give_up(&mut manager),
+            }
+        }
+        states.destroy_empty();
+    }
+}
+
+/// The world after these turns from the opening world. What is claimed of every run holds of it.
+///
+/// # Errors
+///
+/// Want of memory.
+pub fn run<'p>(alloc: Global, program: &'p Program, turns: &[Turn]) -> Result<World<'p>, NoMemory>
+    ensures last { IfOk result (λ w. w ≡ after_steps program.now (steps_of turns.now)) }
+    ensures headline { OnOk result (Headline program.now (steps_of turns.now)) }
+{
+    worlds::laws::every_run();
+    let _typed = program.typed();
+    let mut world = World::open(alloc, program)?;
+    for turn in turns {
+        world.take(alloc, *turn)?;
+    }
+    Ok(world)
+}

@@ -1,0 +1,59 @@
+-- The simulation text, as bytes: a line `simulation 1`, a line for each finished section with a line for each of its
+-- prints, a line `cells`, a line for each cell, a line `threads`, a line for each thread, a line `end`.
+use Rattle.std.specs.Prelude.{ℕ, zero, suc, ◌+◌, List, [], ◌∷◌, ◌++◌, length, map, codes, Option, Some, None}
+use Rattle.std.specs.List.{flat_map}
+use Rattle.std.specs.Fmt.{decimal}
+use Rattle.core_lang.specs.declared.value.Value.{Value}
+use Rattle.core_lang.specs.declared.shape.Shape.{Shape}
+use Rattle.core_lang.specs.declared.typed.Cell.{Cell}
+use Rattle.core_lang.specs.declared.typed.Typed.{Typed}
+use Rattle.history.specs.Commits.{Commit}
+use Rattle.interleavings.specs.declared.status.Status.{Status}
+use Rattle.interleavings.specs.declared.status.Status.TheVariants.{Idle, Ready, Waits, Running}
+use Rattle.interleavings.specs.Threads.{cell_in}
+use Rattle.interleavings.specs.Statuses.{status_of}
+use Rattle.lowering.specs.Plans.{Plan}
+use Rattle.worlds.specs.Worlds.{World}
+use Rattle.report.specs.Entry.{entry_of_commit}
+use Rattle.report.specs.History.{line, entry_text}
+use Rattle.report.specs.Pieces.{owner_text, value_text, lock_text}
+
+-- what a cell holds, or that a section holds it
+abbrev pub present_text : Shape → Option Value → List ℕ
+present_text shape (Some value) = value_text shape value
+present_text shape None = codes "held"
+
+-- CELL VALUE, for each of these cells, the first of which has this number
+abbrev pub present_texts : Typed → World → ℕ → List Cell → List ℕ
+present_texts typed w number [] = []
+present_texts typed w number (cell ∷ cells) =
+    line (owner_text typed cell.owner ++ codes " " ++ present_text typed.shape (cell_in w number))
+    ++ present_texts typed w (number + 1) cells
+
+-- how a thread stands
+abbrev pub status_text : Typed → Status → List ℕ
+status_text typed Idle = codes "idle"
+status_text typed Ready = codes "ready"
+status_text typed (Waits lock holder) = codes "waits " ++ lock_text typed lock ++ codes " for " ++ decimal holder
+status_text typed Running = codes "running"
+
+-- THREAD STATUS
+abbrev pub thread_text : Plan → World → ℕ → List ℕ
+thread_text plan w t = line (decimal t ++ codes " " ++ status_text plan.program (status_of plan w t))
+
+-- of the first n threads
+abbrev pub thread_texts : Plan → World → ℕ → List ℕ
+thread_texts plan w zero = []
+thread_texts plan w (suc n) = thread_texts plan w n ++ thread_text plan w n
+
+-- the line of each finished section, with its prints
+abbrev pub commit_texts : Typed → List Commit → List ℕ
+commit_texts typed commits = flat_map (entry_text typed) (map entry_of_commit commits)
+
+-- the whole text
+abbrev pub simulation_of : Plan → World → List ℕ
+simulation_of plan w =
+    let typed = plan.program in
+    line (codes "simulation 1") ++ commit_texts typed w.history ++ line (codes "cells")
+    ++ present_texts typed w 0 typed.cells.items ++ line (codes "threads")
+    ++ thread_texts plan w (length typed.threads.items) ++ line (codes "end")

@@ -1,0 +1,109 @@
+//! The simulation text.
+
+ghost use Rattle.std.specs.Prelude.{◌≡◌, ◌++◌, ◌<◌, ◌^◌, OnOk, IfOk, length, string_bytes};
+ghost use Rattle.report.specs.Simulation.{present_text, present_texts, status_text, thread_text, thread_texts, commit_texts, simulation_of};
+
+use crate::histories::push_entry;
+use crate::pieces::{push_lock, push_number, push_owner, push_value};
+use crate::record::said_of;
+use core_lang::shape::Shape;
+use core_lang::typed::Typed;
+use core_lang::value::Value;
+use history::entry::Entry;
+use interleavings::status::Status;
+use interleavings::world::World;
+use source::memory::NoMemory;
+use std::alloc::{AllocError, Global};
+
+/// The line of each finished section, with its prints.
+fn push_entries(out: &mut String, typed: &Typed, entries: &[Entry]) -> Result<(), AllocError>
+    ensures { OnOk result (string_bytes out.new ≡ string_bytes out.old ++ commit_texts typed.now entries.now) }
+{
+    for entry in entries {
+        push_entry(out, typed, &said_of(entry))?;
+    }
+    Ok(())
+}
+
+/// What a cell holds, or that a section holds it.
+fn push_present(out: &mut String, shape: &Shape, value: Option<Value>) -> Result<(), AllocError>
+    ensures { OnOk result (string_bytes out.new ≡ string_bytes out.old ++ present_text shape.now value) }
+{
+    match value {
+        Some(value) => push_value(out, shape, value),
+        None => out.push_str("held"),
+    }
+}
+
+/// A line for each cell.
+fn push_cells(out: &mut String, world: &World<'_>) -> Result<(), AllocError>
+    ensures { OnOk result (string_bytes out.new ≡ string_bytes out.old
+        ++ present_texts world.now.plan.program world.now.world 0 world.now.plan.program.cells.items) }
+{
+    let typed = world.program().typed();
+    for (number, cell) in typed.cells.iter().enumerate() {
+        push_owner(out, typed, cell.owner)?;
+        out.push_str(" ")?;
+        push_present(out, &typed.shape, world.cell(number))?;
+        out.push_str("\n")?;
+    }
+    Ok(())
+}
+
+/// How a thread stands.
+fn push_status(out: &mut String, typed: &Typed, status: Status) -> Result<(), AllocError>
+    ensures { OnOk result (string_bytes out.new ≡ string_bytes out.old ++ status_text typed.now status) }
+{
+    match status {
+        Status::Idle => out.push_str("idle"),
+        Status::Ready => out.push_str("ready"),
+        Status::Waits(lock, holder) => {
+            out.push_str("waits ")?;
+            push_lock(out, typed, lock)?;
+            out.push_str(" for ")?;
+            push_number(out, holder as usize)
+        }
+        Status::Running => out.push_str("running"),
+    }
+}
+
+/// The line of a thread.
+fn push_thread(out: &mut String, world: &World<'_>, thread: u32) -> Result<(), AllocError>
+    ensures { OnOk result (string_bytes out.new ≡ string_bytes out.old ++ thread_text world.now.plan world.now.world thread) }
+{
+    push_number(out, thread as usize)?;
+    out.push_str(" ")?;
+    push_status(out, world.program().typed(), world.state(thread))?;
+    out.push_str("\n")
+}
+
+/// A line for each thread.
+fn push_threads(out: &mut String, world: &World<'_>) -> Result<(), AllocError>
+    ensures { OnOk result (string_bytes out.new ≡ string_bytes out.old
+        ++ thread_texts world.now.plan world.now.world (length world.now.plan.program.threads.items)) }
+{
+    for thread in 0..world.program().threads() {
+        push_thread(out, world, thread)?;
+    }
+    Ok(())
+}
+
+/// What there is in a world: its finished sections in order, what each cell holds, unless a section holds it, and how each
+/// thread stands.
+///
+/// # Errors
+///
+/// Want of memory.
+pub fn simulation_text(alloc: Global, world: &World<'_>) -> Result<String, NoMemory>
+    ensures { IfOk result (λ text. string_bytes text ≡ simulation_of world.now.plan world.now.world) }
+{
+    let typed = world.program().typed();
+    let mut out = String::from_str(alloc, "simulation 1\n")?;
+    push_entries(&mut out, typed, world.history())?;
+    out.push_str("cells\n")?;
+    push_cells(&mut out, world)?;
+    out.push_str("threads\n")?;
+    push_threads(&mut out, world)?;
+    out.push_str("end\n")?;
+    Ok(out)
+}

@@ -1,0 +1,22 @@
+-- One instruction more.
+use Rattle.std.proofs.Common.{◌≡◌, ℕ, zero, suc, ◌+◌, ◌<◌, sym, ap, ◌∙◌, subst, arith}
+use Rattle.runner.specs.Opens.{OpenOf, IsRunning, moved, moved_by, Ran}
+
+below_next : (P : ℕ → Type 0) (n : ℕ) → ((k : ℕ) → k < n → P k) → P n → (k : ℕ) → k < n + 1 → P k
+below_next P zero below last zero lt = last
+below_next P zero below last (suc k) lt = absurd (omega (arith, lt))
+below_next P (suc n) below last zero lt = below zero (omega arith)
+below_next P (suc n) below last (suc k) lt =
+    below_next (λ (j : ℕ). P (suc j)) n (λ j l. below (suc j) (omega (arith, l))) last k (omega (arith, lt))
+
+-- a section that has come so far does one more, and then its next step is none
+pub ran_on : (most done : ℕ) (o now last : OpenOf) → done < most → now ≡ moved_by done o → ((k : ℕ) → k < done → IsRunning (moved_by k o)) →
+    IsRunning now → last ≡ moved now → (IsRunning last → ⊥) → Ran most o (done + 1) last
+ran_on most done o now last lt is running runs next stops =
+    let number : suc done ≡ done + 1 = omega arith in
+    record {
+      is = next ∙ ap moved is ∙ ap (λ n. moved_by n o) number;
+      running = below_next (λ (k : ℕ). IsRunning (moved_by k o)) done running (subst IsRunning is runs);
+      within = omega (arith, lt);
+      stops = λ more. stops;
+    }

@@ -1,0 +1,108 @@
+use Rattle.std.specs.Prelude.{◌≡◌, ◌<◌, ℕ, false, List, [], length, get_or, slice_get, Option, Some}
+use Rattle.std.specs.Option.{option_map_or}
+use Rattle.std.proofs.Common.{refl, sym, ap, ◌∙◌, subst, arith}
+use Rattle.std.proofs.lemmas.Option.{slice_get_within, get_or_from_slice_get}
+use Rattle.core_lang.specs.declared.value.Value.{Value}
+use Rattle.core_lang.specs.declared.tree.Section.{Section}
+use Rattle.core_lang.specs.declared.typed.Typed.{Typed}
+use Rattle.core_lang.specs.Serial.{Invocation}
+use Rattle.core_lang.specs.WellFormed.{CanCall}
+use Rattle.core_lang.specs.Whole.{opening}
+use Rattle.locks.specs.declared.lock.Lock.{Lock}
+use Rattle.layout.specs.declared.room.Room.{Room}
+use Rattle.lock_manager.specs.Sessions.{SessionOf, TicketOf, fresh}
+use Rattle.lock_manager.specs.Managers.{Managed}
+use Rattle.lock_manager.specs.Calls.{Begins}
+use Rattle.lowering.specs.Plans.{Plan}
+use Rattle.lowering.specs.Compiled.{IsRoomAt}
+use Rattle.worlds.specs.Worlds.{locals_at}
+use Rattle.worlds.specs.InOrder.{SectionsStayInOrder}
+use Rattle.runner.specs.Machines.{RunOf}
+use Rattle.runner.specs.Opens.{OpenOf, ReadyOf, IsOpen, Began}
+use Rattle.runner.specs.Ties.{open_as, begun_as, cells_together, IsPrepared, IsKeptOpen}
+
+-- a call that fits has its section
+pub called : (program : Typed) (number : ℕ) (arguments : List Value) → CanCall program number arguments →
+    (section : Section) × (slice_get program.sections.items number ≡ Some section)
+unfolding CanCall
+called program number arguments can = (can.0, can.1)
+
+pub called_within : (program : Typed) (number : ℕ) (arguments : List Value) → CanCall program number arguments →
+    number < length program.sections.items
+called_within program number arguments can =
+    let section = called program number arguments can in
+    slice_get_within program.sections.items number section.0 section.1
+
+-- its locals
+pub first_locals : (plan : Plan) (call : Invocation) (x : Section) → CanCall plan.program call.section call.arguments →
+    x ≡ get_or plan.program.sections.items call.section x →
+    (opening x call.arguments []).locals ≡ locals_at plan call
+first_locals plan call x can is =
+    let section = called plan.program call.section call.arguments can in
+    let same : x ≡ section.0 = is ∙ get_or_from_slice_get plan.program.sections.items call.section section.0 x section.1 in
+    ap (λ (s : Section). (opening s call.arguments []).locals) same
+    ∙ sym (ap (λ (s : Option Section). option_map_or (λ (s : Section). (opening s call.arguments []).locals) s []) section.1)
+
+-- the section as it begins
+pub as_begun : (plan : Plan) (ticket : TicketOf) (step : ℕ) (call : Invocation) (room : Room) (run : RunOf) (held pending : List Lock)
+    (held_room pending_room : ℕ) → IsPrepared plan call room run held pending held_room pending_room →
+    ticket.session ≡ fresh ticket.session.begun room →
+    open_as plan ticket step call run pending false ≡ begun_as plan ticket.thread step room ticket.session.begun call
+as_begun plan ticket step call room run held pending held_room pending_room p is =
+    λ i. open_as plan (record { thread = ticket.thread; session = is i }) step call (p.run_is i) (p.none_pending i) false
+
+pub kept_at_first : (plan : Plan) (ticket : TicketOf) (step : ℕ) (call : Invocation) (room : Room) (run : RunOf) (held pending : List Lock)
+    (held_room pending_room : ℕ) → SectionsStayInOrder → IsPrepared plan call room run held pending held_room pending_room →
+    ticket.session ≡ fresh ticket.session.begun room →
+    IsKeptOpen (open_as plan ticket step call run pending false) ticket run held held_room pending_room
+kept_at_first plan ticket step call room run held pending held_room pending_room laws p is =
+    let o : OpenOf = begun_as plan ticket.thread step room ticket.session.begun call in
+    let open_at_first : IsOpen o = record {
+      compiled = p.compiled;
+      in_order = laws.begins plan ticket.session.begun call p.compiled p.fits;
+      room = p.room_is;
+    } in
+    let none : ticket.session.held ≡ [] = ap (λ (s : SessionOf). s.held) is in
+    let its_room : ticket.session.room ≡ room = ap (λ (s : SessionOf). s.room) is in
+    let locks : ticket.session.room.locks ≡ room.locks = ap (λ (r : Room). r.locks) its_room in
+    record {
+      is_open = subst IsOpen (sym (as_begun plan ticket step call room run held pending held_room pending_room p is)) open_at_first;
+      ticket_is = λ i. record {
+        thread = ticket.thread;
+        session = record {
+          begun = ticket.session.begun;
+          held = ticket.session.held;
+          ask = (is i).ask;
+          room = ticket.session.room;
+        };
+      };
+      layout = ap (λ (r : RunOf). r.layout) p.run_is;
+      locks = ap (λ (r : RunOf). r.locks) p.run_is ∙ sym none;
+      held_are = p.none_held ∙ sym none;
+      operands = ap (λ (r : RunOf). r.operand_room) p.run_is ∙ ap (λ (r : Room). r.operands) (sym its_room);
+      lock_room = ap (λ (r : RunOf). r.lock_room) p.run_is ∙ ap (λ (r : Room). r.locks) (sym its_room);
+      cell_room = ap (λ (r : RunOf). r.cell_room) p.run_is ∙ ap (λ (r : Room). r.cells) (sym its_room);
+      held_fits = omega (arith, locks, p.held_fits);
+      pending_fits = omega (arith, locks, p.pending_fits);
+      cells = ap (λ (r : RunOf). length r.machine.memory.cells) p.run_is ∙ sym (ap (cells_together plan) none);
+    }
+
+-- so the call has begun
+pub has_begun : (m m' : Managed) (ready : ReadyOf) (plan : Plan) (call : Invocation) (room : Room) (ticket : TicketOf) (o : OpenOf) →
+    IsRoomAt plan call.section room → Begins m ready.thread room ticket m' →
+    o ≡ begun_as plan ticket.thread ready.step room ticket.session.begun call → Began m ready plan call o m'
+has_begun m m' ready plan call room ticket o its_room begins is =
+    let e : o ≡ begun_as plan ready.thread ready.step room (length m.history) call =
+    is ∙ ap (λ (t : TicketOf). begun_as plan t.thread ready.step room t.session.begun call) begins.ticket_is in
+    subst (λ (x : OpenOf). Began m ready plan call x m') (sym e)
+    (record {
+      room = its_room;
+      is = refl;
+      begins = record { was_closed = begins.was_closed; ticket_is = refl; manager = begins.manager };
+    })
+
+pub fresh_ticket : (m m' : Managed) (t : ℕ) (room : Room) (ticket : TicketOf) → Begins m t room ticket m' →
+    ticket.session ≡ fresh ticket.session.begun room
+fresh_ticket m m' t room ticket begins =
+    ap (λ (x : TicketOf). x.session) begins.ticket_is
+    ∙ ap (λ (x : TicketOf). fresh x.session.begun room) (sym begins.ticket_is)

@@ -1,0 +1,42 @@
+use Rattle.std.specs.Prelude.{◌+◌}
+use Rattle.std.proofs.Common.{refl, sym, subst}
+use Rattle.lock_manager.specs.Sessions.{TicketOf}
+use Rattle.history.specs.Commits.{Commit}
+use Rattle.lock_manager.specs.Calls.{Releases}
+use Rattle.runner.specs.Opens.{OpenOf, CanEnd, Released, entry_of}
+use Rattle.runner.specs.Ties.{ended_as}
+use Rattle.runner.proofs.Endings.{own_release}
+use Rattle.runner.proofs.states.Ended.release.Goals as goal
+
+pub release-receipt-requires-clause-known : goal.release-receipt-requires-clause-known
+release-receipt-requires-clause-known c =
+    let x = c.self.inside in
+    let m = c.args.manager.now in
+    let o = ended_as x.program.now x.ticket x.step x.place x.operands.stack x.locals.items x.grants.items x.entry x.asked in
+    (own_release m o x.ticket x.grants.items x.entry c.self.invariant refl (subst (CanEnd m) (sym c.self.view_is) c.requires.fits)).0
+
+pub release-receipt-requires-clause-fits : goal.release-receipt-requires-clause-fits
+release-receipt-requires-clause-fits c =
+    let x = c.self.inside in
+    let m = c.args.manager.now in
+    let o = ended_as x.program.now x.ticket x.step x.place x.operands.stack x.locals.items x.grants.items x.entry x.asked in
+    (own_release m o x.ticket x.grants.items x.entry c.self.invariant refl (subst (CanEnd m) (sym c.self.view_is) c.requires.fits)).1
+
+pub returns : goal.returns
+returns c =
+    let x = c.self.inside in
+    let m = c.args.manager.now in
+    let m' = c.release-receipt.new.self in
+    let o = ended_as x.program.now x.ticket x.step x.place x.operands.stack x.locals.items x.grants.items x.entry x.asked in
+    subst (λ (s : OpenOf). Released m s (record { thread = c.thread-thread.result; step = x.step + 1 }) c.release-receipt.result m') c.self.view_is
+    (record {
+      grants = x.grants.items;
+      outcome = x.entry.outcome;
+      its = c.self.invariant.its;
+      over = refl;
+      ready_is = λ i. record { thread = c.thread-thread.ensures i; step = x.step + 1 };
+      releases =
+          subst (λ (t : TicketOf). Releases m t x.grants.items (entry_of o x.entry.outcome) c.release-receipt.result m') c.self.invariant.ticket_is
+          (subst (λ (e : Commit). Releases m x.ticket x.grants.items e c.release-receipt.result m') c.self.invariant.entry_is
+          c.release-receipt.ensures);
+    })

@@ -1,0 +1,85 @@
+//! A section that comes to a point.
+
+ghost use Rattle.std.specs.Prelude.{◌≡◌, ◌≤◌, ◌<◌, [], length, vec_capacity};
+ghost use Rattle.worlds.specs.Asking.{insert_new};
+ghost use Rattle.worlds.specs.Worlds.{locks_before};
+ghost use Rattle.runner.specs.Asked.{lock_at, asked_at};
+
+use crate::asking::{is_among, lock_named, put_in};
+use core_lang::value::Value;
+use locks::lock::Lock;
+use lowering::compiled::Program;
+
+// A section of a program that comes to a point: its number, the locks that it holds, and its locals.
+#[derive(Drop)]
+pub(crate) struct Asker<'a> {
+    pub(crate) program: &'a Program,
+    pub(crate) section: usize,
+    pub(crate) held: &'a [Lock],
+    pub(crate) locals: &'a [Value],
+}
+
+impl<'a> Asker<'a> {
+    // The lock that its lock path of this number names.
+    fn lock(&self, number: u8) -> Option<Lock>
+        ensures { result ≡ lock_at self.now.program.now self.now.section self.now.locals.now number }
+    {
+        let Some(paths) = self.program.paths().sections.get(self.section) else {
+            return None;
+        };
+        let Some(path) = paths.paths.get(number as usize) else {
+            return None;
+        };
+        lock_named(path, &self.program.typed().shape, self.locals)
+    }
+
+    // Puts the lock of a lock path in, unless it is held.
+    fn add(&self, number: u8, pending: &mut Vec<Lock>)
+        requires { length (insert_new self.now.program.now.ranks self.now.held.now
+            (lock_at self.now.program.now self.now.section self.now.locals.now number) pending.old.items)
+            ≤ vec_capacity pending.old }
+        ensures items { pending.new.items
+            ≡ insert_new self.now.program.now.ranks self.now.held.now
+            (lock_at self.now.program.now self.now.section self.now.locals.now number) pending.old.items }
+        ensures capacity { vec_capacity pending.old ≤ vec_capacity pending.new }
+    {
+        if let Some(lock) = self.lock(number) {
+            if !is_among(self.held, lock) {
+                put_in(self.program.ranks(), lock, pending);
+            }
+        }
+    }
+
+    // The locks that it asks for where these lock paths are listed.
+    fn ask(&self, list: &[u8], pending: &mut Vec<Lock>)
+        requires none { pending.old.items ≡ [] }
+        requires room { length (asked_at self.now.program.now self.now.section self.now.held.now self.now.locals.now list.now)
+            ≤ vec_capacity pending.old }
+        ensures items { pending.new.items
+            ≡ asked_at self.now.program.now self.now.section self.now.held.now self.now.locals.now list.now }
+        ensures capacity { vec_capacity pending.old ≤ vec_capacity pending.new }
+    {
+        let mut left = list.len();
+        while left > 0 {
+            left -= 1;
+            self.add(list[left], pending);
+        }
+    }
+
+    // The locks that it asks for before a point.
+    pub(crate) fn ask_before(&self, point: usize, pending: &mut Vec<Lock>)
+        requires none { pending.old.items ≡ [] }
+        requires room { length (locks_before self.now.program.now self.now.section point self.now.held.now self.now.locals.now)
+            ≤ vec_capacity pending.old }
+        ensures items { pending.new.items
+            ≡ locks_before self.now.program.now self.now.section point self.now.held.now self.now.locals.now }
+        ensures capacity { vec_capacity pending.old ≤ vec_capacity pending.new }
+    {
+        let Some(lists) = self.program.placed().sections.get(self.section) else {
+            return;
+        };
+        if let Some(list) = lists.before.get(point) {
+            self.ask(list, pending);
+        }
+    }
+}

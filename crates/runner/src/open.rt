@@ -1,0 +1,326 @@
+//! An open section that has no outcome yet.
+
+ghost use Rattle.std.specs.Prelude.{◌≡◌, [], slice_get, Some};
+ghost use Rattle.code.specs.Machine.{act, Asks};
+ghost use Rattle.code.specs.Memory.{load_held, store_held};
+ghost use Rattle.worlds.specs.Worlds.{next_effect};
+ghost use Rattle.runner.specs.Opens.{moved};
+ghost use Rattle.runner.specs.Ties.{HasMoved};
+
+use crate::answer::Answer;
+use crate::asker::Asker;
+use crate::asking::{put_last, take_first};
+use crate::machine::{Left, Machine};
+use crate::opening::opening_locals;
+use code::instr::Instr;
+use core_lang::typed::Call;
+use core_lang::value::{Outcome, Value};
+use held_cells::parts::Parts;
+use layout::room::Room;
+use lock_manager::answer::Answer as Request;
+use lock_manager::manager::Manager;
+use lock_manager::ticket::Ticket;
+use locks::lock::Lock;
+use lowering::compiled::Program;
+use moved_cells::grant::Grant;
+use source::memory::NoMemory;
+use std::alloc::Global;
+use std::marker::Model;
+
+// A section that runs, or that is to be granted locks.
+pub(crate) struct Open<'p> {
+    pub(crate) program: &'p Program,
+    pub(crate) ticket: Ticket,
+    pub(crate) step: usize,
+    pub(crate) section: usize,
+    pub(crate) arguments: Vec<Value>,
+    pub(crate) machine: Machine<'p>,
+    // The locks of the ticket.
+    pub(crate) held: Vec<Lock>,
+    pub(crate) pending: Vec<Lock>,
+    pub(crate) asked: bool,
+}
+
+impl<'p> Model for Open<'p> {
+    ghost use Rattle.core_lang.specs.contracts.tree.Action as action;
+    ghost use Rattle.core_lang.specs.contracts.tree.Expr as expr;
+    ghost use Rattle.core_lang.specs.contracts.tree.Condition as condition;
+    ghost use Rattle.std.specs.Coded.{codes};
+    ghost use Rattle.std.specs.Prelude.{vec_capacity};
+    ghost use Rattle.runner.specs.Opens.{OpenOf};
+    ghost use Rattle.runner.specs.Ties.{open_as, call_of, IsKeptOpen};
+
+    ghost Value = { OpenOf };
+
+    ghost coded = { Prim.hlevel (codes, action.the_row.coded, expr.the_row.coded, condition.the_row.coded) };
+
+    ghost view = { λ o.
+        open_as o.program.now o.ticket o.step (call_of o.section o.arguments.items) o.machine o.pending.items o.asked };
+
+    ghost invariant = { λ o.
+        IsKeptOpen
+        (open_as o.program.now o.ticket o.step (call_of o.section o.arguments.items) o.machine o.pending.items o.asked)
+        o.ticket o.machine o.held.items (vec_capacity o.held) (vec_capacity o.pending) };
+}
+
+impl<'p> Open<'p> {
+    // Its next instruction.
+    fn instruction(&self) -> Instr
+        requires { self.now.activation.pending ≡ [] }
+        ensures { next_effect self.now.plan self.now.activation
+            ≡ act load_held store_held self.now.plan.program.shape (Some result) self.now.activation.machine }
+    {
+        worlds::laws::sections_stay_in_order();
+        let code = self.program.code();
+        let instructions = &code.sections[self.section].instructions;
+        instructions[self.machine.place()]
+    }
+
+    // Passes on, with the locks before a point pending.
+    fn pass_on(&mut self, point: usize)
+        requires pending { self.old.activation.pending ≡ [] }
+        requires asks { next_effect self.old.plan self.old.activation ≡ Asks point }
+        ensures { self.new ≡ moved self.old }
+    {
+        worlds::laws::sections_stay_in_order();
+        let _code = self.program.code();
+        let asker = Asker {
+            program: self.program,
+            section: self.section,
+            held: &self.held,
+            locals: self.machine.locals(),
+        };
+        asker.ask_before(point, &mut self.pending);
+        self.machine.pass();
+        self.asked = false;
+    }
+
+    // Does its next instruction, or says to which outcome it leads.
+    pub(crate) fn step(&mut self) -> Option<Outcome>
+        requires { self.old.activation.pending ≡ [] }
+        ensures { HasMoved self.old result self.new }
+    {
+        code::laws::steps_go_alike();
+        worlds::laws::sections_stay_in_order();
+        let _code = self.program.code();
+        let instruction = self.instruction();
+        match self.machine.step(&self.program.typed().shape, instruction) {
+            Answer::Moved => None,
+            Answer::Asks(point) => {
+                self.pass_on(point);
+                None
+            }
+            Answer::Finished(outcome) => Some(outcome),
+            Answer::Undefined => unreachable!(),
+        }
+    }
+}
+
+impl<'p> Open<'p> {
+    ghost use Rattle.std.specs.Prelude.{◌≢◌};
+    ghost use Rattle.runner.specs.Opens.{IsKnown};
+    ghost use Rattle.runner.specs.Ties.{HasAsked};
+
+    // Asks for the first of its pending locks. It has it then, or this other thread holds it.
+    pub(crate) fn ask(&mut self, manager: &mut Manager<'p>) -> Option<u32>
+        requires known { IsKnown manager.old self.old }
+        requires pending { self.old.activation.pending ≢ [] }
+        ensures { HasAsked manager.old self.old result self.new manager.new }
+    {
+        locks::laws::precedes_is_strict();
+        moved_cells::laws::slots_are_cells();
+        moved_cells::laws::heaps_have_values();
+        worlds::laws::sections_stay_in_order();
+        manager.keeps_its_rules();
+        let lock = self.pending[0];
+        match manager.request(&mut self.ticket, lock) {
+            Request::Granted(grant) => {
+                self.machine.grant(grant);
+                put_last(&mut self.held, lock);
+                take_first(&mut self.pending);
+                self.asked = false;
+                None
+            }
+            Request::Held(holder) => {
+                self.asked = true;
+                Some(holder)
+            }
+        }
+    }
+}
+
+impl<'p> Open<'p> {
+    ghost use Rattle.std.specs.Prelude.{◌≢◌, ◌↔◌, IsTrue};
+    ghost use Rattle.std.specs.List.{All};
+    ghost use Rattle.lock_manager.specs.Sessions.{TicketOf};
+    ghost use Rattle.runner.specs.Opens.{IsOpen, AreItsGrants, ticket_of};
+
+    // It keeps the rules.
+    pub(crate) fn keeps_its_rules(&self)
+        ensures { IsOpen self.now }
+    {
+        let _step = self.step;
+    }
+
+    // Whether its next step is an instruction: no lock is pending.
+    pub(crate) fn is_running(&self) -> bool
+        ensures { IsTrue result ↔ (self.now.activation.pending ≡ []) }
+    {
+        self.pending.is_empty()
+    }
+
+    // The first of its pending locks.
+    pub(crate) fn lock(&self) -> Lock
+        requires { self.now.activation.pending ≢ [] }
+        ensures { slice_get self.now.activation.pending 0 ≡ Some result }
+    {
+        self.pending[0]
+    }
+
+    // Whether it asked for it.
+    pub(crate) fn asked(&self) -> bool
+        ensures { result ≡ self.now.activation.asked }
+    {
+        self.asked
+    }
+
+    // Its ticket and its grants, to give it up.
+    pub(crate) fn into_parts(self) -> (Ticket, Vec<Grant>)
+        ensures ticket { result.0 ≡ ticket_of self.entry }
+        ensures grants { AreItsGrants self.entry result.1.items }
+    {
+        let Open {
+            program: _,
+            ticket,
+            step: _,
+            section: _,
+            arguments: _,
+            machine,
+            held: _,
+            pending: _,
+            asked: _,
+        } = self;
+        let Machine {
+            place: _,
+            operands: _,
+            locals: _,
+            held,
+            prints: _,
+        } = machine;
+        (ticket, held.into_grants())
+    }
+}
+
+// Lets grants go.
+fn let_go(mut grants: Vec<Grant>) {
+    while let Some(grant) = grants.pop() {
+        let (_lock, _cells) = grant.into_parts();
+    }
+    grants.destroy_empty();
+}
+
+// A section that is about to begin, with all the memory that it can need.
+pub(crate) struct Prepared<'p> {
+    pub(crate) program: &'p Program,
+    pub(crate) section: usize,
+    pub(crate) arguments: Vec<Value>,
+    pub(crate) room: Room,
+    pub(crate) machine: Machine<'p>,
+    pub(crate) held: Vec<Lock>,
+    pub(crate) pending: Vec<Lock>,
+}
+
+impl<'p> Prepared<'p> {
+    ghost use Rattle.std.specs.Prelude.{IfOk, vec_capacity};
+    ghost use Rattle.core_lang.specs.Serial.{invocation};
+    ghost use Rattle.core_lang.specs.WellFormed.{CanCall};
+    ghost use Rattle.lock_manager.specs.Sessions.{fresh};
+    ghost use Rattle.runner.specs.Ties.{IsPrepared, call_of, begun_as};
+
+    // For a call of a program. Errors: want of memory.
+    pub(crate) fn new(
+        alloc: Global,
+        program: &'p Program,
+        call: &Call,
+    ) -> Result<Prepared<'p>, NoMemory>
+        requires { CanCall program.now.program call.now.section call.now.arguments.items }
+        ensures program { IfOk result (λ p. p.program.now ≡ program.now) }
+        ensures call { IfOk result (λ p. call_of p.section p.arguments.items ≡ invocation call.now) }
+        ensures prepared { IfOk result (λ p. IsPrepared p.program.now (call_of p.section p.arguments.items) p.room p.machine
+            p.held.items p.pending.items (vec_capacity p.held) (vec_capacity p.pending)) }
+    {
+        let section = &program.typed().sections[call.section];
+        let room = program.room(call.section);
+        let arguments = Vec::from_slice(alloc, &call.arguments)?;
+        let held = Vec::with_capacity(alloc, room.locks)?;
+        let pending = Vec::with_capacity(alloc, room.locks)?;
+        let locals = opening_locals(alloc, section, &call.arguments)?;
+        let machine = Machine::new(alloc, locals, program.layout(), room)?;
+        Ok(Prepared {
+            program,
+            section: call.section,
+            arguments,
+            room,
+            machine,
+            held,
+            pending,
+        })
+    }
+
+    // Lets it go: it doesn't begin.
+    pub(crate) fn let_go(self) {
+        let Prepared {
+            program: _,
+            section: _,
+            arguments: _,
+            room: _,
+            machine,
+            held: _,
+            pending: _,
+        } = self;
+        let Left {
+            place: _,
+            operands: _,
+            locals: _,
+            parts,
+            prints: _,
+        } = machine.into_parts();
+        let Parts {
+            grants,
+            reads: _,
+            writes: _,
+        } = parts;
+        let_go(grants);
+    }
+
+    // It begins, as this call of its thread.
+    pub(crate) fn open(self, ticket: Ticket, step: usize) -> Open<'p>
+        requires prepared { IsPrepared self.program.now (call_of self.section self.arguments.items) self.room self.machine
+            self.held.items self.pending.items (vec_capacity self.held) (vec_capacity self.pending) }
+        requires ticket { ticket.session ≡ fresh ticket.session.begun self.room }
+        ensures { result ≡ begun_as self.entry.program.now ticket.thread step self.entry.room ticket.session.begun
+            (call_of self.entry.section self.entry.arguments.items) }
+    {
+        worlds::laws::sections_stay_in_order();
+        let Prepared {
+            program,
+            section,
+            arguments,
+            room: _,
+            machine,
+            held,
+            pending,
+        } = self;
+        Open {
+            program,
+            ticket,
+            step,
+            section,
+            arguments,
+            machine,
+            held,
+            pending,
+            asked: false,
+        }
+    }
+}

@@ -1,0 +1,429 @@
+//! The states of a thread: no section open, or one that runs, asks for a lock, or is over.
+
+ghost use Rattle.std.specs.Prelude.{◌≡◌, ◌≢◌, ◌<◌, ◌+◌, ◌^◌, ◌↔◌, [], slice_get, Some, None, IfOk, IfErr, OnErr, IsTrue};
+ghost use Rattle.core_lang.specs.Serial.{invocation};
+ghost use Rattle.core_lang.specs.WellFormed.{CanCall};
+ghost use Rattle.lock_manager.specs.Managers.{session_of};
+ghost use Rattle.runner.specs.Opens.{moved, IsOpen};
+ghost use Rattle.runner.specs.Ties.{over_by};
+ghost use Rattle.runner.specs.Answers as answers;
+
+use crate::machine::Left;
+use crate::open::{Open, Prepared};
+use crate::operands::Operands;
+use core_lang::typed::Call;
+use core_lang::value::{Outcome, Value};
+use held_cells::parts::Parts;
+use history::entry::Entry;
+use lock_manager::manager::Manager;
+use lock_manager::ticket::{Receipt, Ticket};
+use locks::lock::Lock;
+use lowering::compiled::Program;
+use moved_cells::grant::Grant;
+use std::alloc::Global;
+use std::marker::Model;
+
+/// A thread with no section open. As a value it is the thread and the number of its next call.
+#[derive(Drop)]
+pub struct Ready {
+    thread: u32,
+    step: usize,
+}
+
+impl Model for Ready {
+    ghost use Rattle.runner.specs.Opens.{ReadyOf};
+
+    ghost Value = { ReadyOf };
+
+    ghost view = { λ r. record { thread = r.thread; step = r.step } };
+}
+
+/// A section whose next step is an instruction.
+pub struct Running<'p> {
+    open: Open<'p>,
+}
+
+impl<'p> Model for Running<'p> {
+    ghost use Rattle.core_lang.specs.contracts.tree.Action as action;
+    ghost use Rattle.core_lang.specs.contracts.tree.Expr as expr;
+    ghost use Rattle.core_lang.specs.contracts.tree.Condition as condition;
+    ghost use Rattle.std.specs.Coded.{codes};
+    ghost use Rattle.std.specs.Prelude.{◌≡◌, [], None};
+    ghost use Rattle.runner.specs.Opens.{OpenOf};
+
+    ghost Value = { OpenOf };
+
+    ghost coded = { Prim.hlevel (codes, action.the_row.coded, expr.the_row.coded, condition.the_row.coded) };
+
+    ghost view = { λ r. r.open };
+
+    ghost invariant = { λ r. (r.open.activation.pending ≡ []) × (r.open.activation.outcome ≡ None) };
+}
+
+/// A section that is to be granted a lock next.
+pub struct Asking<'p> {
+    open: Open<'p>,
+}
+
+impl<'p> Model for Asking<'p> {
+    ghost use Rattle.core_lang.specs.contracts.tree.Action as action;
+    ghost use Rattle.core_lang.specs.contracts.tree.Expr as expr;
+    ghost use Rattle.core_lang.specs.contracts.tree.Condition as condition;
+    ghost use Rattle.std.specs.Coded.{codes};
+    ghost use Rattle.std.specs.Prelude.{◌≡◌, ◌≢◌, [], None};
+    ghost use Rattle.runner.specs.Opens.{OpenOf};
+
+    ghost Value = { OpenOf };
+
+    ghost coded = { Prim.hlevel (codes, action.the_row.coded, expr.the_row.coded, condition.the_row.coded) };
+
+    ghost view = { λ a. a.open };
+
+    ghost invariant = { λ a. (a.open.activation.pending ≢ []) × (a.open.activation.outcome ≡ None) };
+}
+
+/// A section that has an outcome.
+pub struct Ended<'p> {
+    program: &'p Program,
+    ticket: Ticket,
+    step: usize,
+    place: usize,
+    operands: Operands,
+    locals: Vec<Value>,
+    grants: Vec<Grant>,
+    entry: Entry,
+    asked: bool,
+}
+
+impl<'p> Model for Ended<'p> {
+    ghost use Rattle.core_lang.specs.contracts.tree.Action as action;
+    ghost use Rattle.core_lang.specs.contracts.tree.Expr as expr;
+    ghost use Rattle.core_lang.specs.contracts.tree.Condition as condition;
+    ghost use Rattle.std.specs.Coded.{codes};
+    ghost use Rattle.runner.specs.Opens.{OpenOf};
+    ghost use Rattle.runner.specs.Ties.{ended_as, IsKeptEnded};
+
+    ghost Value = { OpenOf };
+
+    ghost coded = { Prim.hlevel (codes, action.the_row.coded, expr.the_row.coded, condition.the_row.coded) };
+
+    ghost view = { λ e.
+        ended_as e.program.now e.ticket e.step e.place e.operands.stack e.locals.items e.grants.items e.entry e.asked };
+
+    ghost invariant = { λ e.
+        IsKeptEnded
+        (ended_as e.program.now e.ticket e.step e.place e.operands.stack e.locals.items e.grants.items e.entry e.asked)
+        e.ticket e.grants.items e.entry };
+}
+
+/// What a section goes on as.
+pub enum Next<'p> {
+    /// Its next step is an instruction.
+    Running(Running<'p>),
+    /// It is to be granted a lock next.
+    Asking(Asking<'p>),
+    /// It has an outcome.
+    Ended(Ended<'p>),
+}
+
+/// What a section that asked for a lock goes on as.
+pub enum Asked<'p> {
+    /// It has the lock.
+    Granted(Next<'p>),
+    /// This other thread holds the lock.
+    Held(u32, Asking<'p>),
+}
+
+impl Ready {
+    ghost use Rattle.runner.specs.Opens.{Began};
+
+    /// A thread before its first call.
+    pub fn new(thread: u32) -> Ready
+        ensures { result ≡ record { thread = thread; step = 0 } }
+    {
+        Ready { thread, step: 0 }
+    }
+
+    /// The thread.
+    #[inline]
+    pub fn thread(&self) -> u32
+        ensures { result ≡ self.now.thread }
+    {
+        self.thread
+    }
+
+    /// The number of its next call.
+    #[inline]
+    pub fn step(&self) -> usize
+        ensures { result ≡ self.now.step }
+    {
+        self.step
+    }
+
+    /// Begins a call, with all the memory that it can need.
+    ///
+    /// # Errors
+    ///
+    /// Want of memory; all is as it was.
+    pub fn begin<'p>(
+        self,
+        alloc: Global,
+        manager: &mut Manager<'p>,
+        program: &'p Program,
+        call: &Call,
+    ) -> Result<Running<'p>, Ready>
+        requires thread { self.thread < 64 }
+        requires closed { session_of manager.old self.thread ≡ None }
+        requires fits { CanCall program.now.program call.now.section call.now.arguments.items }
+        ensures ok { IfOk result (λ running. Began manager.old self program.now (invocation call.now) running manager.new) }
+        ensures err { IfErr result (λ ready. ready ≡ self) }
+        ensures same { OnErr result (manager.new ≡ manager.old) }
+    {
+        let Ok(prepared) = Prepared::new(alloc, program, call) else {
+            return Err(self);
+        };
+        let room = prepared.room;
+        match manager.begin(alloc, self.thread, room) {
+            Ok(ticket) => Ok(Running {
+                open: prepared.open(ticket, self.step),
+            }),
+            Err(_) => {
+                prepared.let_go();
+                Err(self)
+            }
+        }
+    }
+}
+
+// A section by what it is to do next.
+fn named<'p>(opened: Open<'p>) -> Next<'p>
+    requires { opened.activation.outcome ≡ None }
+    ensures is { answers.open_of result ≡ opened.entry }
+    ensures named { answers.IsNamed result }
+{
+    if opened.is_running() {
+        Next::Running(Running { open: opened })
+    } else {
+        Next::Asking(Asking { open: opened })
+    }
+}
+
+// A section that has come to an outcome.
+fn end<'p>(opened: Open<'p>, outcome: Outcome) -> Ended<'p>
+    requires pending { opened.activation.pending ≡ [] }
+    requires leads { moved opened ≡ over_by opened outcome }
+    ensures { result ≡ over_by opened.entry outcome }
+{
+    worlds::laws::sections_stay_in_order();
+    let Open {
+        program,
+        ticket,
+        step,
+        section,
+        arguments,
+        machine,
+        held: _,
+        pending: _,
+        asked,
+    } = opened;
+    let thread = ticket.thread();
+    let begun = ticket.begun();
+    let Left {
+        place,
+        operands,
+        locals,
+        parts,
+        prints,
+    } = machine.into_parts();
+    let Parts {
+        grants,
+        reads,
+        writes,
+    } = parts;
+    Ended {
+        program,
+        ticket,
+        step,
+        place,
+        operands,
+        locals,
+        grants,
+        entry: Entry {
+            thread,
+            step,
+            section,
+            arguments,
+            begun,
+            reads,
+            writes,
+            outcome,
+            prints,
+        },
+        asked,
+    }
+}
+
+impl<'p> Running<'p> {
+    ghost use Rattle.runner.specs.Opens.{GivenUp, Ran};
+    ghost use Rattle.runner.specs.Answers.{open_of, IsNamed};
+
+    /// Does its next instruction.
+    #[inline]
+    pub fn step(self) -> Next<'p>
+        ensures is { open_of result ≡ moved self.entry }
+        ensures named { IsNamed result }
+    {
+        let Running { mut open } = self;
+        match open.step() {
+            None => named(open),
+            Some(outcome) => Next::Ended(end(open, outcome)),
+        }
+    }
+
+    /// Does its instructions, at most so many, until it is to be granted a lock or has an outcome; and how many it did.
+    pub fn run(self, most: usize) -> (usize, Next<'p>)
+        ensures ran { Ran most self.entry result.0 (open_of result.1) }
+        ensures named { IsNamed result.1 }
+    {
+        let Running { mut open } = self;
+        for done in 0..most {
+            if let Some(outcome) = open.step() {
+                return (done + 1, Next::Ended(end(open, outcome)));
+            }
+            if !open.is_running() {
+                return (done + 1, Next::Asking(Asking { open }));
+            }
+        }
+        (most, Next::Running(Running { open }))
+    }
+
+    /// Gives the section up.
+    pub fn give_up(self, manager: &mut Manager<'p>)
+        ensures { GivenUp manager.old self.entry manager.new }
+    {
+        let Running { open } = self;
+        let (ticket, grants) = open.into_parts();
+        manager.give_up(ticket, grants);
+    }
+
+    /// It keeps the rules, whatever the others do.
+    pub fn keeps_its_rules(&self)
+        ensures { IsOpen self.now }
+    {
+        self.open.keeps_its_rules();
+    }
+}
+
+impl<'p> Asking<'p> {
+    ghost use Rattle.runner.specs.Opens.{IsKnown, GivenUp};
+    ghost use Rattle.runner.specs.Answers.{Answered, IsNamedAfter};
+
+    /// The lock that it asks for.
+    #[inline]
+    pub fn lock(&self) -> Lock
+        ensures { slice_get self.now.activation.pending 0 ≡ Some result }
+    {
+        self.open.lock()
+    }
+
+    /// Whether it has asked for it.
+    #[inline]
+    pub fn asked(&self) -> bool
+        ensures { result ≡ self.now.activation.asked }
+    {
+        self.open.asked()
+    }
+
+    /// Asks for the lock.
+    pub fn ask(self, manager: &mut Manager<'p>) -> Asked<'p>
+        requires { IsKnown manager.old self }
+        ensures answered { Answered manager.old self.entry result manager.new }
+        ensures named { IsNamedAfter result }
+    {
+        let Asking { mut open } = self;
+        match open.ask(manager) {
+            None => Asked::Granted(named(open)),
+            Some(holder) => Asked::Held(holder, Asking { open }),
+        }
+    }
+
+    /// Gives the section up.
+    pub fn give_up(self, manager: &mut Manager<'p>)
+        ensures { GivenUp manager.old self.entry manager.new }
+    {
+        let Asking { open } = self;
+        let (ticket, grants) = open.into_parts();
+        manager.give_up(ticket, grants);
+    }
+
+    /// It keeps the rules, whatever the others do.
+    pub fn keeps_its_rules(&self)
+        ensures { IsOpen self.now }
+    {
+        self.open.keeps_its_rules();
+    }
+}
+
+impl<'p> Ended<'p> {
+    ghost use Rattle.runner.specs.Opens.{CanEnd, Released, GivenUp};
+
+    /// Whether it may be released.
+    pub fn fits(&self, manager: &Manager<'p>) -> bool
+        ensures { IsTrue result ↔ CanEnd manager.now self.now }
+    {
+        manager.fits(&self.ticket, &self.grants, &self.entry)
+    }
+
+    /// Ends the section.
+    pub fn release(self, manager: &mut Manager<'p>) -> (Ready, Receipt)
+        requires fits { CanEnd manager.old self }
+        requires step { self.step + 1 < 2 ^ 64 }
+        ensures { Released manager.old self.entry result.0 result.1 manager.new }
+    {
+        let Ended {
+            program: _,
+            ticket,
+            step,
+            place: _,
+            operands: _,
+            locals: _,
+            grants,
+            entry,
+            asked: _,
+        } = self;
+        let thread = ticket.thread();
+        let receipt = manager.release(ticket, grants, entry);
+        (
+            Ready {
+                thread,
+                step: step + 1,
+            },
+            receipt,
+        )
+    }
+
+    /// Gives the section up.
+    pub fn give_up(self, manager: &mut Manager<'p>)
+        ensures { GivenUp manager.old self.entry manager.new }
+    {
+        let Ended {
+            program: _,
+            ticket,
+            step: _,
+            place: _,
+            operands: _,
+            locals: _,
+            grants,
+            entry: _,
+            asked: _,
+        } = self;
+        manager.give_up(ticket, grants);
+    }
+
+    /// It keeps the rules, whatever the others do.
+    pub fn keeps_its_rules(&self)
+        ensures { IsOpen self.now }
+    {
+        let _step = self.step;
+    }
+}
