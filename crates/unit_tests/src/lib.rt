@@ -28,5 +28,3 @@ mod skeletons;
 #[cfg(test)]
 mod tokens;
 pub mod verdict;
-#[cfg(test)]
-mod world_steps;
