@@ -1,11 +1,12 @@
 #!/usr/bin/env python3
-"""Gives hostile sources to `autolock` and looks at how each run ends: of `check`, `listing` and `serial --turns 1000`.
+"""Gives hostile sources to `autolock` and looks at how each run ends: of `check`, `listing`, `serial --turns 1000` and,
+with a steps file drawn for each source, `simulate`.
 
     tests/hostile.py [--program BIN] [--commands NAMES] [--cuts] [--bytes] [--random COUNT] [--every N] [--seed N] [FILE..]
 
 With no choice of kinds: --cuts --bytes --random 2000, each cut and byte at every 7th place, which takes a minute.
 
---commands      which of the three, joined by commas; by default all
+--commands      which of the four, joined by commas; by default all
 --cuts          every beginning of each program
 --bytes         each program with one byte replaced by each of `(`, `}`, `0`, `.`, 0x00 and 0x80
 --random COUNT  so many programs made from the given ones by a few random changes each
@@ -14,9 +15,10 @@ FILE..          the programs to begin with; by default those of examples/
 
 A run must end within 20 seconds with status 0 or 1, or of `serial` with 7. With 0, standard output is a whole text of
 the command and standard error is empty; with 1, standard error is one line, the same of each command, and standard
-output is empty; with 7, the last line of standard output begins with `unsettled` and standard error is empty. A source
-of which that doesn't hold is kept as hostile-NUMBER.al in the current folder. The last line is 'N runs, M failed'; exit
-status 1 where M is not 0.
+output is empty; with 7, the last line of standard output begins with `unsettled` and standard error is empty. `simulate`
+ends with 6 and the line of the steps file's first fault, as this script finds it, exactly where there is one. A source
+of which that doesn't hold is kept as hostile-NUMBER.al in the current folder, with its steps. The last line is 'N runs,
+M failed'; exit status 1 where M is not 0.
 """
 import argparse
 import multiprocessing
@@ -27,6 +29,7 @@ import re
 import subprocess
 import sys
 import tempfile
+import zlib
 
 TOP = pathlib.Path(__file__).resolve().parent.parent
 REPLACEMENTS = [b"(", b"}", b"0", b".", b"\x00", b"\x80"]
@@ -35,6 +38,10 @@ WORDS = (
     b"repeat null where call { } ( ) [ ] ; , : . = == != < <= > >= + - * / % && || ! 0 1 2 64 255 256 65536 65537 "
     b"262144 262145 100000 9223372036854775807 9223372036854775808 a b x n G S p // /"
 ).split()
+STEP_ITEMS = (
+    b"* 0* *1 0**1 1*1*1 -1 +1 0x1 00 000*0001 3 63 64 99999999999999999999 0*10000000 0*9999999 1*10000001 "
+    b"0*99999999999999999999999 a \xff \x00 0,1 0;"
+).split(b" ")
 TOKEN = re.compile(rb"\s+|//[^\n]*|\w+|[=!<>]=|&&|\|\||.", re.S)
 
 
@@ -78,14 +85,52 @@ def mutated(programs, seed):
     return b"".join(tokens)
 
 
-ARGUMENTS = {"check": ["check"], "listing": ["listing"], "serial": ["serial", "--turns", "1000"]}
+def steps_for(text):
+    """A steps file: mostly right items of few threads and few steps, some wrong ones."""
+    choose = random.Random(zlib.crc32(text))
+    items = []
+    for _ in range(choose.randrange(30)):
+        kind = choose.random()
+        thread = choose.randrange(3)
+        if kind < 0.5:
+            items.append(b"%d" % thread)
+        elif kind < 0.95:
+            items.append(b"%d*%d" % (thread, choose.choice([0, 1, 2, 7, 40, 300, 20000])))
+        else:
+            items.append(choose.choice(STEP_ITEMS))
+        items.append(choose.choice([b" ", b"\n", b"\t", b"\r\n", b"  "]))
+    return b"".join(items)
+
+
+def steps_fault(steps, threads):
+    """The place and the words of the first faulty item, or nothing."""
+    before = 0
+    for item in re.finditer(rb"[^ \t\r\n]+", steps):
+        parts = item.group().split(b"*", 1)
+        if not all(re.fullmatch(rb"[0-9]+", part) for part in parts):
+            fault = b"S1: bad item"
+        elif int(parts[0]) >= threads:
+            fault = b"S2: no such thread"
+        elif before + int((parts + [b"1"])[1]) > 10_000_000:
+            fault = b"S3: too many steps"
+        else:
+            before += int((parts + [b"1"])[1])
+            continue
+        start = item.start()
+        line = steps.count(b"\n", 0, start) + 1
+        return b"%d:%d: %s" % (line, start - steps.rfind(b"\n", 0, start), fault.replace(b":", b""))
+    return None
+
+
+ARGUMENTS = {"check": ["check"], "listing": ["listing"], "serial": ["serial", "--turns", "1000"], "simulate": ["simulate"]}
+TITLES = {"serial": b"history 1\n", "simulate": b"simulation 1\n"}
 LINE = re.compile(rb"section \w+|\d+ [a-z][ -~]*")
 
 
 def is_whole(command, out):
     """Whether that is a whole text of the command, as far as its shape goes."""
-    if command == "serial":
-        return out.startswith(b"history 1\n") and out.endswith(b"end\n")
+    if command in TITLES:
+        return out.startswith(TITLES[command]) and out.endswith(b"\nend\n")
     if command == "check":
         return out.startswith(b"accepted\n") and out.endswith(b"\n")
     return all(LINE.fullmatch(line) for line in out.splitlines()) and (not out or out.endswith(b"\n"))
@@ -99,10 +144,23 @@ def fault_of(command, run):
     if run.returncode == 1:
         one_line = err.count(b"\n") == 1 and err.endswith(b"\n")
         return None if one_line and not out else f"{command}: status 1 without one line alone"
+    if run.returncode == 6 and command == "simulate":
+        return None if not out else "status 6 with a text"
     if run.returncode == 7 and command == "serial":
         unsettled = out.rstrip(b"\n").rsplit(b"\n", 1)[-1].startswith(b"unsettled ")
         return None if unsettled and not err else "status 7 without an unsettled call"
     return f"{command}: status {run.returncode}"
+
+
+def wrong_steps(program, path, run):
+    """What is wrong with what `simulate` says of the steps file of an accepted source, or nothing."""
+    empty = subprocess.run([program, "simulate", path, "/dev/null"], capture_output=True, timeout=20)
+    lines = empty.stdout.splitlines()
+    threads = len(lines) - 2 - lines.index(b"threads")
+    with open(path + ".steps", "rb") as file:
+        fault = steps_fault(file.read(), threads)
+    wanted = b"" if fault is None else b"%s.steps:%s\n" % (path.encode(), fault)
+    return None if run.stderr == wanted else f"simulate: {run.stderr} where it should tell {wanted}"
 
 
 def try_one(program, commands, path):
@@ -110,13 +168,17 @@ def try_one(program, commands, path):
     told = set()
     for command in commands:
         try:
-            run = subprocess.run([program, *ARGUMENTS[command], path], capture_output=True, timeout=20)
+            words = [path] if command != "simulate" else [path, path + ".steps"]
+            run = subprocess.run([program, *ARGUMENTS[command], *words], capture_output=True, timeout=20)
         except subprocess.TimeoutExpired:
             return f"{command}: no end within 20 seconds"
         fault = fault_of(command, run)
+        if not fault and command == "simulate" and run.returncode != 1:
+            fault = wrong_steps(program, path, run)
         if fault:
             return fault
-        told.add(run.stderr)
+        if run.returncode != 6:
+            told.add(run.stderr)
     return None if len(told) == 1 else "the commands tell different faults"
 
 
@@ -132,6 +194,8 @@ def try_all(part):
     for text in inputs:
         with open(path, "wb") as file:
             file.write(text)
+        with open(path + ".steps", "wb") as file:
+            file.write(steps_for(text))
         runs += len(commands)
         fault = try_one(program, commands, path)
         if fault:
@@ -173,6 +237,7 @@ def main():
     for number, (fault, text) in enumerate(failed[:20]):
         path = pathlib.Path(f"hostile-{number}.al")
         path.write_bytes(text)
+        path.with_suffix(".steps").write_bytes(steps_for(text))
         print(f"{path}: {fault}")
     print(f"{runs} runs, {len(failed)} failed")
     sys.exit(1 if failed else 0)

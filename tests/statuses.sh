@@ -28,6 +28,10 @@ printf 'section f\n0 acquire G\n1 int 1\n2 store n\n3 end\n' >listed
 printf 'history 1\ncall 0 0 f() ends\ncells\nn 1\nend\n' >history
 for name in missing.al folder; do echo "autolock: cannot read $name" >"no_$name"; done
 echo 'autolock: cannot write' >unwritten
+printf '0\n\t9*1 x' >bad_steps
+echo 'bad_steps:2:2: S2 no such thread' >steps_fault
+printf 'simulation 1\ncells\nn 0\nthreads\n0 running\nend\n' >simulated
+echo '0*2' >two_steps
 echo 'some text' >some
 echo 'autolock 0.1.0' >version
 
@@ -58,7 +62,10 @@ run "done" 0 history none serial right.al
 run "turns" 0 history none serial --turns 0 right.al
 run "check" 0 checked none check right.al
 run "listing" 0 listed none listing right.al
+run "simulate" 0 simulated none simulate right.al two_steps
 run "a fault" 1 none fault serial wrong.al
+run "a fault, of simulate" 1 none fault simulate wrong.al bad_steps
+run "a fault of the steps" 6 none steps_fault simulate right.al bad_steps
 run "a fault, of check" 1 none fault check wrong.al
 run "a fault, of listing" 1 none fault listing wrong.al
 run "a lock order cycle" 1 none circle serial cycle.al
@@ -69,6 +76,8 @@ run "another command" 2 none some walk right.al
 run "no file" 2 none some serial
 run "no file, of check" 2 none some check
 run "no file, of listing" 2 none some listing
+run "no steps file" 2 none some simulate right.al
+run "three files, of simulate" 2 none some simulate right.al two_steps two_steps
 run "two files" 2 none some serial right.al wrong.al
 run "two files, of check" 2 none some check right.al wrong.al
 run "turns, of check" 2 none some check --turns 3 right.al
@@ -76,7 +85,7 @@ run "turns, of listing" 2 none some listing --turns 3 right.al
 run "too many turns" 2 none some serial --turns 1000000001 right.al
 run "turns that are no number" 2 none some serial --turns many right.al
 run "help" 0 some none --help
-for command in check listing serial; do
+for command in check listing serial simulate; do
     if grep -q "^  $command  " out; then
         echo "ok help lists $command"
     else
@@ -90,7 +99,11 @@ run "help on check" 0 some none check --help
 run "a file that is not there" 3 none no_missing.al serial missing.al
 run "a file that is not there, of check" 3 none no_missing.al check missing.al
 run "a file that is not there, of listing" 3 none no_missing.al listing missing.al
+run "a file that is not there, of simulate" 3 none no_missing.al simulate missing.al two_steps
+run "a steps file that is not there" 3 none no_missing.al simulate right.al missing.al
+run "a steps file that is not there, and a fault" 3 none no_missing.al simulate wrong.al missing.al
 run "a folder" 3 none no_folder serial folder
+run "a folder for a steps file" 3 none no_folder simulate right.al folder
 run "a folder, of check" 3 none no_folder check folder
 
 : >out
@@ -100,6 +113,8 @@ judge "an output that is full" 3 $? none unwritten
 judge "an output that is full, of check" 3 $? none unwritten
 "$program" listing right.al >/dev/full 2>err </dev/null
 judge "an output that is full, of listing" 3 $? none unwritten
+"$program" simulate right.al two_steps >/dev/full 2>err </dev/null
+judge "an output that is full, of simulate" 3 $? none unwritten
 "$program" --help >/dev/full 2>err </dev/null
 judge "help on an output that is full" 3 $? none unwritten
 : >err

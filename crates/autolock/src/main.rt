@@ -3,18 +3,18 @@
 //!
 //! It exits with 0 where what was asked for was written, 1 where the program's text has a fault, 2
 //! where the words are none of its own, 3 where reading or writing failed, 4 where memory ran out,
-//! 7 where a call is not settled by the given turns; `--help` and `--version` exit with 0.
+//! 6 where the steps file has a fault, 7 where a call is not settled by the given turns; `--help` and `--version` exit with 0.
 #![tactic(auto)]
 
-ghost use Rattle.std.specs.Prelude.{◌≡◌, ◌≢◌, ◌⊎◌, false, IfOk, map, string_bytes};
-ghost use Rattle.autolock.specs.Asked.{file_of, IsAsked, LineAnswers};
+ghost use Rattle.std.specs.Prelude.{◌≡◌, ◌≢◌, ◌⊎◌, false, [], ◌∷◌, IfOk, map, string_bytes};
+ghost use Rattle.autolock.specs.Asked.{file_of, files_of, NamesOneOf, IsOverOneFile, IsAsked, LineAnswers};
 ghost use Rattle.clap.specs.Values.{kind_of};
 ghost use Rattle.driver.specs.{Serves, Tells, cannot_read, cannot_write, no_memory, reading_failed, writing_failed};
 
 use clap::Error;
 use clap::error::ErrorKind;
 use driver::{
-    Sink, SourceText, Status, check, list, serial, tell_cannot_read, tell_cannot_write,
+    Sink, SourceText, Status, check, list, serial, simulate, tell_cannot_read, tell_cannot_write,
     tell_no_memory,
 };
 use std::alloc::{AllocError, Global};
@@ -23,7 +23,7 @@ use std::process::ExitCode;
 use std::{env, fs, io};
 use words::{Line, words};
 
-/// The name of the file that the line names.
+/// The name of the file whose program is asked for.
 fn file_name<'a>(line: Line<'a>) -> &'a str
     ensures { result.now ≡ file_of line.entry }
 {
@@ -31,6 +31,7 @@ fn file_name<'a>(line: Line<'a>) -> &'a str
         Line::Check { file } => file,
         Line::Listing { file } => file,
         Line::Serial { file, .. } => file,
+        Line::Simulate { file, .. } => file,
     }
 }
 
@@ -42,6 +43,7 @@ fn run_opened<S: Read, O: Write, E: Write>(
     out: &mut Sink<O>,
     err: &mut Sink<E>,
 ) -> Status
+    requires one { IsOverOneFile line }
     requires readable { reading_failed source.old ≡ false }
     requires writable { writing_failed out.old ≡ false }
     ensures { Serves (LineAnswers line.entry) (file_of line.entry) S.remaining source.old source.new O.contents out.old out.new
@@ -51,11 +53,13 @@ fn run_opened<S: Read, O: Write, E: Write>(
         Line::Check { file } => check(alloc, source, file, out, err),
         Line::Listing { file } => list(alloc, source, file, out, err),
         Line::Serial { file, turns } => serial(alloc, source, file, turns, out, err),
+        Line::Simulate { .. } => unreachable!(),
     }
 }
 
-/// Opens the file of a line, and runs its engine.
-fn run_line<E: Write>(rt: &HostRuntime, line: Line<'_>, err: &mut Sink<E>) -> Status
+/// Opens the one file of a line, and runs its engine.
+fn run_one<E: Write>(rt: &HostRuntime, line: Line<'_>, err: &mut Sink<E>) -> Status
+    requires { IsOverOneFile line }
     ensures words { result ≢ Status.BadWords }
     ensures failed { result ≡ Status.Failed →
         Tells E.contents err.old err.new (cannot_read (file_of line.entry)) ⊎ Tells E.contents err.old err.new cannot_write }
@@ -68,6 +72,55 @@ fn run_line<E: Write>(rt: &HostRuntime, line: Line<'_>, err: &mut Sink<E>) -> St
     let mut source = SourceText::new(opened);
     let mut out = Sink::new(rt.stdout());
     run_opened(rt.alloc(), line, &mut source, &mut out, err)
+}
+
+/// Opens the two files of a simulation, and runs its engine.
+fn run_simulation<E: Write>(
+    rt: &HostRuntime,
+    file: &str,
+    steps_file: &str,
+    err: &mut Sink<E>,
+) -> Status
+    ensures words { result ≢ Status.BadWords }
+    ensures failed { result ≡ Status.Failed → NamesOneOf (Tells E.contents err.old err.new) (file.now ∷ steps_file.now ∷ [])
+        ⊎ Tells E.contents err.old err.new cannot_write }
+    ensures memory { result ≡ Status.OutOfMemory → Tells E.contents err.old err.new no_memory }
+{
+    let Ok(opened) = fs::open(rt, file) else {
+        tell_cannot_read(err, file);
+        return Status::Failed;
+    };
+    let Ok(opened_steps) = fs::open(rt, steps_file) else {
+        tell_cannot_read(err, steps_file);
+        return Status::Failed;
+    };
+    let mut source = SourceText::new(opened);
+    let mut steps = SourceText::new(opened_steps);
+    let mut out = Sink::new(rt.stdout());
+    simulate(
+        rt.alloc(),
+        &mut source,
+        file,
+        &mut steps,
+        steps_file,
+        &mut out,
+        err,
+    )
+}
+
+/// Opens the files of a line, and runs its engine.
+fn run_line<E: Write>(rt: &HostRuntime, line: Line<'_>, err: &mut Sink<E>) -> Status
+    ensures words { result ≢ Status.BadWords }
+    ensures failed { result ≡ Status.Failed →
+        NamesOneOf (Tells E.contents err.old err.new) (files_of line.entry) ⊎ Tells E.contents err.old err.new cannot_write }
+    ensures memory { result ≡ Status.OutOfMemory → Tells E.contents err.old err.new no_memory }
+{
+    match line {
+        Line::Check { .. } => run_one(rt, line, err),
+        Line::Listing { .. } => run_one(rt, line, err),
+        Line::Serial { .. } => run_one(rt, line, err),
+        Line::Simulate { file, steps } => run_simulation(rt, file, steps, err),
+    }
 }
 
 /// Prints what `clap` says of the words: help and the version on standard output, anything else on standard error. `err`

@@ -28,3 +28,5 @@ mod skeletons;
 #[cfg(test)]
 mod tokens;
 pub mod verdict;
+#[cfg(test)]
+mod world_steps;

@@ -26,6 +26,10 @@ with_file name = with_rule (new_app name) (file_rule (codes "FILE"))
 abbrev pub with_turns : App → App
 with_turns app = with_rule app turns_rule
 
+-- a command that takes a steps file besides
+abbrev pub with_steps : App → App
+with_steps app = with_rule app (file_rule (codes "STEPS"))
+
 -- a command that must have a subcommand
 abbrev pub needs_subcommand : App → App
 needs_subcommand app = record app { top = record app.top { subcommand_required = true } }
@@ -50,9 +54,13 @@ with_listing app = with_subcommand app (with_file (codes "listing")).top
 abbrev pub with_serial : App → App
 with_serial app = with_subcommand app (with_turns (with_file (codes "serial"))).top
 
+-- autolock simulate FILE STEPS
+abbrev pub with_simulate : App → App
+with_simulate app = with_subcommand app (with_steps (with_file (codes "simulate"))).top
+
 -- the whole command line
 abbrev pub autolock : App
-autolock = with_serial (with_listing (with_check program))
+autolock = with_simulate (with_serial (with_listing (with_check program)))
 
 -- the command is that one, and has no global argument
 abbrev pub IsCommand : App → Command → Type 0

@@ -7,7 +7,7 @@ use Rattle.clap.specs.declared.error.Error.{Error}
 use Rattle.clap.specs.declared.error.kind.ErrorKind.TheVariants.{MissingSubcommand}
 use Rattle.words.specs.Commands.{autolock}
 use Rattle.words.specs.declared.line.Line.{Line}
-use Rattle.words.specs.declared.line.Line.TheVariants.{Check, Listing, Serial}
+use Rattle.words.specs.declared.line.Line.TheVariants.{Check, Listing, Serial, Simulate}
 
 -- the value of a name, or nothing
 abbrev pub name_in : Text → List Row → Text
@@ -25,6 +25,8 @@ IsLine command rows (Check file) = (command ≡ codes "check") × (file.now ≡ 
 IsLine command rows (Listing file) = (command ≡ codes "listing") × (file.now ≡ name_in (codes "FILE") rows)
 IsLine command rows (Serial file turns) =
     (command ≡ codes "serial") × (file.now ≡ name_in (codes "FILE") rows) × IsTurns rows turns
+IsLine command rows (Simulate file steps) =
+    (command ≡ codes "simulate") × (file.now ≡ name_in (codes "FILE") rows) × (steps.now ≡ name_in (codes "STEPS") rows)
 
 -- the line is the subcommand that was met
 abbrev pub IsLineOf : Option (Text × List Row) → Line → Type 0
@@ -33,7 +35,8 @@ IsLineOf (Some (command, rows)) line = IsLine command rows line
 
 -- a name of the program's own subcommands
 abbrev pub IsOwnName : Text → Type 0
-IsOwnName command = (command ≡ codes "check") ⊎ ((command ≡ codes "listing") ⊎ (command ≡ codes "serial"))
+IsOwnName command =
+    (command ≡ codes "check") ⊎ ((command ≡ codes "listing") ⊎ ((command ≡ codes "serial") ⊎ (command ≡ codes "simulate")))
 
 -- the subcommand that was met is one of the program's own
 abbrev pub IsOwn : Option (Text × List Row) → Type 0

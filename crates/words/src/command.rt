@@ -1,8 +1,8 @@
 //! The commands and their arguments.
 
-ghost use Rattle.std.specs.Prelude.{◌≡◌, IfOk, false};
+ghost use Rattle.std.specs.Prelude.{◌≡◌, IfOk, codes, false};
 ghost use Rattle.clap.specs.Words.{rule_of};
-ghost use Rattle.words.specs.Commands.{IsCommand, file_rule, turns_rule, with_file, with_turns, autolock};
+ghost use Rattle.words.specs.Commands.{IsCommand, file_rule, turns_rule, with_file, with_turns, with_steps, autolock};
 
 use clap::builder::ValueParser;
 use clap::{Arg, Command};
@@ -41,6 +41,21 @@ fn file_command<'a>(alloc: Global, name: &'a str, about: &'a str) -> Result<Comm
         .arg(file_argument(alloc, "FILE").help("The program's text"))
 }
 
+/// A steps file.
+fn steps_argument<'a>(alloc: Global) -> Arg<'a>
+    ensures rule { rule_of result ≡ file_rule (codes "STEPS") }
+    ensures local { result.global ≡ false }
+{
+    file_argument(alloc, "STEPS").help("Which thread makes how many steps: items T or T*N")
+}
+
+/// `simulate`.
+fn simulate_command<'a>(alloc: Global, about: &'a str) -> Result<Command<'a>, AllocError>
+    ensures { IfOk result (IsCommand (with_steps (with_file (codes "simulate")))) }
+{
+    file_command(alloc, "simulate", about)?.arg(steps_argument(alloc))
+}
+
 /// The whole command line.
 pub fn command<'a>(alloc: Global) -> Result<Command<'a>, AllocError>
     ensures { IfOk result (IsCommand autolock) }
@@ -51,11 +66,14 @@ pub fn command<'a>(alloc: Global) -> Result<Command<'a>, AllocError>
     let listing = file_command(alloc, "listing", about)?;
     let about = "Run all calls one after another, and write the history";
     let serial = file_command(alloc, "serial", about)?.arg(turns_argument(alloc))?;
+    let about = "Run the steps of a steps file, and write the cells and threads after them";
+    let simulate = simulate_command(alloc, about)?;
     Command::new(alloc, "autolock")
         .version(VERSION)
         .about("Programs with atomic sections: locks inferred from protected_by annotations")
         .subcommand_required(true)
         .subcommand(check)?
         .subcommand(listing)?
-        .subcommand(serial)
+        .subcommand(serial)?
+        .subcommand(simulate)
 }

@@ -23,4 +23,11 @@ pub enum Line<'a> {
         /// The most turns that each execution of a loop may make.
         turns: u64,
     },
+    /// `simulate`: run the steps of a steps file over the threads of a program.
+    Simulate {
+        /// The file of the program's text.
+        file: &'a str,
+        /// The steps file.
+        steps: &'a str,
+    },
 }

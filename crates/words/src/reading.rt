@@ -38,6 +38,10 @@ fn line<'a>(command: &str, matches: &ArgMatches<'a>) -> Option<Line<'a>>
             file,
             turns: turns(matches),
         }),
+        "simulate" => Some(Line::Simulate {
+            file,
+            steps: name(matches, "STEPS"),
+        }),
         _ => None,
     }
 }
