@@ -4,8 +4,8 @@
     tests/schedules.py PROGRAM [--seed N] [--count N] [--all STEPS] FILE..
 
 PROGRAM is the built program. Each FILE is a program that is accepted. `--count` schedules are drawn at random
-for each of it (1,000 by default), from the seed that is printed; with `--all`, every schedule of exactly so many
-steps is taken in place of these.
+for each of it (1,000 by default), from the seed that is printed; with `--all`, every schedule of up to so many
+steps is taken in place of these. A FILE that `serial` doesn't run to its end, or without threads, is passed over.
 
 After a schedule's steps, `simulate` tells which sections ended, and what the cells hold that no section holds.
 The calls of these sections, in the order told, are made the one thread of the program in place of its own, and
@@ -63,6 +63,10 @@ class Judge:
         if done.returncode != 0:
             raise Differs(f"{words}: status {done.returncode}: {done.stderr.decode()}")
         return done.stdout.decode().splitlines()
+
+    def ends(self):
+        done = subprocess.run([self.program, "serial", self.path], capture_output=True, timeout=120)
+        return done.returncode == 0
 
     def simulate(self, steps):
         file = os.path.join(self.folder, "steps")
@@ -126,13 +130,18 @@ def main():
     for path in given.files:
         chance = random.Random(f"{seed} {os.path.basename(path)}")
         judge = Judge(os.path.abspath(given.program), path)
-        if judge.threads == 0:
+        if judge.threads == 0 or not judge.ends():
+            print(f"passed over {path}")
             continue
         if given.all is None:
             schedules = (drawn(chance, judge.threads) for _ in range(given.count))
         else:
-            schedules = (" ".join(map(str, s)) for s in itertools.product(range(judge.threads), repeat=given.all))
-        count = 0
+            schedules = (
+                " ".join(map(str, schedule))
+                for steps in range(given.all + 1)
+                for schedule in itertools.product(range(judge.threads), repeat=steps)
+            )
+        count, wrong = 0, False
         for steps in schedules:
             try:
                 if given.all is None:
@@ -141,10 +150,11 @@ def main():
                     judge.judge(steps)
             except Differs as differs:
                 print(f"FAILED {path}\nsteps {steps}\n{differs}")
-                failed = True
+                wrong = True
                 break
             count += 1
-        print(f"{'FAILED' if failed else 'ok'} {path}: {count} schedules")
+        failed = failed or wrong
+        print(f"{'FAILED' if wrong else 'ok'} {path}: {count} schedules", flush=True)
     sys.exit(1 if failed else 0)
 
 

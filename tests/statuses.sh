@@ -104,6 +104,7 @@ run "a steps file that is not there" 3 none no_missing.al simulate right.al miss
 run "a steps file that is not there, and a fault" 3 none no_missing.al simulate wrong.al missing.al
 run "a folder" 3 none no_folder serial folder
 run "a folder for a steps file" 3 none no_folder simulate right.al folder
+run "a folder, and no steps file" 3 none no_folder simulate folder missing.al
 run "a folder, of check" 3 none no_folder check folder
 
 : >out

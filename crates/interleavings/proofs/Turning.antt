@@ -36,7 +36,7 @@ use Rattle.interleavings.specs.declared.state.State.TheVariants as state
 use Rattle.interleavings.specs.States.{state_of, open_thread, thread_of, session_of_state, session_at, IsOf, IsAt, cells_seen, world_of, IsTied}
 use Rattle.interleavings.specs.Steps.{Begun, Moved, Got, Refused, Over, Stays, ReadySteps, RunningSteps, AskingSteps, EndedSteps, Steps, Refuses, Stepped, CanStep, status_at}
 use Rattle.interleavings.specs.Statuses.{calling, wanting, asking, section_status, thread_status, status_of}
-use Rattle.interleavings.specs.Threads.{ThreadsOf, threads_of, HasNoneOpen}
+use Rattle.interleavings.specs.Threads.{ThreadsOf, threads_of}
 use Rattle.interleavings.proofs.Lists.{some_same, map_at, set_same, set_other, set_itself}
 use Rattle.interleavings.proofs.Numbers.{distinct_none, distinct_push}
 use Rattle.interleavings.proofs.Locked.{cells_listed}
@@ -456,19 +456,12 @@ module _ (plan : Plan) (m : Managed) (states : List State) (t : ℕ) (tied : IsT
 
 -- ---- where memory was wanting, all stays
 
-only_stays : (m : Managed) (y x : State) (m' : Managed) → Refuses m y x m' → Stays m y x m'
-only_stays m state.Away x m' s = absurd s
-only_stays m (state.Ready r) x m' s = s
-only_stays m (state.Running o) x m' s = absurd s
-only_stays m (state.Asking o) x m' s = absurd s
-only_stays m (state.Ended o) x m' s = absurd s
-
-refused_closed : (m : Managed) (y x : State) (m' : Managed) → Refuses m y x m' → (thread_of y).active ≡ None
-refused_closed m state.Away x m' s = absurd s
-refused_closed m (state.Ready r) x m' s = refl
-refused_closed m (state.Running o) x m' s = absurd s
-refused_closed m (state.Asking o) x m' s = absurd s
-refused_closed m (state.Ended o) x m' s = absurd s
+only_stays : (plan : Plan) (m : Managed) (y x : State) (m' : Managed) → Refuses plan m y x m' → Stays m y x m'
+only_stays plan m state.Away x m' s = absurd s
+only_stays plan m (state.Ready r) x m' s = s.1
+only_stays plan m (state.Running o) x m' s = absurd s
+only_stays plan m (state.Asking o) x m' s = absurd s
+only_stays plan m (state.Ended o) x m' s = absurd s
 
 -- ---- a step, or want of memory
 
@@ -477,14 +470,14 @@ module _ (plan : Plan) (m : Managed) (states last : List State) (t : ℕ) (y x :
     (strict : PrecedesIsStrict) (here : slice_get states t ≡ Some y) (is : last ≡ set states t x) (view : threads_of plan (world_of m states) ≡ now) where
   stayed : (e : NoMemory) → Stepped plan m y (Err e) x m' → threads_of plan (world_of m' last) ≡ threads_of plan (world_of m states)
   stayed e s =
-      let same = only_stays m y x m' s in
+      let same = only_stays plan m y x m' s in
       let states_are : last ≡ states = is ∙ ap (set states t) same.0 ∙ set_itself states t y here in
       λ i. threads_of plan (world_of (same.1 i) (states_are i))
 
   pub stepped_tied : (r : Result Event NoMemory) → Stepped plan m y r x m' → IsTied plan m' last
   stepped_tied (Ok e) s = subst (IsTied plan m') (sym is) (done plan m states t tied kept y e x m' size sound ready strict kept' here s).tied
   stepped_tied (Err e) s =
-      let same = only_stays m y x m' s in
+      let same = only_stays plan m y x m' s in
       let states_are : states ≡ last = sym (is ∙ ap (set states t) same.0 ∙ set_itself states t y here) in
       subst (IsTied plan m') states_are (subst (λ (q : Managed). IsTied plan q states) (sym same.1) tied)
 
@@ -499,9 +492,16 @@ module _ (plan : Plan) (m : Managed) (states last : List State) (t : ℕ) (y x :
   stepped_err (Ok e) s = tt
   stepped_err (Err e) s = stayed e s ∙ view
 
-  pub stepped_begins : (r : Result Event NoMemory) → Stepped plan m y r x m' → OnErr r (HasNoneOpen now.world t)
+  begins_now : (z : State) → slice_get states t ≡ Some z → Refuses plan m z x m' → (happens plan (world_of m states) t).0 ≡ event.Began
+  begins_now state.Away h s = absurd s
+  begins_now (state.Ready r) h s =
+      let call : call_at plan t r.step ≡ Some s.0.0 = ap (λ u. call_at plan u r.step) (sym (tied.at t (state.Ready r) h)) ∙ s.0.1 in
+      ap (λ (p : Event × World). p.0) (at_thread plan m states t (state.Ready r) h
+      ∙ ap (begins plan (world_of m states) t (thread_of (state.Ready r))) call)
+  begins_now (state.Running o) h s = absurd s
+  begins_now (state.Asking o) h s = absurd s
+  begins_now (state.Ended o) h s = absurd s
+
+  pub stepped_begins : (r : Result Event NoMemory) → Stepped plan m y r x m' → OnErr r ((happens now.plan now.world t).0 ≡ event.Began)
   stepped_begins (Ok e) s = tt
-  stepped_begins (Err e) s = λ a is_open.
-      let open_before : HasOpen (world_of m states) t a = subst (λ (w : ThreadsOf). HasOpen w.world t a) (sym view) is_open in
-      let same : thread_of y ≡ open_before.0 = some_same (thread_of y) open_before.0 (sym (map_at thread_of states t y here) ∙ open_before.1) in
-      none-some a (sym (refused_closed m y x m' s) ∙ ap (λ (q : ThreadState). q.active) same ∙ open_before.2)
+  stepped_begins (Err e) s = sym (ap (λ (w : ThreadsOf). (happens w.plan w.world t).0) view) ∙ begins_now y here s

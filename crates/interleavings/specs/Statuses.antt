@@ -1,4 +1,4 @@
--- What a thread can do next.
+-- How a thread stands.
 use Rattle.std.specs.Prelude.{ℕ, slice_get, Option, Some, None}
 use Rattle.core_lang.specs.Serial.{Invocation}
 use Rattle.locks.specs.declared.lock.Lock.{Lock}
@@ -31,6 +31,6 @@ abbrev pub thread_status : Plan → World → ℕ → Option ThreadState → Sta
 thread_status plan w t None = status.Idle
 thread_status plan w t (Some thread) = section_status plan w t thread.step thread.active
 
--- what a thread can do next
+-- how a thread stands
 abbrev pub status_of : Plan → World → ℕ → Status
 status_of plan w t = thread_status plan w t (slice_get w.threads t)

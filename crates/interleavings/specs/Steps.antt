@@ -95,14 +95,18 @@ Steps plan m (state.Running o) e x m' = RunningSteps m o e x m'
 Steps plan m (state.Asking o) e x m' = AskingSteps m o e x m'
 Steps plan m (state.Ended o) e x m' = EndedSteps m o e x m'
 
--- only where no section is open can memory be wanting, and then all is as it was
-abbrev pub Refuses : Managed → State → State → Managed → Type 0
-Refuses m (state.Ready r) x m' = Stays m (state.Ready r) x m'
-Refuses m _ x m' = ⊥
+-- a call of the thread is left
+abbrev pub HasCall : Plan → ReadyOf → Type 0
+HasCall plan r = (call : Invocation) × (call_at plan r.thread r.step ≡ Some call)
+
+-- only where a call would begin can memory be wanting, and then all is as it was
+abbrev pub Refuses : Plan → Managed → State → State → Managed → Type 0
+Refuses plan m (state.Ready r) x m' = HasCall plan r × Stays m (state.Ready r) x m'
+Refuses plan m _ x m' = ⊥
 
 abbrev pub Stepped : Plan → Managed → State → Result Event NoMemory → State → Managed → Type 0
 Stepped plan m y (Ok e) x m' = Steps plan m y e x m'
-Stepped plan m y (Err e) x m' = Refuses m y x m'
+Stepped plan m y (Err e) x m' = Refuses plan m y x m'
 
 -- ---- what a step needs
 
@@ -140,7 +144,7 @@ pub record IsCall (plan : Plan) (t step : ℕ) (call : Call) : Type 0 where
 abbrev pub asking_at : Managed → OpenOf → Status
 asking_at m o = asking (holder_of m) (first_if o.activation.asked o.activation.pending)
 
--- what a thread in this state can do next
+-- how a thread in this state stands
 abbrev pub status_at : Plan → Managed → State → Status
 status_at plan m state.Away = status.Idle
 status_at plan m (state.Ready r) = calling (call_at plan r.thread r.step)

@@ -3,7 +3,7 @@ use Rattle.std.specs.Prelude.{ℕ, List, slice_get, Option}
 use Rattle.core_lang.specs.declared.value.Value.{Value}
 use Rattle.core_lang.specs.Typing.{lookup}
 use Rattle.lowering.specs.Plans.{Plan}
-use Rattle.worlds.specs.Worlds.{World, Activation, HasOpen, opening_world, world_after, final}
+use Rattle.worlds.specs.Worlds.{World, opening_world, world_after, final}
 
 -- a program's plan, and the world that its threads are in
 pub record ThreadsOf : Type 0 where
@@ -28,7 +28,3 @@ with_steps w steps = threads_of w.plan (world_after w.plan w.world steps)
 -- what a cell holds, unless a section holds it
 abbrev pub cell_in : World → ℕ → Option Value
 cell_in w cell = lookup (slice_get w.cells cell) (λ (v : Option Value). v)
-
--- no section of the thread is open
-abbrev pub HasNoneOpen : World → ℕ → Type 0
-HasNoneOpen w t = (a : Activation) → HasOpen w t a → ⊥

@@ -1,8 +1,8 @@
 //! Worlds of threads that take turns.
 //!
 //! - [`world::World`]: the threads of a compiled program; one step of one of them.
-//! - [`world::run`]: the world after a list of steps, and what is claimed of it.
-//! - [`status::Status`]: what a thread can do next.
+//! - [`world::run`]: the world after turns, which are lists of steps, and what is claimed of it.
+//! - [`status::Status`]: how a thread stands.
 //!
 //! `specs/` says what such a world is as a value (`Threads`) and what a thread can do
 //! next (`Statuses`). `States` ties the threads' states to the manager of locks, and `Steps` says what a step does to

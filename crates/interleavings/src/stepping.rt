@@ -119,7 +119,7 @@ pub fn put<'p>(place: &mut State<'p>, next: State<'p>)
     }
 }
 
-/// What a thread in this state can do next.
+/// How a thread in this state stands.
 pub fn status(program: &Program, manager: &Manager<'_>, state: &State<'_>) -> Status
     ensures { result ≡ status_at program.now manager.now state.now }
 {

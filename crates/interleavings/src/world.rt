@@ -2,8 +2,9 @@
 
 ghost use Rattle.std.specs.Prelude.{◌≡◌, ◌≤◌, replicate, IfOk, OnOk, OnErr};
 ghost use Rattle.worlds.specs.Worlds.{happens};
+ghost use Rattle.worlds.specs.declared.event.Event.TheVariants.{Began};
 ghost use Rattle.worlds.specs.Claims.{Headline};
-ghost use Rattle.interleavings.specs.Threads.{HasNoneOpen, cell_in, at_opening, after_steps, with_steps};
+ghost use Rattle.interleavings.specs.Threads.{cell_in, at_opening, after_steps, with_steps};
 ghost use Rattle.interleavings.specs.Statuses.{status_of};
 ghost use Rattle.steps.specs.Turns.{steps_of};
 
@@ -80,7 +81,7 @@ impl<'p> World<'p> {
         ensures ok { IfOk result (λ event. happens self.old.plan self.old.world thread ≡ (event, self.new.world)) }
         ensures plan { self.new.plan ≡ self.old.plan }
         ensures err { OnErr result (self.new ≡ self.old) }
-        ensures begins { OnErr result (HasNoneOpen self.old.world thread) }
+        ensures begins { OnErr result ((happens self.old.plan self.old.world thread).0 ≡ Began) }
     {
         worlds::laws::steps_keep_sound();
         worlds::laws::worlds_stay_ready();
@@ -161,7 +162,7 @@ impl<'p> World<'p> {
         self.manager.cell(cell)
     }
 
-    /// What a thread can do next.
+    /// How a thread stands.
     pub fn state(&self, thread: u32) -> Status
         ensures { result ≡ status_of self.now.plan self.now.world thread }
     {

@@ -9,7 +9,7 @@ use Rattle.worlds.specs.declared.event.Event.TheVariants.{Began, Ended}
 use Rattle.worlds.specs.Worlds.{World, ThreadState, Activation, commit, taken, instructed, next_effect, happens, world_after, events, opening_world, HasOpen}
 use Rattle.code.specs.Machine.{Effect, Moves, Asks, Finishes, Undefined}
 use Rattle.code.specs.Memory.{HeldCells}
-use Rattle.worlds.specs.Claims.{EndsInOrder, NotesItsBegin}
+use Rattle.worlds.specs.Claims.{EndsInOrder, HaveEntries}
 use Rattle.worlds.proofs.Turns.{Active, Turn, idles, starts, gets, waits, over, moves, turn}
 use Rattle.worlds.proofs.Places.{get_set_other, get_set_same, get_more, get_last}
 
@@ -54,8 +54,8 @@ ends_rise plan w (t ∷ ts) (suc i) zero a b lt h g = absurd (omega arith)
 ends_rise plan w (t ∷ ts) (suc i) (suc k) a b lt h g = ends_rise plan (happens plan w t).1 ts i k a b (omega arith) h g
 
 pub in_order : (plan : Plan) (steps : List ℕ) → EndsInOrder plan steps
-in_order plan steps t u b c e f p q one two before =
-    ends_rise plan (opening_world plan) steps e f p q (omega (arith, before, two.later)) one.ended two.ended
+in_order plan steps u b c e p q one two before =
+    ends_rise plan (opening_world plan) steps b e p q (omega (arith, before, two.later)) one two.ended
 
 -- ---- what is noted of a begin
 
@@ -121,11 +121,12 @@ begun_turn plan w t e after (waits at want busy) h = absurd cc
 begun_turn plan w t e after (over at none out) h = absurd cc
 begun_turn plan w t e after (moves at none out) h = absurd cc
 
-abbrev Noted : World → ℕ → ℕ → Type 0
-Noted after p n = (c : Commit) × (slice_get after.history p ≡ Some c) × (c.begun ≡ n)
+-- the position has an entry of the thread, with this length of the history
+abbrev Noted : World → ℕ → ℕ → ℕ → Type 0
+Noted after t p n = (c : Commit) × (slice_get after.history p ≡ Some c) × (c.thread ≡ t) × (c.begun ≡ n)
 
 ended_turn : (plan : Plan) (w : World) (t : ℕ) (e : Event) (after : World) → Turn plan w t e after → (n p : ℕ) → OpenSince w t n →
-    e ≡ Ended p → Noted after p n
+    e ≡ Ended p → Noted after t p n
 ended_turn plan w t e after idles n p o h = absurd cc
 ended_turn plan w t e after (starts at is call) n p o h = absurd cc
 ended_turn plan w t e after (gets at want free) n p o h = absurd cc
@@ -135,6 +136,7 @@ ended_turn plan w t e after (over {thread} {a} {outcome} at none out) n p o h =
     let c = commit t thread.step a outcome in (
       c,
       subst (λ (k : ℕ). slice_get (w.history ++ c ∷ []) k ≡ Some c) place (get_last w.history c),
+      refl,
       ap (λ x. x.begun) (same_open w t thread a o.0 at o.1) ∙ o.2,
     )
 ended_turn plan w t e after (moves at none out) n p o h = absurd cc
@@ -144,50 +146,52 @@ kept_after : (plan : Plan) (w : World) (steps : List ℕ) (p : ℕ) (c : Commit)
 kept_after plan w [] p c h = h
 kept_after plan w (t ∷ ts) p c h = kept_after plan (happens plan w t).1 ts p c ((step_end plan w t).kept p c h)
 
-noted_is : (plan : Plan) (w : World) (steps : List ℕ) (p n : ℕ) (c : Commit) → Noted w p n →
-    slice_get (world_after plan w steps).history p ≡ Some c → c.begun ≡ n
-noted_is plan w steps p n c noted is =
-    let same : Some noted.0 ≡ Some c = sym (kept_after plan w steps p noted.0 noted.1) ∙ is in
-    let as_one : noted.0 ≡ c = cc same in
-    ap (λ x. x.begun) (sym as_one) ∙ noted.2
+noted_after : (plan : Plan) (w : World) (steps : List ℕ) (t p n : ℕ) → Noted w t p n → Noted (world_after plan w steps) t p n
+noted_after plan w steps t p n noted = (noted.0, kept_after plan w steps p noted.0 noted.1, noted.2, noted.3)
 
-noted_from : (plan : Plan) (w : World) (steps : List ℕ) (t e p n : ℕ) (c : Commit) → OpenSince w t n → slice_get steps e ≡ Some t →
+noted_from : (plan : Plan) (w : World) (steps : List ℕ) (t e p n : ℕ) → OpenSince w t n → slice_get steps e ≡ Some t →
     slice_get (events plan w steps) e ≡ Some (Ended p) →
     ((k q : ℕ) → k < e → slice_get steps k ≡ Some t → slice_get (events plan w steps) k ≡ Some (Ended q) → ⊥) →
-    slice_get (world_after plan w steps).history p ≡ Some c → c.begun ≡ n
-noted_from plan w [] t e p n c o at ended only is = absurd cc
-noted_from plan w (u ∷ us) t zero p n c o at ended only is =
+    Noted (world_after plan w steps) t p n
+noted_from plan w [] t e p n o at ended only = absurd cc
+noted_from plan w (u ∷ us) t zero p n o at ended only =
     let mine : u ≡ t = cc in
     let e : (happens plan w u).0 ≡ Ended p = cc in
     let e' : (happens plan w t).0 ≡ Ended p = ap (λ (k : ℕ). (happens plan w k).0) (sym mine) ∙ e in
     let noted = ended_turn plan w t (happens plan w t).0 (happens plan w t).1 (turn plan w t) n p o e' in
-    noted_is plan (happens plan w u).1 us p n c (subst (λ (k : ℕ). Noted (happens plan w k).1 p n) (sym mine) noted) is
-noted_from plan w (u ∷ us) t (suc e) p n c o at ended only is =
-    noted_from plan (happens plan w u).1 us t e p n c
+    noted_after plan (happens plan w u).1 us t p n (subst (λ (k : ℕ). Noted (happens plan w k).1 t p n) (sym mine) noted)
+noted_from plan w (u ∷ us) t (suc e) p n o at ended only =
+    noted_from plan (happens plan w u).1 us t e p n
     (stays_open plan w u t n o (λ q same h. only 0 q (omega arith) (ap (λ (k : ℕ). Some k) same) (ap (λ (x : Event). Some x) h)))
-    at ended (λ k q less h g. only (suc k) q (omega (arith, less)) h g) is
+    at ended (λ k q less h g. only (suc k) q (omega (arith, less)) h g)
 
-begun_from : (plan : Plan) (w : World) (steps : List ℕ) (t b e p : ℕ) (c : Commit) → b < e → slice_get steps b ≡ Some t →
+-- what was noted, with how long the history was at the begin
+abbrev Entered : Plan → World → List ℕ → ℕ → ℕ → ℕ → Type 0
+Entered plan w steps t b p =
+    (c : Commit) × (slice_get (world_after plan w steps).history p ≡ Some c) × (c.thread ≡ t)
+    × (c.begun ≡ length (world_after plan w (take b steps)).history) × (c.begun ≤ p)
+
+entered_from : (plan : Plan) (w : World) (steps : List ℕ) (t b e p : ℕ) → b < e → slice_get steps b ≡ Some t →
     slice_get steps e ≡ Some t → slice_get (events plan w steps) b ≡ Some Began → slice_get (events plan w steps) e ≡ Some (Ended p) →
     ((k q : ℕ) → b < k → k < e → slice_get steps k ≡ Some t → slice_get (events plan w steps) k ≡ Some (Ended q) → ⊥) →
-    slice_get (world_after plan w steps).history p ≡ Some c →
-    (c.begun ≡ length (world_after plan w (take b steps)).history) × (c.begun ≤ p)
-begun_from plan w [] t b e p c less at_b at_e began ended only is = absurd cc
-begun_from plan w (u ∷ us) t zero zero p c less at_b at_e began ended only is = absurd (omega (arith, less))
-begun_from plan w (u ∷ us) t zero (suc e) p c less at_b at_e began ended only is =
+    Entered plan w steps t b p
+entered_from plan w [] t b e p less at_b at_e began ended only = absurd cc
+entered_from plan w (u ∷ us) t zero zero p less at_b at_e began ended only = absurd (omega (arith, less))
+entered_from plan w (u ∷ us) t zero (suc e) p less at_b at_e began ended only =
     let mine : u ≡ t = cc in
     let now : (happens plan w u).0 ≡ Began = cc in
     let opened = begun_turn plan w u (happens plan w u).0 (happens plan w u).1 (turn plan w u) now in
     let mine_open = subst (λ (k : ℕ). OpenSince (happens plan w u).1 k (length w.history)) mine opened.0 in
-    let noted = noted_from plan (happens plan w u).1 us t e p (length w.history) c mine_open at_e ended
-    (λ k q less' h g. only (suc k) q (omega arith) (omega (arith, less')) h g) is in
-    (noted, omega (arith, noted, opened.1, ends_from plan (happens plan w u).1 us e p ended))
-begun_from plan w (u ∷ us) t (suc b) zero p c less at_b at_e began ended only is = absurd (omega (arith, less))
-begun_from plan w (u ∷ us) t (suc b) (suc e) p c less at_b at_e began ended only is =
-    begun_from plan (happens plan w u).1 us t b e p c (omega (arith, less)) at_b at_e began ended
-    (λ k q l m h g. only (suc k) q (omega (arith, l)) (omega (arith, m)) h g) is
+    let noted = noted_from plan (happens plan w u).1 us t e p (length w.history) mine_open at_e ended
+    (λ k q less' h g. only (suc k) q (omega arith) (omega (arith, less')) h g) in
+    (noted.0, noted.1, noted.2, noted.3, omega (arith, noted.3, opened.1, ends_from plan (happens plan w u).1 us e p ended))
+entered_from plan w (u ∷ us) t (suc b) zero p less at_b at_e began ended only = absurd (omega (arith, less))
+entered_from plan w (u ∷ us) t (suc b) (suc e) p less at_b at_e began ended only =
+    entered_from plan (happens plan w u).1 us t b e p (omega (arith, less)) at_b at_e began ended
+    (λ k q l m h g. only (suc k) q (omega (arith, l)) (omega (arith, m)) h g)
 
-pub notes_begin : (plan : Plan) (steps : List ℕ) → NotesItsBegin plan steps
-notes_begin plan steps t b e p c run is =
-    begun_from plan (opening_world plan) steps t b e p c run.later run.begins_it run.ends_it run.began run.ended
-    (λ k q l m h g. run.only k q l m h g) is
+pub have_entries : (plan : Plan) (steps : List ℕ) → HaveEntries plan steps
+have_entries plan steps t b e p run =
+    let entered = entered_from plan (opening_world plan) steps t b e p run.later run.begins_it run.ends_it run.began run.ended
+    (λ k q l m h g. run.only k q l m h g) in
+    record { entry = entered.0; there = entered.1; of_thread = entered.2; begun = entered.3; earlier = entered.4 }

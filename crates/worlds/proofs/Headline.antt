@@ -2,18 +2,21 @@
 use Rattle.std.proofs.Common.{◌≡◌, ℕ, true, List, [], ◌∷◌, map, Some, slice_get, sym, ◌∙◌, subst}
 use Rattle.core_lang.specs.Serial.{Serial}
 use Rattle.history.specs.Commits.{call_of, answer_of, committed}
+use Rattle.locks.specs.Order.{PrecedesIsStrict}
 use Rattle.history.specs.Laws.{LegalIsSerial}
 use Rattle.lowering.specs.Plans.{Plan, IsCompiled}
 use Rattle.worlds.specs.Asking.{among}
 use Rattle.worlds.specs.Worlds.{World, happens, world_after, opening_world, final}
-use Rattle.worlds.specs.Claims.{IsSerial, HeldCellsAre, EveryRunHasIt}
+use Rattle.worlds.specs.Claims.{IsSerial, HeldCellsAre, EveryRunHasIt, EveryWorldKeepsTheRules}
 use Rattle.worlds.specs.Waiting.{RisingHasNoCycle, RisingGoesOn, InstructionsHaveTheirCase}
 use Rattle.worlds.specs.States.{IsSound, OpeningIsSound, StepsKeepSound}
 use Rattle.worlds.specs.Ahead.{IsReadyWorld, WorldsStayReady}
 use Rattle.worlds.proofs.Cells.{contains_among, among_contains}
 use Rattle.worlds.proofs.Well.{opening_size}
-use Rattle.worlds.proofs.Ends.{in_order, notes_begin}
+use Rattle.worlds.proofs.Ends.{in_order, have_entries}
 use Rattle.worlds.proofs.Scripts.{follows_scripts}
+use Rattle.worlds.proofs.Runs.{ends_are_runs}
+use Rattle.worlds.proofs.Rules.{Once, once_step, once_at_first, keeps_the_rules}
 
 -- ---- the fields
 
@@ -77,8 +80,9 @@ headline laws plan steps ok =
       held_cells = held_cells plan w ok is.sound;
       all_cells = is.sound.size ∙ opening_size plan ok;
       order = in_order plan steps;
+      runs = ends_are_runs plan steps;
       scripts = follows_scripts plan steps;
-      begun = notes_begin plan steps;
+      entries = have_entries plan steps;
       no_cycle = laws.no_cycle plan.ranks w rises;
       goes_on = laws.goes_on plan w rises;
     }
@@ -86,3 +90,19 @@ headline laws plan steps ok =
 pub have_their_case : OpeningIsSound → StepsKeepSound → WorldsStayReady → InstructionsHaveTheirCase
 have_their_case opening step ready plan steps ok =
     let is = kept opening step ready plan steps ok in ready.next plan (final plan steps) ok is.sound is.ready
+
+-- no lock is held twice in any world that is reached
+once_after : PrecedesIsStrict → StepsKeepSound → WorldsStayReady → (plan : Plan) (w : World) (steps : List ℕ) → IsCompiled plan →
+    IsKept plan w → Once w → Once (world_after plan w steps)
+once_after strict step ready plan w [] ok x once = once
+once_after strict step ready plan w (t ∷ ts) ok x once =
+    once_after strict step ready plan (happens plan w t).1 ts ok
+    (record { sound = step plan w t ok x.sound; ready = ready.step plan w t ok x.sound x.ready })
+    (once_step strict plan w t (ready.rises plan w x.ready) once)
+
+pub rules_kept : PrecedesIsStrict → OpeningIsSound → StepsKeepSound → WorldsStayReady → EveryWorldKeepsTheRules
+rules_kept strict opening step ready plan steps ok =
+    let is = kept opening step ready plan steps ok in
+    let first : IsKept plan (opening_world plan) = record { sound = opening plan; ready = ready.opening plan ok } in
+    keeps_the_rules plan (final plan steps) ok is.sound (ready.rises plan (final plan steps) is.ready)
+    (once_after strict step ready plan (opening_world plan) steps ok first (once_at_first plan))

@@ -2,6 +2,7 @@ pub mod Places
 pub mod Turns
 pub mod Ends
 pub mod Scripts
+pub mod Runs
 pub mod Cells
 pub mod Alone
 pub mod Sound
@@ -15,6 +16,7 @@ pub mod Going
 pub mod Ready
 pub mod Sums
 pub mod InOrder
+pub mod Rules
 pub mod Headline
 pub mod Examples
 pub mod Accepted

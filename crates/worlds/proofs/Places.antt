@@ -29,12 +29,16 @@ pub get_last : {X : Type 0} (xs : List X) (x : X) → slice_get (xs ++ x ∷ [])
 get_last [] x = refl
 get_last (y ∷ xs) x = get_last xs x
 
--- with one more behind: what was there, or that one
-pub get_push : {X : Type 0} (xs : List X) (x y : X) (i : ℕ) → slice_get (xs ++ x ∷ []) i ≡ Some y → (slice_get xs i ≡ Some y) ⊎ (x ≡ y)
-get_push [] x y zero h = inr cc
+-- with one more behind: what was there, or that one, in the last place
+pub get_push : {X : Type 0} (xs : List X) (x y : X) (i : ℕ) → slice_get (xs ++ x ∷ []) i ≡ Some y →
+    (slice_get xs i ≡ Some y) ⊎ ((x ≡ y) × (length xs ≡ i))
+get_push [] x y zero h = inr (cc, refl)
 get_push [] x y (suc i) h = absurd cc
 get_push (z ∷ xs) x y zero h = inl h
-get_push (z ∷ xs) x y (suc i) h = get_push xs x y i h
+get_push (z ∷ xs) x y (suc i) h = elim (get_push xs x y i h) [
+  | inl e ↦ inl e
+  | inr e ↦ inr (e.0, ap suc e.1)
+]
 
 -- within a list there is something at a place
 pub get_within : {X : Type 0} (xs : List X) (i : ℕ) → i < length xs → (x : X) × (slice_get xs i ≡ Some x)

@@ -24,7 +24,8 @@ use Rattle.history.specs.Commits.{IsTrueCommit}
 use Rattle.lowering.specs.Lowered.{lists_at}
 use Rattle.lowering.specs.Plans.{Plan, IsCompiled}
 use Rattle.worlds.specs.Worlds.{Activation, activation, commit, granted, taken, section_at, code_at, locals_at, instructed, next_effect}
-use Rattle.worlds.specs.States.{HoldsCell, standing, IsWell, IsFit}
+use Rattle.worlds.specs.States.{standing, IsWell, IsFit}
+use Rattle.worlds.specs.Claims.{HoldsCell}
 use Rattle.worlds.proofs.Alone.{one_more}
 use Rattle.worlds.proofs.Cells.{among_more, among_last, among_push, value_more, value_behind, value_cases, some_or_none, taken_only, without_none, without_away}
 use Rattle.worlds.specs.Worlds.{without}

@@ -5,13 +5,19 @@ use Rattle.core_lang.specs.declared.value.Value.{Value}
 use Rattle.core_lang.specs.Serial.{Invocation, Scheduled, SerialFromOpening}
 use Rattle.locks.specs.declared.lock.Lock.{Lock}
 use Rattle.locks.specs.Locks.{lock_of_cell}
-use Rattle.history.specs.Commits.{Commit, call_of, answer_of, script_call}
+use Rattle.code.specs.Memory.{value_at}
+use Rattle.layout.specs.Layouts.{AreDistinct}
+use Rattle.history.specs.Commits.{Commit, call_of, answer_of, script_call, IsLegal, AreTrue}
 use Rattle.lowering.specs.Plans.{Plan, IsCompiled}
 use Rattle.worlds.specs.declared.event.Event.TheVariants.{Began, Ended}
-use Rattle.worlds.specs.Worlds.{World, ThreadState, Activation, HasOpen, scripts, final, trace}
-use Rattle.worlds.specs.Waiting.{NobodyWaitsInACircle, SomeoneGoesOn}
+use Rattle.worlds.specs.Worlds.{World, ThreadState, Activation, HasOpen, scripts, call_at, final, trace}
+use Rattle.worlds.specs.Waiting.{NobodyWaitsInACircle, SomeoneGoesOn, PendingRises}
 
 -- ---- words
+
+-- a section holds a cell
+abbrev pub HoldsCell : Activation → ℕ → Type 0
+HoldsCell a cell = (v : Value) × (value_at a.machine.memory.cells cell ≡ Some v)
 
 -- some open section holds the lock
 pub record IsHeld (w : World) (lock : Lock) : Type 0 where
@@ -60,25 +66,44 @@ HeldCellsAre plan w =
 -- a section that ended before another began stands before it
 abbrev pub EndsInOrder : Plan → List ℕ → Type 0
 EndsInOrder plan steps =
-    (t u b c e f p q : ℕ) → IsSectionRun plan steps t b e p → IsSectionRun plan steps u c f q → e < c → p < q
+    (u b c e p q : ℕ) → slice_get (trace plan steps) b ≡ Some (Ended p) → IsSectionRun plan steps u c e q → b < c → p < q
 
--- the history has of each thread the first calls of its script, in order, each once; and of nobody else
+-- each end is that of a section's run, and so is each entry of the history
+pub record EndsAreRuns (plan : Plan) (steps : List ℕ) : Type 0 where
+  pub has_begun : (t end position : ℕ) → slice_get steps end ≡ Some t →
+      slice_get (trace plan steps) end ≡ Some (Ended position) → (begin : ℕ) × IsSectionRun plan steps t begin end position
+  pub has_ended : (position : ℕ) (c : Commit) → slice_get (final plan steps).history position ≡ Some c →
+      (begin : ℕ) × (end : ℕ) × IsSectionRun plan steps c.thread begin end position
+
+-- the history has of each thread the first calls of its script, in order, each once, and of nobody else; and an open
+-- section is of the call that is next in its thread's script
 pub record FollowsScripts (plan : Plan) (w : World) : Type 0 where
   pub calls : (t : ℕ) (thread : ThreadState) (script : List Invocation) → slice_get w.threads t ≡ Some thread →
       slice_get (scripts plan) t ≡ Some script → calls_by t w.history ≡ take thread.step (numbered t 0 script)
-  pub threads : (position : ℕ) (c : Commit) → slice_get w.history position ≡ Some c → c.thread < length (scripts plan)
+  pub next_call : (t : ℕ) (thread : ThreadState) (a : Activation) → slice_get w.threads t ≡ Some thread →
+      thread.active ≡ Some a → call_at plan t thread.step ≡ Some a.call
+  pub all_threads : length w.threads ≡ length (scripts plan)
+  pub nobody_else : (position : ℕ) (c : Commit) → slice_get w.history position ≡ Some c →
+      c.thread < length (scripts plan)
 
--- what is noted of a section's begin is how long the history was then, which is at most the section's position
-abbrev pub NotesItsBegin : Plan → List ℕ → Type 0
-NotesItsBegin plan steps =
-    (t b e p : ℕ) (c : Commit) → IsSectionRun plan steps t b e p → slice_get (final plan steps).history p ≡ Some c →
-    (c.begun ≡ length (final plan (take b steps)).history) × (c.begun ≤ p)
+-- at its position stands an entry of the thread, which notes how long the history was when the section began
+pub record HasEntry (plan : Plan) (steps : List ℕ) (t begin position : ℕ) : Type 0 where
+  pub entry : Commit
+  pub there : slice_get (final plan steps).history position ≡ Some entry
+  pub of_thread : entry.thread ≡ t
+  pub begun : entry.begun ≡ length (final plan (take begin steps)).history
+  pub earlier : entry.begun ≤ position
+
+-- each section that ended has its entry
+abbrev pub HaveEntries : Plan → List ℕ → Type 0
+HaveEntries plan steps = (t b e p : ℕ) → IsSectionRun plan steps t b e p → HasEntry plan steps t b p
 
 -- of every list of steps: the finished sections' results and prints, and every cell that no section holds, are those
 -- of running the history's sections whole, one after another, from the opening cells; a section that ended before
--- another began stands before it; each thread's finished sections are the first calls of its script, in order; what is
--- noted of their begins is right; and in the world that the steps lead to, which is any world reached, no threads wait
--- for each other in a circle, and where a section is open, some open section goes on
+-- another began stands before it; the entries are those of the sections that began and ended, each where it ended, with
+-- what is noted of its begin; each thread's are the first calls of its script, in order, and its open section is of the
+-- next; and in the world that the steps lead to, which is any world reached, no threads wait for each other in a circle,
+-- and where a section is open, some open section goes on
 pub record Headline (plan : Plan) (steps : List ℕ) : Type 0 where
   pub heap : List Value
   pub results_and_prints : IsSerial plan (final plan steps) heap
@@ -86,11 +111,30 @@ pub record Headline (plan : Plan) (steps : List ℕ) : Type 0 where
   pub held_cells : HeldCellsAre plan (final plan steps)
   pub all_cells : length (final plan steps).cells ≡ length plan.program.cells.items
   pub order : EndsInOrder plan steps
+  pub runs : EndsAreRuns plan steps
   pub scripts : FollowsScripts plan (final plan steps)
-  pub begun : NotesItsBegin plan steps
+  pub entries : HaveEntries plan steps
   pub no_cycle : NobodyWaitsInACircle (final plan steps)
   pub goes_on : SomeoneGoesOn plan (final plan steps)
 
 -- every run of a compiled program has it
 abbrev pub EveryRunHasIt : Type 0
 EveryRunHasIt = (plan : Plan) (steps : List ℕ) → IsCompiled plan → Headline plan steps
+
+-- ---- the rules of locking
+
+-- no two sections hold one lock, and none holds one twice; a section has just the cells of the locks that it holds; each
+-- lock that a section is to be granted next comes after all that it holds; and the history is legal, its entries true
+pub record KeepsTheRules (plan : Plan) (w : World) : Type 0 where
+  pub one_holder : (t u : ℕ) (a b : Activation) (lock : Lock) → HasOpen w t a → HasOpen w u b →
+      Contains a.held lock → Contains b.held lock → t ≡ u
+  pub once : (t : ℕ) (a : Activation) → HasOpen w t a → AreDistinct a.held
+  pub own_cells : (t : ℕ) (a : Activation) (cell : ℕ) (lock : Lock) → HasOpen w t a →
+      lock_of_cell plan.program cell ≡ Some lock → HoldsCell a cell ↔ Contains a.held lock
+  pub rises : PendingRises plan.ranks w
+  pub legal : IsLegal plan.layout.opening w.history
+  pub true_entries : AreTrue plan.program w.history
+
+-- so it is in each world that a compiled program reaches
+abbrev pub EveryWorldKeepsTheRules : Type 0
+EveryWorldKeepsTheRules = (plan : Plan) (steps : List ℕ) → IsCompiled plan → KeepsTheRules plan (final plan steps)

@@ -6,17 +6,14 @@ use Rattle.core_lang.specs.declared.value.Outcome.{Outcome}
 use Rattle.core_lang.specs.declared.tree.Section.{Section}
 use Rattle.locks.specs.declared.lock.Lock.{Lock}
 use Rattle.code.specs.Machine.{Machine, Standing, At, Halted}
-use Rattle.code.specs.Memory.{value_at, Agrees, IsConsistent, IsPartOf}
+use Rattle.code.specs.Memory.{Agrees, IsConsistent, IsPartOf}
 use Rattle.code.specs.Alone.{alone}
 use Rattle.code.specs.Laws.{on_heap}
 use Rattle.history.specs.Commits.{committed, IsLegal, AreTrue}
 use Rattle.lowering.specs.Plans.{Plan, IsCompiled}
 use Rattle.worlds.specs.Asking.{among}
 use Rattle.worlds.specs.Worlds.{World, Activation, section_at, code_at, locals_at, happens, opening_world, HasOpen}
-
--- a section holds a cell
-abbrev pub HoldsCell : Activation → ℕ → Type 0
-HoldsCell a cell = (v : Value) × (value_at a.machine.memory.cells cell ≡ Some v)
+use Rattle.worlds.specs.Claims.{HoldsCell}
 
 -- the section holds the lock that protects a cell
 abbrev pub HoldsLockOf : Plan → Activation → ℕ → Type 0

@@ -1,13 +1,13 @@
 //! What holds of every run: functions that do nothing, and whose contracts are the laws.
 
-ghost use Rattle.worlds.specs.Claims.{EveryRunHasIt};
+ghost use Rattle.worlds.specs.Claims.{EveryRunHasIt, EveryWorldKeepsTheRules};
 ghost use Rattle.worlds.specs.Waiting.{RisingHasNoCycle, RisingGoesOn, InstructionsHaveTheirCase};
 ghost use Rattle.worlds.specs.InTurn.{AskedInTurn};
 ghost use Rattle.worlds.specs.States.{OpeningIsSound, StepsKeepSound};
 ghost use Rattle.worlds.specs.Ahead.{WorldsStayReady};
 ghost use Rattle.worlds.specs.InOrder.{SectionsStayInOrder};
 
-/// Before any step a world is sound, and each step of a thread keeps it so: its history is legal and true, each open
+/// Before any step a world is sound, and each step of a thread of a compiled program keeps it so: its history is legal and true, each open
 /// section keeps the rules, and each cell is either as the history leaves it or with exactly one section.
 pub fn steps_keep_sound()
     ensures opening { OpeningIsSound }
@@ -19,7 +19,7 @@ pub fn steps_keep_sound()
     history::laws::one_entry_more();
 }
 
-/// Before any step a world is ready, and each step of a thread keeps a sound world so: what its history leaves is a
+/// Before any step a world is ready, and each step of a thread of a compiled program keeps a sound world so: what its history leaves is a
 /// heap of the program, and each open section runs on to an outcome or to a point, or asks for the locks of one. In a
 /// ready world each lock that a section is to be granted next comes after all that it holds; and where it is sound too,
 /// the next instruction of each open section has its case.
@@ -71,8 +71,9 @@ pub fn sections_stay_in_order()
 /// Every run of a compiled program, whatever the steps: its finished sections' results and prints, and every cell that
 /// no section holds, are those of running these sections whole, one after another, from the opening cells; a section
 /// that ended before another began stands before it; each thread's finished sections are the first calls of its script,
-/// in order; and in no world that is reached do threads wait for each other in a circle: where a section is open, the
-/// next step of some open section is no wait.
+/// in order, and its open one is the next; where a section ended stands an entry of its thread; and in no world that is
+/// reached do threads wait for each other in a circle: where a section is open, the next step of some open section is
+/// no wait.
 pub fn every_run()
     ensures { EveryRunHasIt }
 {
@@ -82,8 +83,19 @@ pub fn every_run()
     rising_sections_go_on();
 }
 
-/// In every world that is reached, the next instruction of an open section has its case, and its operands fit the room
-/// that the section's code needs; unless the section still has to be granted a lock, or has an outcome.
+/// In every world that a compiled program reaches: no two sections hold one lock, and none holds one twice; a section has
+/// just the cells of the locks that it holds; each lock that it is to be granted next comes after all that it holds; and
+/// the history is legal, its entries true.
+pub fn sections_keep_the_rules()
+    ensures { EveryWorldKeepsTheRules }
+{
+    steps_keep_sound();
+    worlds_stay_ready();
+    locks::laws::precedes_is_strict();
+}
+
+/// In every world that a compiled program reaches, the next instruction of an open section has its case, and its operands
+/// fit the room that the section's code needs; unless the section still has to be granted a lock, or has an outcome.
 pub fn instructions_have_their_case()
     ensures { InstructionsHaveTheirCase }
 {
