@@ -14,8 +14,8 @@ ghost use Rattle.driver.specs.{Serves, Tells, cannot_read, cannot_write, no_memo
 use clap::Error;
 use clap::error::ErrorKind;
 use driver::{
-    Sink, SourceText, Status, check, list, serial, simulate, tell_cannot_read, tell_cannot_write,
-    tell_no_memory,
+    ReadError, Sink, SourceText, Status, check, list, serial, simulate, tell_cannot_read,
+    tell_cannot_write, tell_no_memory,
 };
 use std::alloc::{AllocError, Global};
 use std::io::{Read, Write};
@@ -74,6 +74,34 @@ fn run_one<E: Write>(rt: &HostRuntime, line: Line<'_>, err: &mut Sink<E>) -> Sta
     run_opened(rt.alloc(), line, &mut source, &mut out, err)
 }
 
+/// Tells that the steps file can't be read; or what is wrong with the program's file, which is read first.
+fn miss_steps<S: Read, E: Write>(
+    alloc: Global,
+    source: &mut SourceText<S>,
+    file: &str,
+    steps_file: &str,
+    err: &mut Sink<E>,
+) -> Status
+    ensures failed { result ≡ Status.Failed → NamesOneOf (Tells E.contents err.old err.new) (file.now ∷ steps_file.now ∷ []) }
+    ensures memory { result ≡ Status.OutOfMemory → Tells E.contents err.old err.new no_memory }
+    ensures words { result ≢ Status.BadWords }
+{
+    match source.read_whole(alloc) {
+        Ok(_) => {
+            tell_cannot_read(err, steps_file);
+            Status::Failed
+        }
+        Err(ReadError::Failed) => {
+            tell_cannot_read(err, file);
+            Status::Failed
+        }
+        Err(ReadError::OutOfMemory) => {
+            tell_no_memory(err);
+            Status::OutOfMemory
+        }
+    }
+}
+
 /// Opens the two files of a simulation, and runs its engine.
 fn run_simulation<E: Write>(
     rt: &HostRuntime,
@@ -90,11 +118,10 @@ fn run_simulation<E: Write>(
         tell_cannot_read(err, file);
         return Status::Failed;
     };
-    let Ok(opened_steps) = fs::open(rt, steps_file) else {
-        tell_cannot_read(err, steps_file);
-        return Status::Failed;
-    };
     let mut source = SourceText::new(opened);
+    let Ok(opened_steps) = fs::open(rt, steps_file) else {
+        return miss_steps(rt.alloc(), &mut source, file, steps_file, err);
+    };
     let mut steps = SourceText::new(opened_steps);
     let mut out = Sink::new(rt.stdout());
     simulate(
