@@ -28,17 +28,17 @@ struct Open {
 }
 
 /// The entry of an open section that read nothing and wrote these.
-fn entry_of(alloc: Global, open: &Open, writes: &[CellValue]) -> Result<Entry, Fail> {
+fn entry_of(alloc: Global, session: &Open, writes: &[CellValue]) -> Result<Entry, Fail> {
     let mut written = Vec::new(alloc);
     for write in writes {
         written.push(*write)?;
     }
     Ok(Entry {
-        thread: open.ticket.thread(),
+        thread: session.ticket.thread(),
         step: 0,
         section: 0,
         arguments: Vec::new(alloc),
-        begun: open.ticket.begun(),
+        begun: session.ticket.begun(),
         reads: Vec::new(alloc),
         writes: written,
         outcome: Outcome::Ends,
