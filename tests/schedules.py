@@ -26,6 +26,8 @@ import tempfile
 
 COMMENT = re.compile(r"//[^\n]*")
 THREAD = re.compile(r"\bthread\s+\w+\s*\{")
+# Of the 10,000,000 that a steps file may have, those that follow a drawn schedule.
+MOST_STEPS = 9_900_000
 CALL = re.compile(r"call \d+ \d+ (.*\)) (ends|returns .*|traps \d+)$")
 
 
@@ -101,10 +103,14 @@ class Judge:
 
     def judge_both(self, steps):
         self.judge(steps)
-        rest = " ".join(f"{t}*20000" for t in range(self.threads))
-        last = self.judge(steps + " " + " ".join([rest] * (self.threads + 1)))
-        if any(not line.endswith(" idle") for line in last):
-            raise Differs("not all threads came to their end:\n" + "\n".join(last))
+        rounds = self.threads + 1
+        most = MOST_STEPS // (self.threads * rounds)
+        for turn in (min(2_000, most), min(50_000, most), most):
+            rest = " ".join(f"{t}*{turn}" for t in range(self.threads))
+            last = self.judge(steps + " " + " ".join([rest] * rounds))
+            if all(line.endswith(" idle") for line in last):
+                return
+        raise Differs("not all threads came to their end:\n" + "\n".join(last))
 
 
 def drawn(chance, threads):
