@@ -21,7 +21,7 @@ use Rattle.history.specs.Commits.{committed}
 use Rattle.lock_manager.specs.Managers.{Managed, IsKept, locks_of}
 use Rattle.lock_manager.specs.Calls.{Knows, AreOf, IsOwnWrite}
 use Rattle.lowering.specs.Plans.{Plan, IsCompiled}
-use Rattle.runner.specs.Opens.{OpenOf, CanEnd, ticket_of}
+use Rattle.runner.specs.Opens.{OpenOf, CanGiveBack, ticket_of}
 use Rattle.worlds.specs.Waiting.{first_if}
 use Rattle.worlds.specs.Worlds.{Activation, call_at, scripts, script_of}
 use Rattle.worlds.specs.States.{IsWell, IsFit}
@@ -126,7 +126,7 @@ own_writes plan a well = all_from (IsOwnWrite plan.layout.cell_locks a.held) a.m
 -- a section that is over may be released
 pub can_end : (plan : Plan) (m : Managed) (cells : List (Option Value)) (o : OpenOf) → OffsetsFindValues → IsKept m → m.layout ≡ plan.layout → o.plan ≡ plan →
     Knows m (ticket_of o) → IsWell plan o.activation → IsFit cells (committed plan.layout.opening m.history) o.activation →
-    AreDistinct o.activation.held → o.activation.pending ≡ [] → CanEnd m o
+    AreDistinct o.activation.held → o.activation.pending ≡ [] → CanGiveBack m o
 can_end plan m cells o find kept layout of known well fit once none grants outcome its over =
     let values : m.values ≡ committed plan.layout.opening m.history = kept.values ∙ ap (λ l. committed l.opening m.history) layout in
     let locks = ap (λ l. l.cell_locks) layout in

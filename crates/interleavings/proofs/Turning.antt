@@ -434,7 +434,7 @@ module _ (plan : Plan) (m : Managed) (states : List State) (t : ℕ) (tied : IsT
       let here = tied.at t (state.Ended o) h in
       let is_open = open_in (state.Ended o) o h refl in
       record {
-        fits = can_end plan m (cells_seen m) o find kept tied.layout here.0.plan_is (knows (state.Ended o) o h refl here.0.thread)
+        back = can_end plan m (cells_seen m) o find kept tied.layout here.0.plan_is (knows (state.Ended o) o h refl here.0.thread)
             (tied.sound.well t o.activation is_open) (tied.sound.fit t o.activation is_open) here.0.once here.1;
         step = step_fits o here.0;
       }

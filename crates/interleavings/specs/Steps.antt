@@ -1,5 +1,5 @@
 -- What one step does to the manager and to the state of one thread. Nobody has to believe this file.
-use Rattle.std.specs.Prelude.{◌≡◌, ◌<◌, ◌+◌, ◌^◌, ℕ, Some, None, Result, Ok, Err}
+use Rattle.std.specs.Prelude.{◌≡◌, ◌<◌, ℕ, Some, None, Result, Ok, Err}
 use Rattle.core_lang.specs.declared.typed.Call.{Call}
 use Rattle.core_lang.specs.Serial.{Invocation, invocation}
 use Rattle.core_lang.specs.WellFormed.{CanCall}
@@ -7,7 +7,7 @@ use Rattle.lock_manager.specs.Sessions.{ReceiptOf}
 use Rattle.lock_manager.specs.Managers.{Managed, session_of, holder_of}
 use Rattle.lowering.specs.Plans.{Plan}
 use Rattle.source.specs.declared.memory.NoMemory.{NoMemory}
-use Rattle.runner.specs.Opens.{OpenOf, ReadyOf, Began, Gets, Waits, Released, IsKnown, CanEnd, moved}
+use Rattle.runner.specs.Opens.{OpenOf, ReadyOf, Began, Gets, Waits, Released, IsKnown, CanBeReleased, moved}
 use Rattle.runner.specs.Answers.{open_of, IsNamed}
 use Rattle.runner.specs.declared.states.Next.{Next}
 use Rattle.worlds.specs.declared.event.Event.{Event}
@@ -115,17 +115,12 @@ pub record CanBegin (m : Managed) (r : ReadyOf) : Type 0 where
   pub thread : r.thread < 64
   pub closed : session_of m r.thread ≡ None
 
--- its section may be released
-pub record CanRelease (m : Managed) (o : OpenOf) : Type 0 where
-  pub fits : CanEnd m o
-  pub step : o.step + 1 < 2 ^ 64
-
 abbrev pub CanStep : Managed → State → Type 0
 CanStep m state.Away = ⊥
 CanStep m (state.Ready r) = CanBegin m r
 CanStep m (state.Running o) = Unit {0}
 CanStep m (state.Asking o) = IsKnown m o
-CanStep m (state.Ended o) = CanRelease m o
+CanStep m (state.Ended o) = CanBeReleased m o
 
 -- ---- calls
 

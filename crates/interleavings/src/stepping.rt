@@ -2,9 +2,9 @@
 
 ghost use Rattle.std.specs.Prelude.{◌≡◌, ◌<◌, ◌≤◌, length, MatchOption, IfOk};
 ghost use Rattle.interleavings.specs.States.{state_of, AreReady};
-ghost use Rattle.interleavings.specs.Steps.{Stepped, AskingSteps, EndedSteps, CanBegin, CanRelease, CanStep, HasNoCall, IsCall, status_at, asking_at};
+ghost use Rattle.interleavings.specs.Steps.{Stepped, AskingSteps, EndedSteps, CanBegin, CanStep, HasNoCall, IsCall, status_at, asking_at};
 ghost use Rattle.interleavings.specs.declared.state.State.TheVariants as state;
-ghost use Rattle.runner.specs.Opens.{IsKnown};
+ghost use Rattle.runner.specs.Opens.{CanBeReleased, IsKnown};
 
 use crate::state::State;
 use crate::status::Status;
@@ -79,7 +79,7 @@ fn ask<'p>(manager: &mut Manager<'p>, asking: Asking<'p>) -> (State<'p>, Event)
 
 // Ends the section.
 fn end<'p>(manager: &mut Manager<'p>, ended: Ended<'p>) -> (State<'p>, Event)
-    requires { CanRelease manager.old ended }
+    requires { CanBeReleased manager.old ended }
     ensures { EndedSteps manager.old ended.entry result.1 result.0 manager.new }
 {
     let (ready, receipt) = ended.release(manager);

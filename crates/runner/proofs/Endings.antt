@@ -19,7 +19,7 @@ use Rattle.lowering.specs.Plans.{Plan}
 use Rattle.worlds.specs.Waiting.{first_if}
 use Rattle.worlds.specs.InOrder.{SectionsStayInOrder}
 use Rattle.runner.specs.Machines.{RunOf}
-use Rattle.runner.specs.Opens.{OpenOf, IsOpen, CanEnd, entry_of, ticket_of, moved}
+use Rattle.runner.specs.Opens.{OpenOf, IsOpen, CanGiveBack, entry_of, ticket_of, moved}
 use Rattle.runner.specs.Ties.{open_as, call_of, over_by, ended_as, IsKeptOpen, IsKeptEnded, IsLeftOf}
 use Rattle.runner.proofs.Opened.{RunsInOrder, moved_is_open}
 
@@ -150,7 +150,7 @@ alike cl (g ∷ gs) (h ∷ hs) locks whole others cells =
 
 -- it may be released where its own grants and entry may be given back
 pub can_end : (m : Managed) (o : OpenOf) (ticket : TicketOf) (grants : List GrantOf) (entry : Commit) →
-    IsKeptEnded o ticket grants entry → o.activation.outcome ≡ Some entry.outcome → CanRelease m ticket grants entry → CanEnd m o
+    IsKeptEnded o ticket grants entry → o.activation.outcome ≡ Some entry.outcome → CanRelease m ticket grants entry → CanGiveBack m o
 can_end m o ticket grants entry kept over can grants' outcome its over' =
     let same_grants : grants ≡ grants' =
     alike o.plan.layout.cell_locks grants grants' (kept.its.locks ∙ sym its.locks) kept.its.whole its.whole
@@ -163,7 +163,7 @@ can_end m o ticket grants entry kept over can grants' outcome its over' =
     (subst (λ (e : Commit). CanRelease m ticket grants e) same_entry can))
 
 pub own_release : (m : Managed) (o : OpenOf) (ticket : TicketOf) (grants : List GrantOf) (entry : Commit) →
-    IsKeptEnded o ticket grants entry → o.activation.outcome ≡ Some entry.outcome → CanEnd m o → CanRelease m ticket grants entry
+    IsKeptEnded o ticket grants entry → o.activation.outcome ≡ Some entry.outcome → CanGiveBack m o → CanRelease m ticket grants entry
 own_release m o ticket grants entry kept over can =
     subst (λ (t : TicketOf). CanRelease m t grants entry) (sym kept.ticket_is)
     (subst (λ (e : Commit). CanRelease m (ticket_of o) grants e) (sym kept.entry_is) (can grants entry.outcome kept.its over))

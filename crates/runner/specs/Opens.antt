@@ -1,5 +1,5 @@
 -- Open sections, as their types show them, and what their calls do.
-use Rattle.std.specs.Prelude.{◌≡◌, ◌≢◌, ◌<◌, ◌≤◌, ◌+◌, ℕ, zero, suc, true, List, [], ◌∷◌, length, Some, None}
+use Rattle.std.specs.Prelude.{◌≡◌, ◌≢◌, ◌<◌, ◌≤◌, ◌+◌, ◌^◌, ℕ, zero, suc, true, List, [], ◌∷◌, length, Some, None}
 use Rattle.std.specs.List.{All}
 use Rattle.core_lang.specs.declared.value.Value.{Value}
 use Rattle.core_lang.specs.declared.value.Outcome.{Outcome}
@@ -123,11 +123,16 @@ pub record Waits (m : Managed) (o : OpenOf) (holder : ℕ) (o' : OpenOf) (m' : M
 abbrev pub entry_of : OpenOf → Outcome → Commit
 entry_of o outcome = commit o.thread o.step o.activation outcome
 
--- it may be released
-abbrev pub CanEnd : Managed → OpenOf → Type 0
-CanEnd m o =
+-- its grants and its entry may be given back
+abbrev pub CanGiveBack : Managed → OpenOf → Type 0
+CanGiveBack m o =
     (grants : List GrantOf) (outcome : Outcome) → AreItsGrants o grants → o.activation.outcome ≡ Some outcome →
     CanRelease m (ticket_of o) grants (entry_of o outcome)
+
+-- it may be released: and its thread's next call has a number
+pub record CanBeReleased (m : Managed) (o : OpenOf) : Type 0 where
+  pub back : CanGiveBack m o
+  pub step : o.step + 1 < 2 ^ 64
 
 -- it is over: its cells are back, its entry is in the history, and its thread has no section open
 pub record Released (m : Managed) (o : OpenOf) (ready : ReadyOf) (receipt : ReceiptOf) (m' : Managed) : Type 0 where

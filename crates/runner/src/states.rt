@@ -365,19 +365,18 @@ impl<'p> Asking<'p> {
 }
 
 impl<'p> Ended<'p> {
-    ghost use Rattle.runner.specs.Opens.{CanEnd, Released, GivenUp};
+    ghost use Rattle.runner.specs.Opens.{CanBeReleased, Released, GivenUp};
 
     /// Whether it may be released.
     pub fn fits(&self, manager: &Manager<'p>) -> bool
-        ensures { IsTrue result ↔ CanEnd manager.now self.now }
+        ensures { IsTrue result ↔ CanBeReleased manager.now self.now }
     {
-        manager.fits(&self.ticket, &self.grants, &self.entry)
+        self.step < usize::MAX && manager.fits(&self.ticket, &self.grants, &self.entry)
     }
 
     /// Ends the section.
     pub fn release(self, manager: &mut Manager<'p>) -> (Ready, Receipt)
-        requires fits { CanEnd manager.old self }
-        requires step { self.step + 1 < 2 ^ 64 }
+        requires { CanBeReleased manager.old self }
         ensures { Released manager.old self.entry result.0 result.1 manager.new }
     {
         let Ended {

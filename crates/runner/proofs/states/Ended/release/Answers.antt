@@ -3,7 +3,7 @@ use Rattle.std.proofs.Common.{refl, sym, subst}
 use Rattle.lock_manager.specs.Sessions.{TicketOf}
 use Rattle.history.specs.Commits.{Commit}
 use Rattle.lock_manager.specs.Calls.{Releases}
-use Rattle.runner.specs.Opens.{OpenOf, CanEnd, Released, entry_of}
+use Rattle.runner.specs.Opens.{OpenOf, CanGiveBack, Released, entry_of}
 use Rattle.runner.specs.Ties.{ended_as}
 use Rattle.runner.proofs.Endings.{own_release}
 use Rattle.runner.proofs.states.Ended.release.Goals as goal
@@ -13,14 +13,14 @@ release-receipt-requires-clause-known c =
     let x = c.self.inside in
     let m = c.args.manager.now in
     let o = ended_as x.program.now x.ticket x.step x.place x.operands.stack x.locals.items x.grants.items x.entry x.asked in
-    (own_release m o x.ticket x.grants.items x.entry c.self.invariant refl (subst (CanEnd m) (sym c.self.view_is) c.requires.fits)).0
+    (own_release m o x.ticket x.grants.items x.entry c.self.invariant refl (subst (CanGiveBack m) (sym c.self.view_is) c.requires.back)).0
 
 pub release-receipt-requires-clause-fits : goal.release-receipt-requires-clause-fits
 release-receipt-requires-clause-fits c =
     let x = c.self.inside in
     let m = c.args.manager.now in
     let o = ended_as x.program.now x.ticket x.step x.place x.operands.stack x.locals.items x.grants.items x.entry x.asked in
-    (own_release m o x.ticket x.grants.items x.entry c.self.invariant refl (subst (CanEnd m) (sym c.self.view_is) c.requires.fits)).1
+    (own_release m o x.ticket x.grants.items x.entry c.self.invariant refl (subst (CanGiveBack m) (sym c.self.view_is) c.requires.back)).1
 
 pub returns : goal.returns
 returns c =
