@@ -1,6 +1,6 @@
 #!/bin/sh
-# Runs each program of docs/LANGUAGE.md and compares what is written with what the page says. Its
-# argument is the program to run, by default ./autolock at the top.
+# Runs each program of docs/LANGUAGE.md and README.md and compares what is written with what the page
+# says. Its argument is the program to run, by default ./autolock at the top.
 #
 # A program is a block ```al. On the line behind it begins its answer; behind an answer may stand
 # another one. An answer is
@@ -20,8 +20,9 @@ work=$(mktemp -d)
 trap 'rm -rf "$work"' EXIT
 cd "$work" || exit 1
 
-# The program that begins on line N goes into N.al. Its first run, N.1, has its words in N.1.words,
-# the wanted outputs in N.1.out and N.1.err, and the exit status in N.1.status; so have further ones.
+# The program that begins on line N goes into N.al, of README.md into README-N.al. Its first run, N.1,
+# has its words in N.1.words, the wanted outputs in N.1.out and N.1.err, and the exit status in
+# N.1.status; so have further ones.
 awk '
     function begin(words) {
         run = name "." ++runs
@@ -40,7 +41,7 @@ awk '
     block == "text" { print >(run ".out"); status = /^unsettled / ? 7 : 0; next }
     /^```al$/ {
         block = "al"
-        name = NR
+        name = (FILENAME ~ /README/ ? "README-" : "") FNR
         runs = 0
         printf "" >(name ".al")
     }
@@ -53,7 +54,7 @@ awk '
         refuse("check", substr($0, 2, length($0) - 2))
     }
     { answer = 0 }
-' "$top/docs/LANGUAGE.md"
+' "$top/docs/LANGUAGE.md" "$top/README.md"
 
 # One run, by its name.
 judge() {
