@@ -54,7 +54,7 @@ class Differs(Exception):
 class Judge:
     def __init__(self, program, path):
         self.program = program
-        with open(path, encoding="utf-8") as source:
+        with open(path, encoding="latin-1") as source:
             self.text, self.threads = without_threads(source.read())
         self.path = path
         self.folder = tempfile.mkdtemp()
@@ -63,8 +63,8 @@ class Judge:
     def run(self, *words):
         done = subprocess.run([self.program, *words], capture_output=True, timeout=120)
         if done.returncode != 0:
-            raise Differs(f"{words}: status {done.returncode}: {done.stderr.decode()}")
-        return done.stdout.decode().splitlines()
+            raise Differs(f"{words}: status {done.returncode}: {done.stderr.decode('latin-1')}")
+        return done.stdout.decode("latin-1").splitlines()
 
     def ends(self):
         done = subprocess.run([self.program, "serial", self.path], capture_output=True, timeout=120)
@@ -72,7 +72,7 @@ class Judge:
 
     def simulate(self, steps):
         file = os.path.join(self.folder, "steps")
-        with open(file, "w", encoding="utf-8") as out:
+        with open(file, "w", encoding="latin-1") as out:
             out.write(steps)
         return self.run("simulate", self.path, file)
 
@@ -80,7 +80,7 @@ class Judge:
         """What `serial` tells of these calls: the ends and prints, and the cells."""
         if calls not in self.known:
             file = os.path.join(self.folder, "serial.al")
-            with open(file, "w", encoding="utf-8") as out:
+            with open(file, "w", encoding="latin-1") as out:
                 out.write(self.text + "\nthread only_one {\n" + "".join(f"  {c};\n" for c in calls) + "}\n")
             lines = self.run("serial", file)
             cells = lines.index("cells")
