@@ -10,10 +10,10 @@ use Rattle.locks.specs.declared.lock.Lock.{Lock}
 use Rattle.code.specs.Memory.{value_at, with_changed}
 use Rattle.layout.specs.LockCells.{cells_of, IsSlot}
 use Rattle.layout.specs.Layouts.{AreDistinct}
-use Rattle.moved_cells.specs.Grants.{GrantOf, numbered, cells_in, IsWhole}
+use Rattle.moved_cells.specs.Grants.{GrantOf, numbered, cells_in, IsWhole, locks_of}
 use Rattle.moved_cells.specs.Laws.{OffsetsFindValues, OffsetsChangeCells}
 use Rattle.held_cells.specs.Held.{cells_granted}
-use Rattle.held_cells.specs.Kept.{locks_of, cells_under, values_count, IsGrantAt, IsSpot, IsElsewhere}
+use Rattle.held_cells.specs.Kept.{cells_under, values_count, IsGrantAt, IsSpot, IsElsewhere}
 use Rattle.held_cells.proofs.Lists.{first, later, get_left, get_right, past, value_left, value_right, changed_left, changed_right}
 use Rattle.held_cells.proofs.Places.{lock_of_cell, distinct_rest, never_again}
 

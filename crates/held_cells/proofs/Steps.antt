@@ -9,11 +9,11 @@ use Rattle.locks.specs.declared.lock.Lock.{Lock}
 use Rattle.code.specs.Memory.{HeldCells, value_at, with_value, with_changed, noted, read_if_held, write_if_held}
 use Rattle.layout.specs.LockCells.{cells_of}
 use Rattle.layout.specs.Layouts.{LayoutOf, AreDistinct}
-use Rattle.moved_cells.specs.Grants.{GrantOf, cells_in, IsWhole}
+use Rattle.moved_cells.specs.Grants.{GrantOf, cells_in, IsWhole, locks_of}
 use Rattle.moved_cells.specs.Laws.{OffsetsFindValues, OffsetsChangeCells}
 use Rattle.held_cells.specs.Held.{HoldingOf, cells_granted, CanHold, with_grant, IsLoad, IsStore}
 use Rattle.held_cells.specs.Noted.{NotesOf, noted_in, in_order, EachOnce, IsEntryOf}
-use Rattle.held_cells.specs.Kept.{locks_of, cells_under, values_count, IsSpot, IsElsewhere, IsKept, holding_of}
+use Rattle.held_cells.specs.Kept.{cells_under, values_count, IsSpot, IsElsewhere, IsKept, holding_of}
 use Rattle.held_cells.proofs.Lists.{item_there, Distinct}
 use Rattle.held_cells.proofs.Rising.{in_order_values}
 use Rattle.held_cells.proofs.Noting.{noted_at, noted_with, zip_noted, noted_extended, zip_extended, zip_long, once}

@@ -1,5 +1,5 @@
 -- Cells of locks that a section holds.
-use Rattle.std.specs.Prelude.{◌≡◌, ◌<◌, ◌≤◌, ℕ, ◌+◌, Bool, true, false, List, [], ◌∷◌, ◌++◌, length, map, Option, Some, None}
+use Rattle.std.specs.Prelude.{◌≡◌, ◌<◌, ◌≤◌, ℕ, ◌+◌, Bool, true, false, List, [], ◌∷◌, ◌++◌, length, Option, Some, None}
 use Rattle.std.specs.List.{Contains}
 use Rattle.core_lang.specs.declared.value.Value.{Value}
 use Rattle.locks.specs.declared.lock.Lock.{Lock}
@@ -15,9 +15,6 @@ pub record HoldingOf : Type 0 where
   pub memory : HeldCells
   pub lock_room : ℕ
   pub cell_room : ℕ
-
-abbrev pub locks_of : List GrantOf → List Lock
-locks_of grants = map (λ (g : GrantOf). g.lock) grants
 
 -- the cells of grants, one grant after another, each beside its value
 abbrev pub cells_granted : List Lock → List GrantOf → List (ℕ × Value)

@@ -4,8 +4,7 @@ use Rattle.std.specs.List.{All, AllZip, Contains}
 use Rattle.locks.specs.declared.lock.Lock.{Lock}
 use Rattle.layout.specs.LockCells.{cells_of, IsSlot}
 use Rattle.layout.specs.Layouts.{LayoutOf, AreDistinct}
-use Rattle.moved_cells.specs.Grants.{GrantOf, IsWhole}
-pub use Rattle.held_cells.specs.Held.{locks_of}
+use Rattle.moved_cells.specs.Grants.{GrantOf, IsWhole, locks_of}
 use Rattle.held_cells.specs.Held.{HoldingOf, cells_granted}
 use Rattle.held_cells.specs.Noted.{NotesOf, noted_in, in_order, IsEntryOf}
 

@@ -2,8 +2,8 @@
 
 ghost use Rattle.std.specs.Prelude.{◌<◌, ◌^◌, MatchOption, ⊤};
 ghost use Rattle.std.specs.List.{All, Contains};
-ghost use Rattle.moved_cells.specs.Grants.{IsWhole};
-ghost use Rattle.held_cells.specs.Kept.{locks_of, values_count, IsGrantAt, IsSpot, IsElsewhere};
+ghost use Rattle.moved_cells.specs.Grants.{IsWhole, locks_of};
+ghost use Rattle.held_cells.specs.Kept.{values_count, IsGrantAt, IsSpot, IsElsewhere};
 
 use layout::table::Layout;
 use locks::lock::Lock;

@@ -4,8 +4,8 @@ ghost use Rattle.std.specs.Prelude.{◌≡◌, ◌≤◌, [], length, map, IfOk}
 ghost use Rattle.std.specs.List.{All};
 ghost use Rattle.code.specs.Memory.{none_held};
 ghost use Rattle.layout.specs.Layouts.{AreDistinct};
-ghost use Rattle.moved_cells.specs.Grants.{IsWhole};
-ghost use Rattle.held_cells.specs.Held.{locks_of, cells_granted, CanHold, with_grant, IsLoad, IsStore};
+ghost use Rattle.moved_cells.specs.Grants.{IsWhole, locks_of};
+ghost use Rattle.held_cells.specs.Held.{cells_granted, CanHold, with_grant, IsLoad, IsStore};
 
 use crate::finding::spot_of;
 use crate::notes::Notes;

@@ -14,11 +14,11 @@ use Rattle.locks.specs.declared.lock.Lock.{Lock}
 use Rattle.layout.specs.LockCells.{cells_of}
 use Rattle.layout.specs.Layouts.{AreDistinct}
 use Rattle.code.specs.Memory.{value_at, overwritten, Agrees}
-use Rattle.moved_cells.specs.Grants.{GrantOf, IsWhole, numbered, cells_in}
+use Rattle.moved_cells.specs.Grants.{GrantOf, IsWhole, numbered, cells_in, locks_of}
 use Rattle.moved_cells.specs.Laws.{OffsetsFindValues}
 use Rattle.held_cells.specs.Held.{cells_granted}
 use Rattle.history.specs.Commits.{committed}
-use Rattle.lock_manager.specs.Managers.{Managed, IsKept, locks_of}
+use Rattle.lock_manager.specs.Managers.{Managed, IsKept}
 use Rattle.lock_manager.specs.Calls.{Knows, AreOf, IsOwnWrite}
 use Rattle.lowering.specs.Plans.{Plan, IsCompiled}
 use Rattle.runner.specs.Opens.{OpenOf, CanGiveBack, ticket_of}

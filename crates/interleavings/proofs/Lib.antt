@@ -1,6 +1,5 @@
 pub mod Lists
 pub mod Numbers
-pub mod Locked
 pub mod Holding
 pub mod Cells
 pub mod Ending

@@ -16,7 +16,6 @@ use Rattle.interleavings.specs.declared.state.State.{State}
 use Rattle.interleavings.specs.declared.state.State.TheVariants as state
 use Rattle.interleavings.specs.States.{thread_of, session_of_state, session_at, IsAt, AreReady, cells_seen, world_of, IsTied}
 use Rattle.interleavings.proofs.Lists.{some_same, item_at, map_at, same_everywhere}
-use Rattle.interleavings.proofs.Locked.{cells_listed}
 use Rattle.interleavings.proofs.Cells.{same_cells}
 
 none_open : (n t : ℕ) → session_in (replicate n None) t ≡ None
@@ -60,7 +59,7 @@ module _ (plan : Plan) (m : Managed) (states : List State) (compiled : IsCompile
       layout = ap (λ (q : Managed). q.layout) is;
       sessions = sessions;
       listed = λ cell lock e. subst (λ (q : Managed). Contains q.layout.locks lock) (sym is)
-          (cells_listed plan cell lock compiled (ap (λ (q : Managed). slice_get q.layout.cell_locks cell) (sym is) ∙ e));
+          (compiled.laid_out.cells_listed cell lock (ap (λ (q : Managed). slice_get q.layout.cell_locks cell) (sym is) ∙ e));
     }) size
 
     pub world_is : world_of m states ≡ opening_world plan

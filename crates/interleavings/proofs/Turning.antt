@@ -39,7 +39,6 @@ use Rattle.interleavings.specs.Statuses.{calling, wanting, asking, section_statu
 use Rattle.interleavings.specs.Threads.{ThreadsOf, threads_of}
 use Rattle.interleavings.proofs.Lists.{some_same, map_at, set_same, set_other, set_itself}
 use Rattle.interleavings.proofs.Numbers.{distinct_none, distinct_push}
-use Rattle.interleavings.proofs.Locked.{cells_listed}
 use Rattle.interleavings.proofs.Holding.{holder_is}
 use Rattle.interleavings.proofs.Cells.{same_cells, taken_from}
 use Rattle.interleavings.proofs.Ending.{can_end, step_within, no_ask}
@@ -90,7 +89,7 @@ done_with plan m states t y e x m' size sound ready tied kept here k =
       layout = layout;
       sessions = sessions;
       listed = λ cell lock q. subst (λ l. Contains l.locks lock) (sym layout)
-          (cells_listed plan cell lock tied.compiled (ap (λ l. slice_get l.cell_locks cell) (sym layout) ∙ q));
+          (tied.compiled.laid_out.cells_listed cell lock (ap (λ l. slice_get l.cell_locks cell) (sym layout) ∙ q));
     }) size in
     let world : k.after ≡ world_of m' (set states t x) = λ i. record { cells = cells i; history = k.history i; threads = k.threads i } in
     record {

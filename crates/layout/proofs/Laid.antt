@@ -12,10 +12,12 @@ use Rattle.core_lang.specs.Typing.{lookup}
 use Rattle.core_lang.specs.Serial.{opening_heap}
 use Rattle.core_lang.specs.WellFormed.{IsWellFormed}
 use Rattle.locks.specs.declared.lock.Lock.{Lock}
-use Rattle.locks.specs.Locks.{protecting, final_of, lock_of_cell}
+use Rattle.locks.specs.Locks.{IsLock, protecting, final_of, lock_of_cell}
 use Rattle.layout.specs.Layouts.{LayoutOf, object_named, all_locks, AreDistinct, IsLayoutOf}
 use Rattle.layout.specs.Numbers.{program_finals}
+use Rattle.layout.proofs.Lists.{lookup_some}
 use Rattle.layout.proofs.Listed.{listed}
+use Rattle.layout.proofs.Locked.{cell_locked}
 
 -- so many cells of a program, with their locks
 abbrev pub AreLocked : Typed → ℕ → List Lock → Type 0
@@ -64,6 +66,15 @@ same_finals program layout first finals object final =
     ∙ lookup_map (λ (x : Object). x.finals) (λ f. slice_get layout.finals (f + final)) (slice_get program.shape.objects.items object)
     ∙ ap (λ (fs : List ℕ). lookup (slice_get program.shape.objects.items object) (λ x. slice_get fs (x.finals + final))) finals
 
+-- the lock of a cell is listed
+locked_listed : (program : Typed) (cell : ℕ) (lock : Lock) → IsWellFormed program → lock_of_cell program cell ≡ Some lock → Contains (all_locks program) lock
+locked_listed program cell lock well is =
+    let x = lookup_some (slice_get program.cells.items cell) (λ (c : Cell). protecting program c.owner) lock is in
+    let r = cell_locked program cell x.0 well x.1 in
+    let both : Some r.lock ≡ Some lock = sym r.is ∙ x.2 in
+    let same : r.lock ≡ lock = cc in
+    (listed program well lock).1 (subst (IsLock program) same r.listed)
+
 pub laid_out : (program : Typed) (layout : LayoutOf) → IsWellFormed program → layout.opening ≡ opening_heap program →
     length layout.cell_locks ≡ length program.cells.items → AreLocked program (length program.cells.items) layout.cell_locks → layout.locks ≡ all_locks program →
     AreDistinct layout.locks → layout.first_finals ≡ program_finals program.shape.objects.items → layout.finals ≡ program.shape.finals.items →
@@ -72,6 +83,8 @@ laid_out program layout well opening long locked locks once first finals = recor
   opening = opening;
   cells = long;
   cell_locks = all_locked program layout.cell_locks long locked;
+  cells_listed = λ cell lock e. subst (λ (ls : List Lock). Contains ls lock) (sym locks)
+      (locked_listed program cell lock well (sym (all_locked program layout.cell_locks long locked cell) ∙ e));
   listed = λ lock. let h = listed program well lock in (
     λ c. h.0 (subst (λ (ls : List Lock). Contains ls lock) locks c),
     λ is. subst (λ (ls : List Lock). Contains ls lock) (sym locks) (h.1 is),

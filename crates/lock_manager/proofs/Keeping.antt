@@ -11,20 +11,21 @@ use Rattle.locks.specs.declared.lock.Lock.{Lock}
 use Rattle.code.specs.Memory.{overwritten, Agrees}
 use Rattle.layout.specs.declared.room.Room.{Room}
 use Rattle.layout.specs.LockCells.{cells_of}
-use Rattle.moved_cells.specs.Grants.{GrantOf, IsWhole, cells_in, values_on}
+use Rattle.layout.specs.Layouts.{AreDistinct}
+use Rattle.moved_cells.specs.Grants.{GrantOf, IsWhole, cells_in, values_on, locks_of}
 use Rattle.history.specs.Commits.{Commit, committed, IsLegal, WritesNot}
 use Rattle.history.specs.Laws.{WritesSpareOthers, CommittedOfOneMore, LegalOfOneMore}
 use Rattle.lock_manager.specs.declared.places.Place.TheVariants.{Free, Taken}
 use Rattle.lock_manager.specs.declared.queue.Waiter.{Waiter}
 use Rattle.lock_manager.specs.Sessions.{SessionOf, TicketOf, fresh, with_lock, with_ask}
 use Rattle.lock_manager.specs.Queues.{leaving, joining}
-use Rattle.lock_manager.specs.Managers.{Managed, IsKept, Holds, Asks, place_of, session_of, session_in, given_back, as_committed, locks_of, ComesAfter, threads}
+use Rattle.lock_manager.specs.Managers.{Managed, IsKept, Holds, Asks, place_of, session_of, session_in, given_back, as_committed, ComesAfter, threads}
 use Rattle.lock_manager.specs.Calls.{Knows, CanAsk, IsOwnWrite, Fits, AreItsGrants, with_session, after_grant, after_refusal, after_release, after_give_up}
 use Rattle.lock_manager.proofs.Lists.{all_contained, mapped, unmapped, some_same, push_cases}
-use Rattle.lock_manager.proofs.Numbers.{cell_is_of, lock_cases}
+use Rattle.lock_manager.proofs.Numbers.{cell_is_of, lock_cases, distinct_none, distinct_push}
 use Rattle.lock_manager.proofs.Heaps.{values_agree, values_same}
 use Rattle.lock_manager.proofs.Queued.{still_waits, waited}
-use Rattle.lock_manager.proofs.Slots.{slot_within, holds_cases, holds_other, holds_same, asks_cases, asks_other, asks_same, asks_back, as_it_asked, asked_session, session_same, closed_asks_nothing}
+use Rattle.lock_manager.proofs.Slots.{slot_within, holds_cases, holds_other, holds_same, asks_cases, asks_other, asks_same, asks_back, as_it_asked, asked_session, session_same, once_set, closed_asks_nothing}
 use Rattle.lock_manager.proofs.GivenBack.{put_same, put_other, length-put, length-given_back, back_cases, back_kept}
 
 never_free : {P : Type 0} (values : List Value) (t : ℕ) → Some (Free values) ≡ Some (Taken t) → P
@@ -57,6 +58,7 @@ keep_begin m t room k lt closed =
             let none : Contains [] lock = subst (λ (x : SessionOf). Contains x.held lock) (sym q) r.3 in absurd (omega (arith, none.1)))
         | inr r ↦ k.held lock u r.1
       ];
+      once = once_set m.slots t s within k.once (λ x e. subst AreDistinct (ap (λ (y : SessionOf). y.held) (some_same (fresh (length m.history) room) x e)) distinct_none);
       rising = λ u lock a. elim (cases_eq t u) [
         | inl e ↦ none_some lock (new_asks_nothing u lock e a within)
         | inr ne ↦ as_it_asked m.slots t s within (λ (x : SessionOf). ComesAfter m.ranks x.held lock) u lock a ne (λ b. k.rising u lock b)
@@ -115,6 +117,9 @@ keep_grant m ticket lock values c here =
             ])
         | inr r ↦ taken_other other u (k.held other u r.1)
       ];
+      once = once_set m.slots t s within k.once (λ x e. subst AreDistinct (ap (λ (y : SessionOf). y.held) (some_same (with_lock ticket.session lock) x e))
+          (distinct_push ticket.session.held lock (k.once t ticket.session c.known)
+          (λ mine. never_free values t (sym here ∙ k.held lock t (record { session = ticket.session; is = c.known; held = mine })))));
       rising = λ u other a. elim (cases_eq t u) [
         | inl e ↦ none_some other (ap (λ (x : SessionOf). x.ask) (asked_session m.slots t s within (with_lock ticket.session lock) u other e refl a) ∙ a.ask)
         | inr ne ↦ as_it_asked m.slots t s within (λ (x : SessionOf). ComesAfter m.ranks x.held other) u other a ne (λ b. k.rising u other b)
@@ -170,6 +175,7 @@ keep_refusal m ticket lock c =
         | inl r ↦ record { session = ticket.session; is = ap (session_in m.slots) (sym r.0) ∙ c.known; held = subst (λ (y : SessionOf). Contains y.held other) (sym (some_same x r.1 r.2)) r.3 }
         | inr r ↦ r.1
       ]);
+      once = once_set m.slots t s within k.once (λ y e. subst AreDistinct (ap (λ (z : SessionOf). z.held) (some_same x y e)) (k.once t ticket.session c.known));
       rising = λ u other a. elim (cases_eq t u) [
         | inl e ↦ (let q = asked_session m.slots t s within x u other e refl a in
             subst (λ (y : SessionOf). ComesAfter m.ranks y.held other) q (subst (ComesAfter m.ranks ticket.session.held) (own u other e a) c.asks.rises))
@@ -257,6 +263,7 @@ keep_left m t s gs values waiters history k l legal is =
         | inl r ↦ none_some r.1 r.2
         | inr r ↦ (let e = k.held lock u r.1 in back_kept locks m.places gs lock (not_its u lock r.0 e) ∙ e)
       ];
+      once = once_set m.slots t None within k.once (λ x e. none_some x e);
       rising = λ u lock a. elim (cases_eq t u) [
         | inl e ↦ absurd (none_asks u lock e a within)
         | inr ne ↦ as_it_asked m.slots t None within (λ (x : SessionOf). ComesAfter m.ranks x.held lock) u lock a ne (λ b. k.rising u lock b)

@@ -8,6 +8,7 @@ use Rattle.locks.specs.declared.lock.Lock.{Lock}
 use Rattle.layout.specs.LockCells.{same_lock, cells_from, cells_of}
 use Rattle.layout.specs.Layouts.{AreDistinct}
 use Rattle.lock_manager.specs.Managers.{number_from}
+use Rattle.lock_manager.proofs.Lists.{contains_at, some_same}
 
 -- ---- the same lock
 
@@ -40,6 +41,29 @@ later_number : (k : ℕ) (l : Lock) (ls : List Lock) (lock : Lock) (i : ℕ) →
     ((j : ℕ) → slice_get ls j ≡ Some lock → number_from (k + 1) ls lock ≡ Some ((k + 1) + j)) → number_from (k + 1) ls lock ≡ Some (k + i)
 later_number k l ls lock zero e ne go = let same : l ≡ lock = cc in absurd (ne same)
 later_number k l ls lock (suc j) e ne go = go j e ∙ ap Some (let sum : (k + 1) + j ≡ k + suc j = omega arith in sum)
+
+pub distinct_none : AreDistinct []
+distinct_none i j lock a b = absurd (none-some lock a)
+
+-- one lock more stands behind the others
+push_at : (ls : List Lock) (l : Lock) (i : ℕ) (lock : Lock) → slice_get (ls ++ l ∷ []) i ≡ Some lock →
+    (slice_get ls i ≡ Some lock) ⊎ ((i ≡ length ls) × (l ≡ lock))
+push_at [] l zero lock e = inr (refl, some_same l lock e)
+push_at [] l (suc i) lock e = absurd (none-some lock e)
+push_at (x ∷ xs) l zero lock e = inl e
+push_at (x ∷ xs) l (suc i) lock e = elim (push_at xs l i lock e) [ inl h ↦ inl h | inr h ↦ inr (omega (arith, h.0), h.1) ]
+
+pub distinct_push : (ls : List Lock) (l : Lock) → AreDistinct ls → (Contains ls l → ⊥) → AreDistinct (ls ++ l ∷ [])
+distinct_push ls l d new i j lock a b = elim (push_at ls l i lock a) [
+  | inl p ↦ elim (push_at ls l j lock b) [
+    | inl q ↦ d i j lock p q
+    | inr q ↦ absurd (new (contains_at ls i l (p ∙ ap Some (sym q.1))))
+  ]
+  | inr p ↦ elim (push_at ls l j lock b) [
+    | inl q ↦ absurd (new (contains_at ls j l (q ∙ ap Some (sym p.1))))
+    | inr q ↦ p.0 ∙ sym q.0
+  ]
+]
 
 pub number_found : (k : ℕ) (locks : List Lock) (lock : Lock) (i : ℕ) → AreDistinct locks → slice_get locks i ≡ Some lock → number_from k locks lock ≡ Some (k + i)
 number_found k [] lock i d e = absurd (none-some lock e)

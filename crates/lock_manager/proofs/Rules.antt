@@ -138,6 +138,7 @@ sound_opened layout ranks l = (
     free = λ lock values e. free_same (values_on layout.opening (cells_of layout.cell_locks lock)) values (first_place layout ranks lock (Free values) e);
     taken = λ lock t e. absurd (never (values_on layout.opening (cells_of layout.cell_locks lock)) t (first_place layout ranks lock (Taken t) e));
     held = λ lock t h. absurd (none_open threads t h.session h.is);
+    once = λ t s is. absurd (none_open threads t s is);
     rising = λ t lock a. absurd (none_open threads t a.session a.is);
     waits = λ t lock a. absurd (none_open threads t a.session a.is);
     asked = λ w c. absurd (omega (arith, c.1));

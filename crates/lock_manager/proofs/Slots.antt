@@ -5,6 +5,7 @@ use Rattle.std.specs.List.{Contains}
 use Rattle.std.proofs.lemmas.Bool.{cases_eq}
 use Rattle.std.proofs.lemmas.Option.{none-some, slice_get_within}
 use Rattle.core_lang.specs.Typing.{lookup}
+use Rattle.layout.specs.Layouts.{AreDistinct}
 use Rattle.locks.specs.declared.lock.Lock.{Lock}
 use Rattle.lock_manager.specs.Sessions.{SessionOf}
 use Rattle.lock_manager.specs.Managers.{session_in, Holds, Asks}
@@ -73,6 +74,14 @@ module _ (slots : List (Option SessionOf)) (t : ℕ) (s : Option SessionOf) (lt 
 
   pub asks_same : (x : SessionOf) (u : ℕ) (lock : Lock) → t ≡ u → s ≡ Some x → x.ask ≡ Some lock → Asks (set slots t s) u lock
   asks_same x u lock e is q = record { session = x; is = ap (session_in (set slots t s)) (sym e) ∙ session_same slots t s lt ∙ is; ask = q }
+
+  -- each holds its locks once
+  pub once_set : ((u : ℕ) (x : SessionOf) → session_in slots u ≡ Some x → AreDistinct x.held) → ((x : SessionOf) → s ≡ Some x → AreDistinct x.held) →
+      (u : ℕ) (x : SessionOf) → session_in (set slots t s) u ≡ Some x → AreDistinct x.held
+  once_set others its u x is = elim (cases_eq t u) [
+    | inl e ↦ its x (sym (session_same slots t s lt) ∙ ap (session_in (set slots t s)) e ∙ is)
+    | inr ne ↦ others u x (sym (session_other slots t u s ne) ∙ is)
+  ]
 
 -- ---- sums
 

@@ -5,7 +5,7 @@ use Rattle.core_lang.specs.declared.value.Value.{Value}
 use Rattle.locks.specs.declared.lock.Lock.{Lock}
 use Rattle.layout.specs.declared.room.Room.{Room}
 use Rattle.code.specs.Memory.{overwritten, Agrees}
-use Rattle.moved_cells.specs.Grants.{GrantOf, IsWhole, cells_in}
+use Rattle.moved_cells.specs.Grants.{GrantOf, IsWhole, cells_in, locks_of}
 use Rattle.history.specs.Commits.{Commit}
 use Rattle.lock_manager.specs.declared.places.Place.TheVariants.{Free, Taken}
 use Rattle.lock_manager.specs.declared.queue.Waiter.{Waiter}
@@ -13,7 +13,7 @@ use Rattle.lock_manager.specs.declared.answer.Answer.{Answer}
 use Rattle.lock_manager.specs.declared.answer.Answer.TheVariants.{Granted, Held}
 use Rattle.lock_manager.specs.Sessions.{SessionOf, TicketOf, ReceiptOf, fresh, with_lock, with_ask}
 use Rattle.lock_manager.specs.Queues.{waiting_in, leaving, joining}
-use Rattle.lock_manager.specs.Managers.{Managed, place_of, session_of, put_for, given_back, as_committed, locks_of, ComesAfter}
+use Rattle.lock_manager.specs.Managers.{Managed, place_of, session_of, put_for, given_back, as_committed, ComesAfter}
 
 -- with a thread's section as it is now
 abbrev pub with_session : Managed → ℕ → Option SessionOf → Managed

@@ -105,9 +105,6 @@ given_back locks places (g ∷ gs) = put_for locks (given_back locks places gs) 
 abbrev pub as_committed : Managed → Lock → GrantOf
 as_committed m lock = record { lock = lock; values = values_on m.values (cells_of m.layout.cell_locks lock) }
 
-abbrev pub locks_of : List GrantOf → List Lock
-locks_of grants = map (λ (g : GrantOf). g.lock) grants
-
 -- ---- the whole
 
 -- how many threads there can be
@@ -157,6 +154,8 @@ pub record IsKept (m : Managed) : Type 0 where
   -- the others are with the thread whose open section holds their lock
   pub taken : (lock : Lock) (t : ℕ) → place_of m lock ≡ Some (Taken t) → Holds m.slots t lock
   pub held : (lock : Lock) (t : ℕ) → Holds m.slots t lock → place_of m lock ≡ Some (Taken t)
+  -- each lock is held once
+  pub once : (t : ℕ) (session : SessionOf) → session_in m.slots t ≡ Some session → AreDistinct session.held
   -- each noted ask comes after all that its thread holds
   pub rising : (t : ℕ) (lock : Lock) (asks : Asks m.slots t lock) → ComesAfter m.ranks asks.session.held lock
   -- who asked waits, and nobody else

@@ -4,11 +4,11 @@ use Rattle.std.specs.List.{All}
 use Rattle.core_lang.specs.declared.value.Value.{Value}
 use Rattle.locks.specs.declared.lock.Lock.{Lock}
 use Rattle.code.specs.Memory.{overwritten, Agrees}
-use Rattle.moved_cells.specs.Grants.{GrantOf, cells_in}
+use Rattle.moved_cells.specs.Grants.{GrantOf, cells_in, locks_of}
 use Rattle.lock_manager.specs.declared.places.Place.{Place}
 use Rattle.lock_manager.specs.Committed.{CommittedOf, restored}
 use Rattle.lock_manager.specs.Sessions.{SessionOf}
-use Rattle.lock_manager.specs.Managers.{Managed, session_in, given_back, locks_of}
+use Rattle.lock_manager.specs.Managers.{Managed, session_in, given_back}
 
 -- a thread's open section has room for one more lock
 pub record HasRoom (slots : List (Option SessionOf)) (t : ℕ) : Type 0 where

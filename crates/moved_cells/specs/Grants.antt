@@ -1,5 +1,5 @@
 -- Cells of a lock, moved out.
-use Rattle.std.specs.Prelude.{◌≡◌, ℕ, List, [], ◌∷◌, length, slice_get, Option, Some, None}
+use Rattle.std.specs.Prelude.{◌≡◌, ℕ, List, [], ◌∷◌, length, map, slice_get, Option, Some, None}
 use Rattle.core_lang.specs.declared.value.Value.{Value}
 use Rattle.locks.specs.declared.lock.Lock.{Lock}
 use Rattle.layout.specs.LockCells.{cells_of}
@@ -8,6 +8,10 @@ use Rattle.layout.specs.LockCells.{cells_of}
 pub record GrantOf : Type 0 where
   pub lock : Lock
   pub values : List Value
+
+-- the locks of these grants
+abbrev pub locks_of : List GrantOf → List Lock
+locks_of grants = map (λ (g : GrantOf). g.lock) grants
 
 -- cells, each beside its value
 abbrev pub numbered : List ℕ → List Value → List (ℕ × Value)

@@ -7,7 +7,7 @@ use core_lang::value::Value;
 use locks::lock::Lock;
 use std::marker::Model;
 
-/// A lock, and its cells. It can't be copied, and must be given back.
+/// A lock, and its cells. It can be neither copied nor dropped: it ends where [`Grant::into_parts`] takes it apart.
 pub struct Grant {
     lock: Lock,
     cells: Cells,

@@ -9,8 +9,8 @@ use Rattle.code.specs.Machine.{Machine}
 use Rattle.code.specs.Memory.{HeldCells}
 use Rattle.std.proofs.lemmas.List.Elements.{All-head, All-tail}
 use Rattle.layout.specs.LockCells.{cells_of}
-use Rattle.moved_cells.specs.Grants.{GrantOf, IsWhole, numbered}
-use Rattle.lock_manager.specs.Managers.{Managed, locks_of}
+use Rattle.moved_cells.specs.Grants.{GrantOf, IsWhole, numbered, locks_of}
+use Rattle.lock_manager.specs.Managers.{Managed}
 use Rattle.lock_manager.specs.Calls.{CanRelease}
 use Rattle.held_cells.specs.Held.{cells_granted}
 use Rattle.history.specs.Commits.{Commit}

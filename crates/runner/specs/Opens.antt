@@ -8,12 +8,12 @@ use Rattle.core_lang.specs.Typing.{IsHeap}
 use Rattle.locks.specs.declared.lock.Lock.{Lock}
 use Rattle.layout.specs.declared.room.Room.{Room}
 use Rattle.layout.specs.LockCells.{cells_of}
-use Rattle.moved_cells.specs.Grants.{GrantOf, IsWhole, numbered}
+use Rattle.moved_cells.specs.Grants.{GrantOf, IsWhole, numbered, locks_of}
 use Rattle.held_cells.specs.Held.{cells_granted}
 use Rattle.history.specs.Commits.{Commit}
 use Rattle.lock_manager.specs.declared.places.Place.TheVariants.{Free, Taken}
 use Rattle.lock_manager.specs.Sessions.{SessionOf, TicketOf, ReceiptOf}
-use Rattle.lock_manager.specs.Managers.{Managed, place_of, locks_of}
+use Rattle.lock_manager.specs.Managers.{Managed, place_of}
 use Rattle.lock_manager.specs.Calls.{Begins, Knows, CanRelease, Releases, GivesUp, after_grant, after_refusal}
 use Rattle.lowering.specs.Plans.{Plan, IsCompiled}
 use Rattle.lowering.specs.Compiled.{IsRoomAt}

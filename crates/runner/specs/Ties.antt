@@ -13,8 +13,8 @@ use Rattle.lowering.specs.Plans.{Plan, IsCompiled}
 use Rattle.lowering.specs.Compiled.{IsRoomAt}
 use Rattle.worlds.specs.Worlds.{activation, locals_at}
 use Rattle.runner.specs.Machines.{RunOf, at_first}
-use Rattle.lock_manager.specs.Managers.{Managed, locks_of}
-use Rattle.moved_cells.specs.Grants.{GrantOf, IsWhole}
+use Rattle.lock_manager.specs.Managers.{Managed}
+use Rattle.moved_cells.specs.Grants.{GrantOf, IsWhole, locks_of}
 use Rattle.history.specs.Commits.{Commit}
 use Rattle.held_cells.specs.Held.{cells_granted}
 use Rattle.runner.specs.Opens.{OpenOf, IsOpen, AreItsGrants, entry_of, Gets, Waits, ticket_of, further, moved}

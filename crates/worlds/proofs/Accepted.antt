@@ -256,6 +256,7 @@ module _ (alloc : Global) (name : String Global) where
     opening = refl;
     cells = refl;
     cell_locks = cell_lock;
+    cells_listed = λ cell lock e. subst (Contains (the_lock 0 0 ∷ [])) (the_one (the_lock 0 0) lock cell e).0 (0, omega arith, refl);
     listed = λ lock. (λ c. subst (IsLock (inc_program alloc name)) (in_one (the_lock 0 0) lock c) refl, is_listed lock.class lock.object);
     distinct = λ i j lock e is. (the_one (the_lock 0 0) lock i e).1 ∙ sym (the_one (the_lock 0 0) lock j is).1;
     order = refl;

@@ -1,6 +1,7 @@
 use Rattle.std.proofs.Common.{◌≡◌, take}
 use Rattle.std.specs.List.{Contains}
-use Rattle.held_cells.specs.Kept.{locks_of, values_count}
+use Rattle.moved_cells.specs.Grants.{locks_of}
+use Rattle.held_cells.specs.Kept.{values_count}
 use Rattle.held_cells.proofs.finding.find.Given as goal
 
 abbrev pub invariant-loop-index : goal.invariant-loop-index
