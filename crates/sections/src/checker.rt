@@ -1,13 +1,13 @@
 //! The checker of a section: what is declared, and the section's locals so far.
 
-ghost use Rattle.std.specs.Prelude.{◌≡◌, OnOk, IfSome, Some, None, length, map, option_map};
+ghost use Rattle.std.specs.Prelude.{◌≡◌, OnOk, Some, None, length, map, option_map};
 ghost use Rattle.syntax.specs.Trees.{ref_type};
-ghost use Rattle.syntax.specs.Views.{ident, decl_of, type_of as type_seen};
+ghost use Rattle.syntax.specs.Views.{ident, decl_of, struct_of, type_of as type_seen};
 ghost use Rattle.resolution.specs.Scopes.{meaning, outside, bound, hidden_from, number_at, the_struct, the_local, the_decl, type_of};
 ghost use Rattle.resolution.specs.Expressions.{cell_of};
 ghost use Rattle.source.specs.Mistakes.{least_of};
 ghost use Rattle.resolution.specs.FaultLists.{local_faults, one, taken, type_faults};
-ghost use Rattle.symbols.specs.{program_of, IsProgram, meaning_of, structure_of, IsStructure, local_seen};
+ghost use Rattle.symbols.specs.{decls_of, meaning_of, local_seen};
 ghost use Rattle.sections.specs.Checkers.{scope};
 ghost use Rattle.sections.specs.Misplaced.{misplaced};
 
@@ -23,7 +23,7 @@ use symbols::scope::{
     Local, Locals, Meaning, meaning_at, note_local_type, note_type, note_unfit, struct_named,
     type_at, type_outside,
 };
-use symbols::table::Program;
+use symbols::table::SymbolTable;
 use syntax::tree;
 use syntax::tree::{Decl, Name};
 
@@ -40,13 +40,12 @@ pub type Judged<T> = Result<Option<T>, AllocError>;
 #[derive(Drop)]
 pub struct Checker<'a> {
     alloc: Global,
-    program: &'a Program<'a>,
+    symbols: &'a SymbolTable<'a>,
     locals: Locals,
 }
 
 impl<'a> Model for Checker<'a> {
     ghost use Rattle.sections.specs.Checkers.{Known};
-    ghost use Rattle.symbols.specs.{IsProgram, locals_seen, AreLocals};
     ghost use Rattle.std.specs.Coded.{codes};
     ghost use Rattle.syntax.specs.contracts.tree.Decl as the_decl;
 
@@ -54,9 +53,7 @@ impl<'a> Model for Checker<'a> {
 
     ghost coded = { Prim.hlevel (codes, the_decl.the_row.coded) };
 
-    ghost view = { λ c. record { decls = c.program.now.decls.items.now; locals = locals_seen c.locals; result = c.locals.result } };
-
-    ghost invariant = { λ c. IsProgram c.program.now × AreLocals c.locals };
+    ghost view = { λ c. record { decls = c.symbols.now; locals = c.locals.locals; result = c.locals.result } };
 }
 
 /// Notes a fault where something was to be answered.
@@ -70,13 +67,12 @@ pub fn faulty<T>(code: Code, start: usize, least: &mut Least) -> Option<T>
 
 impl<'a> Checker<'a> {
     /// At the start of a section whose result has this type.
-    pub fn new(alloc: Global, program: &'a Program<'a>, given: Option<ValueType>) -> Checker<'a>
-        requires { IsProgram program.now }
-        ensures { scope result ≡ record (outside (program_of program.now)) { result = given } }
+    pub fn new(alloc: Global, symbols: &'a SymbolTable<'a>, given: Option<ValueType>) -> Checker<'a>
+        ensures { scope result ≡ record (outside (decls_of symbols.now)) { result = given } }
     {
         Checker {
             alloc,
-            program,
+            symbols,
             locals: Locals::new(alloc, given),
         }
     }
@@ -92,7 +88,7 @@ impl<'a> Checker<'a> {
     pub fn meaning(&self, name: &Name) -> Meaning<'_>
         ensures { meaning_of result ≡ meaning (scope self.now) (ident name.now).text }
     {
-        meaning_at(&self.program.decls, &self.locals, name)
+        meaning_at(self.symbols, &self.locals, name)
     }
 
     /// Notes a name that can't stand there: an unknown one, or one whose declaration has a type without a fault.
@@ -102,7 +98,7 @@ impl<'a> Checker<'a> {
     {
         match m {
             Meaning::Nothing => note(least, Code::UnknownName, start),
-            _ => note_unfit(&self.program.decls, code, start, m, least),
+            _ => note_unfit(self.symbols, code, start, m, least),
         }
         None
     }
@@ -111,14 +107,14 @@ impl<'a> Checker<'a> {
     pub fn type_outside(&self, t: &tree::ValueType) -> Option<ValueType>
         ensures { result ≡ type_of (outside (scope self.now).decls) (type_seen t.now) }
     {
-        type_outside(&self.program.decls, t)
+        type_outside(self.symbols, t)
     }
 
     /// A reference to the struct of this name, if there is one outside of sections.
     pub fn reference_to(&self, name: &Name) -> Option<ValueType>
         ensures { result ≡ type_of (outside (scope self.now).decls) (ref_type (ident name.now)) }
     {
-        match struct_named(&self.program.decls, name) {
+        match struct_named(self.symbols, name) {
             Some(number) => Some(ValueType::Reference(number)),
             None => None,
         }
@@ -128,22 +124,21 @@ impl<'a> Checker<'a> {
     pub fn number_of(&self, place: usize, d: &Decl) -> usize
         ensures { result ≡ number_at (scope self.now).decls place (decl_of d.now) }
     {
-        self.program.decls.number(place, d)
+        self.symbols.number(place, d)
     }
 
     /// The cell of the global at a place.
     pub fn cell(&self, place: usize) -> u32
         ensures { result ≡ cell_of (scope self.now).decls place }
     {
-        self.program.cell(place)
+        self.symbols.cell(place)
     }
 
     /// The struct of a number.
     pub fn structure(&self, number: usize) -> Option<&Structure<'a>>
-        ensures structure { option_map (λ s. structure_of s.now) result ≡ the_struct (scope self.now).decls number }
-        ensures table { IfSome result (λ s. IsStructure s.now) }
+        ensures { option_map (λ s. struct_of s.now) result ≡ the_struct (scope self.now).decls number }
     {
-        self.program.decls.structure(number)
+        self.symbols.structure(number)
     }
 
     // ---- locals
@@ -152,26 +147,24 @@ impl<'a> Checker<'a> {
     pub fn result(&self) -> Option<ValueType>
         ensures { result ≡ (scope self.now).result }
     {
-        self.locals.result
+        self.locals.result()
     }
 
     /// The number of the next local.
     pub fn next(&self) -> usize
         ensures { result ≡ length (scope self.now).locals }
     {
-        self.locals.items.len()
+        self.locals.len()
     }
 
     fn note_taken(&self, name: &Name, least: &mut Least)
         ensures { least.new ≡ least_of least.old (taken (ident name.now).span.start (the_local (scope self.now).locals (ident name.now).text) (the_decl (scope self.now).decls (ident name.now).text)) }
     {
-        if let Some(place) = self.locals.names.find(name.text.as_str()) {
-            if self.locals.items.get(place).is_some() {
-                note(least, Code::DeclaredTwice, name.start as usize);
-                return;
-            }
+        if self.locals.find(name.text.as_str()).is_some() {
+            note(least, Code::DeclaredTwice, name.start as usize);
+            return;
         }
-        if self.program.decls.find(name.text.as_str()).is_some() {
+        if self.symbols.find(name.text.as_str()).is_some() {
             note(least, Code::DeclaredTwice, name.start as usize);
         }
     }
@@ -191,8 +184,8 @@ impl<'a> Checker<'a> {
         ensures value { result ≡ type_of (scope self.now) (type_seen t.now) }
         ensures faults { least.new ≡ least_of least.old (type_faults (scope self.now) (type_seen t.now)) }
     {
-        note_local_type(&self.program.decls, &self.locals, t, least);
-        type_at(&self.program.decls, &self.locals, t)
+        note_local_type(self.symbols, &self.locals, t, least);
+        type_at(self.symbols, &self.locals, t)
     }
 
     /// The type that is written at a parameter, if it has no fault.
@@ -200,8 +193,8 @@ impl<'a> Checker<'a> {
         ensures value { result ≡ type_of (outside (scope self.now).decls) (type_seen t.now) }
         ensures faults { least.new ≡ least_of least.old (type_faults (outside (scope self.now).decls) (type_seen t.now)) }
     {
-        note_type(&self.program.decls, t, least);
-        type_outside(&self.program.decls, t)
+        note_type(self.symbols, t, least);
+        type_outside(self.symbols, t)
     }
 
     /// Adds a local, in scope from here on.
@@ -213,12 +206,7 @@ impl<'a> Checker<'a> {
     ) -> Result<(), AllocError>
         ensures { OnOk result (scope self.new ≡ bound (scope self.old) kind (ident name.now) value_type) }
     {
-        if let Err(e) = self.locals.bind(self.alloc, name, kind, value_type) {
-            // The table may have got the name of a local that isn't there, so none is kept.
-            self.locals = Locals::new(self.alloc, None);
-            return Err(e);
-        }
-        Ok(())
+        self.locals.bind(self.alloc, name, kind, value_type)
     }
 
     /// Leaves a block: the locals from a number on are no longer in scope.
@@ -232,6 +220,6 @@ impl<'a> Checker<'a> {
     pub fn locals(&self) -> &[Local]
         ensures { map local_seen result.now ≡ (scope self.now).locals }
     {
-        &self.locals.items
+        self.locals.items()
     }
 }

@@ -8,7 +8,7 @@ ghost use Rattle.resolution.specs.Scopes.{entered};
 ghost use Rattle.resolution.specs.Resolution.{core_locals, core_local, result_of, section_with, section_of, typed_section};
 ghost use Rattle.source.specs.Mistakes.{least_of};
 ghost use Rattle.resolution.specs.FaultLists.{param_faults, result_faults, section_faults};
-ghost use Rattle.symbols.specs.{declared_by, AreDeclarations, program_of, IsProgram, local_seen};
+ghost use Rattle.symbols.specs.{decls_of, local_seen};
 ghost use Rattle.sections.specs.Checkers.{scope};
 ghost use Rattle.sections.specs.Parts.{pushed};
 ghost use Rattle.sections.specs.Targets.{body_of};
@@ -21,10 +21,9 @@ use core_lang::value::ValueType;
 use source::fault::Code;
 use source::mistake::Mistake;
 use std::alloc::{AllocError, Global};
-use symbols::declarations::Declarations;
 use symbols::note::note_if;
 use symbols::scope::{Local, note_type, type_outside};
-use symbols::table::Program;
+use symbols::table::SymbolTable;
 use syntax::tree as written;
 use syntax::tree::Param;
 
@@ -74,15 +73,14 @@ fn core_locals(alloc: Global, locals: &[Local]) -> Judged<Vec<tree::Local>>
 }
 
 /// The type of a section's result, if it has one without a fault.
-fn result_type(decls: &Declarations, s: &written::Section, least: &mut Least) -> Option<ValueType>
-    requires { AreDeclarations decls.now }
-    ensures value { result ≡ result_of (declared_by decls.now) (section_view s.now) }
-    ensures faults { least.new ≡ least_of least.old (result_faults (declared_by decls.now) (section_view s.now).result) }
+fn result_type(symbols: &SymbolTable, s: &written::Section, least: &mut Least) -> Option<ValueType>
+    ensures value { result ≡ result_of (decls_of symbols.now) (section_view s.now) }
+    ensures faults { least.new ≡ least_of least.old (result_faults (decls_of symbols.now) (section_view s.now).result) }
 {
     match &s.result {
         Some(t) => {
-            note_type(decls, t, least);
-            type_outside(decls, t)
+            note_type(symbols, t, least);
+            type_outside(symbols, t)
         }
         None => None,
     }
@@ -158,16 +156,15 @@ impl<'a> Checker<'a> {
 #[tactic(auto, using(source::specs::Leasts::least_append))]
 pub fn judge_section(
     alloc: Global,
-    program: &Program,
+    symbols: &SymbolTable,
     s: &written::Section,
     least: &mut Option<Mistake>,
 ) -> Result<Option<Section>, AllocError>
-    requires { IsProgram program.now }
-    ensures value { IfOk result (λ r. option_map core_section r ≡ typed_section (program_of program.now) (section_view s.now)) }
-    ensures faults { OnOk result (least.new ≡ least_of least.old (section_faults (program_of program.now) (section_view s.now))) }
+    ensures value { IfOk result (λ r. option_map core_section r ≡ typed_section (decls_of symbols.now) (section_view s.now)) }
+    ensures faults { OnOk result (least.new ≡ least_of least.old (section_faults (decls_of symbols.now) (section_view s.now))) }
 {
-    let result = result_type(&program.decls, s, least);
-    let mut checker = Checker::new(alloc, program, result);
+    let result = result_type(symbols, s, least);
+    let mut checker = Checker::new(alloc, symbols, result);
     checker.params(&s.params, least)?;
     let body = checker.body(&s.body.stmts, least)?;
     let locals = core_locals(alloc, checker.locals())?;

@@ -1,9 +1,10 @@
 -- One thing more that is given.
 use Rattle.std.proofs.Common.{◌≡◌, ℕ, List, [], ◌∷◌, Option, Some, None, Bool, true, false, refl, sym, ap, ◌∙◌, if◌then◌else◌}
-use Rattle.std.specs.Prelude.{◌&&◌, cond}
+use Rattle.std.specs.Prelude.{◌&&◌, cond, slice_get}
 use Rattle.std.specs.Option.{option_or}
 use Rattle.std.specs.Map.{lookup}
 use Rattle.resolution.specs.declared.init_target.InitTarget.{InitTarget}
+use Rattle.resolution.specs.Scopes.{◌>>=◌, place_of, named}
 use Rattle.resolution.specs.Constants.{same_init_target}
 use Rattle.resolution.specs.Facts.{same_is}
 
@@ -28,3 +29,9 @@ add_test f init_target place g t is none = ap (λ (b : Bool). cond b (Some place
 pub get_same : (test other : InitTarget → Bool) → ((h : InitTarget) → test h ≡ other h) → (es : List (InitTarget × ℕ)) → lookup test es ≡ lookup other es
 get_same test other same [] = refl
 get_same test other same (e ∷ es) = ap (λ (b : Bool). cond b (Some e.1) (lookup test es)) (same e.0) ∙ ap (cond (other e.0) (Some e.1)) (get_same test other same es)
+
+-- the first that bears it, where its place is known and what stands there
+pub named_is : {A Q : Type 0} (bears : A → Q → Bool) (xs : List A) (q : Q) (i : ℕ) (x : A) → place_of bears xs q ≡ Some i → slice_get xs i ≡ Some x → named bears xs q ≡ Some (i, x)
+named_is {A} bears xs q i x place here =
+    ap (λ (o : Option ℕ). ◌>>=◌ {B = ℕ × A} o (λ j. ◌>>=◌ {B = ℕ × A} (slice_get xs j) (λ y. Some (j, y)))) place
+    ∙ ap (λ (o : Option A). ◌>>=◌ {B = ℕ × A} o (λ y. Some (i, y))) here

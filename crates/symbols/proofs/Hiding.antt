@@ -5,7 +5,7 @@ use Rattle.resolution.specs.Scopes.{Local, place_from, local_bears, hidden, hidd
 use Rattle.symbols.specs.declared.names.Names.{Names}
 use Rattle.symbols.specs.declared.scope.Local as l
 use Rattle.symbols.specs.Found.{IsTableOf}
-use Rattle.symbols.specs.Scoped.{local_seen}
+use Rattle.symbols.specs.Scoped.{local_seen, locals_seen}
 
 pub hide_step : (xs : List l.Local) (i : ℕ) (x y : l.Local) → i < length xs → x ≡ get_or xs i x → local_seen y ≡ hidden (local_seen x) → hidden_from (suc i) (map local_seen (slice_set xs i y)) ≡ hidden_from i (map local_seen xs)
 hide_step [] i x y lt is e = absurd (omega arith)
@@ -26,8 +26,11 @@ place_hidden q k n [] = refl
 place_hidden q k zero (x ∷ xs) = place_if (local_bears x q) k _ _ (place_hidden q (suc k) zero xs)
 place_hidden q k (suc n) (x ∷ xs) = place_if (local_bears x q) k _ _ (place_hidden q (suc k) n xs)
 
-pub table_hidden : (n : ℕ) (xs ys : List Local) (names names' : Names) → names' ≡ names → ys ≡ hidden_from n xs → IsTableOf local_bears xs names → IsTableOf local_bears ys names'
-table_hidden n xs ys names names' same made table =
-    let P : List Local → Type 0 = λ ws. IsTableOf local_bears ws names' in
-    let Q : Names → Type 0 = λ m. IsTableOf local_bears (hidden_from n xs) m in
-    subst P (sym made) (subst Q (sym same) (λ q. table q ∙ sym (place_hidden q 0 n xs)))
+pub table_hidden : (n : ℕ) (xs ys : List Local) (names : Names) → ys ≡ hidden_from n xs → IsTableOf local_bears xs names → IsTableOf local_bears ys names
+table_hidden n xs ys names made table =
+    let P : List Local → Type 0 = λ ws. IsTableOf local_bears ws names in
+    subst P (sym made) (λ q. table q ∙ sym (place_hidden q 0 n xs))
+
+pub seen_length : (xs : List l.Local) → length (locals_seen xs) ≡ length xs
+seen_length [] = refl
+seen_length (x ∷ xs) = ap suc (seen_length xs)

@@ -1,19 +1,18 @@
 -- Structs among declarations, and their members, one after another.
-use Rattle.std.proofs.Common.{◌≡◌, ℕ, zero, suc, ◌≤◌, List, [], ◌∷◌, ◌++◌, Option, Some, None, Bool, true, false, refl, sym, ap, ◌∙◌, arith, subst, inl, inr}
+use Rattle.std.proofs.Common.{◌≡◌, ℕ, ◌≤◌, List, [], ◌∷◌, ◌++◌, Option, Some, None, Bool, true, false, refl, sym, ap, ◌∙◌, arith}
 use Rattle.std.proofs.lemmas.List.{map-append, append-nil}
-use Rattle.std.specs.Prelude.{slice_get, is_some, not, ◌⊎◌}
+use Rattle.std.specs.Prelude.{is_some, not, map}
 use Rattle.source.specs.declared.fault.Code.TheVariants.{DeclaredTwice}
 use Rattle.syntax.specs.declared.tree.Decl as rust
 use Rattle.syntax.specs.declared.tree.Decl.TheVariants as variant
 use Rattle.syntax.specs.declared.tree.Struct as rust_struct
 use Rattle.syntax.specs.Trees.{Decl, lock, struct, global, array, pool, init, atomic, thread, Struct, Member, lock_member, final_member, field_member}
-use Rattle.syntax.specs.Views.{decl_of}
+use Rattle.syntax.specs.Views.{decl_of, struct_of}
 use Rattle.resolution.specs.Scopes.{structs_in}
 use Rattle.resolution.specs.Numbers.{new_field}
 use Rattle.resolution.specs.FaultLists.{one_if, again, struct_faults}
 use Rattle.symbols.specs.Counted.{field_if}
-use Rattle.symbols.specs.Views.{structure_of, IsStructure, AreStructures}
-use Rattle.symbols.specs.declared.members.Structure.{Structure}
+use Rattle.symbols.specs.Views.{AreStructures}
 
 pub again_if : (b : Bool) (o : Option ℕ) (start : ℕ) → is_some o ≡ not b → one_if (not b) DeclaredTwice start ≡ again start o
 again_if true None start e = refl
@@ -50,19 +49,10 @@ structs_push (init x ∷ ds) d = structs_push ds d
 structs_push (atomic x ∷ ds) d = structs_push ds d
 structs_push (thread x ∷ ds) d = structs_push ds d
 
-get_push : {A : Type 0} (xs : List A) (x y : A) (i : ℕ) → slice_get (xs ++ x ∷ []) i ≡ Some y → (slice_get xs i ≡ Some y) ⊎ (x ≡ y)
-get_push [] x y zero e = inr (cc)
-get_push [] x y (suc i) e = absurd (cc)
-get_push (z ∷ xs) x y zero e = inl e
-get_push (z ∷ xs) x y (suc i) e = get_push xs x y i e
-
-pub structures_more : (ds : List Decl) (s : Struct) (ss new : List Structure) (x : Structure) → structure_of x ≡ s → IsStructure x → new ≡ ss ++ x ∷ [] → AreStructures ds ss → AreStructures (ds ++ struct s ∷ []) new
-structures_more ds s ss new x is right made all =
-    let P : List Structure → Type 0 = λ l. AreStructures (ds ++ struct s ∷ []) l in
-    subst P (sym made) (
-      map-append structure_of ss (x ∷ []) ∙ ap (λ (l : List Struct). l ++ structure_of x ∷ []) all.0 ∙ ap (λ (y : Struct). structs_in ds ++ y ∷ []) is ∙ sym (structs_push ds (struct s)),
-      (λ i y e. elim (get_push ss x y i e) [ inl h ↦ all.1 i y h | inr h ↦ subst IsStructure h right ]),
-    )
+pub structures_more : (ds : List Decl) (x y : rust_struct.Struct) (ss new : List rust_struct.Struct) → y ≡ x → new ≡ ss ++ y ∷ [] → AreStructures ds ss → AreStructures (ds ++ struct (struct_of x) ∷ []) new
+structures_more ds x y ss new is made all =
+    ap (map struct_of) made ∙ map-append struct_of ss (y ∷ []) ∙ ap (λ (l : List Struct). l ++ struct_of y ∷ []) all
+    ∙ ap (λ z. structs_in ds ++ struct_of z ∷ []) is ∙ sym (structs_push ds (struct (struct_of x)))
 
 none_struct : (d : rust.Decl) → ((x : rust_struct.Struct) → d ≡ variant.Struct x → ⊥) → structs_in (decl_of d ∷ []) ≡ []
 none_struct (variant.Lock x) h = refl
@@ -84,6 +74,6 @@ no_faults (variant.Init x) ds h = refl
 no_faults (variant.Atomic x) ds h = refl
 no_faults (variant.Thread x) ds h = refl
 
-pub structures_same : (ds : List Decl) (d : rust.Decl) (ss : List Structure) → ((x : rust_struct.Struct) → d ≡ variant.Struct x → ⊥) → AreStructures ds ss → AreStructures (ds ++ decl_of d ∷ []) ss
+pub structures_same : (ds : List Decl) (d : rust.Decl) (ss : List rust_struct.Struct) → ((x : rust_struct.Struct) → d ≡ variant.Struct x → ⊥) → AreStructures ds ss → AreStructures (ds ++ decl_of d ∷ []) ss
 structures_same ds d ss other all =
-    (all.0 ∙ sym (structs_push ds (decl_of d) ∙ ap (λ (l : List Struct). structs_in ds ++ l) (none_struct d other) ∙ append-nil (structs_in ds)), all.1)
+    all ∙ sym (structs_push ds (decl_of d) ∙ ap (λ (l : List Struct). structs_in ds ++ l) (none_struct d other) ∙ append-nil (structs_in ds))

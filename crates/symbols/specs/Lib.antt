@@ -3,11 +3,9 @@ pub mod Counted
 pub mod Views
 pub mod Capped
 pub mod Given
-pub mod Programs
 pub mod Scoped
 pub mod AnnotationCursors
 pub mod Steps
 -- what the public clauses cite
-pub use Rattle.symbols.specs.Views.{declared_by, AreDeclarations, structure_of, members_seen, IsStructure}
-pub use Rattle.symbols.specs.Programs.{program_of, IsProgram}
-pub use Rattle.symbols.specs.Scoped.{scope_of, locals_seen, local_seen, AreLocals, meaning_of}
+pub use Rattle.symbols.specs.Views.{decls_of, members_seen}
+pub use Rattle.symbols.specs.Scoped.{KnownLocals, scope_of, locals_seen, local_seen, meaning_of}

@@ -7,15 +7,13 @@ ghost use Rattle.resolution.specs.Scopes.{the_decl, the_member};
 ghost use Rattle.resolution.specs.Annotations.{class_in, class_of, at_struct, stepped_on, ended, along, protection_of};
 ghost use Rattle.source.specs.Mistakes.{least_of};
 ghost use Rattle.resolution.specs.FaultLists.{lock_faults, along_faults, protection_faults};
-ghost use Rattle.symbols.specs.Views.{declared_by, structure_of, members_seen, IsStructure, AreDeclarations};
-ghost use Rattle.symbols.specs.Programs.{program_of, IsProgram};
-ghost use Rattle.symbols.specs.AnnotationCursors.{cursor_of, IsAnnotationCursor, lock_name_faults, passed_at, ended_at};
+ghost use Rattle.symbols.specs.Views.{decls_of, members_seen};
+ghost use Rattle.symbols.specs.AnnotationCursors.{cursor_of, lock_name_faults, passed_at, ended_at};
 
-use crate::declarations::Declarations;
 use crate::members::Structure;
 use crate::note::note_if;
 use crate::scope::{Meaning, note_unfit, note_unfit_member};
-use crate::table::Program;
+use crate::table::SymbolTable;
 use core_lang::typed::Protection;
 use source::fault::Code;
 use source::mistake::{Mistake, note};
@@ -38,14 +36,13 @@ pub(crate) struct AnnotationCursor<'a, 't> {
 }
 
 /// The class of a global lock that is named alone.
-fn class_in(program: &Program, first: &Name, rest: &[Name]) -> Option<usize>
-    requires { IsProgram program.now }
-    ensures { result ≡ class_in (program_of program.now) (the_decl (program_of program.now) (ident first.now).text) (map ident rest.now) }
+fn class_in(symbols: &SymbolTable, first: &Name, rest: &[Name]) -> Option<usize>
+    ensures { result ≡ class_in (decls_of symbols.now) (the_decl (decls_of symbols.now) (ident first.now).text) (map ident rest.now) }
 {
-    match program.decls.find(first.text.as_str()) {
+    match symbols.find(first.text.as_str()) {
         Some((place, Decl::Lock(_))) => {
             if rest.is_empty() {
-                Some(program.class(place, 0))
+                Some(symbols.class(place, 0))
             } else {
                 None
             }
@@ -56,23 +53,21 @@ fn class_in(program: &Program, first: &Name, rest: &[Name]) -> Option<usize>
 
 /// The class of the lock that protects a global or an array: of the global lock that its annotation names. `None` where
 /// it has no annotation, or that names no global lock.
-pub fn class_of(program: &Program, p: &Option<tree::Protection>) -> Option<usize>
-    requires { IsProgram program.now }
-    ensures { result ≡ class_of (program_of program.now) (option_of protection_view p.now) }
+pub fn class_of(symbols: &SymbolTable, p: &Option<tree::Protection>) -> Option<usize>
+    ensures { result ≡ class_of (decls_of symbols.now) (option_of protection_view p.now) }
 {
     match p {
-        Some(p) => class_in(program, &p.first, &p.rest),
+        Some(p) => class_in(symbols, &p.first, &p.rest),
         None => None,
     }
 }
 
 /// Notes what is wrong with an annotation that is to name a global lock.
-fn note_global_lock(decls: &Declarations, first: &Name, rest: &[Name], least: &mut Option<Mistake>)
-    requires { AreDeclarations decls.now }
-    ensures { least.new ≡ least_of least.old (lock_name_faults decls.now first.now rest.now) }
+fn note_global_lock(symbols: &SymbolTable, first: &Name, rest: &[Name], least: &mut Option<Mistake>)
+    ensures { least.new ≡ least_of least.old (lock_name_faults symbols.now first.now rest.now) }
 {
     let start = first.start as usize;
-    match decls.find(first.text.as_str()) {
+    match symbols.find(first.text.as_str()) {
         None => note(least, Code::UnknownName, start),
         Some((_, Decl::Lock(_))) => {
             if !rest.is_empty() {
@@ -81,7 +76,7 @@ fn note_global_lock(decls: &Declarations, first: &Name, rest: &[Name], least: &m
         }
         Some((place, d)) => {
             let meant = Meaning::Decl(place, d);
-            note_unfit(decls, Code::ProtectedByNoLock, start, meant, least);
+            note_unfit(symbols, Code::ProtectedByNoLock, start, meant, least);
         }
     }
 }
@@ -89,32 +84,29 @@ fn note_global_lock(decls: &Declarations, first: &Name, rest: &[Name], least: &m
 /// Notes what is wrong with the annotation of a global or an array: there is none, or it names no global lock. `name`
 /// is the name of what is to be protected.
 pub fn note_lock(
-    decls: &Declarations,
+    symbols: &SymbolTable,
     name: &Name,
     p: &Option<tree::Protection>,
     least: &mut Option<Mistake>,
 )
-    requires { AreDeclarations decls.now }
-    ensures { least.new ≡ least_of least.old (lock_faults (declared_by decls.now) (ident name.now).span.start (option_of protection_view p.now)) }
+    ensures { least.new ≡ least_of least.old (lock_faults (decls_of symbols.now) (ident name.now).span.start (option_of protection_view p.now)) }
 {
     match p {
-        Some(p) => note_global_lock(decls, &p.first, &p.rest, least),
+        Some(p) => note_global_lock(symbols, &p.first, &p.rest, least),
         None => note(least, Code::NeitherFinalNorProtected, name.start as usize),
     }
 }
 
 /// At the struct of a final reference, which is one of those on the way there.
 fn at_struct<'a, 't>(
-    decls: &'a Declarations<'t>,
+    symbols: &'a SymbolTable<'t>,
     through: Vec<u32>,
     number: u32,
     target: &Name,
 ) -> Result<Option<AnnotationCursor<'a, 't>>, AllocError>
-    requires { AreDeclarations decls.now }
-    ensures cursor { IfOk result (λ r. option_map cursor_of r ≡ at_struct through.items number (the_decl (declared_by decls.now) (ident target.now).text)) }
-    ensures tables { IfOk result IsAnnotationCursor }
+    ensures { IfOk result (λ r. option_map cursor_of r ≡ at_struct through.items number (the_decl (decls_of symbols.now) (ident target.now).text)) }
 {
-    let Some((place, structure)) = decls.struct_of(target) else {
+    let Some((place, structure)) = symbols.struct_of(target) else {
         return Ok(None);
     };
     let mut through = through;
@@ -128,14 +120,11 @@ fn at_struct<'a, 't>(
 
 /// Over a final reference to its struct; nothing else leads on.
 fn stepped_on<'a, 't>(
-    decls: &'a Declarations<'t>,
+    symbols: &'a SymbolTable<'t>,
     cursor: Option<AnnotationCursor<'a, 't>>,
     y: &Name,
 ) -> Result<Option<AnnotationCursor<'a, 't>>, AllocError>
-    requires decls { AreDeclarations decls.now }
-    requires cursor { IsAnnotationCursor cursor }
-    ensures cursor { IfOk result (λ r. option_map cursor_of r ≡ stepped_on (declared_by decls.now) (option_map cursor_of cursor.entry) (ident y.now)) }
-    ensures tables { IfOk result IsAnnotationCursor }
+    ensures { IfOk result (λ r. option_map cursor_of r ≡ stepped_on (decls_of symbols.now) (option_map cursor_of cursor.entry) (ident y.now)) }
 {
     let Some(cursor) = cursor else {
         return Ok(None);
@@ -145,16 +134,14 @@ fn stepped_on<'a, 't>(
     };
     let number = cursor.structure.step(place, m);
     match m {
-        Member::Final(reference) => at_struct(decls, cursor.through, number, &reference.target),
+        Member::Final(reference) => at_struct(symbols, cursor.through, number, &reference.target),
         Member::Lock(_) | Member::Field(_) => Ok(None),
     }
 }
 
 /// The walk's end: a lock field.
-fn ended(program: &Program, cursor: Option<AnnotationCursor>, y: &Name) -> Option<Protection>
-    requires program { IsProgram program.now }
-    requires cursor { IsAnnotationCursor cursor }
-    ensures { option_map core_protection result ≡ ended (program_of program.now) (option_map cursor_of cursor.entry) (ident y.now) }
+fn ended(symbols: &SymbolTable, cursor: Option<AnnotationCursor>, y: &Name) -> Option<Protection>
+    ensures { option_map core_protection result ≡ ended (decls_of symbols.now) (option_map cursor_of cursor.entry) (ident y.now) }
 {
     let cursor = cursor?;
     let (place, m) = cursor.structure.find(y.text.as_str())?;
@@ -162,7 +149,7 @@ fn ended(program: &Program, cursor: Option<AnnotationCursor>, y: &Name) -> Optio
     match m {
         Member::Lock(_) => Some(Protection {
             through: cursor.through,
-            class: program.class(cursor.place, number),
+            class: symbols.class(cursor.place, number),
         }),
         Member::Final(_) | Member::Field(_) => None,
     }
@@ -170,22 +157,20 @@ fn ended(program: &Program, cursor: Option<AnnotationCursor>, y: &Name) -> Optio
 
 /// Along names, the last of which is the lock's.
 fn along<'a, 't>(
-    program: &'a Program<'t>,
+    symbols: &'a SymbolTable<'t>,
     cursor: Option<AnnotationCursor<'a, 't>>,
     first: &Name,
     rest: &[Name],
 ) -> Result<Option<Protection>, AllocError>
-    requires program { IsProgram program.now }
-    requires cursor { IsAnnotationCursor cursor }
-    ensures { IfOk result (λ r. option_map core_protection r ≡ along (program_of program.now) (option_map cursor_of cursor.entry) (ident first.now) (map ident rest.now)) }
+    ensures { IfOk result (λ r. option_map core_protection r ≡ along (decls_of symbols.now) (option_map cursor_of cursor.entry) (ident first.now) (map ident rest.now)) }
 {
     let mut cursor = cursor;
     let mut y = first;
     for z in rest {
-        cursor = stepped_on(&program.decls, cursor, y)?;
+        cursor = stepped_on(symbols, cursor, y)?;
         y = z;
     }
-    Ok(ended(program, cursor, y))
+    Ok(ended(symbols, cursor, y))
 }
 
 /// What protects a field of the struct at a place: a lock field of the struct itself or of one that final references
@@ -193,14 +178,12 @@ fn along<'a, 't>(
 /// growth.
 pub fn protection_of<'a, 't>(
     alloc: Global,
-    program: &'a Program<'t>,
+    symbols: &'a SymbolTable<'t>,
     place: usize,
     structure: &'a Structure<'t>,
     p: &Option<tree::Protection>,
 ) -> Result<Option<Protection>, AllocError>
-    requires program { IsProgram program.now }
-    requires structure { IsStructure structure.now }
-    ensures { IfOk result (λ r. option_map core_protection r ≡ protection_of (program_of program.now) place (members_seen structure.now) (option_of protection_view p.now)) }
+    ensures { IfOk result (λ r. option_map core_protection r ≡ protection_of (decls_of symbols.now) place (members_seen structure.now) (option_of protection_view p.now)) }
 {
     let Some(p) = p else {
         return Ok(None);
@@ -211,9 +194,9 @@ pub fn protection_of<'a, 't>(
             structure,
             through: Vec::new(alloc),
         });
-        return along(program, cursor, &p.first, &p.rest);
+        return along(symbols, cursor, &p.first, &p.rest);
     }
-    match class_in(program, &p.first, &p.rest) {
+    match class_in(symbols, &p.first, &p.rest) {
         Some(class) => Ok(Some(Protection {
             through: Vec::new(alloc),
             class,
@@ -224,15 +207,13 @@ pub fn protection_of<'a, 't>(
 
 /// Notes what is wrong with a name that others follow.
 fn note_passed(
-    decls: &Declarations,
+    symbols: &SymbolTable,
     start: usize,
     cursor: &Option<AnnotationCursor>,
     y: &Name,
     least: &mut Option<Mistake>,
 )
-    requires decls { AreDeclarations decls.now }
-    requires cursor { IsAnnotationCursor cursor.now }
-    ensures { least.new ≡ least_of least.old (passed_at decls.now start cursor.now y.now) }
+    ensures { least.new ≡ least_of least.old (passed_at symbols.now start cursor.now y.now) }
 {
     let Some(cursor) = cursor else {
         return;
@@ -245,22 +226,20 @@ fn note_passed(
         }
         Some((_, m)) => {
             let code = Code::ProtectedByPassesNonFinal;
-            note_unfit_member(decls, code, y.start as usize, m, least);
+            note_unfit_member(symbols, code, y.start as usize, m, least);
         }
     }
 }
 
 /// Notes what is wrong with the last name.
 fn note_last(
-    decls: &Declarations,
+    symbols: &SymbolTable,
     start: usize,
     cursor: &Option<AnnotationCursor>,
     y: &Name,
     least: &mut Option<Mistake>,
 )
-    requires decls { AreDeclarations decls.now }
-    requires cursor { IsAnnotationCursor cursor.now }
-    ensures { least.new ≡ least_of least.old (ended_at decls.now start cursor.now y.now) }
+    ensures { least.new ≡ least_of least.old (ended_at symbols.now start cursor.now y.now) }
 {
     let Some(cursor) = cursor else {
         return;
@@ -268,32 +247,30 @@ fn note_last(
     match cursor.structure.find(y.text.as_str()) {
         None => note(least, Code::UnknownName, y.start as usize),
         Some((_, Member::Lock(_))) => {}
-        Some((_, m)) => note_unfit_member(decls, Code::ProtectedByNoLock, start, m, least),
+        Some((_, m)) => note_unfit_member(symbols, Code::ProtectedByNoLock, start, m, least),
     }
 }
 
 /// Notes what is wrong along names, of which the first of all starts there.
 #[tactic(auto, using(source::specs::Leasts::least_append))]
 fn note_along<'a, 't>(
-    decls: &'a Declarations<'t>,
+    symbols: &'a SymbolTable<'t>,
     start: usize,
     cursor: Option<AnnotationCursor<'a, 't>>,
     first: &Name,
     rest: &[Name],
     least: &mut Option<Mistake>,
 ) -> Result<(), AllocError>
-    requires decls { AreDeclarations decls.now }
-    requires cursor { IsAnnotationCursor cursor }
-    ensures { OnOk result (least.new ≡ least_of least.old (along_faults (declared_by decls.now) start (option_map cursor_of cursor.entry) (ident first.now) (map ident rest.now))) }
+    ensures { OnOk result (least.new ≡ least_of least.old (along_faults (decls_of symbols.now) start (option_map cursor_of cursor.entry) (ident first.now) (map ident rest.now))) }
 {
     let mut cursor = cursor;
     let mut y = first;
     for z in rest {
-        note_passed(decls, start, &cursor, y, least);
-        cursor = stepped_on(decls, cursor, y)?;
+        note_passed(symbols, start, &cursor, y, least);
+        cursor = stepped_on(symbols, cursor, y)?;
         y = z;
     }
-    note_last(decls, start, &cursor, y, least);
+    note_last(symbols, start, &cursor, y, least);
     Ok(())
 }
 
@@ -301,16 +278,14 @@ fn note_along<'a, 't>(
 /// goes over what is no final reference or over too many. `name` is the field's. The one error is a refused growth.
 pub fn note_protection<'a, 't>(
     alloc: Global,
-    decls: &'a Declarations<'t>,
+    symbols: &'a SymbolTable<'t>,
     place: usize,
     structure: &'a Structure<'t>,
     name: &Name,
     p: &Option<tree::Protection>,
     least: &mut Option<Mistake>,
 ) -> Result<(), AllocError>
-    requires decls { AreDeclarations decls.now }
-    requires structure { IsStructure structure.now }
-    ensures { OnOk result (least.new ≡ least_of least.old (protection_faults (declared_by decls.now) place (members_seen structure.now) (ident name.now).span.start (option_of protection_view p.now))) }
+    ensures { OnOk result (least.new ≡ least_of least.old (protection_faults (decls_of symbols.now) place (members_seen structure.now) (ident name.now).span.start (option_of protection_view p.now))) }
 {
     let Some(p) = p else {
         note(least, Code::NeitherFinalNorProtected, name.start as usize);
@@ -323,7 +298,7 @@ pub fn note_protection<'a, 't>(
             through: Vec::new(alloc),
         });
         return note_along(
-            decls,
+            symbols,
             p.first.start as usize,
             cursor,
             &p.first,
@@ -331,6 +306,6 @@ pub fn note_protection<'a, 't>(
             least,
         );
     }
-    note_global_lock(decls, &p.first, &p.rest, least);
+    note_global_lock(symbols, &p.first, &p.rest, least);
     Ok(())
 }

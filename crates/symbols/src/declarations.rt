@@ -1,19 +1,20 @@
 //! The declarations, with tables to find them by name and to number them.
 
-ghost use Rattle.std.specs.Prelude.{◌≡◌, ◌<◌, ◌+◌, ◌++◌, ◌^◌, [], OnOk, IfOk, IfSome, option_map, take};
-ghost use Rattle.syntax.specs.Views.{ident, decl_of};
+ghost use Rattle.std.specs.Prelude.{◌≡◌, ◌<◌, ◌+◌, ◌++◌, ◌^◌, [], OnOk, IfOk, option_map, slice_get, take};
+ghost use Rattle.syntax.specs.Views.{ident, decl_of, struct_of};
 ghost use Rattle.resolution.specs.Scopes.{declared, bears, the_decl, number_at, the_struct};
 ghost use Rattle.source.specs.Mistakes.{least_of};
 ghost use Rattle.resolution.specs.FaultLists.{twice_faults, struct_faults};
 ghost use Rattle.symbols.specs.Found.{IsTableOf, IsTableWith, declared_in, AreAhead};
 ghost use Rattle.symbols.specs.Counted.{count_of, counted, counts_from, no_counts};
-ghost use Rattle.symbols.specs.Views.{decls_of, declared_by, name_seen, structure_of, struct_in, IsStructure, AreStructures, AreDeclarations};
+ghost use Rattle.symbols.specs.Views.{decls_of, name_seen, struct_in, AreStructures};
 
 use crate::members::Structure;
 use crate::names::Names;
 use source::fault::Code;
 use source::mistake::{Mistake, note};
 use std::alloc::{AllocError, Global};
+use std::marker::Model;
 use syntax::tree::{Decl, Name};
 
 /// How many declarations of each kind there are. Those whose name another bears count too.
@@ -41,15 +42,38 @@ pub struct Counts {
 #[derive(Drop)]
 pub struct Declarations<'t> {
     /// The declarations, in the order of the text. A place is an index into them.
-    pub items: &'t [Decl],
+    items: &'t [Decl],
     /// The place of the first declaration of each name.
-    pub names: Names,
+    names: Names,
     /// How many of each kind stand ahead of each declaration, by the declaration's place.
-    pub ahead: Vec<Counts>,
+    ahead: Vec<Counts>,
     /// How many of each kind there are in all.
-    pub all: Counts,
+    all: Counts,
     /// The structs, by number: those among the declarations, in their order.
-    pub structs: Vec<Structure<'t>>,
+    structs: Vec<Structure<'t>>,
+}
+
+// They stand for the declarations as they are written, and the tables are those of these.
+impl<'t> Model for Declarations<'t> {
+    ghost use Rattle.std.specs.Prelude.{List};
+    ghost use Rattle.std.specs.Coded.{codes};
+    ghost use Rattle.syntax.specs.declared.tree.Decl as the_decl;
+    ghost use Rattle.syntax.specs.contracts.tree.Decl as the_contract;
+    ghost use Rattle.resolution.specs.Scopes.{bears};
+    ghost use Rattle.symbols.specs.Found.{IsTableOf, AreAhead};
+    ghost use Rattle.symbols.specs.Counted.{counts_from, no_counts};
+    ghost use Rattle.symbols.specs.Views.{decls_of, AreStructures};
+
+    ghost Value = { List the_decl.Decl };
+
+    ghost coded = { Prim.hlevel (codes, the_contract.the_row.coded) };
+
+    ghost view = { λ d. d.items.now };
+
+    ghost invariant = { λ d.
+        IsTableOf bears (decls_of d.items.now) d.names
+        × AreAhead (counts_from no_counts) (decls_of d.items.now) d.ahead.items d.all
+        × AreStructures (decls_of d.items.now) d.structs.items };
 }
 
 /// The name that is declared.
@@ -205,8 +229,7 @@ impl<'t> Declarations<'t> {
         items: &'t [Decl],
         least: &mut Option<Mistake>,
     ) -> Result<Declarations<'t>, AllocError>
-        ensures items { IfOk result (λ t. t.items.now ≡ items.now) }
-        ensures tables { IfOk result AreDeclarations }
+        ensures items { IfOk result (λ t. t ≡ items.now) }
         ensures faults { OnOk result (least.new ≡ least_of least.old (twice_faults [] (decls_of items.now) ++ struct_faults (decls_of items.now))) }
     {
         let (names, ahead, all) = judge_names(alloc, items, least)?;
@@ -220,10 +243,23 @@ impl<'t> Declarations<'t> {
         })
     }
 
+    /// The declarations, in the order of the text. A place is an index into them.
+    pub fn items(&self) -> &'t [Decl]
+        ensures { result.now ≡ self.now }
+    {
+        self.items
+    }
+
+    /// The declaration at a place.
+    pub(crate) fn decl_at(&self, place: usize) -> Option<&'t Decl>
+        ensures { option_map (λ d. decl_of d.now) result ≡ slice_get (decls_of self.now) place }
+    {
+        self.items.get(place)
+    }
+
     /// The first declaration of the name, with its place, counted from 0. `None` where none bears it.
     pub fn find(&self, name: &str) -> Option<(usize, &'t Decl)>
-        requires { AreDeclarations self.now }
-        ensures { option_map (λ f. (f.0, decl_of f.1.now)) result ≡ the_decl (declared_by self.now) name.now }
+        ensures { option_map (λ f. (f.0, decl_of f.1.now)) result ≡ the_decl (decls_of self.now) name.now }
     {
         let place = self.names.find(name)?;
         let decl = self.items.get(place)?;
@@ -232,8 +268,7 @@ impl<'t> Declarations<'t> {
 
     /// How many of each kind stand ahead of a place.
     fn ahead_of(&self, place: usize) -> Counts
-        requires { AreDeclarations self.now }
-        ensures { result ≡ counts_from no_counts (take place (declared_by self.now)) }
+        ensures { result ≡ counts_from no_counts (take place (decls_of self.now)) }
     {
         match self.ahead.get(place) {
             Some(counts) => *counts,
@@ -244,17 +279,14 @@ impl<'t> Declarations<'t> {
     /// The number of a declaration, of which `place` is the place: how many declarations of its kind stand ahead of it.
     #[tactic(auto, using(crate::proofs::Ahead::counts_none))]
     pub fn number(&self, place: usize, d: &Decl) -> usize
-        requires { AreDeclarations self.now }
-        ensures { result ≡ number_at (declared_by self.now) place (decl_of d.now) }
+        ensures { result ≡ number_at (decls_of self.now) place (decl_of d.now) }
     {
         self.ahead_of(place).of(d)
     }
 
     /// The struct of this number, with its tables. `None` where there are no more structs than that.
     pub fn structure(&self, number: usize) -> Option<&Structure<'t>>
-        requires { AreDeclarations self.now }
-        ensures structure { option_map (λ s. structure_of s.now) result ≡ the_struct (declared_by self.now) number }
-        ensures table { IfSome result (λ s. IsStructure s.now) }
+        ensures { option_map (λ s. struct_of s.now) result ≡ the_struct (decls_of self.now) number }
     {
         self.structs.get(number)
     }
@@ -262,9 +294,7 @@ impl<'t> Declarations<'t> {
     /// The struct that the name means outside of sections, with its tables and its place among the declarations. `None`
     /// where the name means something else or nothing.
     pub fn struct_of(&self, name: &Name) -> Option<(usize, &Structure<'t>)>
-        requires { AreDeclarations self.now }
-        ensures structure { option_map (λ s. (s.0, structure_of s.1.now)) result ≡ struct_in (the_decl (declared_by self.now) (ident name.now).text) }
-        ensures table { IfSome result (λ s. IsStructure s.1.now) }
+        ensures { option_map (λ s. (s.0, struct_of s.1.now)) result ≡ struct_in (the_decl (decls_of self.now) (ident name.now).text) }
     {
         let (place, decl) = self.find(name.text.as_str())?;
         match decl {

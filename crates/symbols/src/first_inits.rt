@@ -1,15 +1,15 @@
 //! What `init`s give the members of pools.
 
-ghost use Rattle.std.specs.Prelude.{◌≡◌, [], OnOk, IfOk, IfSome, option_map, Some, None, if◌then◌else◌};
+ghost use Rattle.std.specs.Prelude.{◌≡◌, [], OnOk, IfOk, option_map, Some, None, if◌then◌else◌};
 ghost use Rattle.std.specs.Option.{option_or};
-ghost use Rattle.syntax.specs.Views.{decl_of, init_of, ident, pool_of, member_of};
+ghost use Rattle.syntax.specs.Views.{decl_of, init_of, ident, pool_of, member_of, struct_of};
 ghost use Rattle.resolution.specs.declared.init_target.InitTarget as the_init_target;
 ghost use Rattle.resolution.specs.Scopes.{the_decl};
 ghost use Rattle.resolution.specs.Constants.{init_target_of, gives, same_init_target, initialised, pool_members};
 ghost use Rattle.source.specs.Mistakes.{least_of};
 ghost use Rattle.resolution.specs.FaultLists.{repeated_faults};
 ghost use Rattle.symbols.specs.Given.{init_target_found, IsInitTargetTable, again_given, repeated_in, pool_in, struct_of_pool};
-ghost use Rattle.symbols.specs.Views.{declared_by, structure_of, members_seen, IsStructure, AreDeclarations};
+ghost use Rattle.symbols.specs.Views.{decls_of, members_seen};
 
 use crate::declarations::Declarations;
 use crate::members::Structure;
@@ -60,8 +60,7 @@ impl FirstInits {
 
 /// The pool that an `init` names, with its place.
 fn pool_at<'a, 't>(decls: &'a Declarations<'t>, i: &Init) -> Option<(usize, &'t Pool)>
-    requires { AreDeclarations decls.now }
-    ensures { option_map (λ f. (f.0, pool_of f.1.now)) result ≡ pool_in (the_decl (declared_by decls.now) (ident i.now.pool).text) }
+    ensures { option_map (λ f. (f.0, pool_of f.1.now)) result ≡ pool_in (the_decl (decls_of decls.now) (ident i.now.pool).text) }
 {
     match decls.find(i.pool.text.as_str()) {
         Some((place, Decl::Pool(pool))) => Some((place, pool)),
@@ -72,10 +71,8 @@ fn pool_at<'a, 't>(decls: &'a Declarations<'t>, i: &Init) -> Option<(usize, &'t 
 /// The struct, with its tables, of the members of the pool that an `init` names. `None` where it names no pool, or the
 /// pool's struct is unknown.
 pub fn structure_given<'a, 't>(decls: &'a Declarations<'t>, i: &Init) -> Option<&'a Structure<'t>>
-    requires { AreDeclarations decls.now }
-    ensures structure { option_map (λ s. structure_of s.now) result ≡ struct_of_pool (declared_by decls.now) (pool_in (the_decl (declared_by decls.now) (ident i.now.pool).text)) }
-    ensures members { option_map (λ s. members_seen s.now) result ≡ pool_members (declared_by decls.now) (the_decl (declared_by decls.now) (ident i.now.pool).text) }
-    ensures table { IfSome result (λ s. IsStructure s.now) }
+    ensures structure { option_map (λ s. struct_of s.now) result ≡ struct_of_pool (decls_of decls.now) (pool_in (the_decl (decls_of decls.now) (ident i.now.pool).text)) }
+    ensures members { option_map (λ s. members_seen s.now) result ≡ pool_members (decls_of decls.now) (the_decl (decls_of decls.now) (ident i.now.pool).text) }
 {
     let (_, pool) = pool_at(decls, i)?;
     let (_, structure) = decls.struct_of(&pool.target)?;
@@ -85,16 +82,14 @@ pub fn structure_given<'a, 't>(decls: &'a Declarations<'t>, i: &Init) -> Option<
 /// The member of the pool's struct that an `init` names, a lock field among them, with its place in the struct. `None`
 /// where the pool, its struct or the member is unknown.
 pub fn initialised<'t>(decls: &Declarations<'t>, i: &Init) -> Option<(usize, &'t Member)>
-    requires { AreDeclarations decls.now }
-    ensures { option_map (λ f. (f.0, member_of f.1.now)) result ≡ initialised (declared_by decls.now) (init_of i.now) }
+    ensures { option_map (λ f. (f.0, member_of f.1.now)) result ≡ initialised (decls_of decls.now) (init_of i.now) }
 {
     structure_given(decls, i)?.find(i.field.text.as_str())
 }
 
 /// What an `init` gives a value to. `None` where it names nothing that can be given one.
 fn init_target_of(decls: &Declarations, i: &Init) -> Option<InitTarget>
-    requires { AreDeclarations decls.now }
-    ensures { result ≡ init_target_of (declared_by decls.now) (init_of i.now) }
+    ensures { result ≡ init_target_of (decls_of decls.now) (init_of i.now) }
 {
     let (place, pool) = pool_at(decls, i)?;
     if i.index.value >= pool.length.value {
@@ -136,9 +131,8 @@ fn judge_decl(
     d: &Decl,
     least: &mut Option<Mistake>,
 ) -> Result<(), AllocError>
-    requires { AreDeclarations decls.now }
-    ensures first_inits { OnOk result ((g : the_init_target.InitTarget) → init_target_found first_inits.new g ≡ option_or (init_target_found first_inits.old g) (if gives (declared_by decls.now) (decl_of d.now) g then Some place else None)) }
-    ensures faults { OnOk result (least.new ≡ least_of least.old (repeated_in first_inits.old (declared_by decls.now) (decl_of d.now))) }
+    ensures first_inits { OnOk result ((g : the_init_target.InitTarget) → init_target_found first_inits.new g ≡ option_or (init_target_found first_inits.old g) (if gives (decls_of decls.now) (decl_of d.now) g then Some place else None)) }
+    ensures faults { OnOk result (least.new ≡ least_of least.old (repeated_in first_inits.old (decls_of decls.now) (decl_of d.now))) }
 {
     if let Decl::Init(i) = d {
         let init_target = init_target_of(decls, i);
@@ -157,12 +151,12 @@ pub(crate) fn judge_first_inits(
     decls: &Declarations,
     least: &mut Option<Mistake>,
 ) -> Result<FirstInits, AllocError>
-    requires { AreDeclarations decls.now }
-    ensures first_inits { IfOk result (λ t. IsInitTargetTable (declared_by decls.now) (declared_by decls.now) t) }
-    ensures faults { OnOk result (least.new ≡ least_of least.old (repeated_faults (declared_by decls.now) [] (declared_by decls.now))) }
+    ensures first_inits { IfOk result (λ t. IsInitTargetTable (decls_of decls.now) (decls_of decls.now) t) }
+    ensures faults { OnOk result (least.new ≡ least_of least.old (repeated_faults (decls_of decls.now) [] (decls_of decls.now))) }
 {
     let mut first_inits = FirstInits::new(alloc);
-    for (place, d) in decls.items.iter().enumerate() {
+    let items = decls.items();
+    for (place, d) in items.iter().enumerate() {
         judge_decl(decls, &mut first_inits, place, d, least)?;
     }
     Ok(first_inits)

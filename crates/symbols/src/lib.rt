@@ -2,7 +2,7 @@
 //! and how much stands ahead of each declaration, what `init`s give, and the locals of a section so far. And the least
 //! fault of names and types so far, which goes from part to part.
 //!
-//! - [`table::Program`]: the declarations with all their tables, and the faults that these show: names declared twice,
+//! - [`table::SymbolTable`]: the declarations with all their tables, and the faults that these show: names declared twice,
 //!   too many of something, a repeated `init`.
 //! - [`declarations::Declarations`], [`members::Structure`], [`first_inits::FirstInits`], [`totals::Totals`], [`names::Names`]:
 //!   the tables.
@@ -10,7 +10,7 @@
 //! - [`annotation`]: which lock protects a global, an array or a field.
 //! - [`note::note_if`]: notes a fault where there is one.
 //!
-//! Which data a value of the tables is stands in `specs/Views.antt`, `Found.antt`, `Programs.antt`, `Scoped.antt` and
+//! Which data a value of the tables is stands in `specs/Views.antt`, `Found.antt`, `Scoped.antt` and
 //! `AnnotationCursors.antt`; how sums past a limit are capped in `Capped.antt`. What names mean and where faults stand is
 //! defined in `resolution`.
 #![tactic(auto)]

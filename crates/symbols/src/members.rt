@@ -3,17 +3,19 @@
 ghost use Rattle.std.specs.Prelude.{◌≡◌, ◌<◌, ◌+◌, ◌^◌, [], OnOk, IfOk, option_map, not, take};
 ghost use Rattle.syntax.specs.Views.{ident, member_of, struct_of};
 ghost use Rattle.source.specs.declared.fault.Code.TheVariants.{DeclaredTwice};
-ghost use Rattle.resolution.specs.Scopes.{member_name, member_bears, the_member, number_in};
+ghost use Rattle.resolution.specs.Scopes.{member_name, member_bears, place_of, the_member, number_in};
+ghost use Rattle.resolution.specs.Numbers.{fields_from};
 ghost use Rattle.resolution.specs.Expressions.{member_number};
 ghost use Rattle.source.specs.Mistakes.{least_of};
 ghost use Rattle.resolution.specs.FaultLists.{one_if, member_twice_faults};
 ghost use Rattle.symbols.specs.Counted.{member_count, member_counted, member_counts_from, no_members, field_if};
-ghost use Rattle.symbols.specs.Views.{structure_of, members_seen, IsStructure};
+ghost use Rattle.symbols.specs.Views.{members_seen};
 
 use crate::names::Names;
 use source::fault::Code;
 use source::mistake::{Mistake, note};
 use std::alloc::{AllocError, Global};
+use std::marker::Model;
 use syntax::tree::{Member, Name, Struct};
 
 /// How many members a struct may have.
@@ -34,15 +36,35 @@ pub struct MemberCounts {
 #[derive(Drop)]
 pub struct Structure<'t> {
     /// The struct as it is declared.
-    pub item: &'t Struct,
+    item: &'t Struct,
     /// The place of the first member of each name.
-    pub names: Names,
+    names: Names,
     /// How many of each kind stand ahead of each member, by the member's place.
-    pub ahead: Vec<MemberCounts>,
+    ahead: Vec<MemberCounts>,
     /// How many of each kind there are in all.
-    pub all: MemberCounts,
+    all: MemberCounts,
     /// How many fields that are neither locks nor final have a name of their own.
-    pub width: usize,
+    width: usize,
+}
+
+// It stands for the struct as it is declared, and the tables are those of its members.
+impl<'t> Model for Structure<'t> {
+    ghost use Rattle.std.specs.Prelude.{◌≡◌, []};
+    ghost use Rattle.syntax.specs.declared.tree.Struct as the_struct;
+    ghost use Rattle.resolution.specs.Scopes.{member_bears};
+    ghost use Rattle.resolution.specs.Numbers.{fields_from};
+    ghost use Rattle.symbols.specs.Found.{IsTableOf, AreAhead};
+    ghost use Rattle.symbols.specs.Counted.{member_counts_from, no_members};
+    ghost use Rattle.symbols.specs.Views.{members_seen};
+
+    ghost Value = { the_struct.Struct };
+
+    ghost view = { λ s. s.item.now };
+
+    ghost invariant = { λ s.
+        IsTableOf member_bears (members_seen s.item.now) s.names
+        × AreAhead (member_counts_from no_members) (members_seen s.item.now) s.ahead.items s.all
+        × (s.width ≡ fields_from [] (members_seen s.item.now)) };
 }
 
 /// The name of a member.
@@ -119,8 +141,7 @@ impl<'t> Structure<'t> {
         item: &'t Struct,
         least: &mut Option<Mistake>,
     ) -> Result<Structure<'t>, AllocError>
-        ensures item { IfOk result (λ s. structure_of s ≡ struct_of item.now) }
-        ensures table { IfOk result IsStructure }
+        ensures item { IfOk result (λ s. s ≡ item.now) }
         ensures faults { OnOk result (least.new ≡ least_of least.old (member_twice_faults [] (struct_of item.now).members)) }
     {
         let mut names = Names::new(alloc);
@@ -146,9 +167,29 @@ impl<'t> Structure<'t> {
         })
     }
 
+    /// The struct as it is declared.
+    pub fn item(&self) -> &'t Struct
+        ensures { result.now ≡ self.now }
+    {
+        self.item
+    }
+
+    /// How many fields that are neither locks nor final have a name of their own.
+    pub(crate) fn width(&self) -> usize
+        ensures { result ≡ fields_from [] (members_seen self.now) }
+    {
+        self.width
+    }
+
+    /// The place of the first member of the name, counted from 0. `None` where none bears it.
+    pub fn place_of(&self, name: &str) -> Option<usize>
+        ensures { result ≡ place_of member_bears (members_seen self.now) name.now }
+    {
+        self.names.find(name)
+    }
+
     /// The first member of the name, with its place among the members, counted from 0. `None` where none bears it.
     pub fn find(&self, name: &str) -> Option<(usize, &'t Member)>
-        requires { IsStructure self.now }
         ensures { option_map (λ f. (f.0, member_of f.1.now)) result ≡ the_member (members_seen self.now) name.now }
     {
         let place = self.names.find(name)?;
@@ -158,7 +199,6 @@ impl<'t> Structure<'t> {
 
     /// How many of each kind stand ahead of a place.
     fn ahead_of(&self, place: usize) -> MemberCounts
-        requires { IsStructure self.now }
         ensures { result ≡ member_counts_from no_members (take place (members_seen self.now)) }
     {
         match self.ahead.get(place) {
@@ -170,7 +210,6 @@ impl<'t> Structure<'t> {
     /// The number of a member, of which `place` is the place: how many members of its kind stand ahead of it.
     #[tactic(auto, using(crate::proofs::Ahead::member_counts_none))]
     pub fn number(&self, place: usize, m: &Member) -> usize
-        requires { IsStructure self.now }
         ensures { result ≡ number_in (members_seen self.now) place (member_of m.now) }
     {
         self.ahead_of(place).of(m)
@@ -179,7 +218,6 @@ impl<'t> Structure<'t> {
     /// The number by which paths name a member, of which `place` is the place: how many members of its kind stand ahead
     /// of it, and 32, the limit of members, where there are more.
     pub fn step(&self, place: usize, m: &Member) -> u32
-        requires { IsStructure self.now }
         ensures { result ≡ member_number (members_seen self.now) place (member_of m.now) }
     {
         self.number(place, m).min(MEMBER_LIMIT) as u32

@@ -1,23 +1,24 @@
 //! What names mean, and the types that are written.
 
-ghost use Rattle.std.specs.Prelude.{◌≡◌, [], List, OnOk};
+ghost use Rattle.std.specs.Prelude.{◌≡◌, [], List, OnOk, length, option_map};
 ghost use Rattle.syntax.specs.Views.{ident, member_of, type_of as type_seen};
 ghost use Rattle.syntax.specs.Trees as trees;
 ghost use Rattle.syntax.specs.Trees.{ref_type};
-ghost use Rattle.resolution.specs.Scopes.{meaning, outside, bound, hidden_from, struct_meant, struct_named, type_of, has_type, member_has_type};
+ghost use Rattle.resolution.specs.Scopes.{meaning, outside, bound, hidden_from, struct_meant, struct_named, type_of, has_type, member_has_type, the_local};
 ghost use Rattle.source.specs.Mistakes.{least_of};
 ghost use Rattle.resolution.specs.FaultLists.{no_struct, type_faults, unfit, unfit_member};
-ghost use Rattle.symbols.specs.Views.{declared_by, AreDeclarations};
-ghost use Rattle.symbols.specs.Scoped.{locals_seen, scope_of, AreLocals, meaning_of};
+ghost use Rattle.symbols.specs.Views.{decls_of};
+ghost use Rattle.symbols.specs.Scoped.{locals_seen, local_seen, scope_of, meaning_of};
 
-use crate::declarations::Declarations;
 use crate::names::Names;
 use crate::note::note_if;
+use crate::table::SymbolTable;
 use core_lang::tree::LocalKind;
 use core_lang::value::ValueType;
 use source::fault::Code;
 use source::mistake::{Mistake, note};
 use std::alloc::{AllocError, Global};
+use std::marker::Model;
 use syntax::tree;
 use syntax::tree::{Decl, Member, Name};
 
@@ -38,11 +39,24 @@ pub struct Local {
 #[derive(Drop)]
 pub struct Locals {
     /// The number of the first local of each name.
-    pub names: Names,
+    names: Names,
     /// The locals, by number: parameters first, then the others in the order of the text.
-    pub items: Vec<Local>,
+    items: Vec<Local>,
     /// The type of the result. `None` where there is no result, or its type names no struct.
-    pub result: Option<ValueType>,
+    result: Option<ValueType>,
+}
+
+// They stand for the locals and the type, and the table is that of the locals.
+impl Model for Locals {
+    ghost use Rattle.resolution.specs.Scopes.{local_bears};
+    ghost use Rattle.symbols.specs.Found.{IsTableOf};
+    ghost use Rattle.symbols.specs.Scoped.{KnownLocals, locals_seen};
+
+    ghost Value = { KnownLocals };
+
+    ghost view = { λ ls. record { locals = locals_seen ls.items.items; result = ls.result } };
+
+    ghost invariant = { λ ls. IsTableOf local_bears (locals_seen ls.items.items) ls.names };
 }
 
 /// What a name means.
@@ -59,9 +73,8 @@ pub enum Meaning<'a> {
 impl Locals {
     /// No locals, in a section whose result has this type.
     pub fn new(alloc: Global, result_type: Option<ValueType>) -> Locals
-        ensures none { locals_seen result ≡ [] }
+        ensures none { result.locals ≡ [] }
         ensures result_type { result.result ≡ result_type }
-        ensures table { AreLocals result }
     {
         Locals {
             names: Names::new(alloc),
@@ -70,7 +83,38 @@ impl Locals {
         }
     }
 
-    /// Adds a local behind the others, in scope from here on. The one error is a refused growth.
+    /// The type of the section's result. `None` where there is no result, or its type names no struct.
+    pub fn result(&self) -> Option<ValueType>
+        ensures { result ≡ self.now.result }
+    {
+        self.result
+    }
+
+    /// The locals, by number: parameters first, then the others in the order of the text.
+    pub fn items(&self) -> &[Local]
+        ensures { locals_seen result.now ≡ self.now.locals }
+    {
+        &self.items
+    }
+
+    /// How many locals there are, those that are no longer in scope among them.
+    pub fn len(&self) -> usize
+        ensures { result ≡ length self.now.locals }
+    {
+        self.items.len()
+    }
+
+    /// The first local of the name, with its number. `None` where none bears it.
+    pub fn find(&self, name: &str) -> Option<(usize, &Local)>
+        ensures { option_map (λ f. (f.0, local_seen f.1.now)) result ≡ the_local self.now.locals name.now }
+    {
+        let place = self.names.find(name)?;
+        let local = self.items.get(place)?;
+        Some((place, local))
+    }
+
+    /// Adds a local behind the others, in scope from here on. The one error is a refused growth, behind which no locals
+    /// are kept.
     pub fn bind(
         &mut self,
         alloc: Global,
@@ -78,26 +122,30 @@ impl Locals {
         kind: LocalKind,
         value_type: Option<ValueType>,
     ) -> Result<(), AllocError>
-        requires { AreLocals self.old }
-        ensures bound { OnOk result ((decls : List trees.Decl) → scope_of decls self.new ≡ bound (scope_of decls self.old) kind (ident name.now) value_type) }
-        ensures table { OnOk result (AreLocals self.new) }
+        ensures { OnOk result ((decls : List trees.Decl) → scope_of decls self.new ≡ bound (scope_of decls self.old) kind (ident name.now) value_type) }
     {
-        self.names.add(alloc, &name.text, self.items.len())?;
-        self.items.push(Local {
+        let local = Local {
             name: String::from_str(alloc, name.text.as_str())?,
             kind,
             value_type,
             is_visible: true,
-        })?;
+        };
+        // Where the table may have got the name of a local that isn't there, none is kept.
+        if let Err(e) = self.names.add(alloc, &name.text, self.items.len()) {
+            *self = Locals::new(alloc, None);
+            return Err(e);
+        }
+        if let Err(e) = self.items.push(local) {
+            *self = Locals::new(alloc, None);
+            return Err(e.into());
+        }
         Ok(())
     }
 
     /// Leaves a block: the locals from a number on are no longer in scope.
     pub fn hide_from(&mut self, place: usize)
-        requires { AreLocals self.old }
-        ensures hidden { locals_seen self.new ≡ hidden_from place (locals_seen self.old) }
+        ensures hidden { self.new.locals ≡ hidden_from place self.old.locals }
         ensures result_type { self.new.result ≡ self.old.result }
-        ensures table { AreLocals self.new }
     {
         for i in place..self.items.len() {
             self.items[i].is_visible = false;
@@ -106,40 +154,34 @@ impl Locals {
 }
 
 /// What a name means outside of sections.
-fn meaning_outside<'a>(decls: &'a Declarations, name: &Name) -> Meaning<'a>
-    requires { AreDeclarations decls.now }
-    ensures { meaning_of result ≡ meaning (outside (declared_by decls.now)) (ident name.now).text }
+fn meaning_outside<'a>(symbols: &'a SymbolTable, name: &Name) -> Meaning<'a>
+    ensures { meaning_of result ≡ meaning (outside (decls_of symbols.now)) (ident name.now).text }
 {
-    match decls.find(name.text.as_str()) {
+    match symbols.find(name.text.as_str()) {
         Some((place, decl)) => Meaning::Decl(place, decl),
         None => Meaning::Nothing,
     }
 }
 
 /// What a name means in a section: the first local of the name if that is in scope, else what it means outside.
-pub fn meaning_at<'a>(decls: &'a Declarations, locals: &'a Locals, name: &Name) -> Meaning<'a>
-    requires decls { AreDeclarations decls.now }
-    requires locals { AreLocals locals.now }
-    ensures { meaning_of result ≡ meaning (scope_of (declared_by decls.now) locals.now) (ident name.now).text }
+pub fn meaning_at<'a>(symbols: &'a SymbolTable, locals: &'a Locals, name: &Name) -> Meaning<'a>
+    ensures { meaning_of result ≡ meaning (scope_of (decls_of symbols.now) locals.now) (ident name.now).text }
 {
-    if let Some(place) = locals.names.find(name.text.as_str()) {
-        if let Some(local) = locals.items.get(place) {
-            if local.is_visible {
-                return Meaning::Local(place, local);
-            }
+    if let Some((place, local)) = locals.find(name.text.as_str()) {
+        if local.is_visible {
+            return Meaning::Local(place, local);
         }
     }
-    meaning_outside(decls, name)
+    meaning_outside(symbols, name)
 }
 
 /// The number of the struct that is meant.
-fn struct_meant(decls: &Declarations, m: Meaning) -> Option<usize>
-    requires { AreDeclarations decls.now }
-    ensures { result ≡ struct_meant (declared_by decls.now) (meaning_of m.entry) }
+fn struct_meant(symbols: &SymbolTable, m: Meaning) -> Option<usize>
+    ensures { result ≡ struct_meant (decls_of symbols.now) (meaning_of m.entry) }
 {
     match m {
         Meaning::Decl(place, d) => match d {
-            Decl::Struct(_) => Some(decls.number(place, d)),
+            Decl::Struct(_) => Some(symbols.number(place, d)),
             _ => None,
         },
         Meaning::Local(_, _) | Meaning::Nothing => None,
@@ -147,21 +189,19 @@ fn struct_meant(decls: &Declarations, m: Meaning) -> Option<usize>
 }
 
 /// The number of the struct that a declaration names. `None` where the name means no struct.
-pub fn struct_named(decls: &Declarations, name: &Name) -> Option<usize>
-    requires { AreDeclarations decls.now }
-    ensures { result ≡ struct_named (declared_by decls.now) (ident name.now) }
+pub fn struct_named(symbols: &SymbolTable, name: &Name) -> Option<usize>
+    ensures { result ≡ struct_named (decls_of symbols.now) (ident name.now) }
 {
-    struct_meant(decls, meaning_outside(decls, name))
+    struct_meant(symbols, meaning_outside(symbols, name))
 }
 
 /// The type that is written in a declaration. `None` where it names no struct.
-pub fn type_outside(decls: &Declarations, t: &tree::ValueType) -> Option<ValueType>
-    requires { AreDeclarations decls.now }
-    ensures { result ≡ type_of (outside (declared_by decls.now)) (type_seen t.now) }
+pub fn type_outside(symbols: &SymbolTable, t: &tree::ValueType) -> Option<ValueType>
+    ensures { result ≡ type_of (outside (decls_of symbols.now)) (type_seen t.now) }
 {
     match t {
         tree::ValueType::Int => Some(ValueType::Integer),
-        tree::ValueType::Ref(name) => match struct_named(decls, name) {
+        tree::ValueType::Ref(name) => match struct_named(symbols, name) {
             Some(number) => Some(ValueType::Reference(number)),
             None => None,
         },
@@ -169,72 +209,69 @@ pub fn type_outside(decls: &Declarations, t: &tree::ValueType) -> Option<ValueTy
 }
 
 /// The type that is written at a local. `None` where it names no struct: a local in scope can hide a struct's name.
-pub fn type_at(decls: &Declarations, locals: &Locals, t: &tree::ValueType) -> Option<ValueType>
-    requires decls { AreDeclarations decls.now }
-    requires locals { AreLocals locals.now }
-    ensures { result ≡ type_of (scope_of (declared_by decls.now) locals.now) (type_seen t.now) }
+pub fn type_at(symbols: &SymbolTable, locals: &Locals, t: &tree::ValueType) -> Option<ValueType>
+    ensures { result ≡ type_of (scope_of (decls_of symbols.now) locals.now) (type_seen t.now) }
 {
     match t {
         tree::ValueType::Int => Some(ValueType::Integer),
-        tree::ValueType::Ref(name) => match struct_meant(decls, meaning_at(decls, locals, name)) {
-            Some(number) => Some(ValueType::Reference(number)),
-            None => None,
-        },
+        tree::ValueType::Ref(name) => {
+            let meant = meaning_at(symbols, locals, name);
+            match struct_meant(symbols, meant) {
+                Some(number) => Some(ValueType::Reference(number)),
+                None => None,
+            }
+        }
     }
 }
 
 /// Whether what is meant has no fault in its type.
-fn has_type(decls: &Declarations, m: Meaning) -> bool
-    requires { AreDeclarations decls.now }
-    ensures { result ≡ has_type (declared_by decls.now) (meaning_of m.entry) }
+fn has_type(symbols: &SymbolTable, m: Meaning) -> bool
+    ensures { result ≡ has_type (decls_of symbols.now) (meaning_of m.entry) }
 {
     match m {
         Meaning::Local(_, local) => local.value_type.is_some(),
-        Meaning::Decl(_, Decl::Global(v)) => type_outside(decls, &v.value_type).is_some(),
-        Meaning::Decl(_, Decl::Array(a)) => type_outside(decls, &a.value_type).is_some(),
-        Meaning::Decl(_, Decl::Pool(p)) => struct_named(decls, &p.target).is_some(),
+        Meaning::Decl(_, Decl::Global(v)) => type_outside(symbols, &v.value_type).is_some(),
+        Meaning::Decl(_, Decl::Array(a)) => type_outside(symbols, &a.value_type).is_some(),
+        Meaning::Decl(_, Decl::Pool(p)) => struct_named(symbols, &p.target).is_some(),
         Meaning::Decl(_, _) | Meaning::Nothing => true,
     }
 }
 
 /// Notes at `start` the fault of a thing that can't stand there, unless its type has a fault.
 pub fn note_unfit(
-    decls: &Declarations,
+    symbols: &SymbolTable,
     code: Code,
     start: usize,
     m: Meaning,
     least: &mut Option<Mistake>,
 )
-    requires { AreDeclarations decls.now }
-    ensures { least.new ≡ least_of least.old (unfit (declared_by decls.now) code start (meaning_of m.entry)) }
+    ensures { least.new ≡ least_of least.old (unfit (decls_of symbols.now) code start (meaning_of m.entry)) }
 {
-    note_if(has_type(decls, m), code, start, least);
+    note_if(has_type(symbols, m), code, start, least);
 }
 
 /// Whether a member has no fault in its type.
-fn member_has_type(decls: &Declarations, m: &Member) -> bool
-    requires { AreDeclarations decls.now }
-    ensures { result ≡ member_has_type (declared_by decls.now) (member_of m.now) }
+fn member_has_type(symbols: &SymbolTable, m: &Member) -> bool
+    ensures { result ≡ member_has_type (decls_of symbols.now) (member_of m.now) }
 {
     match m {
         Member::Lock(_) => true,
-        Member::Final(f) => struct_named(decls, &f.target).is_some(),
-        Member::Field(f) => type_outside(decls, &f.value_type).is_some(),
+        Member::Final(f) => struct_named(symbols, &f.target).is_some(),
+        Member::Field(f) => type_outside(symbols, &f.value_type).is_some(),
     }
 }
 
 /// Notes at `start` the fault of a member that can't stand there, unless its type has a fault.
 pub(crate) fn note_unfit_member(
-    decls: &Declarations,
+    symbols: &SymbolTable,
     code: Code,
     start: usize,
     m: &Member,
     least: &mut Option<Mistake>,
 )
-    requires { AreDeclarations decls.now }
-    ensures { least.new ≡ least_of least.old (unfit_member (declared_by decls.now) code start (member_of m.now)) }
+    ensures { least.new ≡ least_of least.old (unfit_member (decls_of symbols.now) code start (member_of m.now)) }
 {
-    note_if(member_has_type(decls, m), code, start, least);
+    note_if(member_has_type(symbols, m), code, start, least);
 }
 
 /// Notes a type's name that names no struct.
@@ -249,39 +286,36 @@ fn note_no_struct(start: usize, m: Meaning, least: &mut Option<Mistake>)
 }
 
 /// Notes what is wrong with the name of a struct in a declaration: it is unknown, or means no struct.
-pub fn note_target(decls: &Declarations, name: &Name, least: &mut Option<Mistake>)
-    requires { AreDeclarations decls.now }
-    ensures { least.new ≡ least_of least.old (type_faults (outside (declared_by decls.now)) (ref_type (ident name.now))) }
+pub fn note_target(symbols: &SymbolTable, name: &Name, least: &mut Option<Mistake>)
+    ensures { least.new ≡ least_of least.old (type_faults (outside (decls_of symbols.now)) (ref_type (ident name.now))) }
 {
-    note_no_struct(name.start as usize, meaning_outside(decls, name), least);
+    note_no_struct(name.start as usize, meaning_outside(symbols, name), least);
 }
 
 /// Notes what is wrong with a declaration's type: the struct that it refers to is unknown, or is none.
-pub fn note_type(decls: &Declarations, t: &tree::ValueType, least: &mut Option<Mistake>)
-    requires { AreDeclarations decls.now }
-    ensures { least.new ≡ least_of least.old (type_faults (outside (declared_by decls.now)) (type_seen t.now)) }
+pub fn note_type(symbols: &SymbolTable, t: &tree::ValueType, least: &mut Option<Mistake>)
+    ensures { least.new ≡ least_of least.old (type_faults (outside (decls_of symbols.now)) (type_seen t.now)) }
 {
     match t {
         tree::ValueType::Int => {}
-        tree::ValueType::Ref(name) => note_target(decls, name, least),
+        tree::ValueType::Ref(name) => note_target(symbols, name, least),
     }
 }
 
 /// Notes what is wrong with a local's type: the struct that it refers to is unknown there, or is none.
 pub fn note_local_type(
-    decls: &Declarations,
+    symbols: &SymbolTable,
     locals: &Locals,
     t: &tree::ValueType,
     least: &mut Option<Mistake>,
 )
-    requires decls { AreDeclarations decls.now }
-    requires locals { AreLocals locals.now }
-    ensures { least.new ≡ least_of least.old (type_faults (scope_of (declared_by decls.now) locals.now) (type_seen t.now)) }
+    ensures { least.new ≡ least_of least.old (type_faults (scope_of (decls_of symbols.now) locals.now) (type_seen t.now)) }
 {
     match t {
         tree::ValueType::Int => {}
         tree::ValueType::Ref(name) => {
-            note_no_struct(name.start as usize, meaning_at(decls, locals, name), least);
+            let meant = meaning_at(symbols, locals, name);
+            note_no_struct(name.start as usize, meant, least);
         }
     }
 }

@@ -10,7 +10,7 @@ ghost use Rattle.source.specs.Mistakes.{least_of};
 ghost use Rattle.resolution.specs.FaultLists.{one_if, first_too_many, lock_count, member_counts, total_faults};
 ghost use Rattle.symbols.specs.Found.{AreAhead};
 ghost use Rattle.symbols.specs.Capped.{capped, totals_of, no_totals, added_by, both_totals, AreCapped, faults_by};
-ghost use Rattle.symbols.specs.Views.{declared_by, AreDeclarations};
+ghost use Rattle.symbols.specs.Views.{decls_of};
 
 use crate::declarations::Declarations;
 use crate::members::{MEMBER_LIMIT, name_of};
@@ -124,11 +124,10 @@ fn calls_of_items(items: &[Item]) -> usize
 
 /// The cells of a pool.
 fn cells_of_pool(decls: &Declarations, p: &Pool) -> usize
-    requires { AreDeclarations decls.now }
-    ensures { result ≡ capped CELL_LIMIT (cells_of (declared_by decls.now) (pool (pool_of p.now))) }
+    ensures { result ≡ capped CELL_LIMIT (cells_of (decls_of decls.now) (pool (pool_of p.now))) }
 {
     match decls.struct_of(&p.target) {
-        Some((_, structure)) => times(CELL_LIMIT, p.length.value, structure.width),
+        Some((_, structure)) => times(CELL_LIMIT, p.length.value, structure.width()),
         None => 0,
     }
 }
@@ -148,8 +147,7 @@ impl Totals {
 
     /// How much a declaration adds.
     fn of(decls: &Declarations, d: &Decl) -> Totals
-        requires { AreDeclarations decls.now }
-        ensures { result ≡ added_by (declared_by decls.now) (decl_of d.now) }
+        ensures { result ≡ added_by (decls_of decls.now) (decl_of d.now) }
     {
         let mut totals = Totals::none();
         match d {
@@ -273,13 +271,13 @@ pub(crate) fn judge_totals(
     decls: &Declarations,
     least: &mut Option<Mistake>,
 ) -> Result<(Vec<Totals>, Totals), AllocError>
-    requires { AreDeclarations decls.now }
-    ensures totals { IfOk result (λ t. AreAhead (totals_of (declared_by decls.now)) (declared_by decls.now) t.0.items t.1) }
-    ensures faults { OnOk result (least.new ≡ least_of least.old (total_faults (declared_by decls.now) [] (declared_by decls.now))) }
+    ensures totals { IfOk result (λ t. AreAhead (totals_of (decls_of decls.now)) (decls_of decls.now) t.0.items t.1) }
+    ensures faults { OnOk result (least.new ≡ least_of least.old (total_faults (decls_of decls.now) [] (decls_of decls.now))) }
 {
     let mut ahead = Vec::new(alloc);
     let mut totals = Totals::none();
-    for (place, d) in decls.items.iter().enumerate() {
+    let items = decls.items();
+    for (place, d) in items.iter().enumerate() {
         let own = Totals::of(decls, d);
         note_decl(decls.number(place, d), totals, own, d, least);
         ahead.push(totals)?;

@@ -8,7 +8,7 @@ ghost use Rattle.resolution.specs.Faults.{const_start};
 ghost use Rattle.source.specs.Mistakes.{least_of};
 ghost use Rattle.resolution.specs.FaultLists.{index_faults, own_faults, sort_misfit, const_faults, argument_faults, opening_faults};
 ghost use Rattle.sections.specs.Parts.{pushed};
-ghost use Rattle.symbols.specs.{declared_by, AreDeclarations, program_of, IsProgram};
+ghost use Rattle.symbols.specs.{decls_of};
 
 use core_lang::value::{Value, ValueType};
 use resolution::wanted::{Sort, Want};
@@ -17,16 +17,14 @@ use source::fault::Code;
 use source::mistake::{Mistake, note};
 use source::token::Number;
 use std::alloc::{AllocError, Global};
-use symbols::declarations::Declarations;
 use symbols::note::note_if;
 use symbols::scope::{Meaning, note_unfit, struct_named, type_outside};
-use symbols::table::Program;
+use symbols::table::SymbolTable;
 use syntax::tree::{Const, Decl, Name, Param};
 
 /// What a constant is, if it has a type.
-fn const_sort(decls: &Declarations, c: &Const) -> Option<Sort>
-    requires { AreDeclarations decls.now }
-    ensures { result ≡ const_sort (declared_by decls.now) (const_of c.now) }
+fn const_sort(symbols: &SymbolTable, c: &Const) -> Option<Sort>
+    ensures { result ≡ const_sort (decls_of symbols.now) (const_of c.now) }
 {
     match c {
         Const::Int(n) | Const::Negative(_, n) => match number(*n) {
@@ -34,17 +32,16 @@ fn const_sort(decls: &Declarations, c: &Const) -> Option<Sort>
             None => None,
         },
         Const::Null(_) => Some(Sort::Null),
-        Const::Member(name, _) => member_sort(decls, name),
+        Const::Member(name, _) => member_sort(symbols, name),
     }
 }
 
 /// What a member of a pool is, if its struct has no fault.
-fn member_sort(decls: &Declarations, name: &Name) -> Option<Sort>
-    requires { AreDeclarations decls.now }
-    ensures { result ≡ member_sort (declared_by decls.now) (the_decl (declared_by decls.now) (ident name.now).text) }
+fn member_sort(symbols: &SymbolTable, name: &Name) -> Option<Sort>
+    ensures { result ≡ member_sort (decls_of symbols.now) (the_decl (decls_of symbols.now) (ident name.now).text) }
 {
-    match decls.find(name.text.as_str()) {
-        Some((_, Decl::Pool(pool))) => match struct_named(decls, &pool.target) {
+    match symbols.find(name.text.as_str()) {
+        Some((_, Decl::Pool(pool))) => match struct_named(symbols, &pool.target) {
             Some(number) => Some(Sort::Of(ValueType::Reference(number))),
             None => None,
         },
@@ -53,14 +50,13 @@ fn member_sort(decls: &Declarations, name: &Name) -> Option<Sort>
 }
 
 /// The member of a pool with this index.
-fn member_of(program: &Program, name: &Name, index: u64) -> Option<Value>
-    requires { IsProgram program.now }
-    ensures { result ≡ member_of (program_of program.now) (the_decl (program_of program.now) (ident name.now).text) index }
+fn member_of(symbols: &SymbolTable, name: &Name, index: u64) -> Option<Value>
+    ensures { result ≡ member_of (decls_of symbols.now) (the_decl (decls_of symbols.now) (ident name.now).text) index }
 {
-    match program.decls.find(name.text.as_str()) {
+    match symbols.find(name.text.as_str()) {
         Some((place, Decl::Pool(pool))) => {
             if index < pool.length.value {
-                Some(Value::Ref(Some(program.object(place, index))))
+                Some(Value::Ref(Some(symbols.object(place, index))))
             } else {
                 None
             }
@@ -70,9 +66,8 @@ fn member_of(program: &Program, name: &Name, index: u64) -> Option<Value>
 }
 
 /// The value of a constant.
-fn const_value(program: &Program, c: &Const) -> Option<Value>
-    requires { IsProgram program.now }
-    ensures { result ≡ const_value (program_of program.now) (const_of c.now) }
+fn const_value(symbols: &SymbolTable, c: &Const) -> Option<Value>
+    ensures { result ≡ const_value (decls_of symbols.now) (const_of c.now) }
 {
     match c {
         Const::Int(n) => match number(*n) {
@@ -84,19 +79,18 @@ fn const_value(program: &Program, c: &Const) -> Option<Value>
             None => None,
         },
         Const::Null(_) => Some(Value::Ref(None)),
-        Const::Member(name, n) => member_of(program, name, n.value),
+        Const::Member(name, n) => member_of(symbols, name, n.value),
     }
 }
 
 /// The value of a constant, if it is what is wanted.
-pub fn typed_const(program: &Program, w: Want, c: &Const) -> Option<Value>
-    requires { IsProgram program.now }
-    ensures { result ≡ typed_const (program_of program.now) w (const_of c.now) }
+pub fn typed_const(symbols: &SymbolTable, w: Want, c: &Const) -> Option<Value>
+    ensures { result ≡ typed_const (decls_of symbols.now) w (const_of c.now) }
 {
-    match const_sort(&program.decls, c) {
+    match const_sort(symbols, c) {
         Some(sort) => {
             if fits_sort(w, sort) {
-                const_value(program, c)
+                const_value(symbols, c)
             } else {
                 None
             }
@@ -106,12 +100,11 @@ pub fn typed_const(program: &Program, w: Want, c: &Const) -> Option<Value>
 }
 
 /// The value that a thing of the type opens with.
-pub fn opened(program: &Program, t: ValueType, c: Option<&Const>) -> Option<Value>
-    requires { IsProgram program.now }
-    ensures { result ≡ opened (program_of program.now) t (option_map (λ x. const_of x.now) c.entry) }
+pub fn opened(symbols: &SymbolTable, t: ValueType, c: Option<&Const>) -> Option<Value>
+    ensures { result ≡ opened (decls_of symbols.now) t (option_map (λ x. const_of x.now) c.entry) }
 {
     match c {
-        Some(c) => typed_const(program, Want::Value(t), c),
+        Some(c) => typed_const(symbols, Want::Value(t), c),
         None => Some(default_of(t)),
     }
 }
@@ -127,15 +120,14 @@ pub fn default_of(t: ValueType) -> Value
 }
 
 /// Notes what is wrong with a pool's name and an index behind it.
-pub fn note_index(decls: &Declarations, name: &Name, n: Number, least: &mut Option<Mistake>)
-    requires { AreDeclarations decls.now }
-    ensures { least.new ≡ least_of least.old (index_faults (declared_by decls.now) (ident name.now).span.start (the_decl (declared_by decls.now) (ident name.now).text) n) }
+pub fn note_index(symbols: &SymbolTable, name: &Name, n: Number, least: &mut Option<Mistake>)
+    ensures { least.new ≡ least_of least.old (index_faults (decls_of symbols.now) (ident name.now).span.start (the_decl (decls_of symbols.now) (ident name.now).text) n) }
 {
     let start = name.start as usize;
-    match decls.find(name.text.as_str()) {
+    match symbols.find(name.text.as_str()) {
         None => note(least, Code::UnknownName, start),
         Some((_, Decl::Pool(pool))) => {
-            let is_out = struct_named(decls, &pool.target).is_some()
+            let is_out = struct_named(symbols, &pool.target).is_some()
                 && pool.length.value <= n.value;
             note_if(
                 is_out,
@@ -146,7 +138,7 @@ pub fn note_index(decls: &Declarations, name: &Name, n: Number, least: &mut Opti
         }
         Some((place, d)) => {
             note_unfit(
-                decls,
+                symbols,
                 Code::WrongType,
                 start,
                 Meaning::Decl(place, d),
@@ -157,14 +149,13 @@ pub fn note_index(decls: &Declarations, name: &Name, n: Number, least: &mut Opti
 }
 
 /// Notes what is wrong with a constant by itself.
-fn note_own(decls: &Declarations, c: &Const, least: &mut Option<Mistake>)
-    requires { AreDeclarations decls.now }
-    ensures { least.new ≡ least_of least.old (own_faults (declared_by decls.now) (const_of c.now)) }
+fn note_own(symbols: &SymbolTable, c: &Const, least: &mut Option<Mistake>)
+    ensures { least.new ≡ least_of least.old (own_faults (decls_of symbols.now) (const_of c.now)) }
 {
     match c {
         Const::Int(n) | Const::Negative(_, n) => note_number(*n, least),
         Const::Null(_) => {}
-        Const::Member(name, n) => note_index(decls, name, *n, least),
+        Const::Member(name, n) => note_index(symbols, name, *n, least),
     }
 }
 
@@ -193,45 +184,41 @@ fn note_sort(w: Want, start: usize, s: Option<Sort>, least: &mut Option<Mistake>
 
 /// Notes what is wrong with a constant of which something is wanted.
 #[tactic(auto, using(source::specs::Leasts::least_append))]
-pub fn note_const(decls: &Declarations, w: Want, c: &Const, least: &mut Option<Mistake>)
-    requires { AreDeclarations decls.now }
-    ensures { least.new ≡ least_of least.old (const_faults (declared_by decls.now) w (const_of c.now)) }
+pub fn note_const(symbols: &SymbolTable, w: Want, c: &Const, least: &mut Option<Mistake>)
+    ensures { least.new ≡ least_of least.old (const_faults (decls_of symbols.now) w (const_of c.now)) }
 {
-    note_own(decls, c, least);
-    note_sort(w, const_start(c), const_sort(decls, c), least);
+    note_own(symbols, c, least);
+    note_sort(w, const_start(c), const_sort(symbols, c), least);
 }
 
 /// Notes what is wrong with the constant that a thing opens with.
-pub fn note_opening(decls: &Declarations, w: Want, c: &Option<Const>, least: &mut Option<Mistake>)
-    requires { AreDeclarations decls.now }
-    ensures { least.new ≡ least_of least.old (opening_faults (declared_by decls.now) w (option_of const_of c.now)) }
+pub fn note_opening(symbols: &SymbolTable, w: Want, c: &Option<Const>, least: &mut Option<Mistake>)
+    ensures { least.new ≡ least_of least.old (opening_faults (decls_of symbols.now) w (option_of const_of c.now)) }
 {
     if let Some(c) = c {
-        note_const(decls, w, c, least);
+        note_const(symbols, w, c, least);
     }
 }
 
 /// What a parameter wants of its argument.
-fn want_of(decls: &Declarations, p: &Param) -> Want
-    requires { AreDeclarations decls.now }
-    ensures { result ≡ want_of (declared_by decls.now) (param_of p.now) }
+fn want_of(symbols: &SymbolTable, p: &Param) -> Want
+    ensures { result ≡ want_of (decls_of symbols.now) (param_of p.now) }
 {
-    want(type_outside(decls, &p.value_type))
+    want(type_outside(symbols, &p.value_type))
 }
 
 /// Notes what is wrong with arguments.
 #[tactic(auto, using(source::specs::Leasts::least_append))]
 pub fn note_arguments(
-    decls: &Declarations,
+    symbols: &SymbolTable,
     params: &[Param],
     constants: &[Const],
     least: &mut Option<Mistake>,
 )
-    requires { AreDeclarations decls.now }
-    ensures { least.new ≡ least_of least.old (argument_faults (declared_by decls.now) (map param_of params.now) (map const_of constants.now)) }
+    ensures { least.new ≡ least_of least.old (argument_faults (decls_of symbols.now) (map param_of params.now) (map const_of constants.now)) }
 {
     for i in 0..params.len().min(constants.len()) {
-        note_const(decls, want_of(decls, &params[i]), &constants[i], least);
+        note_const(symbols, want_of(symbols, &params[i]), &constants[i], least);
     }
 }
 
@@ -254,35 +241,33 @@ fn with_value(
 /// The values of arguments, one for each parameter.
 pub fn typed_arguments(
     alloc: Global,
-    program: &Program,
+    symbols: &SymbolTable,
     params: &[Param],
     constants: &[Const],
 ) -> Result<Option<Vec<Value>>, AllocError>
-    requires { IsProgram program.now }
-    ensures { IfOk result (λ r. option_map (λ vs. vs.items) r ≡ typed_arguments (program_of program.now) (map param_of params.now) (map const_of constants.now)) }
+    ensures { IfOk result (λ r. option_map (λ vs. vs.items) r ≡ typed_arguments (decls_of symbols.now) (map param_of params.now) (map const_of constants.now)) }
 {
     if params.len() != constants.len() {
         return Ok(None);
     }
     let mut values = Some(Vec::new(alloc));
     for i in 0..params.len() {
-        let wanted = want_of(&program.decls, &params[i]);
-        values = with_value(values, typed_const(program, wanted, &constants[i]))?;
+        let wanted = want_of(symbols, &params[i]);
+        values = with_value(values, typed_const(symbols, wanted, &constants[i]))?;
     }
     Ok(values)
 }
 
 /// Whether arguments are right: one for each parameter, each of the parameter's type.
-pub fn are_typed(program: &Program, params: &[Param], constants: &[Const]) -> bool
-    requires { IsProgram program.now }
-    ensures { result ≡ is_some (typed_arguments (program_of program.now) (map param_of params.now) (map const_of constants.now)) }
+pub fn are_typed(symbols: &SymbolTable, params: &[Param], constants: &[Const]) -> bool
+    ensures { result ≡ is_some (typed_arguments (decls_of symbols.now) (map param_of params.now) (map const_of constants.now)) }
 {
     if params.len() != constants.len() {
         return false;
     }
     for i in 0..params.len() {
-        let wanted = want_of(&program.decls, &params[i]);
-        if typed_const(program, wanted, &constants[i]).is_none() {
+        let wanted = want_of(symbols, &params[i]);
+        if typed_const(symbols, wanted, &constants[i]).is_none() {
             return false;
         }
     }

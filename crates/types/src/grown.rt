@@ -2,11 +2,11 @@
 
 ghost use Rattle.std.specs.Prelude.{◌≡◌, IfOk, OnOk, option_map, map};
 ghost use Rattle.syntax.specs.Trees.{struct};
-ghost use Rattle.syntax.specs.Views.{ident, array_of, variable_of};
+ghost use Rattle.syntax.specs.Views.{ident, array_of, struct_of, variable_of};
 ghost use Rattle.resolution.specs.CoreViews.{core_of, core_struct, core_section, core_call};
 ghost use Rattle.resolution.specs.Core.{global_lock};
 ghost use Rattle.resolution.specs.Resolution.{with_class, with_cell, empty_struct, global_with, array_with, with_section, with_thread, extended, with_elements};
-ghost use Rattle.symbols.specs.{structure_of, IsStructure, program_of, IsProgram};
+ghost use Rattle.symbols.specs.{decls_of};
 ghost use Rattle.types.specs.Grown.{if_right};
 
 use crate::constant::{default_of, opened};
@@ -21,14 +21,14 @@ use std::mem;
 use symbols::annotation::class_of;
 use symbols::members::Structure;
 use symbols::scope::type_outside;
-use symbols::table::Program;
+use symbols::table::SymbolTable;
 use syntax::tree::{Array, Name, Variable};
 
 /// Where memory is taken, and what is declared.
 #[derive(Clone, Copy)]
 pub struct Builder<'a> {
     pub alloc: Global,
-    pub program: &'a Program<'a>,
+    pub symbols: &'a SymbolTable<'a>,
 }
 
 /// What is built so far, and whether all of it is right: behind what isn't, nothing more is built.
@@ -109,9 +109,7 @@ impl<'a> Builder<'a> {
         table: &'a Structure<'a>,
         typed: &mut Typed,
     ) -> Result<bool, AllocError>
-        requires program { IsProgram self.now.program.now }
-        requires structure { IsStructure table.now }
-        ensures { IfOk result (λ right. if_right right typed.new ≡ extended (program_of self.now.program.now) place (core_of typed.old) (struct (structure_of table.now))) }
+        ensures { IfOk result (λ right. if_right right typed.new ≡ extended (decls_of self.now.symbols.now) place (core_of typed.old) (struct (struct_of table.now))) }
     {
         let here = StructPlace {
             number: typed.structs.len(),
@@ -119,10 +117,10 @@ impl<'a> Builder<'a> {
             table,
         };
         let mut builder = StructBuilder {
-            structure: empty_struct(self.alloc, &table.item.name)?,
+            structure: empty_struct(self.alloc, &table.item().name)?,
             classes: mem::replace(&mut typed.classes, Vec::new(self.alloc)),
         };
-        if !self.add_members(&here, &table.item.members, &mut builder)? {
+        if !self.add_members(&here, &table.item().members, &mut builder)? {
             drop(builder);
             return Ok(false);
         }
@@ -134,16 +132,15 @@ impl<'a> Builder<'a> {
 
     /// Adds a global, if it is right.
     pub fn add_global(&self, v: &Variable, typed: &mut Typed) -> Result<bool, AllocError>
-        requires { IsProgram self.now.program.now }
-        ensures { IfOk result (λ right. if_right right typed.new ≡ global_with (program_of self.now.program.now) (core_of typed.old) (variable_of v.now)) }
+        ensures { IfOk result (λ right. if_right right typed.new ≡ global_with (decls_of self.now.symbols.now) (core_of typed.old) (variable_of v.now)) }
     {
-        let Some(class) = class_of(self.program, &v.protection) else {
+        let Some(class) = class_of(self.symbols, &v.protection) else {
             return Ok(false);
         };
-        let Some(t) = type_outside(&self.program.decls, &v.value_type) else {
+        let Some(t) = type_outside(self.symbols, &v.value_type) else {
             return Ok(false);
         };
-        let Some(value) = opened(self.program, t, v.value.as_ref()) else {
+        let Some(value) = opened(self.symbols, t, v.value.as_ref()) else {
             return Ok(false);
         };
         let Some(cell) = cell_at(typed.cells.len()) else {
@@ -161,13 +158,12 @@ impl<'a> Builder<'a> {
 
     /// Adds an array, if it is right.
     pub fn add_array(&self, a: &Array, typed: &mut Typed) -> Result<bool, AllocError>
-        requires { IsProgram self.now.program.now }
-        ensures { IfOk result (λ right. if_right right typed.new ≡ array_with (program_of self.now.program.now) (core_of typed.old) (array_of a.now)) }
+        ensures { IfOk result (λ right. if_right right typed.new ≡ array_with (decls_of self.now.symbols.now) (core_of typed.old) (array_of a.now)) }
     {
-        let Some(class) = class_of(self.program, &a.protection) else {
+        let Some(class) = class_of(self.symbols, &a.protection) else {
             return Ok(false);
         };
-        let Some(element) = type_outside(&self.program.decls, &a.value_type) else {
+        let Some(element) = type_outside(self.symbols, &a.value_type) else {
             return Ok(false);
         };
         let Some(first) = cell_at(typed.cells.len()) else {

@@ -5,7 +5,7 @@ ghost use Rattle.syntax.specs.Views.{init_of, const_of, member_of};
 ghost use Rattle.resolution.specs.Constants.{member_want};
 ghost use Rattle.source.specs.Mistakes.{least_of};
 ghost use Rattle.resolution.specs.FaultLists.{init_field_faults, null_faults, init_faults};
-ghost use Rattle.symbols.specs.{declared_by, AreDeclarations};
+ghost use Rattle.symbols.specs.{decls_of};
 
 use crate::constant::{note_const, note_index};
 use core_lang::value::ValueType;
@@ -13,18 +13,17 @@ use resolution::wanted::Want;
 use sections::wanted::want;
 use source::fault::Code;
 use source::mistake::{Mistake, note};
-use symbols::declarations::Declarations;
 use symbols::first_inits::{initialised, structure_given};
 use symbols::note::note_if;
 use symbols::scope::{struct_named, type_outside};
+use symbols::table::SymbolTable;
 use syntax::tree::{Const, Init, Member};
 
 /// Notes what no `init` can give a value.
-fn note_field(decls: &Declarations, i: &Init, least: &mut Option<Mistake>)
-    requires { AreDeclarations decls.now }
-    ensures { least.new ≡ least_of least.old (init_field_faults (declared_by decls.now) (init_of i.now)) }
+fn note_field(symbols: &SymbolTable, i: &Init, least: &mut Option<Mistake>)
+    ensures { least.new ≡ least_of least.old (init_field_faults (decls_of symbols.now) (init_of i.now)) }
 {
-    let Some(structure) = structure_given(decls, i) else {
+    let Some(structure) = structure_given(symbols.decls(), i) else {
         return;
     };
     match structure.find(i.field.text.as_str()) {
@@ -35,32 +34,30 @@ fn note_field(decls: &Declarations, i: &Init, least: &mut Option<Mistake>)
 }
 
 /// What is wanted of the constant of an `init`.
-fn member_want(decls: &Declarations, m: Option<(usize, &Member)>) -> Want
-    requires { AreDeclarations decls.now }
-    ensures { result ≡ member_want (declared_by decls.now) (option_map (λ f. (f.0, member_of f.1.now)) m.entry) }
+fn member_want(symbols: &SymbolTable, m: Option<(usize, &Member)>) -> Want
+    ensures { result ≡ member_want (decls_of symbols.now) (option_map (λ f. (f.0, member_of f.1.now)) m.entry) }
 {
     match m {
-        Some((_, Member::Final(f))) => match struct_named(decls, &f.target) {
+        Some((_, Member::Final(f))) => match struct_named(symbols, &f.target) {
             Some(number) => Want::Value(ValueType::Reference(number)),
             None => Want::Anything,
         },
-        Some((_, Member::Field(f))) => want(type_outside(decls, &f.value_type)),
+        Some((_, Member::Field(f))) => want(type_outside(symbols, &f.value_type)),
         Some((_, Member::Lock(_))) | None => Want::Anything,
     }
 }
 
 /// Notes null for a final reference.
 fn note_null(
-    decls: &Declarations,
+    symbols: &SymbolTable,
     m: Option<(usize, &Member)>,
     c: &Const,
     least: &mut Option<Mistake>,
 )
-    requires { AreDeclarations decls.now }
-    ensures { least.new ≡ least_of least.old (null_faults (declared_by decls.now) (option_map (λ f. (f.0, member_of f.1.now)) m.entry) (const_of c.now)) }
+    ensures { least.new ≡ least_of least.old (null_faults (decls_of symbols.now) (option_map (λ f. (f.0, member_of f.1.now)) m.entry) (const_of c.now)) }
 {
     if let (Some((_, Member::Final(f))), Const::Null(at)) = (m, c) {
-        let is_known = struct_named(decls, &f.target).is_some();
+        let is_known = struct_named(symbols, &f.target).is_some();
         note_if(
             is_known,
             Code::FinalWithoutOpeningValue,
@@ -72,13 +69,12 @@ fn note_null(
 
 /// Notes what is wrong with an `init`.
 #[tactic(auto, using(source::specs::Leasts::least_append))]
-pub fn note_init(decls: &Declarations, i: &Init, least: &mut Option<Mistake>)
-    requires { AreDeclarations decls.now }
-    ensures { least.new ≡ least_of least.old (init_faults (declared_by decls.now) (init_of i.now)) }
+pub fn note_init(symbols: &SymbolTable, i: &Init, least: &mut Option<Mistake>)
+    ensures { least.new ≡ least_of least.old (init_faults (decls_of symbols.now) (init_of i.now)) }
 {
-    note_index(decls, &i.pool, i.index, least);
-    note_field(decls, i, least);
-    let m = initialised(decls, i);
-    note_const(decls, member_want(decls, m), &i.value, least);
-    note_null(decls, m, &i.value, least);
+    note_index(symbols, &i.pool, i.index, least);
+    note_field(symbols, i, least);
+    let m = initialised(symbols.decls(), i);
+    note_const(symbols, member_want(symbols, m), &i.value, least);
+    note_null(symbols, m, &i.value, least);
 }

@@ -9,7 +9,7 @@ ghost use Rattle.resolution.specs.Resolution.{slot_given, opening_of, final_cell
 ghost use Rattle.resolution.specs.Limits.{up_to, object_at, cell_at, final_at};
 ghost use Rattle.source.specs.Mistakes.{least_of};
 ghost use Rattle.resolution.specs.FaultLists.{some_lacks, is_at, is_due, lacks, missing_faults};
-ghost use Rattle.symbols.specs.{members_seen, IsStructure, program_of, IsProgram};
+ghost use Rattle.symbols.specs.{members_seen, decls_of};
 ghost use Rattle.symbols.specs.Counted.{field_if};
 ghost use Rattle.types.specs.Grown.{if_right};
 ghost use Rattle.types.specs.Slots.{slot_of, member_with};
@@ -28,7 +28,7 @@ use std::alloc::AllocError;
 use symbols::members::Structure;
 use symbols::note::note_if;
 use symbols::scope::{struct_named, type_outside};
-use symbols::table::Program;
+use symbols::table::SymbolTable;
 use symbols::totals::{CELL_LIMIT, OBJECT_LIMIT};
 use syntax::tree::{Const, Member, Pool};
 
@@ -91,11 +91,10 @@ fn final_at(n: usize) -> Option<u32>
 }
 
 /// What the declarations give the member at this place of its struct.
-fn slot_given<'t>(program: &Program<'t>, slot: Slot, member: usize) -> Option<&'t Const>
-    requires { IsProgram program.now }
-    ensures { option_map (λ c. const_of c.now) result ≡ slot_given (program_of program.now) (slot_of slot) member }
+fn slot_given<'t>(symbols: &SymbolTable<'t>, slot: Slot, member: usize) -> Option<&'t Const>
+    ensures { option_map (λ c. const_of c.now) result ≡ slot_given (decls_of symbols.now) (slot_of slot) member }
 {
-    program.given(InitTarget {
+    symbols.given(InitTarget {
         pool: slot.pool,
         index: slot.index as u64,
         member,
@@ -103,14 +102,13 @@ fn slot_given<'t>(program: &Program<'t>, slot: Slot, member: usize) -> Option<&'
 }
 
 /// The object that a final reference to an object of the struct is given.
-fn referred(program: &Program, target: Option<usize>, c: Option<&Const>) -> Option<u32>
-    requires { IsProgram program.now }
-    ensures { result ≡ referred (program_of program.now) target (option_map (λ x. const_of x.now) c.entry) }
+fn referred(symbols: &SymbolTable, target: Option<usize>, c: Option<&Const>) -> Option<u32>
+    ensures { result ≡ referred (decls_of symbols.now) target (option_map (λ x. const_of x.now) c.entry) }
 {
     let (Some(target), Some(c)) = (target, c) else {
         return None;
     };
-    match typed_const(program, Want::Value(ValueType::Reference(target)), c) {
+    match typed_const(symbols, Want::Value(ValueType::Reference(target)), c) {
         Some(Value::Ref(Some(object))) => Some(object),
         Some(Value::Ref(None)) | Some(Value::Int(_)) | None => None,
     }
@@ -144,12 +142,11 @@ fn add_field(
 }
 
 /// The value that a field opens with, if its type has no fault.
-fn opening_of(program: &Program, t: Option<ValueType>, c: Option<&Const>) -> Option<Value>
-    requires { IsProgram program.now }
-    ensures { result ≡ opening_of (program_of program.now) t (option_map (λ x. const_of x.now) c.entry) }
+fn opening_of(symbols: &SymbolTable, t: Option<ValueType>, c: Option<&Const>) -> Option<Value>
+    ensures { result ≡ opening_of (decls_of symbols.now) t (option_map (λ x. const_of x.now) c.entry) }
 {
     match t {
-        Some(t) => opened(program, t, c),
+        Some(t) => opened(symbols, t, c),
         None => None,
     }
 }
@@ -173,26 +170,25 @@ impl<'a> Builder<'a> {
         m: &Member,
         typed: &mut Typed,
     ) -> Result<bool, AllocError>
-        requires { IsProgram self.now.program.now }
-        ensures { IfOk result (λ right. if_right right typed.new ≡ member_with (program_of self.now.program.now) (slot_of slot) at.place at.fields (Some (core_of typed.old)) (member_of m.now)) }
+        ensures { IfOk result (λ right. if_right right typed.new ≡ member_with (decls_of self.now.symbols.now) (slot_of slot) at.place at.fields (Some (core_of typed.old)) (member_of m.now)) }
     {
-        let program = self.program;
+        let symbols = self.symbols;
         match m {
             Member::Lock(_) => Ok(true),
             Member::Final(f) => {
-                let target = struct_named(&program.decls, &f.target);
+                let target = struct_named(symbols, &f.target);
                 add_final(
-                    referred(program, target, slot_given(program, slot, at.place)),
+                    referred(symbols, target, slot_given(symbols, slot, at.place)),
                     typed,
                 )
             }
             Member::Field(f) => {
-                let t = type_outside(&program.decls, &f.value_type);
+                let t = type_outside(symbols, &f.value_type);
                 let owner = Owner::Field {
                     object: slot.object,
                     field: at.fields,
                 };
-                let opening = opening_of(program, t, slot_given(program, slot, at.place));
+                let opening = opening_of(symbols, t, slot_given(symbols, slot, at.place));
                 add_field(owner, t, opening, typed)
             }
         }
@@ -205,8 +201,7 @@ impl<'a> Builder<'a> {
         members: &[Member],
         typed: &mut Typed,
     ) -> Result<bool, AllocError>
-        requires { IsProgram self.now.program.now }
-        ensures { IfOk result (λ right. if_right right typed.new ≡ with_members (program_of self.now.program.now) (slot_of slot) 0 0 (Some (core_of typed.old)) (map member_of members.now)) }
+        ensures { IfOk result (λ right. if_right right typed.new ≡ with_members (decls_of self.now.symbols.now) (slot_of slot) 0 0 (Some (core_of typed.old)) (map member_of members.now)) }
     {
         let mut fields = 0;
         for (place, m) in members.iter().enumerate() {
@@ -225,8 +220,7 @@ impl<'a> Builder<'a> {
         index: usize,
         typed: &mut Typed,
     ) -> Result<bool, AllocError>
-        requires { IsProgram self.now.program.now }
-        ensures { IfOk result (λ right. if_right right typed.new ≡ with_object (program_of self.now.program.now) pool.now.place pool.now.number (map member_of pool.now.members.now) index (core_of typed.old)) }
+        ensures { IfOk result (λ right. if_right right typed.new ≡ with_object (decls_of self.now.symbols.now) pool.now.place pool.now.number (map member_of pool.now.members.now) index (core_of typed.old)) }
     {
         let Some(cells) = cell_at(typed.cells.len()) else {
             return Ok(false);
@@ -254,8 +248,7 @@ impl<'a> Builder<'a> {
         count: u32,
         typed: &mut Typed,
     ) -> Result<bool, AllocError>
-        requires { IsProgram self.now.program.now }
-        ensures { IfOk result (λ right. if_right right typed.new ≡ with_objects (program_of self.now.program.now) pool.now.place pool.now.number (map member_of pool.now.members.now) (Some (core_of typed.old)) count) }
+        ensures { IfOk result (λ right. if_right right typed.new ≡ with_objects (decls_of self.now.symbols.now) pool.now.place pool.now.number (map member_of pool.now.members.now) (Some (core_of typed.old)) count) }
     {
         for index in 0..count {
             if !self.add_object(pool, index as usize, typed)? {
@@ -267,14 +260,13 @@ impl<'a> Builder<'a> {
 
     /// Adds a pool, which has this place, if it is right.
     pub fn add_pool(&self, place: usize, p: &Pool, typed: &mut Typed) -> Result<bool, AllocError>
-        requires { IsProgram self.now.program.now }
-        ensures { IfOk result (λ right. if_right right typed.new ≡ with_pool (program_of self.now.program.now) place (core_of typed.old) (pool_of p.now).name.text (struct_named (program_of self.now.program.now) (pool_of p.now).target) (members_of (program_of self.now.program.now) (pool_of p.now).target) (pool_of p.now).length.value) }
+        ensures { IfOk result (λ right. if_right right typed.new ≡ with_pool (decls_of self.now.symbols.now) place (core_of typed.old) (pool_of p.now).name.text (struct_named (decls_of self.now.symbols.now) (pool_of p.now).target) (members_of (decls_of self.now.symbols.now) (pool_of p.now).target) (pool_of p.now).length.value) }
     {
-        let decls = &self.program.decls;
-        let Some(structure) = struct_named(decls, &p.target) else {
+        let symbols = self.symbols;
+        let Some(structure) = struct_named(symbols, &p.target) else {
             return Ok(false);
         };
-        let Some((_, table)) = decls.struct_of(&p.target) else {
+        let Some((_, table)) = symbols.struct_of(&p.target) else {
             return Ok(false);
         };
         let Some(first) = object_at(typed.shape.objects.len()) else {
@@ -286,7 +278,7 @@ impl<'a> Builder<'a> {
         let pool = PoolPlace {
             place,
             number: typed.shape.pools.len(),
-            members: &table.item.members,
+            members: &table.item().members,
         };
         typed.shape.pools.push(shape::Pool {
             name: String::from_str(self.alloc, p.name.text.as_str())?,
@@ -299,9 +291,8 @@ impl<'a> Builder<'a> {
 }
 
 /// Whether of the first so many members of the pool at a place some isn't given the member at this place of its struct.
-fn some_lacks(program: &Program, pool: usize, member: usize, count: u64) -> bool
-    requires { IsProgram program.now }
-    ensures { result ≡ some_lacks (program_of program.now) pool member count }
+fn some_lacks(symbols: &SymbolTable, pool: usize, member: usize, count: u64) -> bool
+    ensures { result ≡ some_lacks (decls_of symbols.now) pool member count }
 {
     for index in 0..count {
         let init_target = InitTarget {
@@ -309,7 +300,7 @@ fn some_lacks(program: &Program, pool: usize, member: usize, count: u64) -> bool
             index,
             member,
         };
-        if program.given(init_target).is_none() {
+        if symbols.given(init_target).is_none() {
             return true;
         }
     }
@@ -317,15 +308,13 @@ fn some_lacks(program: &Program, pool: usize, member: usize, count: u64) -> bool
 }
 
 /// Whether a member is a final reference, the first of its name, whose struct is known.
-fn is_due(program: &Program, structure: &Structure, place: usize, m: &Member) -> bool
-    requires program { IsProgram program.now }
-    requires structure { IsStructure structure.now }
-    ensures { result ≡ is_due (program_of program.now) (members_seen structure.now) place (member_of m.now) }
+fn is_due(symbols: &SymbolTable, structure: &Structure, place: usize, m: &Member) -> bool
+    ensures { result ≡ is_due (decls_of symbols.now) (members_seen structure.now) place (member_of m.now) }
 {
     match m {
         Member::Final(f) => {
-            is_at(place, structure.names.find(f.name.text.as_str()))
-                && struct_named(&program.decls, &f.target).is_some()
+            is_at(place, structure.place_of(f.name.text.as_str()))
+                && struct_named(symbols, &f.target).is_some()
         }
         Member::Lock(_) | Member::Field(_) => false,
     }
@@ -342,14 +331,12 @@ fn is_at(place: usize, found: Option<usize>) -> bool
 }
 
 /// Whether some member of the pool at a place isn't given some final reference.
-fn lacks(program: &Program, pool: usize, count: u64, structure: &Structure) -> bool
-    requires program { IsProgram program.now }
-    requires structure { IsStructure structure.now }
-    ensures { result ≡ lacks (program_of program.now) pool count (members_seen structure.now) 0 (members_seen structure.now) }
+fn lacks(symbols: &SymbolTable, pool: usize, count: u64, structure: &Structure) -> bool
+    ensures { result ≡ lacks (decls_of symbols.now) pool count (members_seen structure.now) 0 (members_seen structure.now) }
 {
-    let members = &structure.item.members;
+    let members = &structure.item().members;
     for (place, m) in members.iter().enumerate() {
-        if is_due(program, structure, place, m) && some_lacks(program, pool, place, count) {
+        if is_due(symbols, structure, place, m) && some_lacks(symbols, pool, place, count) {
             return true;
         }
     }
@@ -357,12 +344,11 @@ fn lacks(program: &Program, pool: usize, count: u64, structure: &Structure) -> b
 }
 
 /// Notes a pool with a final reference that isn't given.
-pub fn note_missing(program: &Program, place: usize, p: &Pool, least: &mut Option<Mistake>)
-    requires { IsProgram program.now }
-    ensures { least.new ≡ least_of least.old (missing_faults (program_of program.now) place (pool_of p.now) (members_of (program_of program.now) (pool_of p.now).target)) }
+pub fn note_missing(symbols: &SymbolTable, place: usize, p: &Pool, least: &mut Option<Mistake>)
+    ensures { least.new ≡ least_of least.old (missing_faults (decls_of symbols.now) place (pool_of p.now) (members_of (decls_of symbols.now) (pool_of p.now).target)) }
 {
-    if let Some((_, structure)) = program.decls.struct_of(&p.target) {
-        let is_missing = lacks(program, place, p.length.value, structure);
+    if let Some((_, structure)) = symbols.struct_of(&p.target) {
+        let is_missing = lacks(symbols, place, p.length.value, structure);
         note_if(
             is_missing,
             Code::FinalWithoutOpeningValue,

@@ -2,7 +2,7 @@
 
 ghost use Rattle.std.specs.Prelude.{◌≡◌, OnOk, IfOk, IfErr, option_map, slice_get, Some};
 ghost use Rattle.syntax.specs.Trees.{pool, struct};
-ghost use Rattle.syntax.specs.Views.{array_of, decl_of, items_of, pool_of, section_of, thread_of, tree_of, variable_of};
+ghost use Rattle.syntax.specs.Views.{array_of, decl_of, items_of, pool_of, section_of, struct_of, thread_of, tree_of, variable_of};
 ghost use Rattle.syntax.specs.Returns.{ReturnsRight};
 ghost use Rattle.core_lang.specs.WellFormed.{IsWellFormed};
 ghost use Rattle.resolution.specs.CoreViews.{core_of};
@@ -11,7 +11,7 @@ ghost use Rattle.resolution.specs.Resolved.{Resolves};
 ghost use Rattle.resolution.specs.Faults.{IsFault, IsRefusal, HasNoFault};
 ghost use Rattle.source.specs.Mistakes.{least_of, IsLeastOf};
 ghost use Rattle.resolution.specs.FaultLists.{global_faults, array_faults, section_faults, decl_faults, each_faults, items_faults};
-ghost use Rattle.symbols.specs.{structure_of, IsStructure, program_of, IsProgram};
+ghost use Rattle.symbols.specs.{decls_of};
 ghost use Rattle.types.specs.Grown.{built};
 ghost use Rattle.types.specs.Whole.{extended_if, global_if, array_if, section_if, thread_if};
 
@@ -33,7 +33,7 @@ use std::alloc::{AllocError, Global};
 use symbols::annotation::note_lock;
 use symbols::members::Structure;
 use symbols::scope::{note_target, note_type, type_outside};
-use symbols::table::Program;
+use symbols::table::SymbolTable;
 use syntax::tree::{Array, Decl, Pool, Section, Thread, Tree, Variable};
 
 impl<'a> Builder<'a> {
@@ -46,20 +46,11 @@ impl<'a> Builder<'a> {
         grown: &mut Grown,
         least: &mut Option<Mistake>,
     ) -> Result<(), AllocError>
-        requires program { IsProgram self.now.program.now }
-        requires structure { IsStructure table.now }
-        ensures value { OnOk result (built grown.new ≡ extended_if (program_of self.now.program.now) place (built grown.old) (struct (structure_of table.now))) }
-        ensures faults { OnOk result (least.new ≡ least_of least.old (decl_faults (program_of self.now.program.now) place (struct (structure_of table.now)))) }
+        ensures value { OnOk result (built grown.new ≡ extended_if (decls_of self.now.symbols.now) place (built grown.old) (struct (struct_of table.now))) }
+        ensures faults { OnOk result (least.new ≡ least_of least.old (decl_faults (decls_of self.now.symbols.now) place (struct (struct_of table.now)))) }
     {
-        let members = &table.item.members;
-        note_members(
-            self.alloc,
-            &self.program.decls,
-            place,
-            table,
-            members,
-            least,
-        )?;
+        let members = &table.item().members;
+        note_members(self.alloc, self.symbols, place, table, members, least)?;
         if grown.is_right {
             grown.is_right = self.add_struct(place, table, &mut grown.typed)?;
         }
@@ -74,15 +65,14 @@ impl<'a> Builder<'a> {
         grown: &mut Grown,
         least: &mut Option<Mistake>,
     ) -> Result<(), AllocError>
-        requires { IsProgram self.now.program.now }
-        ensures value { OnOk result (built grown.new ≡ global_if (program_of self.now.program.now) (built grown.old) (variable_of v.now)) }
-        ensures faults { OnOk result (least.new ≡ least_of least.old (global_faults (program_of self.now.program.now) (variable_of v.now))) }
+        ensures value { OnOk result (built grown.new ≡ global_if (decls_of self.now.symbols.now) (built grown.old) (variable_of v.now)) }
+        ensures faults { OnOk result (least.new ≡ least_of least.old (global_faults (decls_of self.now.symbols.now) (variable_of v.now))) }
     {
-        let decls = &self.program.decls;
-        note_type(decls, &v.value_type, least);
-        note_lock(decls, &v.name, &v.protection, least);
-        let wanted = want(type_outside(decls, &v.value_type));
-        note_opening(decls, wanted, &v.value, least);
+        let symbols = self.symbols;
+        note_type(symbols, &v.value_type, least);
+        note_lock(symbols, &v.name, &v.protection, least);
+        let wanted = want(type_outside(symbols, &v.value_type));
+        note_opening(symbols, wanted, &v.value, least);
         if grown.is_right {
             grown.is_right = self.add_global(v, &mut grown.typed)?;
         }
@@ -97,13 +87,12 @@ impl<'a> Builder<'a> {
         grown: &mut Grown,
         least: &mut Option<Mistake>,
     ) -> Result<(), AllocError>
-        requires { IsProgram self.now.program.now }
-        ensures value { OnOk result (built grown.new ≡ array_if (program_of self.now.program.now) (built grown.old) (array_of a.now)) }
-        ensures faults { OnOk result (least.new ≡ least_of least.old (array_faults (program_of self.now.program.now) (array_of a.now))) }
+        ensures value { OnOk result (built grown.new ≡ array_if (decls_of self.now.symbols.now) (built grown.old) (array_of a.now)) }
+        ensures faults { OnOk result (least.new ≡ least_of least.old (array_faults (decls_of self.now.symbols.now) (array_of a.now))) }
     {
-        let decls = &self.program.decls;
-        note_type(decls, &a.value_type, least);
-        note_lock(decls, &a.name, &a.protection, least);
+        let symbols = self.symbols;
+        note_type(symbols, &a.value_type, least);
+        note_lock(symbols, &a.name, &a.protection, least);
         if grown.is_right {
             grown.is_right = self.add_array(a, &mut grown.typed)?;
         }
@@ -119,12 +108,11 @@ impl<'a> Builder<'a> {
         grown: &mut Grown,
         least: &mut Option<Mistake>,
     ) -> Result<(), AllocError>
-        requires { IsProgram self.now.program.now }
-        ensures value { OnOk result (built grown.new ≡ extended_if (program_of self.now.program.now) place (built grown.old) (pool (pool_of p.now))) }
-        ensures faults { OnOk result (least.new ≡ least_of least.old (decl_faults (program_of self.now.program.now) place (pool (pool_of p.now)))) }
+        ensures value { OnOk result (built grown.new ≡ extended_if (decls_of self.now.symbols.now) place (built grown.old) (pool (pool_of p.now))) }
+        ensures faults { OnOk result (least.new ≡ least_of least.old (decl_faults (decls_of self.now.symbols.now) place (pool (pool_of p.now)))) }
     {
-        note_target(&self.program.decls, &p.target, least);
-        note_missing(self.program, place, p, least);
+        note_target(self.symbols, &p.target, least);
+        note_missing(self.symbols, place, p, least);
         if grown.is_right {
             grown.is_right = self.add_pool(place, p, &mut grown.typed)?;
         }
@@ -138,11 +126,10 @@ impl<'a> Builder<'a> {
         grown: &mut Grown,
         least: &mut Option<Mistake>,
     ) -> Result<(), AllocError>
-        requires { IsProgram self.now.program.now }
-        ensures value { OnOk result (built grown.new ≡ section_if (program_of self.now.program.now) (built grown.old) (section_of s.now)) }
-        ensures faults { OnOk result (least.new ≡ least_of least.old (section_faults (program_of self.now.program.now) (section_of s.now))) }
+        ensures value { OnOk result (built grown.new ≡ section_if (decls_of self.now.symbols.now) (built grown.old) (section_of s.now)) }
+        ensures faults { OnOk result (least.new ≡ least_of least.old (section_faults (decls_of self.now.symbols.now) (section_of s.now))) }
     {
-        let section = judge_section(self.alloc, self.program, s, least)?;
+        let section = judge_section(self.alloc, self.symbols, s, least)?;
         if grown.is_right {
             grown.is_right = add_section(section, &mut grown.typed)?;
         }
@@ -156,13 +143,12 @@ impl<'a> Builder<'a> {
         grown: &mut Grown,
         least: &mut Option<Mistake>,
     ) -> Result<(), AllocError>
-        requires { IsProgram self.now.program.now }
-        ensures value { OnOk result (built grown.new ≡ thread_if (program_of self.now.program.now) (built grown.old) (thread_of t.now)) }
-        ensures faults { OnOk result (least.new ≡ least_of least.old (items_faults (program_of self.now.program.now) (items_of t.now.items.items))) }
+        ensures value { OnOk result (built grown.new ≡ thread_if (decls_of self.now.symbols.now) (built grown.old) (thread_of t.now)) }
+        ensures faults { OnOk result (least.new ≡ least_of least.old (items_faults (decls_of self.now.symbols.now) (items_of t.now.items.items))) }
     {
-        note_items(&self.program.decls, &t.items, least);
+        note_items(self.symbols, &t.items, least);
         if grown.is_right {
-            let calls = typed_calls(self.alloc, self.program, &t.items)?;
+            let calls = typed_calls(self.alloc, self.symbols, &t.items)?;
             grown.is_right = self.add_thread(&t.name, calls, &mut grown.typed)?;
         }
         Ok(())
@@ -177,19 +163,18 @@ impl<'a> Builder<'a> {
         grown: &mut Grown,
         least: &mut Option<Mistake>,
     ) -> Result<(), AllocError>
-        requires program { IsProgram self.now.program.now }
-        requires place { slice_get (program_of self.now.program.now) place ≡ Some (decl_of d.now) }
-        ensures value { OnOk result (built grown.new ≡ extended_if (program_of self.now.program.now) place (built grown.old) (decl_of d.now)) }
-        ensures faults { OnOk result (least.new ≡ least_of least.old (decl_faults (program_of self.now.program.now) place (decl_of d.now))) }
+        requires { slice_get (decls_of self.now.symbols.now) place ≡ Some (decl_of d.now) }
+        ensures value { OnOk result (built grown.new ≡ extended_if (decls_of self.now.symbols.now) place (built grown.old) (decl_of d.now)) }
+        ensures faults { OnOk result (least.new ≡ least_of least.old (decl_faults (decls_of self.now.symbols.now) place (decl_of d.now))) }
     {
-        let decls = &self.program.decls;
+        let symbols = self.symbols;
         match d {
             Decl::Lock(name) => {
                 add_lock(self.alloc, name, &mut grown.typed)?;
                 Ok(())
             }
             Decl::Struct(_) => {
-                let Some(table) = decls.structure(decls.number(place, d)) else {
+                let Some(table) = symbols.structure(symbols.number(place, d)) else {
                     unreachable!()
                 };
                 self.judge_struct(place, table, grown, least)
@@ -198,7 +183,7 @@ impl<'a> Builder<'a> {
             Decl::Array(a) => self.judge_array(a, grown, least),
             Decl::Pool(p) => self.judge_pool(place, p, grown, least),
             Decl::Init(i) => {
-                note_init(decls, i, least);
+                note_init(symbols, i, least);
                 Ok(())
             }
             Decl::Atomic(s) => self.judge_atomic(s, grown, least),
@@ -209,12 +194,11 @@ impl<'a> Builder<'a> {
     // The declarations, one after another.
     #[tactic(auto, using(source::specs::Leasts::least_append))]
     fn judge_decls(&self, grown: &mut Grown, least: &mut Option<Mistake>) -> Result<(), AllocError>
-        requires { IsProgram self.now.program.now }
-        ensures value { OnOk result (built grown.new ≡ resolved_from (program_of self.now.program.now) 0 (built grown.old) (program_of self.now.program.now)) }
-        ensures faults { OnOk result (least.new ≡ least_of least.old (each_faults (program_of self.now.program.now) 0 (program_of self.now.program.now))) }
+        ensures value { OnOk result (built grown.new ≡ resolved_from (decls_of self.now.symbols.now) 0 (built grown.old) (decls_of self.now.symbols.now)) }
+        ensures faults { OnOk result (least.new ≡ least_of least.old (each_faults (decls_of self.now.symbols.now) 0 (decls_of self.now.symbols.now))) }
     {
-        let program = self.program;
-        for (place, d) in program.decls.items.iter().enumerate() {
+        let items = self.symbols.items();
+        for (place, d) in items.iter().enumerate() {
             self.judge_decl(place, d, grown, least)?;
         }
         Ok(())
@@ -244,15 +228,14 @@ fn nothing(alloc: Global) -> Typed
 /// The declarations of a program, one after another.
 fn judge_all(
     alloc: Global,
-    program: &Program,
+    symbols: &SymbolTable,
     grown: &mut Grown,
     least: &mut Option<Mistake>,
 ) -> Result<(), AllocError>
-    requires { IsProgram program.now }
-    ensures value { OnOk result (built grown.new ≡ resolved_from (program_of program.now) 0 (built grown.old) (program_of program.now)) }
-    ensures faults { OnOk result (least.new ≡ least_of least.old (each_faults (program_of program.now) 0 (program_of program.now))) }
+    ensures value { OnOk result (built grown.new ≡ resolved_from (decls_of symbols.now) 0 (built grown.old) (decls_of symbols.now)) }
+    ensures faults { OnOk result (least.new ≡ least_of least.old (each_faults (decls_of symbols.now) 0 (decls_of symbols.now))) }
 {
-    let builder = Builder { alloc, program };
+    let builder = Builder { alloc, symbols };
     builder.judge_decls(grown, least)
 }
 
@@ -278,14 +261,14 @@ pub fn check(alloc: Global, tree: &Tree) -> Result<Typed, Refusal>
     laws::faultless_are_resolved();
     laws::resolved_are_well_formed();
     let mut least = None;
-    let program = Program::new(alloc, &tree.decls, &mut least)?;
+    let symbols = SymbolTable::new(alloc, &tree.decls, &mut least)?;
     // Behind a fault nothing is built.
     let mut grown = Grown {
         typed: nothing(alloc),
         is_right: least.is_none(),
     };
-    judge_all(alloc, &program, &mut grown, &mut least)?;
-    drop(program);
+    judge_all(alloc, &symbols, &mut grown, &mut least)?;
+    drop(symbols);
     if let Some(fault) = least {
         drop(grown);
         return Err(Refusal::Fault(Fault::at(alloc, fault.code, fault.start)));

@@ -6,7 +6,7 @@ ghost use Rattle.resolution.specs.CoreViews.{core_protection};
 ghost use Rattle.resolution.specs.Resolution.{lock_added, final_added, field_added, member_added, members_added};
 ghost use Rattle.source.specs.Mistakes.{least_of};
 ghost use Rattle.resolution.specs.FaultLists.{member_faults, members_faults};
-ghost use Rattle.symbols.specs.{declared_by, members_seen, IsStructure, AreDeclarations, program_of, IsProgram};
+ghost use Rattle.symbols.specs.{decls_of, members_seen, decls_of};
 ghost use Rattle.types.specs.Grown.{shaped};
 ghost use Rattle.types.specs.StructBuilders.{builder_of};
 
@@ -16,9 +16,9 @@ use core_lang::value::ValueType;
 use source::mistake::Mistake;
 use std::alloc::{AllocError, Global};
 use symbols::annotation::{note_protection, protection_of};
-use symbols::declarations::Declarations;
 use symbols::members::Structure;
 use symbols::scope::{note_target, note_type, struct_named, type_outside};
+use symbols::table::SymbolTable;
 use syntax::tree::{Member, Name};
 
 /// A struct with some of its members, and the lock classes so far.
@@ -105,9 +105,7 @@ impl<'a> Builder<'a> {
         m: &Member,
         builder: &mut StructBuilder,
     ) -> Result<bool, AllocError>
-        requires program { IsProgram self.now.program.now }
-        requires structure { IsStructure here.now.table.now }
-        ensures { IfOk result (λ right. shaped right builder.new ≡ member_added (program_of self.now.program.now) here.now.number here.now.place (members_seen here.now.table.now) (Some (builder_of builder.old)) (member_of m.now)) }
+        ensures { IfOk result (λ right. shaped right builder.new ≡ member_added (decls_of self.now.symbols.now) here.now.number here.now.place (members_seen here.now.table.now) (Some (builder_of builder.old)) (member_of m.now)) }
     {
         match m {
             Member::Lock(name) => {
@@ -115,14 +113,14 @@ impl<'a> Builder<'a> {
                 Ok(true)
             }
             Member::Final(f) => {
-                let target = struct_named(&self.program.decls, &f.target);
+                let target = struct_named(self.symbols, &f.target);
                 builder.add_final(self.alloc, &f.name, target)
             }
             Member::Field(f) => {
-                let t = type_outside(&self.program.decls, &f.value_type);
+                let t = type_outside(self.symbols, &f.value_type);
                 let protection = protection_of(
                     self.alloc,
-                    self.program,
+                    self.symbols,
                     here.place,
                     here.table,
                     &f.protection,
@@ -139,9 +137,7 @@ impl<'a> Builder<'a> {
         members: &[Member],
         builder: &mut StructBuilder,
     ) -> Result<bool, AllocError>
-        requires program { IsProgram self.now.program.now }
-        requires structure { IsStructure here.now.table.now }
-        ensures { IfOk result (λ right. shaped right builder.new ≡ members_added (program_of self.now.program.now) here.now.number here.now.place (members_seen here.now.table.now) (Some (builder_of builder.old)) (map member_of members.now)) }
+        ensures { IfOk result (λ right. shaped right builder.new ≡ members_added (decls_of self.now.symbols.now) here.now.number here.now.place (members_seen here.now.table.now) (Some (builder_of builder.old)) (map member_of members.now)) }
     {
         for m in members {
             if !self.add_member(here, m, builder)? {
@@ -156,27 +152,25 @@ impl<'a> Builder<'a> {
 #[tactic(auto, using(source::specs::Leasts::least_append))]
 fn note_member<'a, 't>(
     alloc: Global,
-    decls: &'a Declarations<'t>,
+    symbols: &'a SymbolTable<'t>,
     place: usize,
     structure: &'a Structure<'t>,
     m: &Member,
     least: &mut Option<Mistake>,
 ) -> Result<(), AllocError>
-    requires decls { AreDeclarations decls.now }
-    requires structure { IsStructure structure.now }
-    ensures { OnOk result (least.new ≡ least_of least.old (member_faults (declared_by decls.now) place (members_seen structure.now) (member_of m.now))) }
+    ensures { OnOk result (least.new ≡ least_of least.old (member_faults (decls_of symbols.now) place (members_seen structure.now) (member_of m.now))) }
 {
     match m {
         Member::Lock(_) => Ok(()),
         Member::Final(f) => {
-            note_target(decls, &f.target, least);
+            note_target(symbols, &f.target, least);
             Ok(())
         }
         Member::Field(f) => {
-            note_type(decls, &f.value_type, least);
+            note_type(symbols, &f.value_type, least);
             note_protection(
                 alloc,
-                decls,
+                symbols,
                 place,
                 structure,
                 &f.name,
@@ -191,18 +185,16 @@ fn note_member<'a, 't>(
 #[tactic(auto, using(source::specs::Leasts::least_append))]
 pub fn note_members<'a, 't>(
     alloc: Global,
-    decls: &'a Declarations<'t>,
+    symbols: &'a SymbolTable<'t>,
     place: usize,
     structure: &'a Structure<'t>,
     members: &[Member],
     least: &mut Option<Mistake>,
 ) -> Result<(), AllocError>
-    requires decls { AreDeclarations decls.now }
-    requires structure { IsStructure structure.now }
-    ensures { OnOk result (least.new ≡ least_of least.old (members_faults (declared_by decls.now) place (members_seen structure.now) (map member_of members.now))) }
+    ensures { OnOk result (least.new ≡ least_of least.old (members_faults (decls_of symbols.now) place (members_seen structure.now) (map member_of members.now))) }
 {
     for m in members {
-        note_member(alloc, decls, place, structure, m, least)?;
+        note_member(alloc, symbols, place, structure, m, least)?;
     }
     Ok(())
 }

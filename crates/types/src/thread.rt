@@ -9,36 +9,34 @@ ghost use Rattle.resolution.specs.Resolution.{call_of, one_call, copies, joined,
 ghost use Rattle.source.specs.Mistakes.{least_of};
 ghost use Rattle.resolution.specs.FaultLists.{item_faults, items_faults};
 ghost use Rattle.types.specs.Calls.{repeated_calls};
-ghost use Rattle.symbols.specs.{declared_by, AreDeclarations, program_of, IsProgram};
+ghost use Rattle.symbols.specs.{decls_of};
 
 use crate::constant::{are_typed, note_arguments, typed_arguments};
 use core_lang::typed::Call;
 use source::fault::Code;
 use source::mistake::{Mistake, note};
 use std::alloc::{AllocError, Global};
-use symbols::declarations::Declarations;
 use symbols::scope::{Meaning, note_unfit};
-use symbols::table::Program;
+use symbols::table::SymbolTable;
 use syntax::tree;
 use syntax::tree::{Decl, Item};
 
 /// Notes what is wrong with a call.
-fn note_call(decls: &Declarations, c: &tree::Call, least: &mut Option<Mistake>)
-    requires { AreDeclarations decls.now }
-    ensures { least.new ≡ least_of least.old (item_faults (declared_by decls.now) (call (call_view c.now))) }
+fn note_call(symbols: &SymbolTable, c: &tree::Call, least: &mut Option<Mistake>)
+    ensures { least.new ≡ least_of least.old (item_faults (decls_of symbols.now) (call (call_view c.now))) }
 {
     let start = c.section.start as usize;
-    match decls.find(c.section.text.as_str()) {
+    match symbols.find(c.section.text.as_str()) {
         Some((_, Decl::Atomic(section))) => {
             if c.arguments.len() == section.params.len() {
-                note_arguments(decls, &section.params, &c.arguments, least);
+                note_arguments(symbols, &section.params, &c.arguments, least);
             } else {
                 note(least, Code::WrongArgumentCount, start);
             }
         }
         Some((place, d)) => {
             let meant = Meaning::Decl(place, d);
-            note_unfit(decls, Code::WrongType, start, meant, least);
+            note_unfit(symbols, Code::WrongType, start, meant, least);
         }
         None => note(least, Code::UnknownName, start),
     }
@@ -46,59 +44,54 @@ fn note_call(decls: &Declarations, c: &tree::Call, least: &mut Option<Mistake>)
 
 /// Notes what is wrong with a thing that a thread does.
 #[cycle(faults)]
-fn note_item(decls: &Declarations, item: &Item, least: &mut Option<Mistake>)
-    requires { AreDeclarations decls.now }
-    ensures { least.new ≡ least_of least.old (item_faults (declared_by decls.now) (item_of item.now)) }
+fn note_item(symbols: &SymbolTable, item: &Item, least: &mut Option<Mistake>)
+    ensures { least.new ≡ least_of least.old (item_faults (decls_of symbols.now) (item_of item.now)) }
 {
     match item {
-        Item::Call(c) => note_call(decls, c, least),
-        Item::Repeat(_, items) => note_items(decls, items, least),
+        Item::Call(c) => note_call(symbols, c, least),
+        Item::Repeat(_, items) => note_items(symbols, items, least),
     }
 }
 
 /// Notes what is wrong with what a thread does.
 #[cycle(faults)]
 #[tactic(auto, using(source::specs::Leasts::least_append))]
-pub fn note_items(decls: &Declarations, items: &[Item], least: &mut Option<Mistake>)
-    requires { AreDeclarations decls.now }
-    ensures { least.new ≡ least_of least.old (items_faults (declared_by decls.now) (items_of items.now)) }
+pub fn note_items(symbols: &SymbolTable, items: &[Item], least: &mut Option<Mistake>)
+    ensures { least.new ≡ least_of least.old (items_faults (decls_of symbols.now) (items_of items.now)) }
 {
     for item in items {
-        note_item(decls, item, least);
+        note_item(symbols, item, least);
     }
 }
 
 /// Whether a call is right.
-fn is_typed_call(program: &Program, c: &tree::Call) -> bool
-    requires { IsProgram program.now }
-    ensures { result ≡ is_some (typed_item (program_of program.now) (call (call_view c.now))) }
+fn is_typed_call(symbols: &SymbolTable, c: &tree::Call) -> bool
+    ensures { result ≡ is_some (typed_item (decls_of symbols.now) (call (call_view c.now))) }
 {
-    match program.decls.find(c.section.text.as_str()) {
-        Some((_, Decl::Atomic(section))) => are_typed(program, &section.params, &c.arguments),
+    match symbols.find(c.section.text.as_str()) {
+        Some((_, Decl::Atomic(section))) => are_typed(symbols, &section.params, &c.arguments),
         _ => false,
     }
 }
 
 /// Whether a thing that a thread does is right.
 #[cycle(are)]
-fn is_typed(program: &Program, item: &Item) -> bool
-    requires { IsProgram program.now }
-    ensures { result ≡ is_some (typed_item (program_of program.now) (item_of item.now)) }
+fn is_typed(symbols: &SymbolTable, item: &Item) -> bool
+    ensures { result ≡ is_some (typed_item (decls_of symbols.now) (item_of item.now)) }
 {
     match item {
-        Item::Call(c) => is_typed_call(program, c),
-        Item::Repeat(_, items) => all_typed(program, items),
+        Item::Call(c) => is_typed_call(symbols, c),
+        Item::Repeat(_, items) => all_typed(symbols, items),
     }
 }
 
 /// Whether what a thread does is right.
 #[cycle(are)]
-fn all_typed(program: &Program, items: &[Item]) -> bool
-    requires { IsProgram program.now }
-    ensures { result ≡ is_some (typed_items (program_of program.now) (items_of items.now)) }
+fn all_typed(symbols: &SymbolTable, items: &[Item]) -> bool
+    ensures { result ≡ is_some (typed_items (decls_of symbols.now) (items_of items.now)) }
 {
     for item in items {
-        if !is_typed(program, item) {
+        if !is_typed(symbols, item) {
             return false;
         }
     }
@@ -106,16 +99,19 @@ fn all_typed(program: &Program, items: &[Item]) -> bool
 }
 
 /// A call, resolved, if it is right.
-fn typed_call(alloc: Global, program: &Program, c: &tree::Call) -> Result<Option<Call>, AllocError>
-    requires { IsProgram program.now }
-    ensures { IfOk result (λ r. option_map core_call r ≡ call_of (program_of program.now) (the_decl (program_of program.now) (ident c.now.section).text) (map const_of c.now.arguments.items)) }
+fn typed_call(
+    alloc: Global,
+    symbols: &SymbolTable,
+    c: &tree::Call,
+) -> Result<Option<Call>, AllocError>
+    ensures { IfOk result (λ r. option_map core_call r ≡ call_of (decls_of symbols.now) (the_decl (decls_of symbols.now) (ident c.now.section).text) (map const_of c.now.arguments.items)) }
 {
-    let Some((place, d)) = program.decls.find(c.section.text.as_str()) else {
+    let Some((place, d)) = symbols.find(c.section.text.as_str()) else {
         return Ok(None);
     };
-    let section = program.decls.number(place, d);
+    let section = symbols.number(place, d);
     match d {
-        Decl::Atomic(s) => match typed_arguments(alloc, program, &s.params, &c.arguments)? {
+        Decl::Atomic(s) => match typed_arguments(alloc, symbols, &s.params, &c.arguments)? {
             Some(arguments) => Ok(Some(Call { section, arguments })),
             None => Ok(None),
         },
@@ -205,25 +201,24 @@ fn with_calls(
 #[cycle(typed)]
 fn typed_item(
     alloc: Global,
-    program: &Program,
+    symbols: &SymbolTable,
     item: &Item,
 ) -> Result<Option<Vec<Call>>, AllocError>
-    requires { IsProgram program.now }
-    ensures { IfOk result (λ r. option_map (λ cs. map core_call cs.items) r ≡ typed_item (program_of program.now) (item_of item.now)) }
+    ensures { IfOk result (λ r. option_map (λ cs. map core_call cs.items) r ≡ typed_item (decls_of symbols.now) (item_of item.now)) }
 {
     match item {
         Item::Call(c) => {
-            let call = typed_call(alloc, program, c)?;
+            let call = typed_call(alloc, symbols, c)?;
             one_call(alloc, call)
         }
         Item::Repeat(n, items) => {
             if n.value == 0 {
-                if all_typed(program, items) {
+                if all_typed(symbols, items) {
                     return Ok(Some(Vec::new(alloc)));
                 }
                 return Ok(None);
             }
-            let calls = typed_items(alloc, program, items)?;
+            let calls = typed_items(alloc, symbols, items)?;
             repeated(alloc, n.value, calls)
         }
     }
@@ -233,15 +228,14 @@ fn typed_item(
 #[cycle(typed)]
 fn typed_items(
     alloc: Global,
-    program: &Program,
+    symbols: &SymbolTable,
     items: &[Item],
 ) -> Result<Option<Vec<Call>>, AllocError>
-    requires { IsProgram program.now }
-    ensures { IfOk result (λ r. option_map (λ cs. map core_call cs.items) r ≡ typed_items (program_of program.now) (items_of items.now)) }
+    ensures { IfOk result (λ r. option_map (λ cs. map core_call cs.items) r ≡ typed_items (decls_of symbols.now) (items_of items.now)) }
 {
     let mut calls = Some(Vec::new(alloc));
     for item in items {
-        let more = typed_item(alloc, program, item)?;
+        let more = typed_item(alloc, symbols, item)?;
         calls = with_calls(calls, more)?;
     }
     Ok(calls)
@@ -250,14 +244,13 @@ fn typed_items(
 /// A thread's calls, if there are not too many in all threads.
 pub fn typed_calls(
     alloc: Global,
-    program: &Program,
+    symbols: &SymbolTable,
     items: &[Item],
 ) -> Result<Option<Vec<Call>>, AllocError>
-    requires { IsProgram program.now }
-    ensures { IfOk result (λ r. option_map (λ cs. map core_call cs.items) r ≡ typed_calls (program_of program.now) (items_of items.now)) }
+    ensures { IfOk result (λ r. option_map (λ cs. map core_call cs.items) r ≡ typed_calls (decls_of symbols.now) (items_of items.now)) }
 {
-    if program.has_few_calls() {
-        typed_items(alloc, program, items)
+    if symbols.has_few_calls() {
+        typed_items(alloc, symbols, items)
     } else {
         Ok(None)
     }

@@ -5,7 +5,7 @@ use Rattle.resolution.specs.CoreViews.{core_section}
 use Rattle.resolution.specs.Scopes.{entered}
 use Rattle.resolution.specs.Statements.{typed_body, after_all}
 use Rattle.resolution.specs.Resolution.{core_locals}
-use Rattle.symbols.specs.{program_of}
+use Rattle.symbols.specs.{decls_of}
 use Rattle.sections.specs.Checkers.{scope}
 use Rattle.sections.proofs.Blocks.{section_is}
 use Rattle.sections.proofs.section.judge_section.Goals as goal
@@ -15,7 +15,7 @@ returns-clause-value c =
     let start = scope c.new-checker.result in
     let entry = scope c.params.new.self in
     subst (λ x. IfOk c.section_of.result (λ r. option_map core_section r ≡ x))
-    (section_is (program_of c.args.program.now) (section_view c.args.s.now) _ start entry (scope c.body.new.self) _ _ c.result_type-result.ensures.value c.new-checker.ensures
+    (section_is (decls_of c.args.symbols.now) (section_view c.args.s.now) _ start entry (scope c.body.new.self) _ _ c.result_type-result.ensures.value c.new-checker.ensures
     (c.in_ok-params.ensures.scope ∙ ap (λ ps. entered start (map param_of ps)) c.deref.ensures.value)
     (c.in_ok-body.ensures.value ∙ ap (λ ss. typed_body entry (stmts_of ss)) c.deref-2.ensures.value)
     (c.in_ok-body.ensures.scope ∙ ap (λ ss. after_all entry (stmts_of ss)) c.deref-2.ensures.value)

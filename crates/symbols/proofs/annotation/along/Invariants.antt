@@ -2,12 +2,11 @@ use Rattle.std.proofs.Common.{◌≡◌, drop}
 use Rattle.std.specs.Prelude.{map, option_map}
 use Rattle.syntax.specs.Views.{ident}
 use Rattle.resolution.specs.Annotations.{along}
-use Rattle.symbols.specs.Programs.{program_of}
-use Rattle.symbols.specs.AnnotationCursors.{cursor_of, IsAnnotationCursor}
+use Rattle.symbols.specs.Views.{decls_of}
+use Rattle.symbols.specs.AnnotationCursors.{cursor_of}
 use Rattle.symbols.proofs.annotation.along.Given as goal
 
 abbrev pub invariant-loop-z : goal.invariant-loop-z
 invariant-loop-z l = record {
-  value : along (program_of l.program) (option_map cursor_of l.cursor) (ident l.y) (map ident (drop l.z-index l.rest)) ≡ along (program_of l.program) (option_map cursor_of l.fn.cursor) (ident l.fn.first) (map ident l.rest);
-  table : IsAnnotationCursor l.cursor;
+  value : along (decls_of l.symbols) (option_map cursor_of l.cursor) (ident l.y) (map ident (drop l.z-index l.rest)) ≡ along (decls_of l.symbols) (option_map cursor_of l.fn.cursor) (ident l.fn.first) (map ident l.rest);
 }

@@ -4,7 +4,7 @@ use Rattle.syntax.specs.Views.{decl_of, struct_of}
 use Rattle.source.specs.Mistakes.{least_of}
 use Rattle.resolution.specs.FaultLists.{member_twice_faults, struct_faults}
 use Rattle.symbols.specs.Views.{decls_of, AreStructures}
-use Rattle.symbols.specs.declared.members.Structure.{Structure}
+use Rattle.syntax.specs.declared.tree.Struct.{Struct}
 use Rattle.symbols.proofs.Declared.{take-here}
 use Rattle.symbols.proofs.Structs.{structures_more, structures_same, no_faults}
 use Rattle.symbols.specs.Steps.{step, noted_one}
@@ -26,9 +26,9 @@ loop-d-preserved c =
           let s = struct_of w.in-Struct.item in
           let here : decl_of x ≡ struct s = ap decl_of w.in-Struct.is in
           record {
-            structs = subst (λ (v : List Structure). AreStructures (decls_of (take (i + 1) decls)) v) (sym (ap (λ v. v.items) w.structs-is))
+            structs = subst (λ (v : List Struct). AreStructures (decls_of (take (i + 1) decls)) v) (sym (ap (λ v. v.items) w.structs-is))
                 (subst (λ (es : List Decl). AreStructures es w.push.new.self.items) (sym (more ∙ ap (λ (d : Decl). ds ++ d ∷ []) here))
-                (structures_more ds s c.loop-d.structs.items w.push.new.self.items w.in_ok-structure.structure w.in_ok-structure.ensures.item w.in_ok-structure.ensures.table w.in_ok-push.ensures.items c.loop-d.invariant.structs));
+                (structures_more ds w.in-Struct.item w.in_ok-structure.structure c.loop-d.structs.items w.push.new.self.items w.in_ok-structure.ensures.item w.in_ok-push.ensures.items c.loop-d.invariant.structs));
             faults = step (λ xs. least_of c.loop-d.least (struct_faults (decls_of xs))) (λ xs. least_of c.match-d.least (struct_faults (decls_of xs))) decls i x _ lt is
                 (ap (λ f. least_of f (struct_faults rest)) w.least-is
                 ∙ noted_one c.loop-d.least w.new.new.least (member_twice_faults [] s.members) (struct_faults rest) w.in_ok-structure.ensures.faults
@@ -37,7 +37,7 @@ loop-d-preserved c =
           }
       | in_default w ↦
           record {
-            structs = subst (λ (v : List Structure). AreStructures (decls_of (take (i + 1) decls)) v) (sym (ap (λ v. v.items) w.structs-is))
+            structs = subst (λ (v : List Struct). AreStructures (decls_of (take (i + 1) decls)) v) (sym (ap (λ v. v.items) w.structs-is))
                 (subst (λ (es : List Decl). AreStructures es c.loop-d.structs.items) (sym more)
                 (structures_same ds x c.loop-d.structs.items w.in_default.not-Struct c.loop-d.invariant.structs));
             faults = step (λ xs. least_of c.loop-d.least (struct_faults (decls_of xs))) (λ xs. least_of c.match-d.least (struct_faults (decls_of xs))) decls i x _ lt is

@@ -4,7 +4,7 @@ use Rattle.syntax.specs.Views.{decl_of}
 use Rattle.source.specs.Mistakes.{least_of}
 use Rattle.resolution.specs.FaultLists.{repeated, repeated_faults}
 use Rattle.symbols.specs.Given.{IsInitTargetTable}
-use Rattle.symbols.specs.Views.{decls_of, declared_by}
+use Rattle.symbols.specs.Views.{decls_of}
 use Rattle.symbols.proofs.Declared.{take-here, taken_length}
 use Rattle.symbols.proofs.Giving.{init_targets_more, repeated_is}
 use Rattle.symbols.specs.Steps.{step, noted_one}
@@ -12,13 +12,13 @@ use Rattle.symbols.proofs.first_inits.judge_first_inits.Goals as goal
 
 pub loop-place-preserved : goal.loop-place-preserved
 loop-place-preserved c =
-    let items = c.args.decls.now.items.now in
-    let all = declared_by c.args.decls.now in
+    let items = c.items-items.result.now in
+    let all = decls_of c.args.decls.now in
     let i = c.loop-place.place in
-    let x = c.d-item.result in
+    let x = c.index-items-place.result in
     let d = decl_of x in
     let lt = c.loop-place-test.true in
-    let is = c.d-item.is in
+    let is = c.index-items-place.is in
     let ds = decls_of (take i items) in
     let more = take-here decl_of items i x lt is in
     record {

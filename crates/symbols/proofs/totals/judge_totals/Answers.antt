@@ -1,14 +1,15 @@
 use Rattle.std.proofs.Common.{◌≡◌, ℕ, ◌+◌, ◌∷◌, ◌++◌, [], arith, ap, sym, subst, ◌∙◌, List, take, drop}
 use Rattle.std.proofs.lemmas.Grind.{common_steps}
+use Rattle.syntax.specs.declared.tree.Decl as rust
 use Rattle.syntax.specs.Trees.{Decl}
 use Rattle.syntax.specs.Views.{decl_of}
-use Rattle.resolution.specs.Scopes.{alike, count}
+use Rattle.resolution.specs.Scopes.{alike, count, number_at}
 use Rattle.source.specs.Mistakes.{least_of}
 use Rattle.resolution.specs.FaultLists.{count_faults, total_faults}
 use Rattle.symbols.specs.declared.totals.Totals.{Totals}
 use Rattle.symbols.specs.Found.{AreAhead}
 use Rattle.symbols.specs.Capped.{both_totals, totals_of, faults_by}
-use Rattle.symbols.specs.Views.{decls_of, declared_by}
+use Rattle.symbols.specs.Views.{decls_of}
 use Rattle.symbols.proofs.Ahead.{ahead_more}
 use Rattle.symbols.proofs.Declared.{take-here, taken_length, take_map}
 use Rattle.symbols.proofs.Sums.{totals_push, faults_are}
@@ -17,18 +18,18 @@ use Rattle.symbols.proofs.totals.judge_totals.Goals as goal
 
 pub loop-place-preserved : goal.loop-place-preserved
 loop-place-preserved c =
-    let items = c.args.decls.now.items.now in
-    let all = declared_by c.args.decls.now in
+    let items = c.items-items.result.now in
+    let all = decls_of c.args.decls.now in
     let i = c.loop-place.place in
-    let x = c.d-item.result in
+    let x = c.index-items-place.result in
     let d = decl_of x in
     let lt = c.loop-place-test.true in
-    let is = c.d-item.is in
+    let is = c.index-items-place.is in
     let ds = decls_of (take i items) in
     let more = take-here decl_of items i x lt is in
     let F = totals_of all in
     let new : c.with-totals.result ≡ F (ds ++ d ∷ []) = c.with-totals.ensures.sum ∙ ap (λ (t : Totals). both_totals t c.of-own.result) c.loop-place.invariant.so_far ∙ ap (both_totals (F ds)) c.of-own.ensures ∙ totals_push all ds d in
-    let number : c.number.result ≡ count (alike d) ds = c.number.ensures ∙ ap (count (alike d)) (take_map decl_of i items) in
+    let number : c.number.result ≡ count (alike d) ds = c.number.ensures ∙ ap (λ (xs : List rust.Decl). number_at (decls_of xs) i d) (sym c.items-items.ensures) ∙ ap (count (alike d)) (take_map decl_of i items) in
     let noted : c.note_decl.new.least ≡ least_of c.loop-place.least (count_faults all ds d) =
     c.note_decl.ensures ∙ ap (λ (n : ℕ). least_of c.loop-place.least (faults_by n c.loop-place.totals c.of-own.result d)) number
     ∙ ap (λ (t : Totals). least_of c.loop-place.least (faults_by (count (alike d) ds) t c.of-own.result d)) c.loop-place.invariant.so_far

@@ -2,7 +2,7 @@ use Rattle.std.proofs.Common.{sym, ap, ◌∙◌, None}
 use Rattle.std.specs.Prelude.{map}
 use Rattle.syntax.specs.Views.{tree_of, decl_of}
 use Rattle.resolution.specs.FaultLists.{each_faults}
-use Rattle.symbols.specs.Programs.{program_of}
+use Rattle.symbols.specs.Views.{decls_of}
 use Rattle.types.specs.Grown.{if_right, built}
 use Rattle.types.proofs.Checked.{least_after, whole_least, was_none, whole_built, none_built, begun}
 use Rattle.types.proofs.program.check.Goals as goal
@@ -11,47 +11,47 @@ pub returns-in-Some-clause-fault : goal.returns-in-Some-clause-fault
 returns-in-Some-clause-fault c =
     let ds = tree_of c.args.tree.now in
     let items = ap (map decl_of) c.deref.ensures.value in
-    let whole = whole_least ds (program_of c.in_ok-program.program) c.new.new.least c.judge_all.new.least (c.in_ok-program.ensures.items ∙ items) (c.in_ok-program.ensures.faults ∙ ap (least_after None) items) c.in_ok-judge_all.ensures.faults in
+    let whole = whole_least ds (decls_of c.in_ok-symbols.symbols) c.new.new.least c.judge_all.new.least (ap (map decl_of) c.in_ok-symbols.ensures.items ∙ items) (c.in_ok-symbols.ensures.faults ∙ ap (least_after None) items) c.in_ok-judge_all.ensures.faults in
     rw (c.at.ensures.code, c.at.ensures.start) (c.least_fault.ensures.fault ds c.in-Some.fault (sym whole ∙ c.in-Some.is), c.at.ensures.detail)
 
 pub returns-in-Some-clause-least : goal.returns-in-Some-clause-least
 returns-in-Some-clause-least c = λ code p h.
     let ds = tree_of c.args.tree.now in
     let items = ap (map decl_of) c.deref.ensures.value in
-    let whole = whole_least ds (program_of c.in_ok-program.program) c.new.new.least c.judge_all.new.least (c.in_ok-program.ensures.items ∙ items) (c.in_ok-program.ensures.faults ∙ ap (least_after None) items) c.in_ok-judge_all.ensures.faults in
+    let whole = whole_least ds (decls_of c.in_ok-symbols.symbols) c.new.new.least c.judge_all.new.least (ap (map decl_of) c.in_ok-symbols.ensures.items ∙ items) (c.in_ok-symbols.ensures.faults ∙ ap (least_after None) items) c.in_ok-judge_all.ensures.faults in
     rw (c.at.ensures.code, c.at.ensures.start) (c.least_fault.ensures.least ds c.in-Some.fault (sym whole ∙ c.in-Some.is) code p h)
 
 pub unreachable-requires : goal.unreachable-requires
 unreachable-requires c =
     let ds = tree_of c.args.tree.now in
     let items = ap (map decl_of) c.deref.ensures.value in
-    let same = c.in_ok-program.ensures.items ∙ items in
-    let whole = whole_least ds (program_of c.in_ok-program.program) c.new.new.least c.judge_all.new.least same (c.in_ok-program.ensures.faults ∙ ap (least_after None) items) c.in_ok-judge_all.ensures.faults in
-    let none = was_none c.new.new.least (each_faults (program_of c.in_ok-program.program) 0 (program_of c.in_ok-program.program)) (sym c.in_ok-judge_all.ensures.faults ∙ c.in_default.is) in
-    let all = whole_built ds (program_of c.in_ok-program.program) _ (built c.judge_all.new.grown) same (begun c.new.new.least c.is_none.result c.nothing.result none c.is_none.ensures c.nothing.ensures) c.in_ok-judge_all.ensures.value in
+    let same = ap (map decl_of) c.in_ok-symbols.ensures.items ∙ items in
+    let whole = whole_least ds (decls_of c.in_ok-symbols.symbols) c.new.new.least c.judge_all.new.least same (c.in_ok-symbols.ensures.faults ∙ ap (least_after None) items) c.in_ok-judge_all.ensures.faults in
+    let none = was_none c.new.new.least (each_faults (decls_of c.in_ok-symbols.symbols) 0 (decls_of c.in_ok-symbols.symbols)) (sym c.in_ok-judge_all.ensures.faults ∙ c.in_default.is) in
+    let all = whole_built ds (decls_of c.in_ok-symbols.symbols) _ (built c.judge_all.new.grown) same (begun c.new.new.least c.is_none.result c.nothing.result none c.is_none.ensures c.nothing.ensures) c.in_ok-judge_all.ensures.value in
     none_built ds (built c.judge_all.new.grown) all (ap (λ b. if_right b c.judge_all.new.grown.typed) c.if-not-grown.true) (c.faultless_are_resolved.ensures ds c.requires (sym whole ∙ c.in_default.is))
 
 pub returns-clause-resolves : goal.returns-clause-resolves
 returns-clause-resolves c =
     let ds = tree_of c.args.tree.now in
     let items = ap (map decl_of) c.deref.ensures.value in
-    let same = c.in_ok-program.ensures.items ∙ items in
-    let none = was_none c.new.new.least (each_faults (program_of c.in_ok-program.program) 0 (program_of c.in_ok-program.program)) (sym c.in_ok-judge_all.ensures.faults ∙ c.in_default.is) in
-    sym (whole_built ds (program_of c.in_ok-program.program) _ (built c.judge_all.new.grown) same (begun c.new.new.least c.is_none.result c.nothing.result none c.is_none.ensures c.nothing.ensures) c.in_ok-judge_all.ensures.value) ∙ ap (λ b. if_right b c.judge_all.new.grown.typed) c.if-not-grown.false
+    let same = ap (map decl_of) c.in_ok-symbols.ensures.items ∙ items in
+    let none = was_none c.new.new.least (each_faults (decls_of c.in_ok-symbols.symbols) 0 (decls_of c.in_ok-symbols.symbols)) (sym c.in_ok-judge_all.ensures.faults ∙ c.in_default.is) in
+    sym (whole_built ds (decls_of c.in_ok-symbols.symbols) _ (built c.judge_all.new.grown) same (begun c.new.new.least c.is_none.result c.nothing.result none c.is_none.ensures c.nothing.ensures) c.in_ok-judge_all.ensures.value) ∙ ap (λ b. if_right b c.judge_all.new.grown.typed) c.if-not-grown.false
 
 pub returns-clause-well_formed : goal.returns-clause-well_formed
 returns-clause-well_formed c =
     let ds = tree_of c.args.tree.now in
     let items = ap (map decl_of) c.deref.ensures.value in
-    let same = c.in_ok-program.ensures.items ∙ items in
-    let whole = whole_least ds (program_of c.in_ok-program.program) c.new.new.least c.judge_all.new.least same (c.in_ok-program.ensures.faults ∙ ap (least_after None) items) c.in_ok-judge_all.ensures.faults in
-    let none = was_none c.new.new.least (each_faults (program_of c.in_ok-program.program) 0 (program_of c.in_ok-program.program)) (sym c.in_ok-judge_all.ensures.faults ∙ c.in_default.is) in
-    let all = whole_built ds (program_of c.in_ok-program.program) _ (built c.judge_all.new.grown) same (begun c.new.new.least c.is_none.result c.nothing.result none c.is_none.ensures c.nothing.ensures) c.in_ok-judge_all.ensures.value in
+    let same = ap (map decl_of) c.in_ok-symbols.ensures.items ∙ items in
+    let whole = whole_least ds (decls_of c.in_ok-symbols.symbols) c.new.new.least c.judge_all.new.least same (c.in_ok-symbols.ensures.faults ∙ ap (least_after None) items) c.in_ok-judge_all.ensures.faults in
+    let none = was_none c.new.new.least (each_faults (decls_of c.in_ok-symbols.symbols) 0 (decls_of c.in_ok-symbols.symbols)) (sym c.in_ok-judge_all.ensures.faults ∙ c.in_default.is) in
+    let all = whole_built ds (decls_of c.in_ok-symbols.symbols) _ (built c.judge_all.new.grown) same (begun c.new.new.least c.is_none.result c.nothing.result none c.is_none.ensures c.nothing.ensures) c.in_ok-judge_all.ensures.value in
     c.resolved_are_well_formed.ensures ds c.judge_all.new.grown.typed (sym whole ∙ c.in_default.is) (sym all ∙ ap (λ b. if_right b c.judge_all.new.grown.typed) c.if-not-grown.false)
 
 pub returns-clause-faultless : goal.returns-clause-faultless
 returns-clause-faultless c =
     let ds = tree_of c.args.tree.now in
     let items = ap (map decl_of) c.deref.ensures.value in
-    let whole = whole_least ds (program_of c.in_ok-program.program) c.new.new.least c.judge_all.new.least (c.in_ok-program.ensures.items ∙ items) (c.in_ok-program.ensures.faults ∙ ap (least_after None) items) c.in_ok-judge_all.ensures.faults in
+    let whole = whole_least ds (decls_of c.in_ok-symbols.symbols) c.new.new.least c.judge_all.new.least (ap (map decl_of) c.in_ok-symbols.ensures.items ∙ items) (c.in_ok-symbols.ensures.faults ∙ ap (least_after None) items) c.in_ok-judge_all.ensures.faults in
     c.least_fault.ensures.none ds (sym whole ∙ c.in_default.is)

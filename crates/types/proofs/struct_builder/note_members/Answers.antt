@@ -3,14 +3,14 @@ use Rattle.std.specs.Prelude.{map}
 use Rattle.syntax.specs.Views.{member_of}
 use Rattle.source.specs.Mistakes.{least_of}
 use Rattle.resolution.specs.FaultLists.{member_faults, members_faults}
-use Rattle.symbols.specs.Views.{declared_by, members_seen}
+use Rattle.symbols.specs.Views.{decls_of, members_seen}
 use Rattle.types.proofs.Shapes.{members_one}
 use Rattle.symbols.specs.Steps.{step, noted_one}
 use Rattle.types.proofs.struct_builder.note_members.Goals as goal
 
 pub loop-m-preserved : goal.loop-m-preserved
 loop-m-preserved c =
-    let ds = declared_by c.args.decls.now in
+    let ds = decls_of c.args.symbols.now in
     let all = members_seen c.args.structure.now in
     let items = c.args.members.now in
     let m = member_of c.m-item.result in

@@ -2,14 +2,14 @@ use Rattle.std.proofs.Common.{sym, ap, ◌∙◌, Some}
 use Rattle.std.specs.Prelude.{map}
 use Rattle.syntax.specs.Views.{member_of}
 use Rattle.resolution.specs.CoreViews.{core_of}
-use Rattle.symbols.specs.Programs.{program_of}
+use Rattle.symbols.specs.Views.{decls_of}
 use Rattle.types.specs.Grown.{if_right}
 use Rattle.types.proofs.Objects.{objects_none, objects_next}
 use Rattle.types.proofs.grown.Builder.add_objects.Goals as goal
 
 pub returns-then-not-branch : goal.returns-then-not-branch
 returns-then-not-branch c =
-    let ds = program_of c.args.self.now.program.now in
+    let ds = decls_of c.args.self.now.symbols.now in
     let pool = c.args.pool.now in
     let ms = map member_of pool.members.now in
     let start = Some (core_of c.args.typed.now) in
