@@ -1,6 +1,6 @@
 //! What is asked of a text.
 
-ghost use Rattle.std.specs.Prelude.{◌≡◌, ◌↔◌, Some, codes};
+ghost use Rattle.std.specs.Prelude.{◌≡◌, ◌↔◌, IfSome, Some, ℕ, codes};
 
 /// What is asked of a text.
 #[derive(Clone, Copy)]
@@ -25,10 +25,27 @@ pub enum Asked {
     Lists,
     /// The instructions of its sections, as the command `listing` writes them.
     Listing,
+    /// Its tokens.
+    Tokens,
+    /// Its history within so many turns of each loop, as the command `serial` writes it.
+    Serial(u64),
+}
+
+/// What a word asks that has a number: nothing, unless it is `serial` with a number behind a blank.
+fn with_number(word: &str) -> Option<Asked>
+    ensures { IfSome result (λ asked. (turns : ℕ) × (asked ≡ Asked.Serial turns)) }
+{
+    match word.strip_prefix("serial ") {
+        Some(turns) => match turns.parse::<u64>() {
+            Ok(turns) => Some(Asked::Serial(turns)),
+            Err(_) => None,
+        },
+        None => None,
+    }
 }
 
 impl Asked {
-    /// What this word asks: nothing, unless it is one of the ten.
+    /// What this word asks: nothing, unless it is one of the eleven, or `serial` and how many turns.
     pub fn named(word: &str) -> Option<Asked>
         ensures check { (result ≡ Some Asked.Check) ↔ (word.now ≡ codes "check") }
         ensures tree { (result ≡ Some Asked.Tree) ↔ (word.now ≡ codes "tree") }
@@ -40,6 +57,7 @@ impl Asked {
         ensures order { (result ≡ Some Asked.Order) ↔ (word.now ≡ codes "order") }
         ensures lists { (result ≡ Some Asked.Lists) ↔ (word.now ≡ codes "lists") }
         ensures listing { (result ≡ Some Asked.Listing) ↔ (word.now ≡ codes "listing") }
+        ensures tokens { (result ≡ Some Asked.Tokens) ↔ (word.now ≡ codes "tokens") }
     {
         match word {
             "check" => Some(Asked::Check),
@@ -52,7 +70,8 @@ impl Asked {
             "order" => Some(Asked::Order),
             "lists" => Some(Asked::Lists),
             "listing" => Some(Asked::Listing),
-            _ => None,
+            "tokens" => Some(Asked::Tokens),
+            _ => with_number(word),
         }
     }
 }

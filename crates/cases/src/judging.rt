@@ -8,6 +8,14 @@ use case_files::tally::Tally;
 use source::memory::NoMemory;
 use std::alloc::Global;
 
+/// What must be said of a case's text; as it stands, where what is between `<<` and `>>` can't be read.
+fn wanted(alloc: Global, want: &str) -> Result<String, NoMemory> {
+    match written_out(alloc, want)? {
+        Some(want) => Ok(want),
+        None => Ok(String::from_str(alloc, want)?),
+    }
+}
+
 /// What is said of a case's text, with what stands ahead of it.
 fn said_behind(
     alloc: Global,
@@ -42,7 +50,8 @@ pub fn judge_text(alloc: Global, file: &str, text: &str) -> Result<Tally, NoMemo
             Paragraph::Head(other) => head = other,
             Paragraph::Case(text, want) => {
                 let said = said_behind(alloc, asked, head, text)?;
-                tally.count(file, text, said.as_str(), want)?;
+                let want = wanted(alloc, want)?;
+                tally.count(file, text, said.as_str(), want.as_str())?;
             }
             Paragraph::Unreadable => {
                 tally.count(file, paragraph, "nothing, since this is no case", "a case")?;

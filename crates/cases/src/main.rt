@@ -20,14 +20,17 @@
 //!     and a line for each of its points, with its line and column, the lock paths that are wanted there and those that
 //!     are surely held; or the line of the text's fault;
 //!   - `lists`: what `check` writes, without the last line feed; or the line of the text's fault;
-//!   - `listing`: what `listing` writes, without the last line feed; or the line of the text's fault.
+//!   - `listing`: what `listing` writes, without the last line feed; or the line of the text's fault;
+//!   - `tokens`: each token with the bytes where it starts and ends, and `;`; or the line of the fault that the lexer
+//!     tells;
+//!   - `serial N`: what `serial --turns N` writes, without the last line feed, be it the history or the text's fault.
 //! - `@head` alone on a line, with lines below it: those and a line feed stand ahead of each text below. With no lines
 //!   below it, nothing does from there on.
 //! - Anything else is a case: a text, then a line that begins with `=> ` and has what must be said of the text, which
 //!   may go on over the paragraph's further lines. The text ends ahead of the line feed that ends its last line; with
 //!   nothing ahead of `=> ` it is empty.
 //!
-//! In texts and in what stands ahead of them, `<<N|PIECE>>` stands for PIECE written N times, with each `#` in it
+//! In texts, in what stands ahead of them and in what must be said of them, `<<N|PIECE>>` stands for PIECE written N times, with each `#` in it
 //! replaced by the number of the copy, counted from 0; and `<<N>>` for the character of that number, as `<<10>>` for a
 //! line feed.
 //!
@@ -42,6 +45,7 @@ mod analysing;
 mod judging;
 mod rereading;
 mod saying;
+mod telling_tokens;
 
 use crate::judging::judge_text;
 use case_files::ending::{Ending, Stop};

@@ -9,10 +9,12 @@ ghost use Rattle.syntax.specs.Views.{tree_of};
 
 use crate::analysing::{Analysed, without_line_feed};
 use crate::rereading::difference;
+use crate::telling_tokens::push_tokens;
 use case_files::asked::Asked;
 use code::listing;
 use compiler::compile;
 use core_lang::typed::Typed;
+use driver::{Sink, SourceText, Status, serial};
 use lexer::lex;
 use lockpaths::paths;
 use lockpaths::table::Paths;
@@ -122,6 +124,33 @@ fn of_program(alloc: Global, asked: Asked, text: &str) -> Result<String, NoMemor
     }
 }
 
+/// The tokens of the text, or its fault's line.
+fn tokens_of(alloc: Global, text: &str) -> Result<String, NoMemory> {
+    match lex(alloc, text.as_bytes()) {
+        Ok(tokens) => {
+            let mut told = String::new(alloc);
+            push_tokens(&mut told, tokens.as_slice())?;
+            Ok(told)
+        }
+        Err(refusal) => line_of(alloc, text, &refusal),
+    }
+}
+
+/// What `serial` writes of the text within so many turns of each loop, without the last line feed.
+fn history_of(alloc: Global, text: &str, turns: u64) -> Result<String, NoMemory> {
+    let mut source = SourceText::new(text.as_bytes());
+    let mut out = Sink::new(Vec::new(alloc));
+    let mut err = Sink::new(Vec::new(alloc));
+    let status = serial(alloc, &mut source, "F", turns, &mut out, &mut err);
+    if status == Status::OutOfMemory || out.has_failed() || err.has_failed() {
+        return Err(NoMemory);
+    }
+    let mut told = out.into_writer();
+    told.extend_from_slice(err.into_writer().as_slice())?;
+    let told = String::from_utf8_lossy(alloc, told.as_slice())?;
+    without_line_feed(alloc, told.as_str())
+}
+
 /// The tree printed, without the last line feed.
 fn printed(alloc: Global, tree: &Tree) -> Result<String, NoMemory> {
     let printed = print_tree(alloc, tree)?;
@@ -135,6 +164,11 @@ pub fn said_of(alloc: Global, asked: Asked, text: &str) -> Result<String, NoMemo
         Asked::Check | Asked::Order | Asked::Lists | Asked::Listing
     ) {
         return of_program(alloc, asked, text);
+    }
+    match asked {
+        Asked::Tokens => return tokens_of(alloc, text),
+        Asked::Serial(turns) => return history_of(alloc, text, turns),
+        _ => {}
     }
     let tree = match read(alloc, text)? {
         Ok(tree) => tree,

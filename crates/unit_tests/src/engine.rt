@@ -1,8 +1,8 @@
-//! Whole answers of small programs, and readers and writers that fail.
+//! Readers and writers that fail, and bytes that are no text. What is answered otherwise stands in files of cases.
 
-use crate::histories::{judge, judge_answer, judge_one, room};
 use crate::judging::compare;
-use driver::{Sink, SourceText, Status, check, serial};
+use driver::{Sink, SourceText, Status, serial};
+use source::memory::NoMemory;
 use std::alloc::{AllocError, Global};
 use std::io;
 use std::io::{ErrorKind, Read, Write};
@@ -24,153 +24,38 @@ n 2
 end
 ";
 
-#[test]
-fn answers_rows(rt: HostRuntime) -> Result<(), Fail> {
-    judge(
-        rt.alloc(),
-        1_000_000,
-        "
-=> 0 out
-history 1
-cells
-end
-
-lock G;
-global int n protected_by(G);
-atomic inc() { n = n + 1; }
-thread t { inc(); }
-thread u { inc(); }
-=> 0 out
-history 1
-call 0 0 inc() ends
-call 1 0 inc() ends
-cells
-n 2
-end
-
-lock G;
-global int n protected_by(G) = 3;
-atomic f(int k) { n = 8; print n; n = n / k; }
-thread t { f(0); f(2); }
-=> 0 out
-history 1
-call 0 0 f(0) traps 4
-print 8
-call 0 1 f(2) ends
-print 8
-cells
-n 4
-end
-
-atomic a() : int { return 9223372036854775807 + 1; }
-atomic b() : int { return -9223372036854775807 - 1; }
-atomic c() : int { return (-9223372036854775807 - 1) / -1; }
-atomic d() : int { return -7 / 2; }
-atomic e() : int { return -7 % 2; }
-thread t { a(); b(); c(); d(); e(); }
-=> 0 out
-history 1
-call 0 0 a() traps 3
-call 0 1 b() returns -9223372036854775808
-call 0 2 c() traps 3
-call 0 3 d() returns -3
-call 0 4 e() returns -1
-cells
-end
-
-atomic a() : int { return 9223372036854775808; }
-=> 1 err
-F:1:27: E02 number too large
-
-lock G=> 1 err
-F:1:7: E03 unexpected token
-
-struct lock G;
-=> 1 err
-F:1:8: E03 unexpected token
-
-global int n;
-=> 1 err
-F:1:12: E10 neither final nor protected
-
-atomic f() : int { }
-=> 1 err
-F:1:20: E18 misplaced or missing return
-
-# A fault of an earlier pass goes ahead, wherever it stands: E18, not E10.
-
-global int n;
-atomic f() : int { }
-=> 1 err
-F:2:20: E18 misplaced or missing return
-",
-    )
+/// Room for all that is written of a text, so that a refused growth is never a failed write.
+fn room(alloc: Global, text: &[u8]) -> Result<Vec<u8>, AllocError> {
+    let room = text.len().saturating_mul(4).saturating_add(8192);
+    Vec::with_capacity(alloc, room)
 }
 
-/// Judges what `check` answers for a text.
-fn judge_check(alloc: Global, text: &str, want: &str) -> Result<(), Fail> {
-    let mut source = SourceText::new(text.as_bytes());
-    let mut out = Sink::new(room(alloc, text.as_bytes())?);
-    let mut err = Sink::new(room(alloc, text.as_bytes())?);
-    let status = check(alloc, &mut source, "F", &mut out, &mut err);
-    let out = out.into_writer();
-    let err = err.into_writer();
-    judge_answer(alloc, status, out.as_slice(), err.as_slice(), want)
+/// An answer in words: the exit status, which of the two outputs has something, `out` where neither has, and what it is.
+fn said(alloc: Global, status: Status, out: &[u8], err: &[u8]) -> Result<String, Fail> {
+    let (name, bytes) = match (out, err) {
+        (_, []) => ("out", out),
+        ([], _) => ("err", err),
+        _ => ("both", out),
+    };
+    let code = status.code();
+    let text = String::from_utf8_lossy(alloc, bytes)?;
+    Ok(format!(in alloc; "{code} {name}\n{text}")?)
 }
 
-#[test]
-fn checks(rt: HostRuntime) -> Result<(), Fail> {
-    let alloc = rt.alloc();
-    judge_check(
-        alloc,
-        LOST_UPDATE,
-        "0 out\naccepted\nrank 0 G\nsection inc\nat 3:16 take G\n",
-    )?;
-    judge_check(alloc, "", "0 out\naccepted\n")?;
-    judge_check(
-        alloc,
-        "struct Node { lock l; int v protected_by(l); ref Node next protected_by(l); }
-pool Node q[2];
-atomic walk(ref Node a) {
-  let b: ref Node = a.next;
-  b.v = 1;
-}
-",
-        "1 err\nF:4:3: E14 lock order cycle: Node.l -> Node.l\n",
-    )
-}
-
-/// Puts so many copies of a piece at the end of a text.
-fn push_times(text: &mut String, piece: &str, times: usize) -> Result<(), AllocError> {
-    for _time in 0..times {
-        text.push_str(piece)?;
+/// Judges an answer by what is `said` of it. Where memory was refused and is not wanted to be, the error is that, so that
+/// a refused growth ends a test by it, and never by another answer.
+fn judge_answer(
+    alloc: Global,
+    status: Status,
+    out: &[u8],
+    err: &[u8],
+    want: &str,
+) -> Result<(), Fail> {
+    let said = said(alloc, status, out, err)?;
+    if status == Status::OutOfMemory && said.as_str() != want {
+        return Err(NoMemory.into());
     }
-    Ok(())
-}
-
-/// A section that returns 1 inside so many parentheses.
-fn in_parentheses(alloc: Global, pairs: usize) -> Result<String, Fail> {
-    let mut text = String::from_str(alloc, "atomic f() : int { return ")?;
-    push_times(&mut text, "(", pairs)?;
-    text.push_str("1")?;
-    push_times(&mut text, ")", pairs)?;
-    text.push_str("; }\nthread t { f(); }\n")?;
-    Ok(text)
-}
-
-#[test]
-fn bounds_nesting(rt: HostRuntime) -> Result<(), Fail> {
-    let alloc = rt.alloc();
-    let most = in_parentheses(alloc, 63)?;
-    let want = "0 out\nhistory 1\ncall 0 0 f() returns 1\ncells\nend\n";
-    judge_one(alloc, most.as_bytes(), 0, want)?;
-    let more = in_parentheses(alloc, 64)?;
-    judge_one(
-        alloc,
-        more.as_bytes(),
-        0,
-        "1 err\nF:1:90: E04 nested too deep\n",
-    )
+    compare(alloc, said.as_str(), want)
 }
 
 /// Gives at most seven bytes a call, and fails at the call after `calls` others.
@@ -346,33 +231,13 @@ fn a_reader_without_memory(rt: HostRuntime) -> Result<(), Fail> {
     judge_read(alloc, text, 3, ErrorKind::OutOfMemory, want)
 }
 
-/// Judges `LOST_UPDATE` with as many blanks behind it as make a text of this length.
-fn judge_long(alloc: Global, length: usize, want: &str) -> Result<(), Fail> {
-    let mut text = Vec::from_slice(alloc, LOST_UPDATE.as_bytes())?;
-    text.resize(length, b' ')?;
-    judge_one(alloc, text.as_slice(), 0, want)
-}
-
-/// A text of as many bytes as a source may have, and of one more.
+/// Any byte may stand in a comment, and none of them outside of it.
 #[test]
-fn long_texts(rt: HostRuntime) -> Result<(), Fail> {
+fn reads_bytes(rt: HostRuntime) -> Result<(), Fail> {
     let alloc = rt.alloc();
-    let want = format!(in alloc; "0 out\n{HISTORY}")?;
-    judge_long(alloc, 1_048_576, want.as_str())?;
-    judge_long(alloc, 1_048_577, "1 err\nF:1:1: E15 limit exceeded\n")
-}
-
-/// As many calls as there may be: a source of over a million bytes and of 400,000 tokens, and a text of over two million.
-#[test]
-fn many_calls(rt: HostRuntime) -> Result<(), Fail> {
-    let alloc = rt.alloc();
-    let mut text = String::from_str(alloc, "atomic section() { }\nthread t {")?;
-    push_times(&mut text, "section();", 100_000)?;
-    text.push_str("}")?;
-    let mut want = String::from_str(alloc, "0 out\nhistory 1\n")?;
-    for step in 0..100_000u32 {
-        write!(want, "call 0 {step} section() ends\n")?;
-    }
-    want.push_str("cells\nend\n")?;
-    judge_one(alloc, text.as_bytes(), 0, want.as_str())
+    let whole = "0 out\nhistory 1\ncells\nend\n";
+    let kind = ErrorKind::BrokenPipe;
+    judge_read(alloc, b"lock G; // \x00\x80\xff", 9, kind, whole)?;
+    let bad = "1 err\nF:2:1: E01 bad character\n";
+    judge_read(alloc, b"lock G;\n\x80", 9, kind, bad)
 }

@@ -10,23 +10,13 @@ mod command_lines;
 #[cfg(test)]
 mod engine;
 #[cfg(test)]
-mod fault_lines;
-#[cfg(test)]
-mod histories;
-#[cfg(test)]
-mod history_texts;
-#[cfg(test)]
 mod judging;
 #[cfg(test)]
 mod layouts;
 #[cfg(test)]
 mod managers;
 #[cfg(test)]
-mod section_runs;
-#[cfg(test)]
-mod skeletons;
-#[cfg(test)]
-mod tokens;
+mod refusals;
 pub mod verdict;
 #[cfg(test)]
 mod world_steps;
