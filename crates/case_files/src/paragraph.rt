@@ -3,7 +3,7 @@
 ghost use Rattle.std.specs.Prelude.{◌≡◌, ◌≢◌, ◌∷◌, ◌++◌, ◌↔◌, ◌⊎◌, List, ℕ, None, Some, [], codes};
 ghost use Rattle.std.specs.Borrow.{Bor};
 
-use crate::asked::Asked;
+use crate::asked::{Asked, Engine};
 
 /// What a paragraph is.
 #[derive(Clone, Copy)]
@@ -11,7 +11,7 @@ pub enum Paragraph<'a> {
     /// A heading or a note.
     Note,
     /// What is asked of the texts below.
-    Ask(Asked),
+    Ask(Asked<'a>),
     /// What stands ahead of the texts below, its last line feed apart; nothing, where there is none.
     Head(Option<&'a str>),
     /// A text, and what must be said of it.
@@ -23,11 +23,10 @@ pub enum Paragraph<'a> {
 /// What this paragraph is.
 pub fn read_paragraph(paragraph: &str) -> Paragraph<'_>
     ensures note { (result ≡ Paragraph.Note) ↔ ((rest : List ℕ) × (paragraph.now ≡ 35 ∷ rest)) }
-    ensures check { (result ≡ Paragraph.Ask Asked.Check) ↔ (paragraph.now ≡ codes "@ask check") }
+    ensures check { (result ≡ Paragraph.Ask (Asked.Engine Engine.Check)) ↔ (paragraph.now ≡ codes "@ask check") }
     ensures tree { (result ≡ Paragraph.Ask Asked.Tree) ↔ (paragraph.now ≡ codes "@ask tree") }
     ensures print { (result ≡ Paragraph.Ask Asked.Print) ↔ (paragraph.now ≡ codes "@ask print") }
     ensures again { (result ≡ Paragraph.Ask Asked.Again) ↔ (paragraph.now ≡ codes "@ask again") }
-    ensures shape { (result ≡ Paragraph.Ask Asked.Shape) ↔ (paragraph.now ≡ codes "@ask shape") }
     ensures head { (text : Bor (List ℕ)) → result ≡ Paragraph.Head (Some text) → paragraph.now ≡ codes "@head\n" ++ text.now }
     ensures headed { (rest : List ℕ) → paragraph.now ≡ codes "@head\n" ++ rest → (text : Bor (List ℕ)) × (result ≡ Paragraph.Head (Some text)) }
     ensures case { (text want : Bor (List ℕ)) → result ≡ Paragraph.Case text want → (paragraph.now ≡ text.now ++ codes "\n=> " ++ want.now) ⊎ ((text.now ≡ []) × (paragraph.now ≡ codes "=> " ++ want.now)) }

@@ -13,11 +13,6 @@ use points::table::Points;
 use source::memory::NoMemory;
 use std::alloc::{AllocError, Global};
 
-/// The text without the line feed at its end.
-pub fn without_line_feed(alloc: Global, text: &str) -> Result<String, NoMemory> {
-    Ok(String::from_str(alloc, text.strip_suffix('\n').unwrap_or(text))?)
-}
-
 /// A text and the program that it means.
 #[derive(Drop)]
 pub struct Analysed<'a> {

@@ -1,7 +1,7 @@
 //! The cases of a file.
 
 use crate::saying::said_of;
-use case_files::asked::Asked;
+use case_files::asked::{Asked, Engine};
 use case_files::paragraph::{Paragraph, read_paragraph};
 use case_files::repetition::written_out;
 use case_files::tally::Tally;
@@ -19,7 +19,7 @@ fn wanted(alloc: Global, want: &str) -> Result<String, NoMemory> {
 /// What is said of a case's text, with what stands ahead of it.
 fn said_behind(
     alloc: Global,
-    asked: Asked,
+    asked: Asked<'_>,
     head: Option<&str>,
     text: &str,
 ) -> Result<String, NoMemory> {
@@ -41,7 +41,7 @@ fn said_behind(
 /// Judges the cases of the text of the file of this name.
 pub fn judge_text(alloc: Global, file: &str, text: &str) -> Result<Tally, NoMemory> {
     let mut tally = Tally::new(alloc);
-    let mut asked = Asked::Check;
+    let mut asked = Asked::Engine(Engine::Check);
     let mut head = None;
     for paragraph in text.trim().split("\n\n") {
         match read_paragraph(paragraph) {

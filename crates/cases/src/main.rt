@@ -1,16 +1,20 @@
 #![tactic(auto)]
 //! The program `cases`: texts and what must be said of them, judged by the lexer, the parser, the passes of names and
-//! types, of lock paths and of points, and by `compile`. Its words are the names of files of cases.
+//! types, of lock paths and of points, and by the engines. Its words are the names of files of cases.
 //!
 //! A file is paragraphs, which stand apart by one empty line:
 //!
 //! - What begins with `#` is a heading or a note, and passed over.
 //! - `@ask WORD` says what is asked of the texts below it:
-//!   - `check`, as at the head of a file: `accepted`, or the line of the text's fault, in a file called `F`;
+//!   - `check`, as at the head of a file: the first line of what the engine `check` writes, `accepted`;
+//!   - `lists`: what `check` writes;
+//!   - `listing`: what `list` writes;
+//!   - `serial N`: what `serial` writes within N turns of each loop;
+//!   - `simulate STEPS`: what `simulate` writes after these steps, in a file called `T`; they may be none behind the blank;
 //!   - `tree`: `tree`, or the line of the fault that the lexer or the parser tells;
 //!   - `print`: the tree printed, without the last line feed;
-//!   - `again`: `same`, or what differs when the tree is printed and read again;
-//!   - `shape`: the tree as `Debug` writes it;
+//!   - `again`: `same`, or what differs when the tree is printed and read again: a fault, what is printed then, or which
+//!     tokens there are;
 //!   - `paths`: for each section a line with its name, `:` and its lock paths, and a line for each of its points, with its
 //!     line and column and the lock paths that it uses; or the line of the text's fault;
 //!   - `points`: for each section a line with its name, `:` and which of its points, counted from 0, is followed by
@@ -19,11 +23,12 @@
 //!   - `order`: a line with `order:` and the lock classes by rising rank; for each section a line with its name and `:`;
 //!     and a line for each of its points, with its line and column, the lock paths that are wanted there and those that
 //!     are surely held; or the line of the text's fault;
-//!   - `lists`: what `check` writes, without the last line feed; or the line of the text's fault;
-//!   - `listing`: what `listing` writes, without the last line feed; or the line of the text's fault;
 //!   - `tokens`: each token with the bytes where it starts and ends, and `;`; or the line of the fault that the lexer
-//!     tells;
-//!   - `serial N`: what `serial --turns N` writes, without the last line feed, be it the history or the text's fault.
+//!     tells.
+//!
+//!   Of an engine, which is run over the text as a file called `F`, is said what it writes without the last line feed,
+//!   where it ends with status 0 and tells nothing; the line that it tells, where it ends with status 1 and writes
+//!   nothing; else `status`, its number, and what it writes and what it tells, each as `Debug` shows it.
 //! - `@head` alone on a line, with lines below it: those and a line feed stand ahead of each text below. With no lines
 //!   below it, nothing does from there on.
 //! - Anything else is a case: a text, then a line that begins with `=> ` and has what must be said of the text, which
@@ -42,6 +47,7 @@
 //! out.
 
 mod analysing;
+mod engines;
 mod judging;
 mod rereading;
 mod saying;

@@ -7,20 +7,17 @@ ghost use Rattle.lockpaths.specs.Paths.{ArePaths};
 ghost use Rattle.syntax.specs.Returns.{ReturnsRight};
 ghost use Rattle.syntax.specs.Views.{tree_of};
 
-use crate::analysing::{Analysed, without_line_feed};
+use crate::analysing::Analysed;
+use crate::engines::{said_by, without_line_feed};
 use crate::rereading::difference;
-use crate::telling_tokens::push_tokens;
+use crate::telling_tokens::tokens_said;
 use case_files::asked::Asked;
-use code::listing;
 use compiler::compile;
 use core_lang::typed::Typed;
-use driver::{Sink, SourceText, Status, serial};
 use lexer::lex;
 use lockpaths::paths;
 use lockpaths::table::Paths;
-use lowering::compiled::Program;
 use parser::parse;
-use report::Check;
 use source::fault::{Fault, Refusal};
 use source::line::fault_line;
 use source::memory::NoMemory;
@@ -30,7 +27,7 @@ use syntax::tree::Tree;
 use types::program::check;
 
 /// The line of the fault for which a pass refuses the text, in a file called `F`.
-fn line_of(alloc: Global, text: &str, refusal: &Refusal) -> Result<String, NoMemory>
+pub fn line_of(alloc: Global, text: &str, refusal: &Refusal) -> Result<String, NoMemory>
     ensures { (fault : Fault) → refusal.now ≡ Refusal.Fault fault → IfOk result (λ line. string_bytes line ≡ fault_text (codes "F") text.now fault) }
 {
     match refusal {
@@ -74,7 +71,7 @@ fn analysed(
 
 /// What is said to what is asked of the lock paths of the text with this tree: to `points` of its points, and else of the
 /// lock paths; or the line of the fault that it has, where the order of its classes counts for none.
-fn of_paths(alloc: Global, asked: Asked, text: &str, tree: &Tree) -> Result<String, NoMemory>
+fn of_paths(alloc: Global, asked: Asked<'_>, text: &str, tree: &Tree) -> Result<String, NoMemory>
     requires { ReturnsRight (tree_of tree.now) }
 {
     let (program, paths) = match analysed(alloc, text, tree)? {
@@ -89,22 +86,8 @@ fn of_paths(alloc: Global, asked: Asked, text: &str, tree: &Tree) -> Result<Stri
     }
 }
 
-/// What `check` writes of the text with this program, without the last line feed.
-fn lists_of(alloc: Global, text: &str, program: &Program) -> Result<String, NoMemory> {
-    let check = Check {
-        text: text.as_bytes(),
-        program: program.typed(),
-        paths: program.paths(),
-        ranks: program.ranks(),
-        placed: program.placed(),
-    };
-    without_line_feed(alloc, check.text(alloc)?.as_str())
-}
-
-/// What is said to what is asked of the compiled program of the text: to `check` that it is accepted, to `order` of the order
-/// of its lock classes and what that makes of points, to `listing` its instructions, and else the lists before its points; or
-/// the line of the fault that the text has.
-fn of_program(alloc: Global, asked: Asked, text: &str) -> Result<String, NoMemory> {
+/// What is said of the order of the lock classes of the text and of what that makes of points, or the line of its fault.
+fn of_order(alloc: Global, text: &str) -> Result<String, NoMemory> {
     let program = match compile(alloc, text.as_bytes()) {
         Ok(program) => program,
         Err(refusal) => return line_of(alloc, text, &refusal),
@@ -113,72 +96,32 @@ fn of_program(alloc: Global, asked: Asked, text: &str) -> Result<String, NoMemor
         text,
         program: program.typed(),
     };
-    match asked {
-        Asked::Check => Ok(String::from_str(alloc, "accepted")?),
-        Asked::Order => told.order_said(alloc, program.paths(), program.ranks()),
-        Asked::Listing => {
-            let listed = listing(alloc, program.code())?;
-            without_line_feed(alloc, listed.as_str())
-        }
-        _ => lists_of(alloc, text, &program),
-    }
+    told.order_said(alloc, program.paths(), program.ranks())
 }
 
-/// The tokens of the text, or its fault's line.
-fn tokens_of(alloc: Global, text: &str) -> Result<String, NoMemory> {
-    match lex(alloc, text.as_bytes()) {
-        Ok(tokens) => {
-            let mut told = String::new(alloc);
-            push_tokens(&mut told, tokens.as_slice())?;
-            Ok(told)
-        }
-        Err(refusal) => line_of(alloc, text, &refusal),
-    }
-}
-
-/// What `serial` writes of the text within so many turns of each loop, without the last line feed.
-fn history_of(alloc: Global, text: &str, turns: u64) -> Result<String, NoMemory> {
-    let mut source = SourceText::new(text.as_bytes());
-    let mut out = Sink::new(Vec::new(alloc));
-    let mut err = Sink::new(Vec::new(alloc));
-    let status = serial(alloc, &mut source, "F", turns, &mut out, &mut err);
-    if status == Status::OutOfMemory || out.has_failed() || err.has_failed() {
-        return Err(NoMemory);
-    }
-    let mut told = out.into_writer();
-    told.extend_from_slice(err.into_writer().as_slice())?;
-    let told = String::from_utf8_lossy(alloc, told.as_slice())?;
-    without_line_feed(alloc, told.as_str())
-}
-
-/// The tree printed, without the last line feed.
-fn printed(alloc: Global, tree: &Tree) -> Result<String, NoMemory> {
-    let printed = print_tree(alloc, tree)?;
-    without_line_feed(alloc, printed.as_str())
-}
-
-/// What is said of the text to what is asked.
-pub fn said_of(alloc: Global, asked: Asked, text: &str) -> Result<String, NoMemory> {
-    if matches!(
-        asked,
-        Asked::Check | Asked::Order | Asked::Lists | Asked::Listing
-    ) {
-        return of_program(alloc, asked, text);
-    }
-    match asked {
-        Asked::Tokens => return tokens_of(alloc, text),
-        Asked::Serial(turns) => return history_of(alloc, text, turns),
-        _ => {}
-    }
+/// What is said to what is asked of the tree of the text, or the line of its fault.
+fn of_tree(alloc: Global, asked: Asked<'_>, text: &str) -> Result<String, NoMemory> {
     let tree = match read(alloc, text)? {
         Ok(tree) => tree,
         Err(line) => return Ok(line),
     };
     match asked {
         Asked::Tree => Ok(String::from_str(alloc, "tree")?),
-        Asked::Print => printed(alloc, &tree),
-        Asked::Again => difference(alloc, &tree),
-        Asked::Shape => Ok(format!(in alloc; "{tree:?}")?),
+        Asked::Print => {
+            let printed = print_tree(alloc, &tree)?;
+            Ok(String::from_str(alloc, without_line_feed(printed.as_str()))?)
+        }
+        Asked::Again => difference(alloc, text, &tree),
         _ => of_paths(alloc, asked, text, &tree),
+    }
+}
+
+/// What is said of the text to what is asked.
+pub fn said_of(alloc: Global, asked: Asked<'_>, text: &str) -> Result<String, NoMemory> {
+    match asked {
+        Asked::Engine(engine) => said_by(alloc, engine, text),
+        Asked::Tokens => tokens_said(alloc, text, true),
+        Asked::Order => of_order(alloc, text),
+        _ => of_tree(alloc, asked, text),
     }
 }

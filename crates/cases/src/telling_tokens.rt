@@ -1,30 +1,47 @@
 //! What is said of the tokens of a text.
 
+use crate::saying::line_of;
+use lexer::lex;
+use source::memory::NoMemory;
 use source::token::Token;
-use std::alloc::AllocError;
+use std::alloc::{AllocError, Global};
 
-/// A token, and the bytes where it starts and ends.
+/// Which token it is.
 fn push_token(told: &mut String, token: &Token) -> Result<(), AllocError> {
     match token {
-        Token::Name(start, name) => {
-            let end = *start as usize + name.len();
-            write!(told, "Name({name:?}) {start} {end};")
-        }
-        Token::Int(span, value) => write!(told, "Int({value}) {} {};", span.start, span.end),
-        Token::Large(number) => {
-            let span = number.span;
-            write!(told, "Int({}) {} {};", number.value, span.start, span.end)
-        }
-        Token::Word(span, word) => write!(told, "Word({word:?}) {} {};", span.start, span.end),
-        Token::Mark(span, sign) => write!(told, "Mark({sign:?}) {} {};", span.start, span.end),
-        Token::End(at) => write!(told, "End {at} {at};"),
+        Token::Name(_, name) => write!(told, "Name({name:?})"),
+        Token::Int(_, value) => write!(told, "Int({value})"),
+        Token::Large(number) => write!(told, "Int({})", number.value),
+        Token::Word(_, word) => write!(told, "Word({word:?})"),
+        Token::Mark(_, sign) => write!(told, "Mark({sign:?})"),
+        Token::End(_) => told.push_str("End"),
     }
 }
 
-/// Each token, and the bytes where it starts and ends.
-pub fn push_tokens(told: &mut String, tokens: &[Token]) -> Result<(), AllocError> {
-    for token in tokens {
-        push_token(told, token)?;
+/// The byte where the token ends.
+fn end_of(token: &Token) -> usize {
+    match token {
+        Token::Name(start, name) => (*start as usize).saturating_add(name.len()),
+        Token::Int(span, _) | Token::Word(span, _) | Token::Mark(span, _) => span.end as usize,
+        Token::Large(number) => number.span.end as usize,
+        Token::End(at) => *at as usize,
     }
-    Ok(())
+}
+
+/// Each token of the text, with the bytes where it starts and ends if places are asked for, and `;`; or the line of the
+/// text's fault.
+pub fn tokens_said(alloc: Global, text: &str, has_places: bool) -> Result<String, NoMemory> {
+    let tokens = match lex(alloc, text.as_bytes()) {
+        Ok(tokens) => tokens,
+        Err(refusal) => return line_of(alloc, text, &refusal),
+    };
+    let mut said = String::new(alloc);
+    for token in &tokens {
+        push_token(&mut said, token)?;
+        if has_places {
+            write!(&mut said, " {} {}", token.start(), end_of(token))?;
+        }
+        said.push_str(";")?;
+    }
+    Ok(said)
 }

@@ -5,21 +5,21 @@ use source::token::Number;
 use std::rc::RcStr;
 
 /// A program: its declarations, as they stand in the text.
-#[derive(Debug, Drop)]
+#[derive(Drop)]
 pub struct Tree {
     pub decls: Vec<Decl>,
 }
 
 /// A name, and its first byte. It stands up to where its text ends. The names of one program that
 /// are the same share their bytes.
-#[derive(Debug, Drop)]
+#[derive(Drop)]
 pub struct Name {
     pub text: RcStr,
     pub start: u32,
 }
 
 /// The type of a global, a parameter, a local or a result.
-#[derive(Debug, Drop)]
+#[derive(Drop)]
 pub enum ValueType {
     /// `int`
     Int,
@@ -28,7 +28,7 @@ pub enum ValueType {
 }
 
 /// A constant.
-#[derive(Debug, Drop)]
+#[derive(Drop)]
 pub enum Const {
     /// `7`
     Int(Number),
@@ -116,14 +116,14 @@ pub enum Prefix {
 }
 
 /// `a.b.c`: a name, and one or more fields behind dots.
-#[derive(Debug, Drop)]
+#[derive(Drop)]
 pub struct Path {
     pub first: Name,
     pub fields: Vec<Name>,
 }
 
 /// What an assignment writes to.
-#[derive(Debug, Drop)]
+#[derive(Drop)]
 pub enum Place {
     /// `x`
     Name(Name),
@@ -137,7 +137,7 @@ pub enum Place {
 ///
 /// A program may have one for every other byte, so an expression takes 24 bytes: what is larger
 /// stands apart, and what is small comes first.
-#[derive(Debug, Drop)]
+#[derive(Drop)]
 #[cycle(expr)]
 pub enum Expr {
     /// `7`
@@ -159,7 +159,7 @@ pub enum Expr {
 }
 
 /// `x[e]`: an element of an array.
-#[derive(Debug, Drop)]
+#[derive(Drop)]
 #[cycle(expr)]
 pub struct Element {
     pub name: Name,
@@ -167,7 +167,7 @@ pub struct Element {
 }
 
 /// Operands, with operators between them.
-#[derive(Debug, Drop)]
+#[derive(Drop)]
 #[cycle(expr)]
 pub enum Joined {
     /// `a + b`: a chain of two operands. Most chains are, and a list of one would take a block of memory of its own.
@@ -179,7 +179,7 @@ pub enum Joined {
 }
 
 /// An operator of a chain, and the operand behind it.
-#[derive(Debug, Drop)]
+#[derive(Drop)]
 #[cycle(expr)]
 pub struct Link {
     pub op: Op,
@@ -187,7 +187,7 @@ pub struct Link {
 }
 
 /// `let x: int = e;` or `var x: int = e;`
-#[derive(Debug, Drop)]
+#[derive(Drop)]
 pub struct Local {
     /// Where the statement stands, by its first word.
     pub start: Span,
@@ -200,7 +200,7 @@ pub struct Local {
 ///
 /// A program may have one for every four bytes, so a statement takes 56 bytes: what is larger stands
 /// apart.
-#[derive(Debug, Drop)]
+#[derive(Drop)]
 #[cycle(stmt)]
 pub enum Stmt {
     /// `let x: int = e;`
@@ -220,7 +220,7 @@ pub enum Stmt {
 }
 
 /// `if (e) { .. }` or `if (e) { .. } else { .. }`
-#[derive(Debug, Drop)]
+#[derive(Drop)]
 #[cycle(stmt)]
 pub struct If {
     /// Where the statement stands, by its first word.
@@ -232,7 +232,7 @@ pub struct If {
 }
 
 /// `while (e) { .. }`
-#[derive(Debug, Drop)]
+#[derive(Drop)]
 #[cycle(stmt)]
 pub struct While {
     /// Where the statement stands, by its first word.
@@ -242,7 +242,7 @@ pub struct While {
 }
 
 /// Statements in braces, and where the closing one stands.
-#[derive(Debug, Drop)]
+#[derive(Drop)]
 #[cycle(stmt)]
 pub struct Block {
     pub stmts: Vec<Stmt>,
@@ -250,14 +250,14 @@ pub struct Block {
 }
 
 /// `protected_by(a.b.c)`: the first name, and those behind the dots.
-#[derive(Debug, Drop)]
+#[derive(Drop)]
 pub struct Protection {
     pub first: Name,
     pub rest: Vec<Name>,
 }
 
 /// `global int x protected_by(G) = 7;`: a global that is no array.
-#[derive(Debug, Drop)]
+#[derive(Drop)]
 pub struct Variable {
     pub name: Name,
     pub value_type: ValueType,
@@ -267,7 +267,7 @@ pub struct Variable {
 }
 
 /// `global int a[4] protected_by(G);`: a global that is an array.
-#[derive(Debug, Drop)]
+#[derive(Drop)]
 pub struct Array {
     pub name: Name,
     /// The type of an element.
@@ -277,7 +277,7 @@ pub struct Array {
 }
 
 /// `final ref S next;`: a reference that never changes.
-#[derive(Debug, Drop)]
+#[derive(Drop)]
 pub struct Final {
     pub name: Name,
     /// The struct that it refers to.
@@ -285,7 +285,7 @@ pub struct Final {
 }
 
 /// `int x protected_by(l);`: a field that can change.
-#[derive(Debug, Drop)]
+#[derive(Drop)]
 pub struct Field {
     pub name: Name,
     pub value_type: ValueType,
@@ -293,7 +293,7 @@ pub struct Field {
 }
 
 /// A member of a struct.
-#[derive(Debug, Drop)]
+#[derive(Drop)]
 pub enum Member {
     /// `lock l;`
     Lock(Name),
@@ -304,14 +304,14 @@ pub enum Member {
 }
 
 /// `struct S { .. }`
-#[derive(Debug, Drop)]
+#[derive(Drop)]
 pub struct Struct {
     pub name: Name,
     pub members: Vec<Member>,
 }
 
 /// `pool S p[3];`
-#[derive(Debug, Drop)]
+#[derive(Drop)]
 pub struct Pool {
     pub name: Name,
     /// The struct of its members.
@@ -320,7 +320,7 @@ pub struct Pool {
 }
 
 /// `init p[2].x = 7;`: the opening value of a field of a member.
-#[derive(Debug, Drop)]
+#[derive(Drop)]
 pub struct Init {
     /// Where the declaration stands, by its first word.
     pub start: Span,
@@ -331,14 +331,14 @@ pub struct Init {
 }
 
 /// A parameter of a section.
-#[derive(Debug, Drop)]
+#[derive(Drop)]
 pub struct Param {
     pub name: Name,
     pub value_type: ValueType,
 }
 
 /// `atomic f(int a, int b): int { .. }`: an atomic section.
-#[derive(Debug, Drop)]
+#[derive(Drop)]
 pub struct Section {
     pub name: Name,
     pub params: Vec<Param>,
@@ -348,14 +348,14 @@ pub struct Section {
 }
 
 /// `f(1, -2);`: a call of a section.
-#[derive(Debug, Drop)]
+#[derive(Drop)]
 pub struct Call {
     pub section: Name,
     pub arguments: Vec<Const>,
 }
 
 /// What a thread does.
-#[derive(Debug, Drop)]
+#[derive(Drop)]
 pub enum Item {
     /// `f(1, -2);`
     Call(Call),
@@ -364,14 +364,14 @@ pub enum Item {
 }
 
 /// `thread t { .. }`: a thread, and what it does, in order.
-#[derive(Debug, Drop)]
+#[derive(Drop)]
 pub struct Thread {
     pub name: Name,
     pub items: Vec<Item>,
 }
 
 /// A declaration.
-#[derive(Debug, Drop)]
+#[derive(Drop)]
 pub enum Decl {
     /// `lock G;`
     Lock(Name),

@@ -6,6 +6,8 @@
 #[cfg(test)]
 mod calls;
 #[cfg(test)]
+mod calls_taken;
+#[cfg(test)]
 mod command_lines;
 #[cfg(test)]
 mod engine;

@@ -1,0 +1,9 @@
+-- Which words ask for how many turns.
+use Rattle.std.specs.Prelude.{◌≡◌, ◌++◌, ◌<◌, ◌^◌, ℕ, List, codes}
+use Rattle.std.specs.Str.Parse.{IsNumeral, digits_value, without_leading_plus}
+
+-- The word is `serial`, a blank and digits, ahead of which a plus may stand; they write this number, which has 64 bits.
+abbrev pub IsSerial : List ℕ → ℕ → Type 0
+IsSerial word turns =
+    (digits : List ℕ) × (word ≡ codes "serial " ++ digits) × (IsNumeral 10 (without_leading_plus digits)) ×
+    (digits_value 10 (without_leading_plus digits) ≡ turns) × (turns < 2 ^ 64)
