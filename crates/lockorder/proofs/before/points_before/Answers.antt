@@ -1,5 +1,5 @@
-use Rattle.std.proofs.Common.{sym, ap, ◌∙◌, arith}
-use Rattle.lockorder.specs.Sections.{is_found}
+use Rattle.std.proofs.Common.{◌≡◌, ◌<◌, length, sym, ap, ◌∙◌, subst, arith}
+use Rattle.lockorder.specs.Sections.{is_found, unfound}
 use Rattle.lockorder.proofs.Spreading.{all_before, put_back}
 use Rattle.lockorder.proofs.before.points_before.Goals as goal
 
@@ -10,3 +10,25 @@ returns-clause-found c p =
       λ e. c.loop-test.ensures.sound p (ap (λ l. is_found l p) (sym same) ∙ e),
       λ h. ap (λ l. is_found l p) same ∙ all_before c.args.pairs.now c.args.target c.spread.new.found (c.spread.ensures.all c.loop-test.false) p h,
     )
+
+pub loop-smaller : goal.loop-smaller
+loop-smaller c =
+    let same = put_back c.loop.found.items c.spread.new.found c.loop.found.len
+    (omega (arith, c.spread.auto.found, c.deref_mut.ensures.len, c.loop.found.ok.0)) (omega (arith, c.loop.found.ok.0)) in
+    let was : c.deref_mut.result.now ≡ c.loop.found.items = cc in
+    subst (λ l. unfound l < unfound c.loop.found.items) (sym same) (subst (λ l. unfound c.spread.new.found < unfound l) was (c.spread.ensures.further c.loop-test.true))
+
+pub loop-preserved : goal.loop-preserved
+loop-preserved c =
+    let same = put_back c.loop.found.items c.spread.new.found c.loop.found.len
+    (omega (arith, c.spread.auto.found, c.deref_mut.ensures.len, c.loop.found.ok.0)) (omega (arith, c.loop.found.ok.0)) in
+    record {
+      long = ap length same ∙ omega (arith, c.spread.auto.found, c.deref_mut.ensures.len, c.loop.found.ok.0, c.loop.invariant.long);
+      sound = λ p e. c.spread.ensures.sound p (ap (λ l. is_found l p) (sym same) ∙ e);
+    }
+
+pub returns-clause-points : goal.returns-clause-points
+returns-clause-points c =
+    let same = put_back c.loop.found.items c.spread.new.found c.loop.found.len
+    (omega (arith, c.spread.auto.found, c.deref_mut.ensures.len, c.loop.found.ok.0)) (omega (arith, c.loop.found.ok.0)) in
+    ap length same ∙ omega (arith, c.spread.auto.found, c.deref_mut.ensures.len, c.loop.found.ok.0, c.loop.invariant.long)
