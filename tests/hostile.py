@@ -179,7 +179,8 @@ def try_one(program, commands, path):
             return fault
         if run.returncode != 6:
             told.add(run.stderr)
-    return None if len(told) == 1 else "the commands tell different faults"
+    # Where `simulate` alone is asked and tells a fault of the steps file, no command tells one of the source.
+    return None if len(told) < 2 else "the commands tell different faults"
 
 
 def try_all(part):
