@@ -1,5 +1,5 @@
 -- The commands, as clap's definitions see them.
-use Rattle.std.specs.Prelude.{◌≡◌, [], ◌∷◌, Some, true, false, codes}
+use Rattle.std.specs.Prelude.{◌≡◌, [], ◌∷◌, Some, true, false, codes, Result, IfOk}
 use Rattle.clap.specs.Words.{App, Rule, Text, app_of, new_app, new_rule, with_rule, with_subcommand}
 use Rattle.clap.specs.declared.builder.command.Command.{Command}
 use Rattle.clap.specs.declared.builder.command.Command.TheViews.{out-Command}
@@ -65,3 +65,8 @@ autolock = with_simulate (with_serial (with_listing (with_check program)))
 -- the command is that one, and has no global argument
 abbrev pub IsCommand : App → Command → Type 0
 IsCommand app command = (app_of command ≡ app) × ((out-Command command).has_globals ≡ false)
+
+-- a command that is added to a command line, where both could be made
+abbrev pub Adds : {E : Type 0} → Result Command E → Result Command E → Result Command E → Type 0
+Adds line command result =
+    (a b : App) → IfOk line (IsCommand a) → IfOk command (IsCommand b) → IfOk result (IsCommand (with_subcommand a b.top))

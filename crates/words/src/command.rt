@@ -2,7 +2,7 @@
 
 ghost use Rattle.std.specs.Prelude.{◌≡◌, IfOk, codes, false};
 ghost use Rattle.clap.specs.Words.{rule_of};
-ghost use Rattle.words.specs.Commands.{IsCommand, file_rule, turns_rule, with_file, with_turns, with_steps, autolock};
+ghost use Rattle.words.specs.Commands.{IsCommand, file_rule, turns_rule, with_file, with_turns, with_steps, Adds, autolock};
 
 use clap::builder::ValueParser;
 use clap::{Arg, Command};
@@ -49,31 +49,44 @@ fn steps_argument<'a>(alloc: Global) -> Arg<'a>
     file_argument(alloc, "STEPS").help("Which thread makes how many steps: items T or T*N")
 }
 
+/// `serial`.
+fn serial_command<'a>(alloc: Global) -> Result<Command<'a>, AllocError>
+    ensures { IfOk result (IsCommand (with_turns (with_file (codes "serial")))) }
+{
+    let about = "Run all calls one after another, and write the history";
+    file_command(alloc, "serial", about)?.arg(turns_argument(alloc))
+}
+
 /// `simulate`.
-fn simulate_command<'a>(alloc: Global, about: &'a str) -> Result<Command<'a>, AllocError>
+fn simulate_command<'a>(alloc: Global) -> Result<Command<'a>, AllocError>
     ensures { IfOk result (IsCommand (with_steps (with_file (codes "simulate")))) }
 {
+    let about = "Run the steps of a steps file, and write the cells and threads after them";
     file_command(alloc, "simulate", about)?.arg(steps_argument(alloc))
+}
+
+/// A command line with one more command, where both could be made.
+fn with_command<'a>(
+    line: Result<Command<'a>, AllocError>,
+    command: Result<Command<'a>, AllocError>,
+) -> Result<Command<'a>, AllocError>
+    ensures { Adds line.entry command.entry result }
+{
+    line?.subcommand(command?)
 }
 
 /// The whole command line.
 pub fn command<'a>(alloc: Global) -> Result<Command<'a>, AllocError>
     ensures { IfOk result (IsCommand autolock) }
 {
-    let about = "Say in which order locks are taken, and which ones before each statement";
-    let check = file_command(alloc, "check", about)?;
-    let about = "Write the instructions of each section";
-    let listing = file_command(alloc, "listing", about)?;
-    let about = "Run all calls one after another, and write the history";
-    let serial = file_command(alloc, "serial", about)?.arg(turns_argument(alloc))?;
-    let about = "Run the steps of a steps file, and write the cells and threads after them";
-    let simulate = simulate_command(alloc, about)?;
-    Command::new(alloc, "autolock")
+    let line = Command::new(alloc, "autolock")
         .version(VERSION)
         .about("Programs with atomic sections: locks inferred from protected_by annotations")
-        .subcommand_required(true)
-        .subcommand(check)?
-        .subcommand(listing)?
-        .subcommand(serial)?
-        .subcommand(simulate)
+        .subcommand_required(true);
+    let about = "Say in which order locks are taken, and which ones before each statement";
+    let line = with_command(Ok(line), file_command(alloc, "check", about));
+    let about = "Write the instructions of each section";
+    let line = with_command(line, file_command(alloc, "listing", about));
+    let line = with_command(line, serial_command(alloc));
+    with_command(line, simulate_command(alloc))
 }
