@@ -16,7 +16,7 @@ use Rattle.flow.specs.Points.{Point, points}
 use Rattle.locks.specs.Accesses.{Access, accesses_at}
 use Rattle.locks.specs.LockPaths.{LockPath, each_once, lock_path, paths_of}
 use Rattle.locks.specs.Laws.{SamePathDecides}
-use Rattle.lockpaths.specs.Forms.{forms_behind}
+use Rattle.normal_forms.specs.Forms.{forms_behind}
 use Rattle.lockpaths.specs.Gathering.{Gathered, is_in, place_from, with_new, with_path, with_known, blamed, met, ended, gathered, gathered_at, with_access}
 use Rattle.lockpaths.specs.Faulted.{fault_of, faults_behind}
 use Rattle.lockpaths.proofs.Once.{place_in, place_none, once_in, once_new, once_known}

@@ -15,7 +15,7 @@ use Rattle.core_lang.specs.Typing.{lookup}
 use Rattle.flow.specs.Points.{Point, points}
 use Rattle.locks.specs.Accesses.{Target, global, element, field}
 use Rattle.locks.specs.LockPaths.{StablePath, Binding, binding_at, behind, all_replaced, normal_form, is_fixed, all_final, stable, stable_value, target_path}
-use Rattle.lockpaths.specs.Forms.{form_by, with_form, with_binding, with_point, themselves, forms_behind}
+use Rattle.normal_forms.specs.Forms.{form_by, with_form, with_binding, with_point, themselves, forms_behind}
 use Rattle.lockpaths.specs.Gathering.{path_by, field_path}
 
 -- ---- a table with one more replacement

@@ -17,7 +17,7 @@ use Rattle.locks.specs.Accesses as target
 use Rattle.locks.specs.LockPaths.{StablePath, LockPath, is_fixed, all_final, stable}
 use Rattle.locks.specs.Lists.{in_expr-Chain, in_condition-And, in_condition-Or}
 use Rattle.lockpaths.specs.declared.finder.Finder.{Finder}
-use Rattle.lockpaths.specs.Forms.{form_by}
+use Rattle.normal_forms.specs.Forms.{form_by}
 use Rattle.lockpaths.specs.Gathering.{Gathered, field_path, met as met_by}
 use Rattle.lockpaths.specs.Finding.{table_of, target_of, over, in_all, in_operands}
 

@@ -1,5 +1,3 @@
-pub mod Walks
-pub mod Tables
 pub mod Going
 pub mod Contained
 pub mod Formed

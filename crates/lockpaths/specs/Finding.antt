@@ -11,8 +11,8 @@ use Rattle.locks.specs.Lists.{in_operand}
 use Rattle.locks.specs.declared.path.LockPath as written
 use Rattle.locks.specs.LockPaths.{StablePath, LockPath, all_final, lock_path_of}
 use Rattle.lockpaths.specs.declared.finder.Finder.{Finder}
-use Rattle.lockpaths.specs.declared.forms.Form.{Form}
-use Rattle.lockpaths.specs.Forms.{stable_path_of, forms_of, IsFormOf}
+use Rattle.normal_forms.specs.declared.forms.Form.{Form}
+use Rattle.normal_forms.specs.Forms.{stable_path_of, forms_of, IsFormOf}
 use Rattle.lockpaths.specs.Gathering.{Gathered, path_by, field_path, gathered, gathered_at, with_accesses_of}
 
 -- the finder's table

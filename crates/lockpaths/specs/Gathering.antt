@@ -17,7 +17,7 @@ use Rattle.locks.specs.Accesses.{Access, Target, global, element, field, accesse
 use Rattle.locks.specs.Faults.{PATH_LIMIT}
 use Rattle.locks.specs.Locks.{protection_of}
 use Rattle.locks.specs.LockPaths.{StablePath, LockPath, stable, under, global_path, class_if_global, same_path}
-use Rattle.lockpaths.specs.Forms.{form_by, forms_behind}
+use Rattle.normal_forms.specs.Forms.{form_by, forms_behind}
 
 -- the paths so far, each once; the number of the path of each access; how many of these there are at the end of each point; and the
 -- least fault

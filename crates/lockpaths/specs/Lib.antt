@@ -1,4 +1,3 @@
-pub mod Forms
 pub mod Gathering
 pub mod Finding
 pub mod Faulted

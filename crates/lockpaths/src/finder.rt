@@ -8,7 +8,7 @@ ghost use Rattle.locks.specs.Accesses.{access, global, element, in_path, in_expr
 ghost use Rattle.locks.specs.LockPaths.{global_path, lock_path_of};
 ghost use Rattle.lockpaths.specs.Finding.{IsBase, IsLockOf, in_all, over, over_point, over_points};
 
-use crate::forms::{Form, Forms};
+use normal_forms::forms::{Form, Forms};
 use crate::found::Found;
 use core_lang::tree::{Action, Condition, Expr, FieldStep, Path, Stmt};
 use core_lang::typed::{LockClass, Owner, Protection, Typed};

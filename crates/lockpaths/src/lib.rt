@@ -8,7 +8,6 @@
 #![tactic(auto)]
 
 mod finder;
-mod forms;
 mod found;
 mod program;
 pub mod table;

@@ -11,7 +11,7 @@ ghost use Rattle.lockpaths.specs.Numbers.{IsSetOf, cut, AreRising, IsComplete, I
 ghost use Rattle.lockpaths.specs.Paths.{ArePaths};
 
 use crate::finder::Finder;
-use crate::forms::Forms;
+use normal_forms::forms::Forms;
 use crate::found::Found;
 use crate::table::{Paths, SectionPaths};
 use core_lang::tree::Section;

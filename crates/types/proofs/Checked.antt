@@ -11,7 +11,7 @@ use Rattle.source.specs.Leasts.{least_append}
 use Rattle.resolution.specs.Resolution.{nothing_yet, resolved, resolved_from}
 use Rattle.resolution.specs.FaultLists.{twice_faults, struct_faults, total_faults, repeated_faults, each_faults}
 use Rattle.resolution.specs.Laws.{the_least}
-use Rattle.types.specs.Grown.{if_right}
+use Rattle.declarations.specs.Grown.{if_right}
 
 -- the least after the passes over all declarations
 abbrev pub least_after : Option Mistake → List Decl → Option Mistake

@@ -1,7 +1,3 @@
-pub mod StructBuilders
-pub mod Slots
-pub mod Calls
-pub mod Grown
 pub mod Whole
 -- what the public clauses cite
 pub use Rattle.syntax.specs.Views.{tree_of}

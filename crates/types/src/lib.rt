@@ -1,17 +1,10 @@
 //! From the tree of a program to the program that it stands for: each name replaced by the number of what it means,
 //! every expression typed; or the program's first fault of names and types.
 //!
-//! - [`program::check`]: the pass. The tables of declarations are those of `symbols`, and sections are judged by
-//!   `sections`; here stand constants, structs, pools with their objects, threads, and the program that
-//!   grows by one declaration after another.
+//! - [`program::check`]: the pass. The tables of declarations are those of `symbols`; sections are judged by `sections`,
+//!   constants, `init`s and calls by `constants`; `declarations` adds one declaration after another to the program.
 //! - `specs/Resolution.antt` of `resolution`: the program that a tree stands for; `specs/Scopes.antt`: what names mean.
 //! - `specs/Faults.antt` of `resolution`: where each fault stands; `specs/Mistakes.antt` of `source`: which one is given.
 #![tactic(auto)]
 
-mod constant;
-mod grown;
-mod initial;
-mod pool;
 pub mod program;
-mod struct_builder;
-mod thread;

@@ -12,18 +12,18 @@ ghost use Rattle.resolution.specs.Faults.{IsFault, IsRefusal, HasNoFault};
 ghost use Rattle.source.specs.Mistakes.{least_of, IsLeastOf};
 ghost use Rattle.resolution.specs.FaultLists.{global_faults, array_faults, section_faults, decl_faults, each_faults, items_faults};
 ghost use Rattle.symbols.specs.{decls_of};
-ghost use Rattle.types.specs.Grown.{built};
+ghost use Rattle.declarations.specs.Grown.{built};
 ghost use Rattle.types.specs.Whole.{extended_if, global_if, array_if, section_if, thread_if};
 
-use crate::constant::note_opening;
-use crate::grown::{Builder, Grown, add_lock, add_section};
-use crate::initial::note_init;
-use crate::pool::note_missing;
-use crate::struct_builder::note_members;
-use crate::thread::{note_items, typed_calls};
+use constants::constant::note_opening;
+use constants::initial::note_init;
+use constants::thread::{note_items, typed_calls};
 use core_lang::shape::Shape;
 use core_lang::typed::Typed;
 use core_lang::{shape, typed};
+use declarations::grown::{Builder, Grown, add_lock, add_section};
+use declarations::pool::note_missing;
+use declarations::struct_builder::note_members;
 use resolution::laws;
 use sections::section::judge_section;
 use sections::wanted::want;
@@ -36,7 +36,13 @@ use symbols::scope::{note_target, note_type, type_outside};
 use symbols::table::SymbolTable;
 use syntax::tree::{Array, Decl, Pool, Section, Thread, Tree, Variable};
 
-impl<'a> Builder<'a> {
+/// Goes over the declarations of a program: notes what is wrong with each, and builds it where nothing is.
+#[derive(Clone, Copy)]
+struct Judge<'a> {
+    builder: Builder<'a>,
+}
+
+impl<'a> Judge<'a> {
     // A struct, which has this place.
     #[tactic(auto, using(source::specs::Leasts::least_append))]
     fn judge_struct(
@@ -46,13 +52,20 @@ impl<'a> Builder<'a> {
         grown: &mut Grown,
         least: &mut Option<Mistake>,
     ) -> Result<(), AllocError>
-        ensures value { OnOk result (built grown.new ≡ extended_if (decls_of self.now.symbols.now) place (built grown.old) (struct (struct_of table.now))) }
-        ensures faults { OnOk result (least.new ≡ least_of least.old (decl_faults (decls_of self.now.symbols.now) place (struct (struct_of table.now)))) }
+        ensures value { OnOk result (built grown.new ≡ extended_if (decls_of self.now.builder.symbols.now) place (built grown.old) (struct (struct_of table.now))) }
+        ensures faults { OnOk result (least.new ≡ least_of least.old (decl_faults (decls_of self.now.builder.symbols.now) place (struct (struct_of table.now)))) }
     {
         let members = &table.item().members;
-        note_members(self.alloc, self.symbols, place, table, members, least)?;
+        note_members(
+            self.builder.alloc,
+            self.builder.symbols,
+            place,
+            table,
+            members,
+            least,
+        )?;
         if grown.is_right {
-            grown.is_right = self.add_struct(place, table, &mut grown.typed)?;
+            grown.is_right = self.builder.add_struct(place, table, &mut grown.typed)?;
         }
         Ok(())
     }
@@ -65,16 +78,16 @@ impl<'a> Builder<'a> {
         grown: &mut Grown,
         least: &mut Option<Mistake>,
     ) -> Result<(), AllocError>
-        ensures value { OnOk result (built grown.new ≡ global_if (decls_of self.now.symbols.now) (built grown.old) (variable_of v.now)) }
-        ensures faults { OnOk result (least.new ≡ least_of least.old (global_faults (decls_of self.now.symbols.now) (variable_of v.now))) }
+        ensures value { OnOk result (built grown.new ≡ global_if (decls_of self.now.builder.symbols.now) (built grown.old) (variable_of v.now)) }
+        ensures faults { OnOk result (least.new ≡ least_of least.old (global_faults (decls_of self.now.builder.symbols.now) (variable_of v.now))) }
     {
-        let symbols = self.symbols;
+        let symbols = self.builder.symbols;
         note_type(symbols, &v.value_type, least);
         note_lock(symbols, &v.name, &v.protection, least);
         let wanted = want(type_outside(symbols, &v.value_type));
         note_opening(symbols, wanted, &v.value, least);
         if grown.is_right {
-            grown.is_right = self.add_global(v, &mut grown.typed)?;
+            grown.is_right = self.builder.add_global(v, &mut grown.typed)?;
         }
         Ok(())
     }
@@ -87,14 +100,14 @@ impl<'a> Builder<'a> {
         grown: &mut Grown,
         least: &mut Option<Mistake>,
     ) -> Result<(), AllocError>
-        ensures value { OnOk result (built grown.new ≡ array_if (decls_of self.now.symbols.now) (built grown.old) (array_of a.now)) }
-        ensures faults { OnOk result (least.new ≡ least_of least.old (array_faults (decls_of self.now.symbols.now) (array_of a.now))) }
+        ensures value { OnOk result (built grown.new ≡ array_if (decls_of self.now.builder.symbols.now) (built grown.old) (array_of a.now)) }
+        ensures faults { OnOk result (least.new ≡ least_of least.old (array_faults (decls_of self.now.builder.symbols.now) (array_of a.now))) }
     {
-        let symbols = self.symbols;
+        let symbols = self.builder.symbols;
         note_type(symbols, &a.value_type, least);
         note_lock(symbols, &a.name, &a.protection, least);
         if grown.is_right {
-            grown.is_right = self.add_array(a, &mut grown.typed)?;
+            grown.is_right = self.builder.add_array(a, &mut grown.typed)?;
         }
         Ok(())
     }
@@ -108,13 +121,13 @@ impl<'a> Builder<'a> {
         grown: &mut Grown,
         least: &mut Option<Mistake>,
     ) -> Result<(), AllocError>
-        ensures value { OnOk result (built grown.new ≡ extended_if (decls_of self.now.symbols.now) place (built grown.old) (pool (pool_of p.now))) }
-        ensures faults { OnOk result (least.new ≡ least_of least.old (decl_faults (decls_of self.now.symbols.now) place (pool (pool_of p.now)))) }
+        ensures value { OnOk result (built grown.new ≡ extended_if (decls_of self.now.builder.symbols.now) place (built grown.old) (pool (pool_of p.now))) }
+        ensures faults { OnOk result (least.new ≡ least_of least.old (decl_faults (decls_of self.now.builder.symbols.now) place (pool (pool_of p.now)))) }
     {
-        note_target(self.symbols, &p.target, least);
-        note_missing(self.symbols, place, p, least);
+        note_target(self.builder.symbols, &p.target, least);
+        note_missing(self.builder.symbols, place, p, least);
         if grown.is_right {
-            grown.is_right = self.add_pool(place, p, &mut grown.typed)?;
+            grown.is_right = self.builder.add_pool(place, p, &mut grown.typed)?;
         }
         Ok(())
     }
@@ -126,10 +139,10 @@ impl<'a> Builder<'a> {
         grown: &mut Grown,
         least: &mut Option<Mistake>,
     ) -> Result<(), AllocError>
-        ensures value { OnOk result (built grown.new ≡ section_if (decls_of self.now.symbols.now) (built grown.old) (section_of s.now)) }
-        ensures faults { OnOk result (least.new ≡ least_of least.old (section_faults (decls_of self.now.symbols.now) (section_of s.now))) }
+        ensures value { OnOk result (built grown.new ≡ section_if (decls_of self.now.builder.symbols.now) (built grown.old) (section_of s.now)) }
+        ensures faults { OnOk result (least.new ≡ least_of least.old (section_faults (decls_of self.now.builder.symbols.now) (section_of s.now))) }
     {
-        let section = judge_section(self.alloc, self.symbols, s, least)?;
+        let section = judge_section(self.builder.alloc, self.builder.symbols, s, least)?;
         if grown.is_right {
             grown.is_right = add_section(section, &mut grown.typed)?;
         }
@@ -143,13 +156,13 @@ impl<'a> Builder<'a> {
         grown: &mut Grown,
         least: &mut Option<Mistake>,
     ) -> Result<(), AllocError>
-        ensures value { OnOk result (built grown.new ≡ thread_if (decls_of self.now.symbols.now) (built grown.old) (thread_of t.now)) }
-        ensures faults { OnOk result (least.new ≡ least_of least.old (items_faults (decls_of self.now.symbols.now) (items_of t.now.items.items))) }
+        ensures value { OnOk result (built grown.new ≡ thread_if (decls_of self.now.builder.symbols.now) (built grown.old) (thread_of t.now)) }
+        ensures faults { OnOk result (least.new ≡ least_of least.old (items_faults (decls_of self.now.builder.symbols.now) (items_of t.now.items.items))) }
     {
-        note_items(self.symbols, &t.items, least);
+        note_items(self.builder.symbols, &t.items, least);
         if grown.is_right {
-            let calls = typed_calls(self.alloc, self.symbols, &t.items)?;
-            grown.is_right = self.add_thread(&t.name, calls, &mut grown.typed)?;
+            let calls = typed_calls(self.builder.alloc, self.builder.symbols, &t.items)?;
+            grown.is_right = self.builder.add_thread(&t.name, calls, &mut grown.typed)?;
         }
         Ok(())
     }
@@ -163,14 +176,14 @@ impl<'a> Builder<'a> {
         grown: &mut Grown,
         least: &mut Option<Mistake>,
     ) -> Result<(), AllocError>
-        requires { slice_get (decls_of self.now.symbols.now) place ≡ Some (decl_of d.now) }
-        ensures value { OnOk result (built grown.new ≡ extended_if (decls_of self.now.symbols.now) place (built grown.old) (decl_of d.now)) }
-        ensures faults { OnOk result (least.new ≡ least_of least.old (decl_faults (decls_of self.now.symbols.now) place (decl_of d.now))) }
+        requires { slice_get (decls_of self.now.builder.symbols.now) place ≡ Some (decl_of d.now) }
+        ensures value { OnOk result (built grown.new ≡ extended_if (decls_of self.now.builder.symbols.now) place (built grown.old) (decl_of d.now)) }
+        ensures faults { OnOk result (least.new ≡ least_of least.old (decl_faults (decls_of self.now.builder.symbols.now) place (decl_of d.now))) }
     {
-        let symbols = self.symbols;
+        let symbols = self.builder.symbols;
         match d {
             Decl::Lock(name) => {
-                add_lock(self.alloc, name, &mut grown.typed)?;
+                add_lock(self.builder.alloc, name, &mut grown.typed)?;
                 Ok(())
             }
             Decl::Struct(_) => {
@@ -194,10 +207,10 @@ impl<'a> Builder<'a> {
     // The declarations, one after another.
     #[tactic(auto, using(source::specs::Leasts::least_append))]
     fn judge_decls(&self, grown: &mut Grown, least: &mut Option<Mistake>) -> Result<(), AllocError>
-        ensures value { OnOk result (built grown.new ≡ resolved_from (decls_of self.now.symbols.now) 0 (built grown.old) (decls_of self.now.symbols.now)) }
-        ensures faults { OnOk result (least.new ≡ least_of least.old (each_faults (decls_of self.now.symbols.now) 0 (decls_of self.now.symbols.now))) }
+        ensures value { OnOk result (built grown.new ≡ resolved_from (decls_of self.now.builder.symbols.now) 0 (built grown.old) (decls_of self.now.builder.symbols.now)) }
+        ensures faults { OnOk result (least.new ≡ least_of least.old (each_faults (decls_of self.now.builder.symbols.now) 0 (decls_of self.now.builder.symbols.now))) }
     {
-        let items = self.symbols.items();
+        let items = self.builder.symbols.items();
         for (place, d) in items.iter().enumerate() {
             self.judge_decl(place, d, grown, least)?;
         }
@@ -235,8 +248,10 @@ fn judge_all(
     ensures value { OnOk result (built grown.new ≡ resolved_from (decls_of symbols.now) 0 (built grown.old) (decls_of symbols.now)) }
     ensures faults { OnOk result (least.new ≡ least_of least.old (each_faults (decls_of symbols.now) 0 (decls_of symbols.now))) }
 {
-    let builder = Builder { alloc, symbols };
-    builder.judge_decls(grown, least)
+    let judge = Judge {
+        builder: Builder { alloc, symbols },
+    };
+    judge.judge_decls(grown, least)
 }
 
 /// The program that a tree stands for: each name replaced by the number of what it means, every expression typed. Or

@@ -3,7 +3,7 @@ use Rattle.std.specs.Prelude.{map}
 use Rattle.syntax.specs.Views.{tree_of, decl_of}
 use Rattle.resolution.specs.FaultLists.{each_faults}
 use Rattle.symbols.specs.Views.{decls_of}
-use Rattle.types.specs.Grown.{if_right, built}
+use Rattle.declarations.specs.Grown.{if_right, built}
 use Rattle.types.proofs.Checked.{least_after, whole_least, was_none, whole_built, none_built, begun}
 use Rattle.types.proofs.program.check.Goals as goal
 

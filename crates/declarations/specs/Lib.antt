@@ -1,0 +1,3 @@
+pub mod StructBuilders
+pub mod Slots
+pub mod Grown

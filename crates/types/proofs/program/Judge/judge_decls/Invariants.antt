@@ -1,0 +1,13 @@
+use Rattle.std.proofs.Common.{◌≡◌, drop}
+use Rattle.resolution.specs.Resolution.{resolved_from}
+use Rattle.source.specs.Mistakes.{least_of}
+use Rattle.resolution.specs.FaultLists.{each_faults}
+use Rattle.symbols.specs.Views.{decls_of}
+use Rattle.declarations.specs.Grown.{built}
+use Rattle.types.proofs.program.Judge.judge_decls.Given as goal
+
+abbrev pub invariant-loop-place : goal.invariant-loop-place
+invariant-loop-place l = record {
+  value : resolved_from (decls_of l.self.builder.symbols.now) l.place (built l.grown) (decls_of (drop l.place l.items)) ≡ resolved_from (decls_of l.self.builder.symbols.now) 0 (built l.fn.grown) (decls_of l.self.builder.symbols.now);
+  faults : least_of l.least (each_faults (decls_of l.self.builder.symbols.now) l.place (decls_of (drop l.place l.items))) ≡ least_of l.fn.least (each_faults (decls_of l.self.builder.symbols.now) 0 (decls_of l.self.builder.symbols.now));
+}
