@@ -9,12 +9,12 @@ ghost use Rattle.driver.specs.Serial.{entry};
 
 use crate::schedule::{ScheduledCall, schedule};
 use core_lang::typed::Typed;
-use meaning::heap::Heap;
 use meaning::run::End;
 use register_machine::prepared::Prepared;
 use report::Record;
 use source::memory::NoMemory;
 use std::alloc::Global;
+use tree_walk::heap::Heap;
 
 /// How far the calls of a program came.
 #[derive(Drop)]

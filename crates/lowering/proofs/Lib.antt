@@ -1,10 +1,4 @@
-pub mod CodeViews
 pub mod NeedViews
-pub mod Jumps
-pub mod Chains
-pub mod Landing
-pub mod Steps
-pub mod Statements
 pub mod Depths
 pub mod Pushes
 pub mod Most

@@ -3,10 +3,7 @@ pub mod Rooms
 pub mod Plans
 pub mod Compiled
 pub mod PlanLaws
-pub mod CodeLists
 pub mod NeedLists
-pub mod Assembly
-pub mod Emission
 -- what the public clauses cite
 pub use Rattle.lowering.specs.Lowered.{StructTexts, AreNames, IsLowered, lists_at, IsCodeOf}
 pub use Rattle.lowering.specs.Rooms.{most_cells, IsRoomOf, AreRoomsOf}

@@ -1,6 +1,6 @@
 -- The code of a program: of each section its instructions, its lists and the texts of its lock paths; and the names of what
 -- the instructions refer to by number.
-use Rattle.std.specs.Prelude.{◌≡◌, ℕ, List, [], length, map, slice_get, unwrap_or, Some, String, Vec, string_bytes}
+use Rattle.std.specs.Prelude.{◌≡◌, ℕ, List, [], length, map, slice_get, unwrap_or, Some, String, string_bytes}
 use Rattle.core_lang.specs.declared.shape.Array.{Array}
 use Rattle.core_lang.specs.declared.shape.Pool.{Pool}
 use Rattle.core_lang.specs.declared.tree.Section.{Section}
@@ -17,6 +17,7 @@ use Rattle.code.specs.declared.names.Names.{Names}
 use Rattle.code.specs.declared.section_code.SectionCode.{SectionCode}
 use Rattle.code.specs.declared.section_code.Code.{Code}
 use Rattle.code.specs.Lowering.{section_code}
+use Rattle.emission.specs.NumberLists.{number_lists}
 
 -- ---- names
 
@@ -64,10 +65,6 @@ pub record AreNames (program : Typed) (names : Names) : Type 0 where
   pub structs : map struct_texts names.structs.items ≡ map declared_struct program.structs.items
 
 -- ---- code
-
--- the numbers of lock paths that lists have
-abbrev pub number_lists : {Z : Type 0} → List (Vec ℕ Z) → List (List ℕ)
-number_lists lists = map (λ (list : Vec ℕ _). list.items) lists
 
 -- the code of a section that has these lists before its points
 pub record IsLowered (program : Typed) (section : Section) (lists : List (List ℕ)) (made : SectionCode) : Type 0 where

@@ -6,20 +6,16 @@
 //! - [`laws`]: the code of a program behaves as its sections; what is taken where depends on the section and the ranks alone.
 //!
 //! `specs/` says what the code of a program is (`Lowered`), what its sections need (`Rooms`), and what a compiled program is
-//! (`Plans`, `Compiled`). Its other files only say what the code has done (`Assembly`, `Emission`), and what instructions and needs are
-//! over lists (`CodeLists`, `NeedLists`); nobody has to believe them.
+//! (`Plans`, `Compiled`). `NeedLists` only says what needs are over lists; nobody has to believe it.
 #![tactic(auto)]
 
-mod assembler;
 pub mod compiled;
-mod emitter;
 pub mod laws;
 mod names;
 mod needs;
 mod program_code;
 mod program_rooms;
 mod section_code;
-mod sizes;
 
 pub use program_code::lower;
 pub use program_rooms::rooms;

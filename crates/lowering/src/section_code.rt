@@ -3,15 +3,13 @@
 ghost use Rattle.std.specs.Prelude.{◌≡◌, map, IfOk};
 ghost use Rattle.locks.specs.LockPaths.{lock_path_of, lock_paths};
 ghost use Rattle.locks.specs.Texts.{path_text};
-ghost use Rattle.code.specs.Lowering.{section_code};
-ghost use Rattle.lowering.specs.Lowered.{IsLowered, number_lists, texts};
+ghost use Rattle.emission.specs.NumberLists.{number_lists};
+ghost use Rattle.lowering.specs.Lowered.{IsLowered, texts};
 
-use crate::emitter::Emitter;
-use crate::sizes;
-use code::instr::Instr;
 use code::section_code::SectionCode;
 use core_lang::tree::Section;
 use core_lang::typed::Typed;
+use emission::instructions;
 use locks::path::LockPath;
 use locks::text::push_path;
 use source::memory::NoMemory;
@@ -39,20 +37,10 @@ impl Lowering<'_> {
     {
         Ok(SectionCode {
             name: self.section.name.clone()?,
-            instructions: self.instructions(alloc, lists)?,
+            instructions: instructions(alloc, self.section, lists)?,
             lists: copy_of(alloc, lists)?,
             paths: self.texts(alloc, paths)?,
         })
-    }
-
-    fn instructions(&self, alloc: Global, lists: &[Vec<u8>]) -> Result<Vec<Instr>, NoMemory>
-        ensures { IfOk result (λ code. code.items ≡ section_code (number_lists lists.now) self.now.section.now) }
-    {
-        let size = sizes::of_section(self.section);
-        let mut emitter = Emitter::new(alloc, lists, size)?;
-        emitter.block(&self.section.body)?;
-        emitter.end(&self.section.result)?;
-        Ok(emitter.code.instructions)
     }
 
     fn texts(&self, alloc: Global, paths: &[LockPath]) -> Result<Vec<String>, NoMemory>

@@ -1,4 +1,1 @@
-pub mod Steps
-pub mod Blocks
-pub mod Kept
 pub mod CanBeCalled

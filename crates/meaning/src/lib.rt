@@ -3,15 +3,8 @@
 //! - [`run::run_whole`]: runs a section from its begin to its end, with at most so many turns of each execution of a
 //!   loop, and answers how it ended and what it printed: [`run::End`]. It answers exactly what `run_call` of
 //!   `core_lang`'s specs defines.
-//! - [`heap::Heap`]: the values of all cells; [`heap::Heap::open`] makes the opening heap of a program.
-//! - [`draft::Draft`]: a heap with the writes of one run, which are kept or taken back.
 //! - [`laws`]: what holds of every answer.
 #![tactic(auto)]
 
-pub mod draft;
-mod evaluate;
-mod execution;
-pub mod heap;
 pub mod laws;
 pub mod run;
-mod short;

@@ -24,7 +24,7 @@ use Rattle.lock_manager.specs.Calls.{CanAsk}
 use Rattle.worlds.specs.Worlds.{granted}
 use Rattle.worlds.specs.Waiting.{first_if}
 use Rattle.worlds.specs.InOrder.{SectionsStayInOrder, FitRoom, AreCellsOf}
-use Rattle.runner.specs.Machines.{RunOf, holding_of, with_holding}
+use Rattle.section_machine.specs.Machines.{RunOf, holding_of, with_holding}
 use Rattle.runner.specs.Opens.{OpenOf, IsOpen, IsKnown, further, ticket_of}
 use Rattle.runner.specs.Ties.{IsKeptOpen}
 

@@ -17,7 +17,7 @@ use Rattle.lowering.specs.Plans.{Plan}
 use Rattle.lowering.specs.Compiled.{IsRoomAt}
 use Rattle.worlds.specs.Worlds.{locals_at}
 use Rattle.worlds.specs.InOrder.{SectionsStayInOrder}
-use Rattle.runner.specs.Machines.{RunOf}
+use Rattle.section_machine.specs.Machines.{RunOf}
 use Rattle.runner.specs.Opens.{OpenOf, ReadyOf, IsOpen, Began}
 use Rattle.runner.specs.Ties.{open_as, begun_as, cells_together, IsPrepared, IsKeptOpen}
 

@@ -18,9 +18,9 @@ use Rattle.lock_manager.specs.Sessions.{TicketOf}
 use Rattle.lowering.specs.Plans.{Plan}
 use Rattle.worlds.specs.Waiting.{first_if}
 use Rattle.worlds.specs.InOrder.{SectionsStayInOrder}
-use Rattle.runner.specs.Machines.{RunOf}
+use Rattle.section_machine.specs.Machines.{RunOf, IsLeftOf}
 use Rattle.runner.specs.Opens.{OpenOf, IsOpen, CanGiveBack, entry_of, ticket_of, moved}
-use Rattle.runner.specs.Ties.{open_as, call_of, over_by, ended_as, IsKeptOpen, IsKeptEnded, IsLeftOf}
+use Rattle.runner.specs.Ties.{open_as, call_of, over_by, ended_as, IsKeptOpen, IsKeptEnded}
 use Rattle.runner.proofs.Opened.{RunsInOrder, moved_is_open}
 
 -- an entry as the code writes it

@@ -1,4 +1,3 @@
-pub mod Stacks
 pub mod Asked
 pub mod Opened
 pub mod Begun

@@ -17,7 +17,7 @@ use Rattle.worlds.specs.Worlds.{code_at, locks_before, instructed, next_effect}
 use Rattle.worlds.specs.InOrder.{IsInOrder, SectionsStayInOrder}
 use Rattle.worlds.specs.Waiting.{first_if}
 use Rattle.lock_manager.specs.Sessions.{TicketOf}
-use Rattle.runner.specs.Machines.{RunOf, with_machine, FitsRoom, HasSmallCells}
+use Rattle.section_machine.specs.Machines.{RunOf, with_machine, FitsRoom, HasSmallCells}
 use Rattle.runner.specs.Opens.{OpenOf, IsOpen, further, moved}
 use Rattle.runner.specs.Ties.{IsKeptOpen}
 use Rattle.runner.proofs.Asked.{also_there}

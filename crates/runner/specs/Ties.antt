@@ -12,7 +12,7 @@ use Rattle.lock_manager.specs.Sessions.{TicketOf}
 use Rattle.lowering.specs.Plans.{Plan, IsCompiled}
 use Rattle.lowering.specs.Compiled.{IsRoomAt}
 use Rattle.worlds.specs.Worlds.{activation, locals_at}
-use Rattle.runner.specs.Machines.{RunOf, at_first}
+use Rattle.section_machine.specs.Machines.{RunOf, at_first}
 use Rattle.lock_manager.specs.Managers.{Managed}
 use Rattle.moved_cells.specs.Grants.{GrantOf, IsWhole, locks_of}
 use Rattle.history.specs.Commits.{Commit}
@@ -135,16 +135,3 @@ pub record IsKeptEnded (o : OpenOf) (ticket : TicketOf) (grants : List GrantOf) 
   pub ticket_is : ticket ≡ ticket_of o
   pub its : AreItsGrants o grants
   pub entry_is : entry ≡ entry_of o entry.outcome
-
--- what is left of a machine that is taken apart
-pub record IsLeftOf (run : RunOf) (place : ℕ) (stack locals : List Value) (grants : List GrantOf)
-    (reads writes : List (ℕ × Value)) (prints : List ℤ) : Type 0 where
-  pub machine : run.machine ≡ record {
-    place = place;
-    stack = stack;
-    locals = locals;
-    memory = record { cells = cells_granted run.layout.cell_locks grants; reads = reads; writes = writes };
-    prints = prints;
-  }
-  pub locks : locks_of grants ≡ run.locks
-  pub whole : All (IsWhole run.layout.cell_locks) grants

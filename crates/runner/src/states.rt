@@ -8,9 +8,7 @@ ghost use Rattle.runner.specs.Opens.{moved, IsOpen};
 ghost use Rattle.runner.specs.Ties.{over_by};
 ghost use Rattle.runner.specs.Answers as answers;
 
-use crate::machine::Left;
 use crate::open::{Open, Prepared};
-use crate::operands::Operands;
 use core_lang::typed::Call;
 use core_lang::value::{Outcome, Value};
 use held_cells::parts::Parts;
@@ -20,6 +18,8 @@ use lock_manager::ticket::{Receipt, Ticket};
 use locks::lock::Lock;
 use lowering::compiled::Program;
 use moved_cells::grant::Grant;
+use section_machine::machine::Left;
+use section_machine::operands::Operands;
 use std::alloc::Global;
 use std::marker::Model;
 

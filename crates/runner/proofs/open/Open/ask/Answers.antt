@@ -8,7 +8,7 @@ use Rattle.lock_manager.specs.Sessions.{TicketOf, with_lock, with_ask}
 use Rattle.lock_manager.specs.Calls.{CanAsk, ticket_with}
 use Rattle.worlds.specs.Worlds.{granted}
 use Rattle.worlds.specs.Waiting.{first_if}
-use Rattle.runner.specs.Machines.{RunOf, holding_of, with_holding}
+use Rattle.section_machine.specs.Machines.{RunOf, holding_of, with_holding}
 use Rattle.runner.specs.Opens.{OpenOf, IsKnown, further, ticket_of}
 use Rattle.runner.specs.Ties.{open_as, call_of, IsKeptOpen}
 use Rattle.runner.proofs.Asks.{IsAsking, first_and_rest, may_ask, lock_fits, are_lent, can_hold, kept_granted, kept_waiting}

@@ -2,7 +2,7 @@ use Rattle.std.specs.Prelude.{◌≡◌, false, List, length, vec_capacity}
 use Rattle.std.proofs.Common.{refl, sym, ap, ◌∙◌, subst, arith}
 use Rattle.locks.specs.declared.lock.Lock.{Lock}
 use Rattle.worlds.specs.Worlds.{locks_before, next_effect}
-use Rattle.runner.specs.Machines.{RunOf}
+use Rattle.section_machine.specs.Machines.{RunOf}
 use Rattle.runner.specs.Opens.{OpenOf}
 use Rattle.runner.specs.Ties.{open_as, call_of, IsKeptOpen}
 use Rattle.runner.proofs.Opened.{RunsInOrder, has_code, place_there, code_is_short, asked_fits, kept_asking}

@@ -5,7 +5,7 @@ use Rattle.core_lang.specs.declared.typed.Typed.{Typed}
 use Rattle.core_lang.specs.WellFormed.{CanCall}
 use Rattle.core_lang.specs.Whole.{opening}
 use Rattle.worlds.specs.Worlds.{locals_at}
-use Rattle.runner.specs.Machines.{at_first}
+use Rattle.section_machine.specs.Machines.{at_first}
 use Rattle.runner.specs.Ties.{call_of}
 use Rattle.runner.proofs.Begun.{called_within, first_locals}
 use Rattle.runner.proofs.open.Prepared.new.Goals as goal

@@ -1,0 +1,6 @@
+pub mod CodeViews
+pub mod Jumps
+pub mod Chains
+pub mod Landing
+pub mod Steps
+pub mod Statements

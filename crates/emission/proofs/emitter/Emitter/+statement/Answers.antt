@@ -1,0 +1,67 @@
+use Rattle.std.proofs.Common.{◌∙◌, refl, ap, arith, length, length-append}
+use Rattle.std.proofs.lemmas.Result.{on_ok_weaker}
+use Rattle.emission.proofs.Steps.{block_turn}
+use Rattle.emission.proofs.Statements.{open_within, open_grows, choice_emitted, loop_emitted, either_emitted, skip_within, if_is, if_else_is, while_is}
+use Rattle.emission.proofs.emitter.Emitter.+statement.Goals as goal
+
+pub block-loop-statement-preserved : goal.block-loop-statement-preserved
+block-loop-statement-preserved t c =
+    block_turn c.args.statements.now c.loop-statement.statement-index c.statement-item.result c.args.self.now c.loop-statement.self c.statement.new.self
+    c.statement-item.is c.loop-statement-test.true c.loop-statement.invariant c.in_ok-statement.ensures
+
+pub choose-land-requires : goal.choose-land-requires
+choose-land-requires t c =
+    open_within c.args.condition.now c.args.block.now c.args.self.now c.open.new.self c.block.new.self c.in_ok-test_end.test_end
+    c.in_ok-test_end.ensures c.in_ok-block.ensures
+
+pub choose-returns : goal.choose-returns
+choose-returns t c =
+    choice_emitted c.args.condition.now c.args.block.now c.args.self.now c.open.new.self c.block.new.self c.in_ok-test_end.test_end
+    c.in_ok-test_end.ensures c.in_ok-block.ensures _ refl refl c.land.ensures
+
+pub repeat-overflow_sub-passed : goal.repeat-overflow_sub-passed
+repeat-overflow_sub-passed t c =
+    let grows = open_grows c.args.condition.now c.args.body.now c.args.self.now c.open.new.self c.block.new.self c.in_ok-test_end.test_end
+    c.in_ok-test_end.ensures c.in_ok-block.ensures in
+    omega (arith, grows, c.len-start.ensures ∙ c.args.self.now.code.instructions.ok.0, c.len.ensures ∙ c.block.new.self.code.instructions.ok.0)
+
+pub repeat-land-requires : goal.repeat-land-requires
+repeat-land-requires t c =
+    let within = open_within c.args.condition.now c.args.body.now c.args.self.now c.open.new.self c.block.new.self c.in_ok-test_end.test_end
+    c.in_ok-test_end.ensures c.in_ok-block.ensures in
+    omega (arith, within, ap length c.in_ok-put.ensures ∙ length-append c.block.new.self.code.instructions.items _)
+
+pub repeat-returns : goal.repeat-returns
+repeat-returns t c =
+    loop_emitted c.args.condition.now c.args.body.now c.args.self.now c.open.new.self c.block.new.self c.in_ok-test_end.test_end
+    c.in_ok-test_end.ensures c.in_ok-block.ensures c.put.new.self _ c.len-start.result c.len.result (c.len-start.ensures ∙ c.args.self.now.code.instructions.ok.0)
+    (c.len.ensures ∙ c.block.new.self.code.instructions.ok.0) c.in_ok-put.ensures refl refl c.land.ensures
+
+pub statement-skip-requires : goal.statement-skip-requires
+statement-skip-requires t c =
+    open_within c.in-IfElse.condition c.deref-in-IfElse.result.now c.args.self.now c.open.new.self c.block.new.self c.in_ok-test_end-in-IfElse.test_end
+    c.in_ok-test_end-in-IfElse.ensures c.in_ok-block-in-IfElse.ensures
+
+pub statement-join-requires : goal.statement-join-requires
+statement-join-requires t c =
+    skip_within c.block.new.self c.skip.new.self c.block-in-IfElse.new.self c.in_ok-test_end-in-IfElse.test_end c.in_ok-block_end-in-IfElse.block_end _ _
+    c.in_ok-block_end-in-IfElse.ensures c.in_ok-block-in-IfElse-2.ensures
+
+pub statement-returns-in-If : goal.statement-returns-in-If
+statement-returns-in-If t c =
+    on_ok_weaker c.choose.result (λ e. if_is c.args.action.now c.in-If.condition c.in-If.block c.deref.result.now c.args.self.now c.choose.new.self c.in-If.is c.deref.ensures.value e)
+    c.choose.ensures
+
+pub statement-returns-in_ok-block-in-IfElse-2 : goal.statement-returns-in_ok-block-in-IfElse-2
+statement-returns-in_ok-block-in-IfElse-2 t c =
+    if_else_is c.args.action.now c.in-IfElse.condition c.in-IfElse.block c.in-IfElse.otherwise c.deref-in-IfElse.result.now c.deref-in-IfElse-2.result.now
+    c.args.self.now c.join.new.self c.in-IfElse.is c.deref-in-IfElse.ensures.value c.deref-in-IfElse-2.ensures.value
+    (either_emitted c.in-IfElse.condition c.deref-in-IfElse.result.now c.args.self.now c.open.new.self c.block.new.self c.in_ok-test_end-in-IfElse.test_end
+    c.in_ok-test_end-in-IfElse.ensures c.in_ok-block-in-IfElse.ensures c.deref-in-IfElse-2.result.now c.skip.new.self c.block-in-IfElse.new.self c.join.new.self
+    c.in_ok-block_end-in-IfElse.block_end c.in_ok-block_end-in-IfElse.ensures c.in_ok-block-in-IfElse-2.ensures c.join.ensures)
+
+pub statement-returns-in-While : goal.statement-returns-in-While
+statement-returns-in-While t c =
+    on_ok_weaker c.repeat.result
+    (λ e. while_is c.args.action.now c.in-While.condition c.in-While.body c.deref-in-While.result.now c.args.self.now c.repeat.new.self c.in-While.is c.deref-in-While.ensures.value e)
+    c.repeat.ensures

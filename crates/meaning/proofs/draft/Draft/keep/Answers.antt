@@ -1,8 +1,0 @@
-use Rattle.std.proofs.Common.{length, sym, ap, ◌∙◌}
-use Rattle.meaning.specs.Undo.{Changed}
-use Rattle.meaning.proofs.Steps.{undone-length}
-use Rattle.meaning.proofs.draft.Draft.keep.Goals as goal
-
-pub returns-clause-long : goal.returns-clause-long
-returns-clause-long c =
-    sym (undone-length c.self.inside.overwritten.items c.self.inside.cells.items) ∙ ap (λ (d : Changed). length d.before) c.self.view_is

@@ -1,0 +1,8 @@
+use Rattle.std.proofs.Common.{length, sym, ap, ◌∙◌}
+use Rattle.tree_walk.specs.Undo.{Changed}
+use Rattle.tree_walk.proofs.Steps.{undone-length}
+use Rattle.tree_walk.proofs.draft.Draft.keep.Goals as goal
+
+pub returns-clause-long : goal.returns-clause-long
+returns-clause-long c =
+    sym (undone-length c.self.inside.overwritten.items c.self.inside.cells.items) ∙ ap (λ (d : Changed). length d.before) c.self.view_is

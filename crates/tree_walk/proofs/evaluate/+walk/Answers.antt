@@ -1,0 +1,22 @@
+use Rattle.std.proofs.Common.{sym, ap, ◌∙◌, Ok}
+use Rattle.std.proofs.lemmas.Result.{err_from_is_err_and}
+use Rattle.core_lang.specs.Meaning.{joined}
+use Rattle.tree_walk.specs.Chains.{chain_starts}
+use Rattle.tree_walk.proofs.Steps.{chain_fails}
+use Rattle.tree_walk.proofs.evaluate.+walk.Goals as goal
+
+pub loop-operation-init : goal.loop-operation-init
+loop-operation-init t c =
+    chain_starts _ _ _ _ _ _ _ _ _ c.in-Chain.is c.deref-operation-items.ensures.value c.deref-in-Chain.ensures c.in_ok-value-in-Chain.ensures
+
+pub returns-in_err-right-in-Chain : goal.returns-in_err-right-in-Chain
+returns-in_err-right-in-Chain t c =
+    let p = err_from_is_err_and c.from_residual-in_err-right-in-Chain.result c.from_residual-in_err-right-in-Chain.ensures.1 in
+    rw (p.1, p.2) (chain_fails _ _ _ _ _ _ _ _ _ c.loop-operation-test.true c.operation-item.is
+    (ap (joined c.operation-item.result.operator (Ok c.loop-operation.value)) (sym c.in_err-right-in-Chain.ensures)) c.loop-operation.invariant)
+
+pub returns-in_err-value-in-Chain-2 : goal.returns-in_err-value-in-Chain-2
+returns-in_err-value-in-Chain-2 t c =
+    let p = err_from_is_err_and c.from_residual-in_err-value-in-Chain-2.result c.from_residual-in_err-value-in-Chain-2.ensures.1 in
+    rw (p.1, p.2) (chain_fails _ _ _ _ _ _ _ _ _ c.loop-operation-test.true c.operation-item.is
+    (ap (joined c.operation-item.result.operator (Ok c.loop-operation.value)) (sym c.in_ok-right-in-Chain.ensures) ∙ sym c.in_err-value-in-Chain-2.ensures) c.loop-operation.invariant)
