@@ -200,14 +200,7 @@ impl<'p> Open<'p> {
             pending: _,
             asked: _,
         } = self;
-        let Machine {
-            place: _,
-            operands: _,
-            locals: _,
-            held,
-            prints: _,
-        } = machine;
-        (ticket, held.into_grants())
+        (ticket, machine.into_grants())
     }
 }
 

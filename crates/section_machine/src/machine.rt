@@ -75,8 +75,10 @@ impl<'p> Model for Machine<'p> {
 
 impl<'p> Machine<'p> {
     ghost use Rattle.std.specs.Prelude.{◌+◌, ◌^◌, slice_index, IfOk};
+    ghost use Rattle.std.specs.List.{All};
     ghost use Rattle.code.specs.Machine.{passed};
-    ghost use Rattle.held_cells.specs.Held.{CanHold, with_grant};
+    ghost use Rattle.moved_cells.specs.Grants.{IsWhole, locks_of};
+    ghost use Rattle.held_cells.specs.Held.{CanHold, cells_granted, with_grant};
     ghost use Rattle.section_machine.specs.Machines.{with_machine, with_holding, holding_of, at_first, IsLeftOf};
 
     /// A machine where a section begins, with these locals, no cells, and all the memory that it can need.
@@ -148,6 +150,22 @@ impl<'p> Machine<'p> {
             parts: held.into_parts(),
             prints: prints.into_numbers(),
         }
+    }
+
+    /// The grants alone, for a section that is given up.
+    pub fn into_grants(self) -> Vec<Grant>
+        ensures locks { locks_of result.items ≡ self.entry.locks }
+        ensures whole { All (IsWhole self.entry.layout.cell_locks) result.items }
+        ensures cells { cells_granted self.entry.layout.cell_locks result.items ≡ self.entry.machine.memory.cells }
+    {
+        let Machine {
+            place: _,
+            operands: _,
+            locals: _,
+            held,
+            prints: _,
+        } = self;
+        held.into_grants()
     }
 
     /// Holds the cells of a lock.

@@ -1,4 +1,6 @@
-use Rattle.std.proofs.Common.{List, subst, sym, ap, ◌∙◌}
+use Rattle.std.proofs.Common.{◌≡◌, List, subst, sym, ap, ◌∙◌}
+use Rattle.std.specs.Prelude.{is_some}
+use Rattle.std.proofs.lemmas.Bool.{false≢true}
 use Rattle.std.specs.List.{All, Contains}
 use Rattle.locks.specs.declared.lock.Lock.{Lock}
 use Rattle.lock_manager.specs.Sessions.{TicketOf}
@@ -26,3 +28,26 @@ are_now-requires-clause-listed c =
     let listed = listed_held m ticket.thread ticket.session c.self.invariant.0 known in
     let own = subst (λ (v : Managed). AreOf v.layout.cell_locks c.held.result.now c.args.grants.now) (sym c.self.view_is) (c.are_of.ensures.0 c.if-not-are_of.false) in
     listed_grants m ticket.session.held c.args.grants.now listed (subst (λ (ls : List Lock). AreOf m.layout.cell_locks ls c.args.grants.now) held own)
+
+pub returns-then-not-knows : goal.returns-then-not-knows
+returns-then-not-knows c = (λ t. absurd (false≢true t), λ can. c.if-not-knows.ensures.1 can.0)
+
+pub returns-then-is_some : goal.returns-then-is_some
+returns-then-is_some c =
+    (λ t. absurd (false≢true t), λ can. sym (ap is_some (c.ask.ensures ∙ ap (λ (t : TicketOf). t.session.ask) c.ticket.view_is ∙ can.1.no_ask)) ∙ sym c.if-is_some.ensures)
+
+pub returns-then-not-are_of : goal.returns-then-not-are_of
+returns-then-not-are_of c =
+    let held = c.held.ensures ∙ ap (λ (t : TicketOf). t.session.held) c.ticket.view_is in
+    (λ t. absurd (false≢true t), λ can. c.if-not-are_of.ensures.1 (subst (λ (ls : List Lock). AreOf c.args.self.now.layout.cell_locks ls c.args.grants.now) (sym held) can.1.own))
+
+pub returns-then-not-agrees : goal.returns-then-not-agrees
+returns-then-not-agrees c =
+    let values : c.self.inside.committed.values ≡ c.args.self.now.values = ap (λ (m : Managed). m.values) c.self.view_is in
+    (λ t. absurd (false≢true t), λ can. c.if-not-agrees.ensures.1 (rw (values, c.reads.ensures) can.1.reads))
+
+pub returns-then-not-are_own : goal.returns-then-not-are_own
+returns-then-not-are_own c =
+    let held = c.held-2.ensures ∙ ap (λ (t : TicketOf). t.session.held) c.ticket.view_is in
+    let locks : c.self.inside.committed.layout.cell_locks ≡ c.args.self.now.layout.cell_locks = ap (λ (m : Managed). m.layout.cell_locks) c.self.view_is in
+    (λ t. absurd (false≢true t), λ can. c.if-not-are_own.ensures.1 (rw (locks, held, c.writes.ensures) can.1.writes))
