@@ -1,5 +1,5 @@
 -- Going over the accesses of the parts of a tree.
-use Rattle.std.proofs.Common.{◌≡◌, ℕ, zero, suc, ◌+◌, ◌<◌, ◌≤◌, arith, List, [], ◌∷◌, ◌++◌, length, drop, take, get_or, Option, Some, None, Bool, true, false, refl, sym, ap, ◌∙◌, add-one, Vec, Box, Global}
+use Rattle.std.proofs.Common.{◌≡◌, ◌⊎◌, inl, inr, ℕ, zero, suc, ◌+◌, ◌<◌, ◌≤◌, arith, List, [], ◌∷◌, ◌++◌, length, drop, take, get_or, Option, Some, None, Bool, true, false, refl, sym, ap, ◌∙◌, add-one, Vec, Box, Global}
 use Rattle.std.proofs.Math.Seq.{drop-cons, take-suc}
 use Rattle.std.proofs.lemmas.List.Sums.{fold-append}
 use Rattle.std.specs.Prelude.{if◌then◌else◌}
@@ -63,14 +63,12 @@ over_last f g h k x end before last cs same value e one all =
     ∙ ap (λ y. over f (over f g (in_all before.items)) (in_condition y)) value
     ∙ sym (fold-append _ g (in_all before.items) (in_condition last.value)) ∙ ap (over f g) (sym e)
 
-pub over_and : (f : Finder) (g h k : Gathered) (x end : Condition) (before : Vec Condition Global) (last : Box Condition Global) (cs : List Condition) → x ≡ And before last → cs ≡ before.items →
-    end ≡ last.value → h ≡ over f g (in_all cs) → k ≡ over f h (in_condition end) → k ≡ over f g (in_condition x)
-over_and f g h k x end before last cs is same value one all =
+pub over_both : (f : Finder) (g h k : Gathered) (x end : Condition) (before : Vec Condition Global) (last : Box Condition Global) (cs : List Condition) →
+    (x ≡ And before last) ⊎ (x ≡ Or before last) → cs ≡ before.items → end ≡ last.value → h ≡ over f g (in_all cs) → k ≡ over f h (in_condition end) →
+    k ≡ over f g (in_condition x)
+over_both f g h k x end before last cs (inl is) same value one all =
     over_last f g h k x end before last cs same value (ap in_condition is ∙ in_condition-And before last) one all
-
-pub over_or : (f : Finder) (g h k : Gathered) (x end : Condition) (before : Vec Condition Global) (last : Box Condition Global) (cs : List Condition) → x ≡ Or before last → cs ≡ before.items →
-    end ≡ last.value → h ≡ over f g (in_all cs) → k ≡ over f h (in_condition end) → k ≡ over f g (in_condition x)
-over_or f g h k x end before last cs is same value one all =
+over_both f g h k x end before last cs (inr is) same value one all =
     over_last f g h k x end before last cs same value (ap in_condition is ∙ in_condition-Or before last) one all
 
 -- ---- one field more of a path

@@ -6,3 +6,4 @@ pub mod Accessed
 pub mod Faulty
 pub mod Used
 pub mod Turns
+pub mod Cuts

@@ -8,12 +8,12 @@ ghost use Rattle.locks.specs.Accesses.{access, global, element, in_path, in_expr
 ghost use Rattle.locks.specs.LockPaths.{global_path, lock_path_of};
 ghost use Rattle.lockpaths.specs.Finding.{IsBase, IsLockOf, in_all, over, over_point, over_points};
 
-use normal_forms::forms::{Form, Forms};
 use crate::found::Found;
 use core_lang::tree::{Action, Condition, Expr, FieldStep, Path, Stmt};
 use core_lang::typed::{LockClass, Owner, Protection, Typed};
 use flow::points::PointRef;
 use locks::path::{LockPath, Root};
+use normal_forms::forms::{Form, Forms};
 use source::memory::NoMemory;
 use std::alloc::Global;
 
@@ -179,12 +179,7 @@ impl<'a> Finder<'a> {
                 Ok(())
             }
             Condition::Not(condition) => self.condition(condition, found),
-            Condition::And(before, last) => {
-                self.conditions(before, found)?;
-                self.condition(last, found)?;
-                Ok(())
-            }
-            Condition::Or(before, last) => {
+            Condition::And(before, last) | Condition::Or(before, last) => {
                 self.conditions(before, found)?;
                 self.condition(last, found)?;
                 Ok(())

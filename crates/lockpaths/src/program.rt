@@ -11,13 +11,13 @@ ghost use Rattle.lockpaths.specs.Numbers.{IsSetOf, cut, AreRising, IsComplete, I
 ghost use Rattle.lockpaths.specs.Paths.{ArePaths};
 
 use crate::finder::Finder;
-use normal_forms::forms::Forms;
 use crate::found::Found;
 use crate::table::{Paths, SectionPaths};
 use core_lang::tree::Section;
 use core_lang::typed::Typed;
 use flow::points::points_of;
 use locks::path_set::PathSet;
+use normal_forms::forms::Forms;
 use source::fault::{Fault, Refusal};
 use source::memory::NoMemory;
 use source::mistake::Mistake;

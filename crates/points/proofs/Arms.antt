@@ -3,13 +3,13 @@ use Rattle.std.specs.Prelude.{◌≡◌, ℕ, ◌+◌, ◌||◌, List, [], ◌�
 use Rattle.std.proofs.Common.{sym, ap, ◌∙◌, arith, add-one, append_assoc, append-nil, Vec, Global}
 use Rattle.std.proofs.lemmas.List.{reverse-append}
 use Rattle.flow.specs.declared.skeleton.Part.{Part}
-use Rattle.flow.specs.declared.skeleton.Part.TheViews.{If, While}
+use Rattle.flow.specs.declared.skeleton.Part.TheViews.{made-Point, If, While}
 use Rattle.flow.specs.Skeletons.{Skeleton, Nil, Step, Fork, Loop, count}
 use Rattle.flow.specs.Parts.{part_in_front, skeleton_of}
 use Rattle.flow.specs.Theory.Gather.{or}
 use Rattle.flow.specs.Theory.Passes.{gather, befores, behind, laters}
 use Rattle.flow.specs.Theory.Joined.{later_loop}
-use Rattle.flow.specs.Theory.Views.{front_if, front_while}
+use Rattle.flow.specs.Theory.Views.{front_point, front_if, front_while}
 use Rattle.locks.specs.declared.path_set.PathSet.{PathSet}
 use Rattle.locks.specs.Sets.{has}
 use Rattle.points.specs.declared.uses.Uses.{Uses}
@@ -17,6 +17,9 @@ use Rattle.points.specs.Passes.{column, uses, IsGathered, IsBehind, AreBefore, A
 use Rattle.points.proofs.Sets.{column-push, column-more}
 
 -- which skeleton a part is
+pub as_point : (part : Part) → part ≡ made-Point → part_in_front part Nil ≡ Step Nil
+as_point part is = front_point part Nil is
+
 pub as_if : (part : Part) (a b : Vec Part Global) (fs gs : List Part) → part ≡ If a b → fs ≡ a.items → gs ≡ b.items →
     part_in_front part Nil ≡ Fork (skeleton_of fs) (skeleton_of gs) Nil
 as_if part a b fs gs is first second =

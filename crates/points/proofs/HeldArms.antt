@@ -1,7 +1,7 @@
 -- The arms of the passes for what is held: what each makes of an `if` and of a `while`.
 use Rattle.std.specs.Prelude.{◌≡◌, ℕ, ◌+◌, ◌&&◌, Bool, false, [], ◌∷◌, ◌++◌}
 use Rattle.std.proofs.Common.{refl, sym, ap, ◌∙◌, arith, append_assoc, append-nil, Vec, Global}
-use Rattle.flow.specs.Skeletons.{Skeleton, Nil, Fork, Loop, count}
+use Rattle.flow.specs.Skeletons.{Skeleton, Nil, Step, Fork, Loop, count}
 use Rattle.flow.specs.Theory.Held.{through, holds}
 use Rattle.flow.specs.Theory.HeldLists.{held_column}
 use Rattle.flow.specs.Theory.MustHold.{and}
@@ -22,6 +22,9 @@ module _ (h : Held) (n : ℕ) where
 
   pub past_of : (m : ℕ) (set here : PathSet) → m ≡ n → ((i : ℕ) → has here i ≡ past_point h i m (has set i)) → IsPast set here
   past_of m set here same is i = is i ∙ ap (λ k. past_point h i k (has set i)) same
+
+  pub through_step : (c : Skeleton) (first here : PathSet) → c ≡ Step Nil → IsPast first here → IsThrough h c n first here
+  through_step c first here is past i = past i ∙ ap (λ x. through (past_point h i) and x n (has first i)) (sym is)
 
   pub through_fork : (c a b : Skeleton) (k m : ℕ) (first here one two set : PathSet) → c ≡ Fork a b Nil → k ≡ n + 1 → m ≡ k + count a → IsPast first here →
       IsThrough h a k here one → IsThrough h b m here two → IsMeet one two set → IsThrough h c n first set
@@ -46,6 +49,11 @@ module _ (h : Held) (n : ℕ) where
   through_loop c a k first here round both inner is ek past in_a met behind i =
       behind i ∙ ap (past_point h i n) (at_condition a k first here round both ek past in_a met i)
       ∙ ap (λ x. through (past_point h i) and x n (has first i)) (sym is)
+
+  pub held_step : (c : Skeleton) (first : PathSet) (was sets : Vec PathSet Global) → c ≡ Step Nil → sets.items ≡ was.items ++ first ∷ [] →
+      AreHeld h c first was sets
+  held_step c first was sets is push i =
+      column-push i was.items sets.items first push ∙ ap (λ x. column i was.items ++ holds (past_point h i) and x was.len (has first i)) (sym is)
 
   pub held_fork : (c a b : Skeleton) (first here : PathSet) (was one two sets : Vec PathSet Global) → c ≡ Fork a b Nil → was.len ≡ n → one.len ≡ n + 1 →
       two.len ≡ one.len + count a → IsPast first here → one.items ≡ was.items ++ first ∷ [] → AreHeld h a here one two → AreHeld h b here two sets → AreHeld h c first was sets

@@ -8,3 +8,4 @@ pub mod HeldArms
 pub mod RankLists
 pub mod Taken
 pub mod WantedSets
+pub mod Mapped

@@ -78,15 +78,16 @@ impl<'a> Held<'a> {
         ensures next { result.1 ≡ n + count (part_in_front part.now Nil) }
     {
         let here = self.past(n, set);
+        let inner = n + 1;
         match part {
-            Part::Point => (here, n + 1),
+            Part::Point => (here, inner),
             Part::If(block, otherwise) => {
-                let (one, middle) = self.through(block, n + 1, here);
+                let (one, middle) = self.through(block, inner, here);
                 let (two, end) = self.through(otherwise, middle, here);
                 (one.meet(two), end)
             }
             Part::While(body) => {
-                let (round, end) = self.through(body, n + 1, here);
+                let (round, end) = self.through(body, inner, here);
                 (self.past(n, set.meet(round)), end)
             }
         }

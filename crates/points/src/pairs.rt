@@ -96,19 +96,20 @@ fn push_part(
     requires { n + count (part_in_front part.now Nil) < 2 ^ 64 }
     ensures { OnOk result (list.new.items ≡ list.old.items ++ pairs_from (part_in_front part.now Nil) n next) }
 {
+    let inner = n + 1;
     match part {
         Part::Point => push_pair(n, next, list),
         Part::If(block, otherwise) => {
-            let middle = n + 1 + points_in(block);
-            push_pair(n, first_point(block, n + 1, next), list)?;
+            let middle = inner + points_in(block);
+            push_pair(n, first_point(block, inner, next), list)?;
             push_pair(n, first_point(otherwise, middle, next), list)?;
-            push_pairs(block, n + 1, next, list)?;
+            push_pairs(block, inner, next, list)?;
             push_pairs(otherwise, middle, next, list)
         }
         Part::While(body) => {
-            push_pair(n, first_point(body, n + 1, Some(n)), list)?;
+            push_pair(n, first_point(body, inner, Some(n)), list)?;
             push_pair(n, next, list)?;
-            push_pairs(body, n + 1, Some(n), list)
+            push_pairs(body, inner, Some(n), list)
         }
     }
 }

@@ -74,14 +74,15 @@ impl<'a> Uses<'a> {
         ensures next { result.1 ≡ n + count (part_in_front part.now Nil) }
     {
         let here = other.union(self.at(n));
+        let inner = n + 1;
         match part {
-            Part::Point => (here, n + 1),
+            Part::Point => (here, inner),
             Part::If(block, otherwise) => {
-                let (one, middle) = self.gather(block, n + 1, here);
+                let (one, middle) = self.gather(block, inner, here);
                 let (two, end) = self.gather(otherwise, middle, here);
                 (one.union(two), end)
             }
-            Part::While(body) => self.gather(body, n + 1, here),
+            Part::While(body) => self.gather(body, inner, here),
         }
     }
 

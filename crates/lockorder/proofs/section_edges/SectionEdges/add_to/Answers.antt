@@ -1,4 +1,8 @@
-use Rattle.std.proofs.Common.{◌<◌, length, inl, inr, sym, ap, ◌∙◌, arith}
+use Rattle.std.proofs.Common.{ℕ, ◌<◌, length, inl, inr, sym, ap, ◌∙◌, subst, arith}
+use Rattle.std.specs.List.{All}
+use Rattle.std.proofs.lemmas.Option.{get_or_from_slice_get, slice_get_within}
+use Rattle.locks.specs.declared.path_set.PathSet.{PathSet}
+use Rattle.points.specs.declared.table.Points.{Points}
 use Rattle.std.proofs.lemmas.Bool.{both_ways, not-false, eqb-true}
 use Rattle.locks.specs.Sets.{has}
 use Rattle.std.specs.Prelude.{◌==◌}
@@ -53,3 +57,15 @@ returns-clause-edges c b d =
         )
       ]),
     )
+
+class_below : (x : Points) (limit : ℕ) → All (λ c. c < limit) x.classes.items → (set : PathSet) (c : ℕ) → HasClass x set c → c < limit
+class_below x limit all set c h =
+    subst (λ n. n < limit) (get_or_from_slice_get x.classes.items h.0 c c h.2) (all h.0 c (slice_get_within x.classes.items h.0 c h.2))
+
+pub add_roots-requires-clause-classes : goal.add_roots-requires-clause-classes
+add_roots-requires-clause-classes c = subst (λ n. All (λ d. d < n) c.args.self.now.points.now.classes.items) (sym c.loop-point.invariant.classes) c.requires
+
+pub add_roots-requires-clause-used : goal.add_roots-requires-clause-used
+add_roots-requires-clause-used c d h =
+    subst (λ n. d < n) (sym c.loop-point.invariant.classes)
+    (class_below c.args.self.now.points.now (length c.args.table.now.before.items) c.requires c.used_so_far.result d ((c.classes_of-used.ensures d).0 h))

@@ -1,12 +1,7 @@
-use Rattle.lockpaths.proofs.Going.{over_and, over_or}
+use Rattle.lockpaths.proofs.Going.{over_both}
 use Rattle.lockpaths.proofs.finder.Finder.+conditions.Goals as goal
 
 pub condition-returns-in_ok-condition-in-And : goal.condition-returns-in_ok-condition-in-And
 condition-returns-in_ok-condition-in-And t c =
-    over_and c.args.self.now _ _ _ _ _ _ _ _ c.in-And.is c.deref-in-And.ensures.value c.deref-in-And-2.ensures c.in_ok-conditions-in-And.ensures
+    over_both c.args.self.now _ _ _ _ _ _ _ _ c.in-And.is c.deref-in-And.ensures.value c.deref-in-And-2.ensures c.in_ok-conditions-in-And.ensures
     c.in_ok-condition-in-And.ensures
-
-pub condition-returns-in_ok-condition-in-Or : goal.condition-returns-in_ok-condition-in-Or
-condition-returns-in_ok-condition-in-Or t c =
-    over_or c.args.self.now _ _ _ _ _ _ _ _ c.in-Or.is c.deref-in-Or.ensures.value c.deref-in-Or-2.ensures c.in_ok-conditions-in-Or.ensures
-    c.in_ok-condition-in-Or.ensures

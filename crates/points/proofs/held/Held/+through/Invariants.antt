@@ -1,6 +1,6 @@
-use Rattle.std.proofs.Common.{◌≡◌, ◌+◌, ℕ, drop}
-use Rattle.flow.specs.Skeletons.{count}
-use Rattle.flow.specs.Parts.{skeleton_of}
+use Rattle.std.proofs.Common.{◌≡◌, ◌+◌, ◌*◌, ℕ, drop}
+use Rattle.flow.specs.Skeletons.{count, Nil}
+use Rattle.flow.specs.Parts.{skeleton_of, part_in_front}
 use Rattle.flow.specs.Theory.Held.{through}
 use Rattle.flow.specs.Theory.MustHold.{and}
 use Rattle.locks.specs.Sets.{has}
@@ -12,3 +12,9 @@ invariant-through-loop-part l = record {
   set : (i : ℕ) → through (past_point l.self i) and (skeleton_of (drop l.part-index l.parts)) l.at (has l.all i) ≡ through (past_point l.self i) and (skeleton_of l.parts) l.n (has l.initial.all i);
   next : l.at + count (skeleton_of (drop l.part-index l.parts)) ≡ l.n + count (skeleton_of l.parts);
 }
+
+abbrev pub decreases-through : goal.decreases-through
+decreases-through l = 2 * count (skeleton_of l.parts.now) + 1
+
+abbrev pub decreases-through_part : goal.decreases-through_part
+decreases-through_part l = 2 * count (part_in_front l.part.now Nil)

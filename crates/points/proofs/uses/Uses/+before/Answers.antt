@@ -1,10 +1,11 @@
-use Rattle.std.proofs.Common.{◌≡◌, ◌+◌, ◌-◌, ◌∙◌, refl, ap, arith}
-use Rattle.flow.specs.Skeletons.{count}
-use Rattle.flow.specs.Parts.{skeleton_of}
+use Rattle.std.proofs.Common.{rules, ◌≡◌, ◌+◌, ◌*◌, ◌-◌, ◌<◌, ◌∙◌, refl, ap, arith}
+use Rattle.flow.specs.Skeletons.{count, Nil}
+use Rattle.flow.specs.Parts.{skeleton_of, part_in_front}
 use Rattle.flow.specs.Theory.Gather.{or}
-use Rattle.flow.specs.Theory.Joined.{count_turn, gather_turn, before_turn}
+use Rattle.flow.specs.Theory.Joined.{count_turn, count_drop, gather_turn, before_turn}
 use Rattle.points.specs.Passes.{uses}
-use Rattle.points.proofs.Arms.{as_if, as_while, with_point, gathered_fork, before_fork, before_loop}
+use Rattle.points.proofs.Arms.{as_point, as_if, as_while, with_point, gathered_step, gathered_fork, gathered_loop, before_step, before_fork, before_loop}
+use Rattle.points.proofs.PairLists.{has_point}
 use Rattle.points.proofs.uses.Uses.+before.Goals as goal
 
 pub before-loop-part-preserved : goal.before-loop-part-preserved
@@ -46,3 +47,64 @@ before_part-returns-in_ok-push_times-in-While-clause-sets t c =
     (as_while c.args.part.now _ _ c.in-While.is c.deref-in-While.ensures.value) refl (ap (λ m. m + 1) c.len-n.ensures) times
     (with_point r n c.len-n.result c.args.earlier c.at.result c.union-here.result c.len-n.ensures c.at.ensures c.union-here.ensures)
     c.gather-end.ensures.set c.in_ok-push_times-in-While.ensures.items
+
+pub before-before_part-requires : goal.before-before_part-requires
+before-before_part-requires t c =
+    let turn = count_turn c.args.parts.now c.loop-part.part-index c.part-item.result c.part-item.is c.loop-part-test.true in
+    let all = count_drop c.args.parts.now c.loop-part.part-index in
+    let falls : 2 * count (part_in_front c.part-item.result Nil) < 2 * count (skeleton_of c.args.parts.now) + 1 = omega (arith, turn, all) in
+    (search rules, omega (arith, turn, c.loop-part.invariant.len, c.requires))
+
+pub before_part-at-requires : goal.before_part-at-requires
+before_part-at-requires t c = omega (arith, has_point c.args.part.now, c.requires, c.len-n.ensures)
+
+pub before_part-returns-in_ok-push-in-Point-clause-sets : goal.before_part-returns-in_ok-push-in-Point-clause-sets
+before_part-returns-in_ok-push-in-Point-clause-sets t c =
+    before_step c.args.self.now c.args.sets.now.len _ c.args.earlier c.args.sets.now c.push.new.self (as_point c.args.part.now c.in-Point.is) c.in_ok-push-in-Point.ensures.items
+
+pub before_part-returns-in_ok-push-in-Point-clause-len : goal.before_part-returns-in_ok-push-in-Point-clause-len
+before_part-returns-in_ok-push-in-Point-clause-len t c = omega (arith, ap count (as_point c.args.part.now c.in-Point.is), c.in_ok-push-in-Point.ensures.len)
+
+pub before_part-returns-in_ok-push-in-Point-clause-set : goal.before_part-returns-in_ok-push-in-Point-clause-set
+before_part-returns-in_ok-push-in-Point-clause-set t c =
+    let r = c.args.self.now in
+    let n = c.args.sets.now.len in
+    gathered_step r n _ c.args.earlier c.union-here.result (as_point c.args.part.now c.in-Point.is)
+    (with_point r n c.len-n.result c.args.earlier c.at.result c.union-here.result c.len-n.ensures c.at.ensures c.union-here.ensures)
+
+pub before_part-before-requires : goal.before_part-before-requires
+before_part-before-requires t c =
+    let is = ap count (as_if c.args.part.now _ _ _ _ c.in-If.is c.deref.ensures.value refl) in
+    let falls : 2 * count (skeleton_of c.deref.result.now) + 1 < 2 * count (part_in_front c.args.part.now Nil) = omega (arith, is) in
+    (search rules, omega (arith, is, c.requires, c.in_ok-push-in-If.ensures.len))
+
+pub before_part-before-requires-in-If : goal.before_part-before-requires-in-If
+before_part-before-requires-in-If t c =
+    let is = ap count (as_if c.args.part.now _ _ _ _ c.in-If.is c.deref.ensures.value c.deref-in-If.ensures.value) in
+    let falls : 2 * count (skeleton_of c.deref-in-If.result.now) + 1 < 2 * count (part_in_front c.args.part.now Nil) = omega (arith, is) in
+    (search rules, omega (arith, is, c.requires, c.in_ok-push-in-If.ensures.len, c.in_ok-one-in-If.ensures.len))
+
+pub before_part-returns-in_ok-two-in-If-clause-len : goal.before_part-returns-in_ok-two-in-If-clause-len
+before_part-returns-in_ok-two-in-If-clause-len t c =
+    let is = ap count (as_if c.args.part.now _ _ _ _ c.in-If.is c.deref.ensures.value c.deref-in-If.ensures.value) in
+    omega (arith, is, c.in_ok-push-in-If.ensures.len, c.in_ok-one-in-If.ensures.len, c.in_ok-two-in-If.ensures.len)
+
+pub before_part-overflow_add-n : goal.before_part-overflow_add-n
+before_part-overflow_add-n t c = omega (arith, has_point c.args.part.now, c.requires, c.len-n.ensures)
+
+pub before_part-gather-end-requires : goal.before_part-gather-end-requires
+before_part-gather-end-requires t c =
+    omega (arith, ap count (as_while c.args.part.now _ _ c.in-While.is c.deref-in-While.ensures.value), c.requires, c.len-n.ensures)
+
+pub before_part-returns-in_ok-push_times-in-While-clause-len : goal.before_part-returns-in_ok-push_times-in-While-clause-len
+before_part-returns-in_ok-push_times-in-While-clause-len t c =
+    let is = ap count (as_while c.args.part.now _ _ c.in-While.is c.deref-in-While.ensures.value) in
+    omega (arith, is, c.gather-end.ensures.next, c.len-n.ensures, c.in_ok-push_times-in-While.ensures.len)
+
+pub before_part-returns-in_ok-push_times-in-While-clause-set : goal.before_part-returns-in_ok-push_times-in-While-clause-set
+before_part-returns-in_ok-push_times-in-While-clause-set t c =
+    let r = c.args.self.now in
+    let n = c.args.sets.now.len in
+    gathered_loop r n _ _ _ c.args.earlier c.union-here.result c.gather-end.result.0 (as_while c.args.part.now _ _ c.in-While.is c.deref-in-While.ensures.value)
+    (ap (λ m. m + 1) c.len-n.ensures)
+    (with_point r n c.len-n.result c.args.earlier c.at.result c.union-here.result c.len-n.ensures c.at.ensures c.union-here.ensures) c.gather-end.ensures.set

@@ -52,3 +52,16 @@ later_part-returns-in_ok-push_times-in-While-clause-sets t c =
     (as_while c.args.part.now _ _ c.in-While.is c.deref-in-While-2.ensures.value) refl times
     (with_point c.args.self.now n n c.args.behind c.at-in-While.result c.union-here.result refl c.at-in-While.ensures c.union-here.ensures)
     c.gather.ensures.set c.in_ok-push_times-in-While.ensures.items
+
+pub later_part-later-requires : goal.later_part-later-requires
+later_part-later-requires t c =
+    let is = ap count (as_if c.args.part.now _ _ _ _ c.in-If.is refl c.deref.ensures.value) in
+    let falls : 2 * count (skeleton_of c.deref.result.now) + 1 < 2 * count (part_in_front c.args.part.now Nil) = omega (arith, is) in
+    (search rules, (omega (arith, is, c.requires.low), omega (arith, c.requires.high)))
+
+pub later_part-later-requires-in-If : goal.later_part-later-requires-in-If
+later_part-later-requires-in-If t c =
+    let is = ap count (as_if c.args.part.now _ _ _ _ c.in-If.is c.deref-in-If.ensures.value c.deref.ensures.value) in
+    let two = c.in_ok-two-in-If.ensures.start in
+    let falls : 2 * count (skeleton_of c.deref-in-If.result.now) + 1 < 2 * count (part_in_front c.args.part.now Nil) = omega (arith, is) in
+    (search rules, (omega (arith, is, two, c.requires.low), omega (arith, two, c.requires.high)))
