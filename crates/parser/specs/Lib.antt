@@ -2,6 +2,7 @@ pub mod Reading
 pub mod Returning
 pub mod Bodies
 pub mod Declarations
+pub mod Rests
 -- what public clauses cite
 pub use Rattle.source.specs.Faults.{IsFaultAt}
 pub use Rattle.source.specs.Tokens.{Tok, seen}

@@ -2,9 +2,10 @@
 
 ghost use Rattle.std.specs.Prelude.{◌≡◌, map};
 ghost use Rattle.source.specs.Tokens.{seen};
-ghost use Rattle.syntax.specs.Views.{ident, type_of, pool_of, init_of, section_of, decl_of, tree_of};
+ghost use Rattle.syntax.specs.Views.{ident, type_of, decl_of, tree_of};
 ghost use Rattle.parser.specs.Reading.{Gives};
-ghost use Rattle.parser.specs.Declarations.{array_at, variable_at, global_at, pool_at, init_at, section_at, decl_at, decls_at, program_at};
+ghost use Rattle.parser.specs.Declarations.{array_at, variable_at, global_at, decl_at, decls_at, program_at};
+ghost use Rattle.parser.specs.Rests.{pool_decl, init_decl, section_decl};
 
 use crate::growth::push;
 use crate::member::{lock, structure};
@@ -79,27 +80,25 @@ fn global(alloc: Global, tokens: &[Token], room: u32) -> Result<(Decl, &[Token])
 
 /// A pool, behind its first word.
 #[tactic(auto, unfolding(crate::specs::Declarations::pool_at))]
-fn pool(alloc: Global, tokens: &[Token], room: u32) -> Result<(Pool, &[Token]), Stop>
-    ensures { Gives (λ x. (pool_of x.0, seen x.1.now)) result (pool_at room (seen tokens.now)) }
+fn pool(alloc: Global, tokens: &[Token], room: u32) -> Result<(Decl, &[Token]), Stop>
+    ensures { Gives (λ x. (decl_of x.0, seen x.1.now)) result (pool_decl room (seen tokens.now)) }
 {
     let (target, rest) = take_name(tokens)?;
     let (name, rest) = take_name(rest)?;
     let (length, rest) = index(rest, room)?;
     let (_, rest) = take_sign(rest, Sign::Semicolon)?;
-    Ok((
-        Pool {
-            name,
-            target,
-            length,
-        },
-        rest,
-    ))
+    let pool = Pool {
+        name,
+        target,
+        length,
+    };
+    Ok((Decl::Pool(pool), rest))
 }
 
 /// An opening value of a member's field, behind the word `init`, which stands at `start`.
 #[tactic(auto, unfolding(crate::specs::Declarations::init_at))]
-fn init(alloc: Global, start: Span, tokens: &[Token], room: u32) -> Result<(Init, &[Token]), Stop>
-    ensures { Gives (λ x. (init_of x.0, seen x.1.now)) result (init_at room start (seen tokens.now)) }
+fn init(alloc: Global, start: Span, tokens: &[Token], room: u32) -> Result<(Decl, &[Token]), Stop>
+    ensures { Gives (λ x. (decl_of x.0, seen x.1.now)) result (init_decl room start (seen tokens.now)) }
 {
     let (pool, rest) = take_name(tokens)?;
     let (index, rest) = index(rest, room)?;
@@ -108,36 +107,32 @@ fn init(alloc: Global, start: Span, tokens: &[Token], room: u32) -> Result<(Init
     let (_, rest) = take_sign(rest, Sign::Equals)?;
     let (value, rest) = constant(alloc, rest, room)?;
     let (_, rest) = take_sign(rest, Sign::Semicolon)?;
-    Ok((
-        Init {
-            start,
-            pool,
-            index,
-            field,
-            value,
-        },
-        rest,
-    ))
+    let init = Init {
+        start,
+        pool,
+        index,
+        field,
+        value,
+    };
+    Ok((Decl::Init(init), rest))
 }
 
 /// A section, behind its first word.
 #[tactic(auto, unfolding(crate::specs::Declarations::section_at))]
-fn section(alloc: Global, tokens: &[Token], room: u32) -> Result<(Section, &[Token]), Stop>
-    ensures { Gives (λ x. (section_of x.0, seen x.1.now)) result (section_at room (seen tokens.now)) }
+fn section(alloc: Global, tokens: &[Token], room: u32) -> Result<(Decl, &[Token]), Stop>
+    ensures { Gives (λ x. (decl_of x.0, seen x.1.now)) result (section_decl room (seen tokens.now)) }
 {
     let (name, rest) = take_name(tokens)?;
     let (params, rest) = params(alloc, rest, room)?;
     let (result, rest) = result_type(rest)?;
     let (body, rest) = block(alloc, rest, room)?;
-    Ok((
-        Section {
-            name,
-            params,
-            result,
-            body,
-        },
-        rest,
-    ))
+    let section = Section {
+        name,
+        params,
+        result,
+        body,
+    };
+    Ok((Decl::Atomic(section), rest))
 }
 
 #[tactic(auto, unfolding(crate::specs::Declarations::decl_at))]
@@ -157,18 +152,9 @@ fn decl(alloc: Global, tokens: &[Token], room: u32) -> Result<(Decl, &[Token]), 
             Ok((Decl::Struct(structure), rest))
         }
         Token::Word(_, Keyword::Global) => global(alloc, rest, room),
-        Token::Word(_, Keyword::Pool) => {
-            let (pool, rest) = pool(alloc, rest, room)?;
-            Ok((Decl::Pool(pool), rest))
-        }
-        Token::Word(span, Keyword::Init) => {
-            let (init, rest) = init(alloc, *span, rest, room)?;
-            Ok((Decl::Init(init), rest))
-        }
-        Token::Word(_, Keyword::Atomic) => {
-            let (section, rest) = section(alloc, rest, room)?;
-            Ok((Decl::Atomic(section), rest))
-        }
+        Token::Word(_, Keyword::Pool) => pool(alloc, rest, room),
+        Token::Word(span, Keyword::Init) => init(alloc, *span, rest, room),
+        Token::Word(_, Keyword::Atomic) => section(alloc, rest, room),
         Token::Word(_, Keyword::Thread) => {
             let (thread, rest) = thread(alloc, rest, room)?;
             Ok((Decl::Thread(thread), rest))

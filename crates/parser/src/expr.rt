@@ -120,7 +120,7 @@ pub fn place(
 
 /// An element, behind the name of what it is an element of.
 #[cycle(expr)]
-#[tactic(auto, using(crate::proofs::Rooms::inside_at_some), unfolding(crate::specs::Bodies::element_at))]
+#[tactic(auto, unfolding(crate::specs::Bodies::element_at))]
 fn element(
     alloc: Global,
     name: Name,
@@ -176,7 +176,6 @@ fn prim(alloc: Global, tokens: &[Token], room: u32) -> Result<(Expr, &[Token]), 
 
 /// An expression in parentheses, behind the opening one, which stands at `at`.
 #[cycle(expr)]
-#[tactic(auto, using(crate::proofs::Rooms::inside_at_some, crate::proofs::Rooms::parens_at_some))]
 fn parens(alloc: Global, at: Span, tokens: &[Token], room: u32) -> Result<(Expr, &[Token]), Stop>
     ensures { Gives (λ x. (expr_of x.0, seen x.1.now)) result (parens_at room (inside_at room) at (seen tokens.now)) }
 {
@@ -291,7 +290,7 @@ pub fn ended(alloc: Global, tokens: &[Token], room: u32) -> Result<(Expr, &[Toke
 }
 
 /// An expression in parentheses, which are no part of it.
-#[tactic(auto, using(crate::proofs::Rooms::inside_at_some), unfolding(crate::specs::Bodies::condition_at))]
+#[tactic(auto, unfolding(crate::specs::Bodies::condition_at))]
 pub fn condition(alloc: Global, tokens: &[Token], room: u32) -> Result<(Expr, &[Token]), Stop>
     ensures { Gives (λ x. (expr_of x.0, seen x.1.now)) result (condition_at room (seen tokens.now)) }
 {

@@ -92,7 +92,7 @@ fn members(alloc: Global, tokens: &[Token], room: u32) -> Result<(Vec<Member>, &
 }
 
 /// A struct, behind its first word.
-#[tactic(auto, using(crate::proofs::Rooms::members_in_some), unfolding(crate::specs::Declarations::struct_at))]
+#[tactic(auto, unfolding(crate::specs::Declarations::struct_at))]
 pub fn structure(alloc: Global, tokens: &[Token], room: u32) -> Result<(Struct, &[Token]), Stop>
     ensures { Gives (λ x. (struct_of x.0, seen x.1.now)) result (struct_at room (seen tokens.now)) }
 {

@@ -6,7 +6,7 @@ ghost use Rattle.source.specs.declared.token.Sign.TheVariants.{Colon, Dot, Equal
 ghost use Rattle.source.specs.Tokens.{word, mark};
 ghost use Rattle.source.specs.declared.token.Keyword.TheVariants.{ProtectedBy};
 ghost use Rattle.syntax.specs.Views.{ident, type_of, const_of, param_of, protection_of, option_of};
-ghost use Rattle.parser.specs.Reading.{Gives, type_at, index_at, const_at, name_at, listed_at, after_at, after_each, maybe_at};
+ghost use Rattle.parser.specs.Reading.{Gives, type_at, index_at, const_at, member_from, negative_from, name_at, listed_at, after_at, after_each, maybe_at};
 ghost use Rattle.parser.specs.Declarations.{param_at, params_at, protection_at};
 
 use crate::growth::push;
@@ -15,6 +15,7 @@ use crate::take::{
     after_sign, is_same, is_sign_next, is_word_next, named, small, take_int, take_name, take_open,
     take_sign, take_word,
 };
+use source::span::Span;
 use source::token::{Keyword, Number, Sign, Token};
 use std::alloc::Global;
 use syntax::tree::{Const, Name, Param, Protection, ValueType};
@@ -48,6 +49,22 @@ pub fn index(tokens: &[Token], room: u32) -> Result<(Number, &[Token]), Stop>
     Ok((number, rest))
 }
 
+/// A member of a pool, behind the pool's name.
+fn member(pool: Name, tokens: &[Token], room: u32) -> Result<(Const, &[Token]), Stop>
+    ensures { Gives (λ x. (const_of x.0, seen x.1.now)) result (member_from room (ident pool) (seen tokens.now)) }
+{
+    let (index, rest) = index(tokens, room)?;
+    Ok((Const::Member(pool, index), rest))
+}
+
+/// A negative number, behind its sign.
+fn negative(sign: Span, tokens: &[Token]) -> Result<(Const, &[Token]), Stop>
+    ensures { Gives (λ x. (const_of x.0, seen x.1.now)) result (negative_from sign (seen tokens.now)) }
+{
+    let (number, rest) = take_int(tokens)?;
+    Ok((Const::Negative(sign, number), rest))
+}
+
 /// A constant, in which `room` signs may be opened.
 #[tactic(auto, unfolding(crate::specs::Reading::const_at))]
 pub fn constant(alloc: Global, tokens: &[Token], room: u32) -> Result<(Const, &[Token]), Stop>
@@ -59,18 +76,13 @@ pub fn constant(alloc: Global, tokens: &[Token], room: u32) -> Result<(Const, &[
     match first {
         Token::Int(span, value) => Ok((Const::Int(small(*span, *value)), rest)),
         Token::Large(number) => Ok((Const::Int(**number), rest)),
-        Token::Name(start, text) => {
-            let pool = named(*start, text)?;
-            let (index, rest) = index(rest, room)?;
-            Ok((Const::Member(pool, index), rest))
-        }
+        Token::Name(start, text) => member(named(*start, text)?, rest, room),
         Token::Word(span, Keyword::Null) => Ok((Const::Null(*span), rest)),
         Token::Mark(span, mark) => {
             if !is_same(*mark, Sign::Minus) {
                 return Err(Stop::Unexpected(tokens.len()));
             }
-            let (number, rest) = take_int(rest)?;
-            Ok((Const::Negative(*span, number), rest))
+            negative(*span, rest)
         }
         _ => Err(Stop::Unexpected(tokens.len())),
     }

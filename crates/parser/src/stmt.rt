@@ -18,23 +18,26 @@ use syntax::tree::{Block, If, Local, Name, Stmt, While};
 
 /// What stands behind `let` or `var`, a word that stands at `start`.
 #[tactic(auto, unfolding(crate::specs::Bodies::local_at))]
-fn local(alloc: Global, start: Span, tokens: &[Token], room: u32) -> Result<(Local, &[Token]), Stop>
-    ensures { Gives (λ x. (local_of x.0, seen x.1.now)) result (local_at room start (seen tokens.now)) }
+fn local(
+    alloc: Global,
+    start: Span,
+    tokens: &[Token],
+    room: u32,
+) -> Result<(Box<Local>, &[Token]), Stop>
+    ensures { Gives (λ x. (local_of x.0.value, seen x.1.now)) result (local_at room start (seen tokens.now)) }
 {
     let (name, rest) = take_name(tokens)?;
     let (_, rest) = take_sign(rest, Sign::Colon)?;
     let (value_type, rest) = value_type(rest)?;
     let (_, rest) = take_sign(rest, Sign::Equals)?;
     let (value, rest) = ended(alloc, rest, room)?;
-    Ok((
-        Local {
-            start,
-            name,
-            value_type,
-            value,
-        },
-        rest,
-    ))
+    let local = Local {
+        start,
+        name,
+        value_type,
+        value,
+    };
+    Ok((Box::new(alloc, local)?, rest))
 }
 
 /// An assignment, behind its first name.
@@ -66,11 +69,11 @@ fn stmt(alloc: Global, tokens: &[Token], room: u32) -> Result<(Stmt, &[Token]), 
         Token::Name(start, text) => assignment(alloc, named(*start, text)?, rest, room),
         Token::Word(span, Keyword::Let) => {
             let (local, rest) = local(alloc, *span, rest, room)?;
-            Ok((Stmt::Let(Box::new(alloc, local)?), rest))
+            Ok((Stmt::Let(local), rest))
         }
         Token::Word(span, Keyword::Var) => {
             let (local, rest) = local(alloc, *span, rest, room)?;
-            Ok((Stmt::Var(Box::new(alloc, local)?), rest))
+            Ok((Stmt::Var(local), rest))
         }
         Token::Word(span, Keyword::If) => if_rest(alloc, *span, rest, room),
         Token::Word(span, Keyword::While) => while_rest(alloc, *span, rest, room),
@@ -102,7 +105,7 @@ fn stmts(alloc: Global, tokens: &[Token], room: u32) -> Result<(Vec<Stmt>, &[Tok
 
 /// Statements in braces, in which `room` signs may be opened, the first brace among them.
 #[cycle(stmt)]
-#[tactic(auto, using(crate::proofs::Rooms::stmts_in_some), unfolding(crate::specs::Bodies::braced_with))]
+#[tactic(auto, unfolding(crate::specs::Bodies::braced_with))]
 pub fn block(alloc: Global, tokens: &[Token], room: u32) -> Result<(Block, &[Token]), Stop>
     ensures { Gives (λ x. ((stmts_of x.0.stmts.items, x.0.close), seen x.1.now)) result (braced_at room (seen tokens.now)) }
 {

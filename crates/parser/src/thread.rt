@@ -17,7 +17,7 @@ use std::alloc::Global;
 use syntax::tree::{Call, Item, Thread};
 
 /// A call.
-#[tactic(auto, using(crate::proofs::Rooms::consts_in_some), unfolding(crate::specs::Declarations::call_at))]
+#[tactic(auto, unfolding(crate::specs::Declarations::call_at))]
 fn call(alloc: Global, tokens: &[Token], room: u32) -> Result<(Call, &[Token]), Stop>
     ensures { Gives (λ x. (call_of x.0, seen x.1.now)) result (call_at room (seen tokens.now)) }
 {
@@ -44,7 +44,7 @@ fn item(alloc: Global, tokens: &[Token], room: u32) -> Result<(Item, &[Token]), 
 
 /// A repetition.
 #[cycle(item)]
-#[tactic(auto, using(crate::proofs::Rooms::items_in_some), unfolding(crate::specs::Declarations::repeat_with))]
+#[tactic(auto, unfolding(crate::specs::Declarations::repeat_with))]
 fn repeat(alloc: Global, tokens: &[Token], room: u32) -> Result<(Item, &[Token]), Stop>
     ensures { Gives (λ x. (item_of x.0, seen x.1.now)) result (repeat_with room (items_in room) (seen tokens.now)) }
 {
@@ -71,7 +71,7 @@ fn items(alloc: Global, tokens: &[Token], room: u32) -> Result<(Vec<Item>, &[Tok
 }
 
 /// A thread, behind its first word.
-#[tactic(auto, using(crate::proofs::Rooms::items_in_some), unfolding(crate::specs::Declarations::thread_at))]
+#[tactic(auto, unfolding(crate::specs::Declarations::thread_at))]
 pub fn thread(alloc: Global, tokens: &[Token], room: u32) -> Result<(Thread, &[Token]), Stop>
     ensures { Gives (λ x. (thread_of x.0, seen x.1.now)) result (thread_at room (seen tokens.now)) }
 {

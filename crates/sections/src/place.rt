@@ -63,7 +63,11 @@ pub fn element_value(
 ) -> Judged<ResolvedExpr>
     ensures { IfOk result (λ r. option_map resolved_expr_of r ≡ element_by start indexed (option_map core_expr index)) }
 {
-    let (Some(indexed), Some(index)) = (indexed, index) else {
+    let Some(indexed) = indexed else {
+        drop(index);
+        return Ok(None);
+    };
+    let Some(index) = index else {
         return Ok(None);
     };
     let index = Box::new(alloc, index)?;
@@ -110,13 +114,15 @@ fn note_end(start: usize, w: &Walk, least: &mut Least)
 pub fn path_value(start: usize, m: Meaning, w: Walk) -> Option<ResolvedExpr>
     ensures { option_map resolved_expr_of result ≡ path_value start (meaning_of m.entry) (walk_of w) }
 {
-    match (m, w) {
-        (Meaning::Local(i, _), Walk::Reached(steps, t)) => Some(ResolvedExpr::Value(
-            Expr::Place(local_path(start, i, steps)),
-            Sort::Of(t),
-        )),
-        _ => None,
-    }
+    let Walk::Reached(steps, t) = w else {
+        return None;
+    };
+    let Meaning::Local(i, _) = m else {
+        drop(steps);
+        return None;
+    };
+    let place = Expr::Place(local_path(start, i, steps));
+    Some(ResolvedExpr::Value(place, Sort::Of(t)))
 }
 
 impl<'a> Checker<'a> {

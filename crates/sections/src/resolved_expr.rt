@@ -211,16 +211,17 @@ pub fn chained(
 ) -> Judged<ResolvedExpr>
     ensures { IfOk result (λ r. option_map resolved_expr_of r ≡ chained (option_map core_expr first) (option_map (λ os. core_operations os.items) rest)) }
 {
-    match (first, rest) {
-        (Some(first), Some(rest)) => Ok(Some(ResolvedExpr::Value(
-            Expr::Chain {
-                first: Box::new(alloc, first)?,
-                rest,
-            },
-            Sort::Of(ValueType::Integer),
-        ))),
-        _ => Ok(None),
-    }
+    let Some(first) = first else {
+        drop(rest);
+        return Ok(None);
+    };
+    let Some(rest) = rest else {
+        drop(first);
+        return Ok(None);
+    };
+    let first = Box::new(alloc, first)?;
+    let sort = Sort::Of(ValueType::Integer);
+    Ok(Some(ResolvedExpr::Value(Expr::Chain { first, rest }, sort)))
 }
 
 /// The operations and one more, if none is missing.
@@ -231,13 +232,16 @@ pub fn with_operation(
 ) -> Judged<Vec<Operation>>
     ensures { IfOk result (λ r. option_map (λ os. os.items) r ≡ pushed (option_map (λ os. os.items) operations) (operation_with operator operand)) }
 {
-    match (operations, operator, operand) {
-        (Some(mut operations), Some(operator), Some(operand)) => {
-            operations.push(Operation { operator, operand })?;
-            Ok(Some(operations))
-        }
-        _ => Ok(None),
-    }
+    let Some(mut operations) = operations else {
+        drop(operand);
+        return Ok(None);
+    };
+    let (Some(operator), Some(operand)) = (operator, operand) else {
+        drop(operations);
+        return Ok(None);
+    };
+    operations.push(Operation { operator, operand })?;
+    Ok(Some(operations))
 }
 
 /// One operand of a chain of conditions, with room for so many more.
@@ -294,10 +298,16 @@ pub fn tested(alloc: Global, level: Level, tests: Option<Tests>) -> Judged<Resol
 fn ordered(c: Comparison, left: Side, right: Side) -> Option<ResolvedExpr>
     ensures { option_map resolved_expr_of result ≡ ordered c (number_resolved (seen left)) (number_resolved (seen right)) }
 {
-    match (number_in(left.value), number_in(right.value)) {
-        (Some(a), Some(b)) => Some(ResolvedExpr::Truth(Condition::Compare(c, a, b))),
-        _ => None,
-    }
+    let right = number_in(right.value);
+    let Some(a) = number_in(left.value) else {
+        drop(right);
+        return None;
+    };
+    let Some(b) = right else {
+        drop(a);
+        return None;
+    };
+    Some(ResolvedExpr::Truth(Condition::Compare(c, a, b)))
 }
 
 /// Notes sides that `==` doesn't take.

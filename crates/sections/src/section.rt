@@ -51,13 +51,16 @@ fn with_local(
 ) -> Judged<Vec<tree::Local>>
     ensures { IfOk result (λ r. option_map (λ ls. core.core_locals ls.items) r ≡ pushed (option_map (λ ls. core.core_locals ls.items) locals) (option_map core.core_local local)) }
 {
-    match (locals, local) {
-        (Some(mut locals), Some(local)) => {
-            locals.push(local)?;
-            Ok(Some(locals))
-        }
-        _ => Ok(None),
-    }
+    let Some(mut locals) = locals else {
+        drop(local);
+        return Ok(None);
+    };
+    let Some(local) = local else {
+        drop(locals);
+        return Ok(None);
+    };
+    locals.push(local)?;
+    Ok(Some(locals))
 }
 
 /// The locals, if the types of all have no fault.
@@ -143,10 +146,15 @@ impl<'a> Checker<'a> {
     ) -> Judged<Section>
         ensures { IfOk result (λ r. option_map core_section r ≡ section_of (scope self.now).decls (section_view s.now) (option_map (λ ls. core.core_locals ls.items) locals) (option_map body_of body)) }
     {
-        match (locals, body) {
-            (Some(locals), Some(body)) => self.section_with(s, locals, body),
-            _ => Ok(None),
-        }
+        let Some(locals) = locals else {
+            drop(body);
+            return Ok(None);
+        };
+        let Some(body) = body else {
+            drop(locals);
+            return Ok(None);
+        };
+        self.section_with(s, locals, body)
     }
 }
 

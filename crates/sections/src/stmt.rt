@@ -122,20 +122,30 @@ fn give(start: usize, value: Option<Expr>) -> Option<Part>
 fn repeat(start: usize, condition: Option<Condition>, body: Option<Vec<Stmt>>) -> Option<Part>
     ensures { option_map part_of result ≡ repeats start (option_map core_condition condition) (option_map (λ b. core_stmts b.items) body) }
 {
-    match (condition, body) {
-        (Some(condition), Some(body)) => act(start, Action::While { condition, body }),
-        _ => None,
-    }
+    let Some(condition) = condition else {
+        drop(body);
+        return None;
+    };
+    let Some(body) = body else {
+        drop(condition);
+        return None;
+    };
+    act(start, Action::While { condition, body })
 }
 
 /// A choice without an `else`.
 fn choose(start: usize, condition: Option<Condition>, block: Option<Vec<Stmt>>) -> Option<Part>
     ensures { option_map part_of result ≡ chooses start (option_map core_condition condition) (option_map (λ b. core_stmts b.items) block) }
 {
-    match (condition, block) {
-        (Some(condition), Some(block)) => act(start, Action::If { condition, block }),
-        _ => None,
-    }
+    let Some(condition) = condition else {
+        drop(block);
+        return None;
+    };
+    let Some(block) = block else {
+        drop(condition);
+        return None;
+    };
+    act(start, Action::If { condition, block })
 }
 
 /// A choice with an `else`.
@@ -147,17 +157,27 @@ fn choose_between(
 ) -> Option<Part>
     ensures { option_map part_of result ≡ chooses_between start (option_map core_condition condition) (option_map (λ b. core_stmts b.items) block) (option_map (λ b. core_stmts b.items) otherwise) }
 {
-    match (condition, block, otherwise) {
-        (Some(condition), Some(block), Some(otherwise)) => act(
-            start,
-            Action::IfElse {
-                condition,
-                block,
-                otherwise,
-            },
-        ),
-        _ => None,
-    }
+    let Some(condition) = condition else {
+        drop(block);
+        drop(otherwise);
+        return None;
+    };
+    let Some(block) = block else {
+        drop(condition);
+        drop(otherwise);
+        return None;
+    };
+    let Some(otherwise) = otherwise else {
+        drop(condition);
+        drop(block);
+        return None;
+    };
+    let choice = Action::IfElse {
+        condition,
+        block,
+        otherwise,
+    };
+    act(start, choice)
 }
 
 /// The statements of a block, in which no `return` stands.

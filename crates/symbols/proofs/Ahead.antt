@@ -53,6 +53,10 @@ made_if : {A C : Type 0} (b : Bool) (made : List A → C) (u v : List A) (p q : 
 made_if true made u v p q hp hq = hp
 made_if false made u v p q hp hq = hq
 
+-- ahead of the first
+pub ahead_none : {A C : Type 0} (made : List A → C) (ahead : List C) (all : C) → ahead ≡ [] → all ≡ made [] → AreAhead made [] ahead all
+ahead_none made ahead all none is = λ i. ap (λ (cs : List _). or_else (slice_get cs i) all) none ∙ is ∙ ap made (sym (take_none [] refl i))
+
 pub ahead_more : {A C : Type 0} (made : List A → C) (xs : List A) (x : A) (ahead : List C) (all new : C) → length ahead ≡ length xs → new ≡ made (xs ++ x ∷ []) → AreAhead made xs ahead all → AreAhead made (xs ++ x ∷ []) (ahead ++ all ∷ []) new
 ahead_more made xs x ahead all new len is table = λ i.
     at_push ahead all new i

@@ -1,12 +1,13 @@
-use Rattle.std.proofs.Common.{sym, ap, ◌∙◌, arith}
+use Rattle.std.proofs.Common.{◌<◌, sym, ap, ◌∙◌, arith, rules}
 use Rattle.std.specs.Prelude.{not}
 use Rattle.std.proofs.lemmas.Bool.Decides.{nat_tests}
 use Rattle.std.proofs.lemmas.Result.{err_from_is_err_and}
 use Rattle.source.specs.Tokens.{seen}
 use Rattle.syntax.specs.Views.{expr_of}
-use Rattle.parser.specs.Bodies.{operand_at}
+use Rattle.parser.specs.Bodies.{operand_at, element_at, inside_at}
 use Rattle.parser.proofs.Chains.{links_before, link_goes_on, link_ends, link_stops, chain_made, pair_made, operand_alone, operand_stops, pair_done, chain_done, links_stop, none_found}
 use Rattle.parser.proofs.Shorter.{operand_shortens, one_turn_less}
+use Rattle.parser.proofs.Rooms.{inside_at_some, parens_at_some}
 use Rattle.parser.proofs.expr.+expr.Goals as goal
 
 pub links-returns-in_err-right : goal.links-returns-in_err-right
@@ -55,3 +56,30 @@ chain-returns t c =
     let k = c.args.level in
     rw (chain_made c.in_ok-new-2.field-0 k c.in_ok-left.left c.in_ok-links.links c.in_ok-new-2.ensures.ok)
     (chain_done (operand_at k c.args.room) (operand_shortens k c.args.room) k _ _ _ c.in_ok-left.ensures _ _ (sym c.in-Some.ensures) _ _ c.in_ok-right.ensures _ _ c.in_ok-links.ensures)
+
+pub element-returns : goal.element-returns
+unfolding element_at
+element-returns t c = rw (inside_at_some c.args.room c.in_ok-rest.ensures.room) (search rules)
+
+pub element-returns-in_err-index : goal.element-returns-in_err-index
+unfolding element_at
+element-returns-in_err-index t c = rw (inside_at_some c.args.room c.in_ok-rest.ensures.room) (search rules)
+
+pub element-returns-in_err-rest-2 : goal.element-returns-in_err-rest-2
+unfolding element_at
+element-returns-in_err-rest-2 t c = rw (inside_at_some c.args.room c.in_ok-rest.ensures.room) (search rules)
+
+pub parens-returns : goal.parens-returns
+parens-returns t c =
+    let some : 0 < c.args.room = omega arith in
+    rw (parens_at_some c.args.room (inside_at c.args.room) c.args.at (seen c.args.tokens.now) some, inside_at_some c.args.room some) (search rules)
+
+pub parens-returns-in_err-inner : goal.parens-returns-in_err-inner
+parens-returns-in_err-inner t c =
+    let some : 0 < c.args.room = omega arith in
+    rw (parens_at_some c.args.room (inside_at c.args.room) c.args.at (seen c.args.tokens.now) some, inside_at_some c.args.room some) (search rules)
+
+pub parens-returns-in_err-rest : goal.parens-returns-in_err-rest
+parens-returns-in_err-rest t c =
+    let some : 0 < c.args.room = omega arith in
+    rw (parens_at_some c.args.room (inside_at c.args.room) c.args.at (seen c.args.tokens.now) some, inside_at_some c.args.room some) (search rules)

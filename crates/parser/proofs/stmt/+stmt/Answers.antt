@@ -1,13 +1,14 @@
-use Rattle.std.proofs.Common.{sym, ◌∙◌}
+use Rattle.std.proofs.Common.{sym, ◌∙◌, rules}
 use Rattle.parser.proofs.Behind.{while_done, if_done}
 use Rattle.std.proofs.lemmas.Result.{err_from_is_err_and}
 use Rattle.syntax.specs.Rows.{stmt_of-made_While, stmt_of-made_If}
 use Rattle.source.specs.Tokens.{seen}
 use Rattle.syntax.specs.Views.{stmt_of}
-use Rattle.parser.specs.Bodies.{stmt_at}
+use Rattle.parser.specs.Bodies.{stmt_at, braced_with}
 use Rattle.parser.proofs.Loops.{fewer}
 use Rattle.parser.proofs.Shorter.{stmt_shortens}
 use Rattle.parser.proofs.Turns.{stmts_go_on, stmts_end, stmts_stop}
+use Rattle.parser.proofs.Rooms.{stmts_in_some}
 use Rattle.parser.proofs.stmt.+stmt.Goals as goal
 
 pub stmts-returns-in_err-next : goal.stmts-returns-in_err-next
@@ -34,3 +35,15 @@ pub if_rest-returns : goal.if_rest-returns
 if_rest-returns t c =
     rw (stmt_of-made_If c.in_ok-new.field-0 c.args.start c.in_ok-condition.condition c.in_ok-block.block c.in_ok-otherwise.otherwise c.in_ok-new.ensures.ok)
     (if_done c.args.room c.args.start (seen c.args.tokens.now) _ _ _ _ _ _ c.in_ok-condition.ensures c.in_ok-block.ensures c.in_ok-otherwise.ensures)
+
+pub block-returns : goal.block-returns
+unfolding braced_with
+block-returns t c = rw (stmts_in_some c.args.room c.in_ok-rest.ensures.room) (search rules)
+
+pub block-returns-in_err-stmts : goal.block-returns-in_err-stmts
+unfolding braced_with
+block-returns-in_err-stmts t c = rw (stmts_in_some c.args.room c.in_ok-rest.ensures.room) (search rules)
+
+pub block-returns-in_err-close : goal.block-returns-in_err-close
+unfolding braced_with
+block-returns-in_err-close t c = rw (stmts_in_some c.args.room c.in_ok-rest.ensures.room) (search rules)

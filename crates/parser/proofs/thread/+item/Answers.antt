@@ -1,13 +1,14 @@
-use Rattle.std.proofs.Common.{sym, ◌∙◌}
+use Rattle.std.proofs.Common.{sym, ◌∙◌, rules}
 use Rattle.parser.proofs.Behind.{repeat_done}
 use Rattle.syntax.specs.Rows.{item_of_Repeat}
 use Rattle.std.proofs.lemmas.Result.{err_from_is_err_and}
 use Rattle.source.specs.Tokens.{seen}
 use Rattle.syntax.specs.Views.{item_of}
-use Rattle.parser.specs.Declarations.{item_at}
+use Rattle.parser.specs.Declarations.{item_at, repeat_with}
 use Rattle.parser.proofs.Loops.{fewer}
 use Rattle.parser.proofs.Shorter.{item_shortens}
 use Rattle.parser.proofs.Turns.{items_go_on, items_end, items_stop}
+use Rattle.parser.proofs.Rooms.{items_in_some}
 use Rattle.parser.proofs.thread.+item.Goals as goal
 
 pub items-returns-in_err-next : goal.items-returns-in_err-next
@@ -27,3 +28,11 @@ items-returns t c = items_end c.args.room c.items.items.items (seen c.items.rest
 
 pub repeat-returns : goal.repeat-returns
 repeat-returns t c = rw (item_of_Repeat c.in_ok-count.count c.in_ok-items.items) (repeat_done c.args.room (seen c.args.tokens.now) _ _ _ _ _ _ _ _ _ _ c.in_ok-rest.ensures c.in_ok-count.ensures c.in_ok-rest-2.ensures.gives c.in_ok-rest-2.ensures.room c.in_ok-items.ensures c.in_ok-rest-3.ensures)
+
+pub repeat-returns-in_err-items : goal.repeat-returns-in_err-items
+unfolding repeat_with
+repeat-returns-in_err-items t c = rw (items_in_some c.args.room c.in_ok-rest-2.ensures.room) (search rules)
+
+pub repeat-returns-in_err-rest-3 : goal.repeat-returns-in_err-rest-3
+unfolding repeat_with
+repeat-returns-in_err-rest-3 t c = rw (items_in_some c.args.room c.in_ok-rest-2.ensures.room) (search rules)

@@ -1,5 +1,7 @@
-use Rattle.std.proofs.Common.{◌≡◌, ◌≤◌, ◌+◌, ◌∷◌, ◌++◌, [], arith, ap, sym, subst, ◌∙◌, List, take, drop}
+use Rattle.std.proofs.Common.{◌≡◌, ◌≤◌, ◌+◌, ◌∷◌, ◌++◌, [], arith, refl, ap, sym, subst, ◌∙◌, List, length, take, drop}
 use Rattle.std.proofs.lemmas.Grind.{common_steps}
+use Rattle.std.proofs.lemmas.List.{take_all, drop_all}
+use Rattle.syntax.specs.declared.tree.Decl as rust
 use Rattle.syntax.specs.Trees.{Decl}
 use Rattle.syntax.specs.Views.{decl_of}
 use Rattle.resolution.specs.Scopes.{alike, count, bears, declared}
@@ -9,7 +11,7 @@ use Rattle.symbols.specs.declared.declarations.Counts.{Counts}
 use Rattle.symbols.specs.Found.{IsTableOf, AreAhead}
 use Rattle.symbols.specs.Counted.{count_of, counted, counts_from, no_counts}
 use Rattle.symbols.specs.Views.{decls_of, name_seen}
-use Rattle.symbols.proofs.Ahead.{ahead_more, counts_append, counts_none}
+use Rattle.symbols.proofs.Ahead.{ahead_none, ahead_more, counts_append, counts_none}
 use Rattle.symbols.proofs.Declared.{take-here, taken_length, names_more, twice_is, count_le}
 use Rattle.symbols.specs.Steps.{step, noted_one}
 use Rattle.symbols.proofs.declarations.judge_names.Goals as goal
@@ -49,4 +51,25 @@ loop-place-preserved c =
           ∙ noted_one c.loop-place.least c.note_twice.new.least (twice ds (declared d)) (twice_faults (ds ++ d ∷ []) (decls_of (drop (i + 1) decls)))
           (c.note_twice.ensures ∙ ap (least_of c.loop-place.least) (twice_is (name_seen c.name_in-name.result) ds d c.loop-place.names c.name_in-name.ensures c.loop-place.invariant.table)))
           c.loop-place.invariant.faults;
+    }
+
+pub loop-place-init : goal.loop-place-init
+loop-place-init c = record {
+  table = c.new-names.ensures;
+  counts = ahead_none (counts_from no_counts) c.new-ahead.result.items c.none-counts.result c.new-ahead.ensures.items c.none-counts.ensures;
+  so_far = c.none-counts.ensures;
+  len = ap length c.new-ahead.ensures.items;
+  faults = refl;
+}
+
+pub returns : goal.returns
+returns c =
+    let decls = c.args.decls.now in
+    let i = c.loop-place.place in
+    let all : take i decls ≡ decls = take_all i decls c.loop-place-test.false in
+    let none : drop i decls ≡ [] = drop_all i decls c.loop-place-test.false in
+    record {
+      names = subst (λ (xs : List rust.Decl). IsTableOf bears (decls_of xs) c.loop-place.names) all c.loop-place.invariant.table;
+      counts = subst (λ (xs : List rust.Decl). AreAhead (counts_from no_counts) (decls_of xs) c.loop-place.ahead.items c.loop-place.counts) all c.loop-place.invariant.counts;
+      faults = ap (λ (xs : List rust.Decl). least_of c.loop-place.least (twice_faults (decls_of (take i decls)) (decls_of xs))) (sym none) ∙ c.loop-place.invariant.faults;
     }

@@ -1,4 +1,6 @@
-use Rattle.std.proofs.Common.{◌≡◌, ◌+◌, ◌∷◌, ◌++◌, [], ap, sym, subst, ◌∙◌, List, take, drop}
+use Rattle.std.proofs.Common.{◌≡◌, ◌+◌, ◌∷◌, ◌++◌, [], refl, ap, sym, subst, ◌∙◌, List, take, drop}
+use Rattle.std.proofs.lemmas.List.{take_all, drop_all}
+use Rattle.syntax.specs.declared.tree.Decl as rust
 use Rattle.syntax.specs.Trees.{Decl, struct}
 use Rattle.syntax.specs.Views.{decl_of, struct_of}
 use Rattle.source.specs.Mistakes.{least_of}
@@ -45,3 +47,20 @@ loop-d-preserved c =
                 c.loop-d.invariant.faults;
           }
     ]
+
+pub loop-d-init : goal.loop-d-init
+loop-d-init c = record {
+  structs = subst (λ (v : List Struct). AreStructures [] v) (sym c.new-structs.ensures.items) refl;
+  faults = refl;
+}
+
+pub returns : goal.returns
+returns c =
+    let decls = c.args.decls.now in
+    let i = c.loop-d.d-index in
+    let all : take i decls ≡ decls = take_all i decls c.loop-d-test.false in
+    let none : drop i decls ≡ [] = drop_all i decls c.loop-d-test.false in
+    record {
+      structs = subst (λ (xs : List rust.Decl). AreStructures (decls_of xs) c.loop-d.structs.items) all c.loop-d.invariant.structs;
+      faults = ap (λ (xs : List rust.Decl). least_of c.loop-d.least (struct_faults (decls_of xs))) (sym none) ∙ c.loop-d.invariant.faults;
+    }

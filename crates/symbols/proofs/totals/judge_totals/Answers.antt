@@ -1,5 +1,6 @@
-use Rattle.std.proofs.Common.{◌≡◌, ℕ, ◌+◌, ◌∷◌, ◌++◌, [], arith, ap, sym, subst, ◌∙◌, List, take, drop}
+use Rattle.std.proofs.Common.{◌≡◌, ℕ, ◌+◌, ◌∷◌, ◌++◌, [], arith, ap, sym, subst, ◌∙◌, List, length, take, drop}
 use Rattle.std.proofs.lemmas.Grind.{common_steps}
+use Rattle.std.proofs.lemmas.List.{take_all, drop_all}
 use Rattle.syntax.specs.declared.tree.Decl as rust
 use Rattle.syntax.specs.Trees.{Decl}
 use Rattle.syntax.specs.Views.{decl_of}
@@ -10,7 +11,7 @@ use Rattle.symbols.specs.declared.totals.Totals.{Totals}
 use Rattle.symbols.specs.Found.{AreAhead}
 use Rattle.symbols.specs.Capped.{both_totals, totals_of, faults_by}
 use Rattle.symbols.specs.Views.{decls_of}
-use Rattle.symbols.proofs.Ahead.{ahead_more}
+use Rattle.symbols.proofs.Ahead.{ahead_none, ahead_more}
 use Rattle.symbols.proofs.Declared.{take-here, taken_length, take_map}
 use Rattle.symbols.proofs.Sums.{totals_push, faults_are}
 use Rattle.symbols.specs.Steps.{step, noted_one}
@@ -45,4 +46,26 @@ loop-place-preserved c =
           (ap (λ (es : List Decl). least_of c.note_decl.new.least (total_faults all es (decls_of (drop (i + 1) items)))) more
           ∙ noted_one c.loop-place.least c.note_decl.new.least (count_faults all ds d) (total_faults all (ds ++ d ∷ []) (decls_of (drop (i + 1) items))) noted)
           c.loop-place.invariant.faults;
+    }
+
+pub loop-place-init : goal.loop-place-init
+loop-place-init c =
+    let all = decls_of c.args.decls.now in
+    record {
+      counts = ahead_none (totals_of all) c.new-ahead.result.items c.none-totals.result c.new-ahead.ensures.items c.none-totals.ensures;
+      so_far = c.none-totals.ensures;
+      len = ap length c.new-ahead.ensures.items;
+      faults = ap (λ (xs : List rust.Decl). least_of c.args.least.now (total_faults all [] (decls_of xs))) c.items-items.ensures;
+    }
+
+pub returns : goal.returns
+returns c =
+    let items = c.items-items.result.now in
+    let all = decls_of c.args.decls.now in
+    let i = c.loop-place.place in
+    let taken : take i items ≡ c.args.decls.now = take_all i items c.loop-place-test.false ∙ c.items-items.ensures in
+    let none : drop i items ≡ [] = drop_all i items c.loop-place-test.false in
+    record {
+      totals = subst (λ (xs : List rust.Decl). AreAhead (totals_of all) (decls_of xs) c.loop-place.ahead.items c.loop-place.totals) taken c.loop-place.invariant.counts;
+      faults = ap (λ (xs : List rust.Decl). least_of c.loop-place.least (total_faults all (decls_of (take i items)) (decls_of xs))) (sym none) ∙ c.loop-place.invariant.faults;
     }

@@ -1,5 +1,6 @@
-use Rattle.std.proofs.Common.{◌≡◌, ◌≤◌, ◌<◌, get_or, ℕ, ◌+◌, ◌∷◌, ◌++◌, [], arith, ap, sym, subst, ◌∙◌, List, take, drop, length, Option, Some, None, if◌then◌else◌}
+use Rattle.std.proofs.Common.{◌≡◌, ◌≤◌, ◌<◌, get_or, ℕ, ◌+◌, ◌∷◌, ◌++◌, [], arith, refl, ap, sym, subst, ◌∙◌, List, take, drop, length, Option, Some, None, if◌then◌else◌}
 use Rattle.std.proofs.lemmas.Grind.{common_steps}
+use Rattle.std.proofs.lemmas.List.{drop_all}
 use Rattle.std.specs.Prelude.{map, is_some, not}
 use Rattle.std.specs.Option.{option_or}
 use Rattle.std.specs.Str.{bytes_eq}
@@ -14,7 +15,7 @@ use Rattle.source.specs.declared.fault.Code.TheVariants.{DeclaredTwice}
 use Rattle.symbols.specs.declared.members.MemberCounts.{MemberCounts}
 use Rattle.symbols.specs.Found.{IsTableOf, AreAhead, found}
 use Rattle.symbols.specs.Counted.{member_count, member_counted, member_counts_from, no_members}
-use Rattle.symbols.proofs.Ahead.{ahead_more, member_counts_append, member_counts_none}
+use Rattle.symbols.proofs.Ahead.{ahead_none, ahead_more, member_counts_append, member_counts_none}
 use Rattle.symbols.proofs.Declared.{take-here, taken_length, count_le}
 use Rattle.symbols.proofs.Structs.{again_if, field_is, field_le}
 use Rattle.symbols.proofs.Tables.{table-more}
@@ -70,4 +71,25 @@ loop-place-preserved c =
           ∙ noted_one c.loop-place.least c.note_again.new.least (again (member_name m).span.start o) (member_twice_faults (ms ++ m ∷ []) rest)
           (c.note_again.ensures ∙ ap (λ (n : Ident). least_of c.loop-place.least (one_if (not b) DeclaredTwice n.span.start)) named ∙ ap (least_of c.loop-place.least) (again_if b o (member_name m).span.start first)))
           c.loop-place.invariant.faults;
+    }
+
+pub loop-place-init : goal.loop-place-init
+loop-place-init c = record {
+  table = c.new-names.ensures;
+  counts = ahead_none (member_counts_from no_members) c.new-ahead.result.items c.none-counts.result c.new-ahead.ensures.items c.none-counts.ensures;
+  so_far = c.none-counts.ensures;
+  len = ap length c.new-ahead.ensures.items;
+  width = omega arith;
+  few = omega arith;
+  faults = refl;
+}
+
+pub returns : goal.returns
+returns c =
+    let items = c.args.item.now.members.items in
+    let i = c.loop-place.place in
+    let end : length items ≤ i = subst (λ (xs : List rust.Member). length xs ≤ i) c.deref-m-items.ensures.value c.loop-place-test.false in
+    record {
+      item = refl;
+      faults = ap (λ (xs : List rust.Member). least_of c.loop-place.least (member_twice_faults (map member_of (take i items)) (map member_of xs))) (sym (drop_all i items end)) ∙ c.loop-place.invariant.faults;
     }
