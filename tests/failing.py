@@ -1,34 +1,51 @@
 #!/usr/bin/env python3
-"""Makes each growth of memory, each read and each write of `autolock` fail in turn, and looks at how the run ends.
+"""Makes each growth of memory, each read and each write of a built program fail in turn, and looks at how the run ends.
 
-    tests/failing.py [--program BIN] [--commands NAMES] [--turns N] [FILE..]
+    tests/failing.py [--program BIN] [--commands NAMES] [--turns N] [--every N] [FILE..]
+    tests/failing.py --cases [--program BIN] [--every N] [FILE..]
+    tests/failing.py --unit-tests [--program BIN] [--every N]
 
 --commands      which of check, listing, serial and simulate, joined by commas; by default all
 --turns N       of serial, by default 1000
-FILE..          programs; by default those of examples/. Where a file of steps lies beside one, simulate takes it,
-                else some steps of its threads in turn
+--every N       only every N-th growth
+--cases         the program `cases` over each of its files, and of its calls the growths alone
+--unit-tests    the program of the tests of `unit_tests`, and of its calls the growths alone
+FILE..          programs, by default those of examples/; of `cases` files of crates/cases/data, by default all.
+                Where a file of steps lies beside a program, simulate takes it, else some steps of its threads in turn
 
 The program is run once to count its calls, and then once for each of them with this call failing, which
 tests/failing/failing.c does where it is preloaded. A refused growth must end with status 4, the line
 `autolock: no memory` and nothing written; a failed read with status 3 and `autolock: cannot read NAME`; a failed write
 of a text with status 3 and `autolock: cannot write`, and of a line of standard error with the status that the whole run
-has. The last line is 'N runs, M failed'; exit status 1 where M is not 0.
+has. `cases` must end with 4, or find all as wanted; of the tests one at most may fail, by an error that says that memory
+was refused. The last line is 'N runs, M failed'; exit status 1 where M is not 0.
 """
 import argparse
 import multiprocessing
 import os
 import pathlib
+import re
 import subprocess
 import sys
 import tempfile
+import typing
 
 TOP = pathlib.Path(__file__).resolve().parent.parent
+
+
+class Subject(typing.NamedTuple):
+    """A program with its words, the names that a failed read may tell, and how a run with a failing call is judged."""
+
+    words: list
+    names: list
+    judges: dict
+    every: int
 
 
 def run(library, words, counts, **failing):
     environment = {"LD_PRELOAD": library, "FAIL_COUNTS": counts}
     environment.update({f"FAIL_{kind.upper()}": str(number) for kind, number in failing.items()})
-    return subprocess.run(words, env=environment, capture_output=True, stdin=subprocess.DEVNULL, timeout=60)
+    return subprocess.run(words, env=environment, capture_output=True, stdin=subprocess.DEVNULL, timeout=120)
 
 
 def wrong_growth(_whole, ended, _names):
@@ -51,49 +68,86 @@ def wrong_write(whole, ended, _names):
     return None if is_right else "a failing standard error changes the status"
 
 
-JUDGES = {"growth": wrong_growth, "read": wrong_read, "write": wrong_write}
+def wrong_cases(whole, ended, _names):
+    """What is wrong with a run of `cases` that was refused a growth, or nothing."""
+    is_right = ended.returncode == 4 if ended.returncode else ended.stdout == whole.stdout
+    return None if is_right and b", 0 not as wanted" in whole.stdout else "neither status 4 nor all as wanted"
+
+
+TEST = re.compile(rb"^test (\S+) \.\.\. (\w+)", re.M)
+REFUSED = re.compile(rb"FAILED\s+(?:error: )?(NoMemory|AllocError|AllocFailed|OutOfMemory|Memory)\b")
+
+
+def wrong_tests(whole, ended, _names):
+    """What is wrong with a run of the tests that was refused a growth, or nothing."""
+    tests = TEST.findall(ended.stdout + ended.stderr)
+    fails = [name for name, said in tests if said != b"ok"]
+    if len(tests) != len(TEST.findall(whole.stdout + whole.stderr)):
+        return "not every test was run"
+    if len(fails) > 1 or len(fails) != len(REFUSED.findall(ended.stdout + ended.stderr)):
+        return f"another answer of {b', '.join(fails).decode()}"
+    return None if (ended.returncode != 0) == bool(fails) else "a status that says otherwise"
 
 
 def fail_each(part):
-    library, words, names = part
+    library, subject = part
     with tempfile.NamedTemporaryFile() as counts:
-        whole = run(library, words, counts.name)
-        numbers = dict(zip(JUDGES, map(int, pathlib.Path(counts.name).read_text().split())))
+        whole = run(library, subject.words, counts.name)
+        told = map(int, pathlib.Path(counts.name).read_text().split())
+        numbers = dict(zip(("growth", "read", "write"), told))
         runs, failed = 0, []
-        for kind, judge in JUDGES.items():
-            for number in range(1, numbers[kind] + 1):
-                ended = run(library, words, counts.name, **{kind: number})
-                wrong = judge(whole, ended, names)
+        for kind, judge in subject.judges.items():
+            for number in range(1, numbers[kind] + 1, subject.every if kind == "growth" else 1):
+                ended = run(library, subject.words, counts.name, **{kind: number})
+                wrong = judge(whole, ended, subject.names)
                 runs += 1
                 if wrong:
-                    failed.append(f"{' '.join(words)}: {kind} {number}: {wrong}: {ended.returncode} {ended.stderr[:80]}")
+                    line = f"{' '.join(subject.words)}: {kind} {number}: {wrong}: {ended.returncode}"
+                    failed.append(f"{line} {(ended.stderr or ended.stdout)[-200:]}")
     return runs, failed
+
+
+def of_autolock(a, room):
+    program = str((a.program or TOP / "crates/autolock/out/autolock").resolve())
+    drawn = pathlib.Path(room, "steps")
+    drawn.write_text("0*7 0*40 0 0*300\n")
+    judges = {"growth": wrong_growth, "read": wrong_read, "write": wrong_write}
+    for command in a.commands.split(","):
+        for file in a.files or sorted((TOP / "examples").glob("*.al")):
+            steps = file.with_suffix(".steps")
+            names = [str(file)] + [str(steps if steps.exists() else drawn)] * (command == "simulate")
+            turns = ["--turns", str(a.turns)] * (command == "serial")
+            yield Subject([program, command, *turns, *names], names, judges, a.every)
+
+
+def of_cases(a):
+    program = str((a.program or TOP / "crates/cases/out/cases").resolve())
+    for file in a.files or sorted((TOP / "crates/cases/data").glob("*.txt")):
+        yield Subject([program, str(file)], [], {"growth": wrong_cases}, a.every)
+
+
+def of_unit_tests(a):
+    program = str((a.program or TOP / "crates/unit_tests/out/unit_tests_tests").resolve())
+    yield Subject([program], [], {"growth": wrong_tests}, a.every)
 
 
 def main():
     p = argparse.ArgumentParser(formatter_class=argparse.RawDescriptionHelpFormatter, description=__doc__)
-    p.add_argument("--program", default=str(TOP / "crates/autolock/out/autolock"))
+    p.add_argument("--program", type=pathlib.Path)
     p.add_argument("--commands", default="check,listing,serial,simulate")
     p.add_argument("--turns", type=int, default=1000)
+    p.add_argument("--every", type=int, default=1)
+    p.add_argument("--cases", action="store_true")
+    p.add_argument("--unit-tests", action="store_true")
     p.add_argument("files", nargs="*", type=pathlib.Path, metavar="FILE")
     a = p.parse_args()
-    program = str(pathlib.Path(a.program).resolve())
-    files = a.files or sorted((TOP / "examples").glob("*.al"))
     with tempfile.TemporaryDirectory() as room:
         library = f"{room}/failing.so"
         subprocess.run(["cc", "-O2", "-shared", "-fPIC", "-o", library, TOP / "tests/failing/failing.c", "-ldl"], check=True)
-        drawn = pathlib.Path(room, "steps")
-        drawn.write_text("0*7 0*40 0 0*300\n")
-        parts = []
-        for command in a.commands.split(","):
-            for file in files:
-                steps = file.with_suffix(".steps")
-                names = [str(file)] + [str(steps if steps.exists() else drawn)] * (command == "simulate")
-                turns = ["--turns", str(a.turns)] * (command == "serial")
-                parts.append((library, [program, command, *turns, *names], names))
+        subjects = of_cases(a) if a.cases else of_unit_tests(a) if a.unit_tests else of_autolock(a, room)
         runs, failed = 0, []
         with multiprocessing.Pool() as pool:
-            for count, wrong in pool.imap_unordered(fail_each, parts):
+            for count, wrong in pool.imap_unordered(fail_each, [(library, it) for it in subjects]):
                 runs += count
                 failed += wrong
     print(*failed[:40], sep="\n", end="\n" if failed else "")

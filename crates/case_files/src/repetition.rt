@@ -2,15 +2,20 @@
 
 use std::alloc::{AllocError, Global};
 
+/// Appends the letter, or the number for a `#`.
+fn push_letter(whole: &mut String, letter: char, number: u64) -> Result<(), AllocError> {
+    if letter == '#' {
+        write!(whole, "{number}")
+    } else {
+        whole.push(letter)
+    }
+}
+
 /// Appends so many copies of the piece, each `#` in it replaced by the number of the copy, from 0.
 fn push_copies(whole: &mut String, times: u64, piece: &str) -> Result<(), AllocError> {
     for number in 0..times {
         for letter in piece.chars() {
-            if letter == '#' {
-                write!(whole, "{number}")?;
-            } else {
-                whole.push(letter)?;
-            }
+            push_letter(whole, letter, number)?;
         }
     }
     Ok(())
@@ -31,21 +36,37 @@ fn push_inside(whole: &mut String, inside: &str) -> Result<bool, AllocError> {
     Ok(true)
 }
 
-/// The text with all that stands between `<<` and `>>` written out; nothing, where one of these can't be read.
-pub fn written_out(alloc: Global, text: &str) -> Result<Option<String>, AllocError> {
-    let mut whole = String::new(alloc);
+/// Appends what stands behind a `<<`, and tells whether that can be read.
+fn push_piece(whole: &mut String, piece: &str) -> Result<bool, AllocError> {
+    let Some((inside, behind)) = piece.split_once(">>") else {
+        return Ok(false);
+    };
+    if !push_inside(whole, inside)? {
+        return Ok(false);
+    }
+    whole.push_str(behind)?;
+    Ok(true)
+}
+
+/// Appends the text with all that stands between `<<` and `>>` written out, and tells whether all of it can be read.
+fn push_written_out(whole: &mut String, text: &str) -> Result<bool, AllocError> {
     let mut pieces = text.split("<<");
     if let Some(first) = pieces.next() {
         whole.push_str(first)?;
     }
     for piece in pieces {
-        let Some((inside, behind)) = piece.split_once(">>") else {
-            return Ok(None);
-        };
-        if !push_inside(&mut whole, inside)? {
-            return Ok(None);
+        if !push_piece(whole, piece)? {
+            return Ok(false);
         }
-        whole.push_str(behind)?;
+    }
+    Ok(true)
+}
+
+/// The text with all that stands between `<<` and `>>` written out; nothing, where one of these can't be read.
+pub fn written_out(alloc: Global, text: &str) -> Result<Option<String>, AllocError> {
+    let mut whole = String::new(alloc);
+    if !push_written_out(&mut whole, text)? {
+        return Ok(None);
     }
     Ok(Some(whole))
 }

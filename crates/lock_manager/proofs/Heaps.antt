@@ -1,5 +1,5 @@
 -- Values of cells.
-use Rattle.std.proofs.Common.{◌≡◌, ◌≢◌, ℕ, zero, suc, ◌+◌, ◌-◌, ◌<◌, ◌≤◌, List, [], ◌∷◌, ◌++◌, length, take, drop, get_or, set, Option, Some, None, ◌⊎◌, refl, sym, ap, ◌∙◌, subst, arith, inl, inr}
+use Rattle.std.proofs.Common.{◌≡◌, ◌≢◌, ℕ, zero, suc, ◌+◌, ◌-◌, ◌<◌, ◌≤◌, List, [], ◌∷◌, ◌++◌, length, take, get_or, Option, Some, None, ◌⊎◌, refl, sym, ap, ◌∙◌, subst, arith, inl, inr}
 use Rattle.std.specs.Prelude.{slice_get, nat_eq, if◌then◌else◌}
 use Rattle.std.specs.List.{All, Contains}
 use Rattle.std.proofs.Math.ListN.{length-set}
@@ -85,18 +85,6 @@ first_found (w ∷ ws) (suc k) cell d lt e same = elim (eqb_tells w.0 cell) [
   | inr h ↦ first_is_not w.0 cell w.1 (value_at ws cell) h.1
       ∙ first_found ws k cell d (omega (arith, lt)) (sym (first_is_not w.0 cell w.1 (value_at (take k ws) cell) h.1) ∙ e) same
 ]
-
-drop_suc : (heap : List Value) (ws : List (ℕ × Value)) (k : ℕ) (d : ℕ × Value) → k < length ws →
-    overwritten heap (drop k ws) ≡ set (overwritten heap (drop (suc k) ws)) (get_or ws k d).0 (get_or ws k d).1
-drop_suc heap [] k d lt = absurd (omega (arith, lt))
-drop_suc heap (w ∷ ws) zero d lt = refl
-drop_suc heap (w ∷ ws) (suc k) d lt = drop_suc heap ws k d (omega (arith, lt))
-
-pub drop_write : (heap : List Value) (ws : List (ℕ × Value)) (k n : ℕ) (d : ℕ × Value) → k < length ws → n ≡ k + 1 →
-    overwritten heap (drop k ws) ≡ set (overwritten heap (drop n ws)) (get_or ws k d).0 (get_or ws k d).1
-drop_write heap ws k n d lt e =
-    let sum : suc k ≡ n = omega (arith, e) in
-    subst (λ (j : ℕ). overwritten heap (drop k ws) ≡ set (overwritten heap (drop j ws)) (get_or ws k d).0 (get_or ws k d).1) sum (drop_suc heap ws k d lt)
 
 pub length-overwritten : (heap : List Value) (ws : List (ℕ × Value)) → length (overwritten heap ws) ≡ length heap
 length-overwritten heap [] = refl

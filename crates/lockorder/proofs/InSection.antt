@@ -1,10 +1,10 @@
 -- Sets of paths and of classes, path by path and point by point.
-use Rattle.std.proofs.Common.{◌≡◌, ℕ, ◌+◌, ◌<◌, Bool, true, false, ◌||◌, List, length, get_or, Option, Some, None, ◌⊎◌, inl, inr, refl, sym, ap, ◌∙◌, subst, arith}
+use Rattle.std.proofs.Common.{◌≡◌, ℕ, ◌+◌, ◌<◌, Bool, true, false, ◌||◌, List, length, get_or, Some, ◌⊎◌, inl, inr, refl, sym, ap, ◌∙◌, subst, arith}
 use Rattle.std.specs.Prelude.{◌==◌}
 use Rattle.std.specs.Bool.{Decides}
 use Rattle.std.specs.Int.{bit_at}
 use Rattle.std.proofs.lemmas.Bool.{or_cases, or_left, or_right, both_ways, cases_lt, eqb-true, eq-eqb}
-use Rattle.std.proofs.lemmas.Option.{slice_get_read, none-some}
+use Rattle.std.proofs.lemmas.Option.{slice_get_read}
 use Rattle.std.proofs.lemmas.List.{get_or_past, get_or_read}
 use Rattle.std.proofs.lemmas.Nat.Bits.{bit_at-zero}
 use Rattle.locks.specs.declared.path_set.PathSet.{PathSet}
@@ -26,9 +26,6 @@ module _ (P : ℕ → Type 0) (n : ℕ) where
 
   pub below_cases : Below P (n + 1) → Below P n ⊎ P n
   below_cases h = elim (cases_lt h.0 n) [ inl less ↦ inl (h.0, less, h.2) | inr ge ↦ let at : h.0 ≡ n = omega (arith, h.1) in inr (subst P at h.2) ]
-
-pub below_none : (P : ℕ → Type 0) → Below P 0 → ⊥
-below_none P h = omega (arith, h.1)
 
 -- ---- a test that is joined with more
 
@@ -128,6 +125,3 @@ same_bits s t i e h = let same : has s i ≡ has t i = ap (λ n. bit_at n i == 1
 -- the next point, and those before it
 pub none_next : (P : ℕ → Type 0) (n : ℕ) → ((u : ℕ) → u < n → P u → ⊥) → (P n → ⊥) → (u : ℕ) → u < n + 1 → P u → ⊥
 none_next P n none here u lt p = elim (cases_lt u n) [ inl less ↦ none u less p | inr ge ↦ let at : u ≡ n = omega arith in here (subst P at p) ]
-
-pub none_at_all : {X : Type 0} (o : Option X) (x : X) → o ≡ Some x → o ≡ None → ⊥
-none_at_all o x e f = none-some x (sym f ∙ e)

@@ -31,15 +31,6 @@ pub record IsTurn (pairs : List (ℕ × ℕ)) (target : ℕ) (old found : List B
 pub pair_read : (pairs : List (ℕ × ℕ)) (i : ℕ) (d : ℕ × ℕ) → i < length pairs → get_or pairs i ((get_or pairs i d).0, (get_or pairs i d).1) ≡ ((get_or pairs i d).0, (get_or pairs i d).1)
 pair_read pairs i d lt = get_or_default pairs i ((get_or pairs i d).0, (get_or pairs i d).1) d lt
 
-pub turn_starts : (pairs : List (ℕ × ℕ)) (target : ℕ) (old : List Bool) (from : ℕ) → length pairs ≤ from → AreBefore pairs target old → IsTurn pairs target old old false from
-turn_starts pairs target old from le sound = record {
-  sound = sound;
-  long = refl;
-  further = λ e. absurd cc;
-  all = λ e k p q lo hi. absurd (omega arith);
-  no_more = omega arith;
-}
-
 module _ (pairs : List (ℕ × ℕ)) (target : ℕ) (old found : List Bool) (grew : Bool) (i : ℕ) (turn : IsTurn pairs target old found grew (i + 1)) (p q : ℕ) (lt : i < length pairs)
     (is : get_or pairs i (p, q) ≡ (p, q)) where
   there : Contains pairs (p, q)

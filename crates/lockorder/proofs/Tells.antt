@@ -1,5 +1,5 @@
 -- What is told of a cycle's edges, section after section.
-use Rattle.std.proofs.Common.{◌≡◌, ℕ, zero, suc, ◌+◌, ◌≤◌, ◌<◌, true, false, List, [], ◌∷◌, map, length, get_or, set, Option, Some, None, inl, inr, refl, sym, ap, ◌∙◌, subst, arith}
+use Rattle.std.proofs.Common.{◌≡◌, ℕ, zero, suc, ◌+◌, ◌≤◌, ◌<◌, true, false, List, [], ◌∷◌, map, length, get_or, set, replicate, Option, Some, None, inl, inr, refl, sym, ap, ◌∙◌, subst, arith}
 use Rattle.std.specs.Prelude.{◌≢◌, slice_get, slice_index, IsSome}
 use Rattle.std.specs.Option.{is_some}
 use Rattle.std.proofs.Math.ListN.{length-set}
@@ -90,6 +90,11 @@ module _ (program : Typed) (k : ℕ) (x : Points) (makes : (c d used bound : ℕ
     long = long ∙ t.long;
     each = λ i lt. told_more (slice_index cycle i) (follower cycle i) (told_at old i) (told_at new i) (t.each i lt) (m i lt);
   }
+
+pub none_told : (n i : ℕ) → told_at (replicate n None) i ≡ None
+none_told zero i = refl
+none_told (suc n) zero = refl
+none_told (suc n) (suc i) = none_told n i
 
 pub none_are_told : (program : Typed) (cycle : List ℕ) (told : List (Option written.Edge)) → length told ≡ length cycle → ((i : ℕ) → told_at told i ≡ None) → AreTold program 0 cycle told
 none_are_told program cycle told long none = record {

@@ -19,10 +19,7 @@ pub fn points_before(
     ensures points { IfOk result (λ found. length found.items ≡ points) }
     ensures found { IfOk result (λ found. (p : ℕ) → Decides (is_found found.items p) (ComesBefore pairs.now p target)) }
 {
-    let mut found = Vec::with_capacity(alloc, points)?;
-    for _point in 0..points {
-        found.push(false)?;
-    }
+    let mut found = vec![in alloc; false; points]?;
     while spread(pairs, target, &mut found) {}
     Ok(found)
 }

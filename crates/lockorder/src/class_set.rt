@@ -4,7 +4,7 @@ ghost use Rattle.std.specs.Prelude.{◌≡◌, ◌<◌, ◌==◌, ◌||◌, fals
 ghost use Rattle.lockorder.specs.Tables.{has_class};
 
 /// Some of a program's lock classes, of which there are at most 128.
-#[derive(Clone, Copy, PartialEq, Eq, Debug)]
+#[derive(Clone, Copy)]
 pub struct ClassSet {
     /// Bit c stands for class c.
     pub bits: u128,

@@ -43,10 +43,7 @@ impl Reached {
         ensures target { IfOk result (λ r. r.target ≡ target) }
         ensures reached { IfOk result (AreReached table.now.before.items) }
     {
-        let mut distances = Vec::with_capacity(alloc, table.before.len())?;
-        for _class in 0..table.before.len() {
-            distances.push(None)?;
-        }
+        let mut distances = vec![in alloc; None; table.before.len()]?;
         distances[target] = Some(0);
         let mut classes = Vec::new(alloc);
         classes.push(target)?;

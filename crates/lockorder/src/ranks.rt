@@ -6,7 +6,7 @@ use source::memory::NoMemory;
 pub type Ranks = Vec<u32>;
 
 /// An edge of a cycle: from a class to that of the next edge, or from the last to the first; and what makes it.
-#[derive(Clone, Copy, PartialEq, Eq, Debug)]
+#[derive(Clone, Copy)]
 pub struct Edge {
     /// The class, an index into [`core_lang::typed::Typed::classes`].
     pub class: usize,

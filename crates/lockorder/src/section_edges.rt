@@ -17,7 +17,7 @@ use source::memory::NoMemory;
 use std::alloc::Global;
 
 /// The use and the binding by which a section makes an edge.
-#[derive(Clone, Copy, PartialEq, Eq, Debug)]
+#[derive(Clone, Copy)]
 pub struct Made {
     /// The point at which a lock of the first class is used.
     pub used: usize,

@@ -23,10 +23,7 @@ impl Table {
         ensures classes { IfOk result (λ table. length table.before.items ≡ classes) }
         ensures edges { IfOk result (λ table. (c d : ℕ) → has_edge table.before.items c d ≡ false) }
     {
-        let mut before = Vec::with_capacity(alloc, classes)?;
-        for _class in 0..classes {
-            before.push(ClassSet::empty())?;
-        }
+        let before = vec![in alloc; ClassSet::empty(); classes]?;
         Ok(Table { before })
     }
 

@@ -26,10 +26,7 @@ impl<'a> Telling<'a> {
         ensures long { IfOk result (λ t. length t.told.items ≡ length cycle.now) }
         ensures none { IfOk result (λ t. (i : ℕ) → told_at t.told.items i ≡ None) }
     {
-        let mut told = Vec::with_capacity(alloc, cycle.len())?;
-        for _class in 0..cycle.len() {
-            told.push(None)?;
-        }
+        let told = vec![in alloc; None; cycle.len()]?;
         Ok(Telling { cycle, told })
     }
 

@@ -10,6 +10,8 @@ use Rattle.core_lang.specs.declared.tree.Stmt.{Stmt}
 use Rattle.core_lang.specs.declared.tree.Action.{Action, Bind, If, IfElse, While}
 use Rattle.core_lang.specs.declared.tree.Section.{Section}
 use Rattle.core_lang.specs.Scopes.{scope_after, scope_after_all, numbers_from}
+use Rattle.flow.specs.declared.points.PointRef.{PointRef}
+use Rattle.flow.specs.PointList.{point_at}
 use Rattle.flow.specs.Points.{inner_scopes, scopes_of_all, scope_of_return, scopes}
 use Rattle.flow.specs.Theory.TreeScopes.{names}
 use Rattle.flow.specs.Theory.Views.{inner_scopes-If, inner_scopes-IfElse, inner_scopes-While}
@@ -19,7 +21,7 @@ use Rattle.locks.specs.declared.path.LockPath as written
 use Rattle.locks.specs.declared.path_set.PathSet.{PathSet}
 use Rattle.locks.specs.Sets.{has}
 use Rattle.points.specs.Passes.{column}
-use Rattle.points.specs.Scoping.{is_at, is_among, test_at, test_root, AreThose, in_scope, IsAfter, AreScopes, of_block, of_inner, behind_block, behind_action}
+use Rattle.points.specs.Scoping.{is_at, is_among, test_at, test_root, AreThose, in_scope, binds, IsAfter, AreScopes, of_block, of_inner, behind_block, behind_action}
 use Rattle.points.proofs.Sets.{column-push}
 
 or_comm : (x y : Bool) → (x || y) ≡ (y || x)
@@ -29,10 +31,6 @@ or_comm false true = refl
 or_comm false false = refl
 
 -- ---- parameters
-
-from_lower : (k f n : ℕ) → k < f → names k (numbers_from f n) ≡ false
-from_lower k f zero h = refl
-from_lower k f (suc n) h = ap (λ b. b || names k (numbers_from (f + 1) n)) (ne_eqb f k (λ e. omega (arith, e, h))) ∙ from_lower k (f + 1) n (omega arith)
 
 from_within : (k f n : ℕ) → f ≤ k → k < f + n → names k (numbers_from f n) ≡ true
 from_within k f zero h lt = absurd (omega arith)
@@ -80,6 +78,16 @@ module _ (r : List written.LockPath) where
   behind_bind action local value scope here set is at joined locals was i =
       joined i ∙ ap (λ b. b || has here i) (was i) ∙ ap (λ b. test_root r (is_among locals) i || b) (at i)
       ∙ with_root local locals (slice_get r i) ∙ ap (λ x. test_root r (is_among (behind_action x locals)) i) (sym is)
+
+  -- the roots that one point more binds
+  pub bound_more : (ps : List PointRef) (k : ℕ) (p : PointRef) (sets more_sets : List PathSet) (set : PathSet) → p ≡ get_or ps k p → k < length ps →
+      ((i : ℕ) → column i sets ≡ map (binds r i) (map point_at (take k ps))) → ((i : ℕ) → has set i ≡ binds r i (point_at p)) → more_sets ≡ sets ++ set ∷ [] → (i : ℕ) →
+      column i more_sets ≡ map (binds r i) (map point_at (take (k + 1) ps))
+  bound_more ps k p sets more_sets set is lt was here push i =
+      let all : take (k + 1) ps ≡ take k ps ++ p ∷ [] = take_more ps k p lt ∙ ap (λ x. take k ps ++ x ∷ []) (sym is) in
+      column-push i sets more_sets set push ∙ ap (λ l. l ++ has set i ∷ []) (was i) ∙ ap (λ b. map (binds r i) (map point_at (take k ps)) ++ b ∷ []) (here i)
+      ∙ sym (ap (λ l. map (binds r i) (map point_at l)) all ∙ ap (map (binds r i)) (map-append point_at (take k ps) (p ∷ []))
+      ∙ map-append (binds r i) (map point_at (take k ps)) (point_at p ∷ []))
 
   -- ---- the scopes of blocks
 

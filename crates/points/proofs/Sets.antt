@@ -1,6 +1,6 @@
 -- Sets of paths for points, seen one path at a time.
-use Rattle.std.specs.Prelude.{◌≡◌, ℕ, zero, suc, ◌+◌, ◌<◌, ◌≤◌, ◌==◌, ◌||◌, ◌&&◌, nat_lt, Bool, true, false, List, [], ◌∷◌, ◌++◌, replicate, reverse, slice_get, Some}
-use Rattle.std.proofs.Common.{refl, sym, ap, ◌∙◌, arith, length, get_or, inl, inr}
+use Rattle.std.specs.Prelude.{◌≡◌, ℕ, zero, suc, ◌+◌, ◌≤◌, ◌==◌, ◌||◌, ◌&&◌, nat_lt, Bool, true, false, List, [], ◌∷◌, ◌++◌, replicate, reverse, slice_get, Some}
+use Rattle.std.proofs.Common.{refl, sym, ap, ◌∙◌, arith, length, inl, inr}
 use Rattle.std.proofs.lemmas.List.{map-append, get_or-map, get_or_past, length-map, reverse-append}
 use Rattle.std.proofs.lemmas.Bool.{cases_lt, cases_eq, lt-ltb, le-ltb, eq-eqb, ne_eqb}
 use Rattle.std.proofs.lemmas.Option.{get_or_from_slice_get, slice_get_within}
@@ -28,9 +28,6 @@ column-reverse i (s ∷ ss) =
     ∙ ap (λ l. l ++ has s i ∷ []) (column-reverse i ss) ∙ sym (reverse-append (has s i ∷ []) (column i ss))
 
 -- the set at a place
-pub marks_read : (i : ℕ) (sets : List PathSet) (p : ℕ) (set : PathSet) → p < length sets → set ≡ get_or sets p set → has set i ≡ marks i sets p
-marks_read i sets p set lt e = ap (λ s. has s i) e ∙ sym (get_or-map (λ (s : PathSet). has s i) sets p set false lt)
-
 pub marks_at : (i : ℕ) (sets : List PathSet) (p : ℕ) (set : PathSet) → slice_get sets p ≡ Some set → marks i sets p ≡ has set i
 marks_at i sets p set e =
     get_or-map (λ (s : PathSet). has s i) sets p set false (slice_get_within sets p set e)
@@ -67,9 +64,6 @@ same_below j n other =
     ]
 
 module _ (test : ℕ → Bool) where
-  pub up_to_none : (set : PathSet) → ((j : ℕ) → has set j ≡ false) → IsUpTo test 0 set
-  up_to_none set none j = none j ∙ ap (λ b. b && test j) (sym (le-ltb j 0 (omega arith)))
-
   pub up_to_yes : (n : ℕ) (set more : PathSet) → IsUpTo test n set → ((j : ℕ) → has more j ≡ (has set j || j == n)) → test n ≡ true → IsUpTo test (n + 1) more
   up_to_yes n set more was added passes j =
       elim (cases_eq j n) [

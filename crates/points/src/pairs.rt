@@ -64,6 +64,19 @@ fn push_pair(
     Ok(())
 }
 
+// The pairs of a point that may be followed by either of two.
+fn push_both(
+    point: usize,
+    first: Option<usize>,
+    second: Option<usize>,
+    list: &mut Vec<(usize, usize)>,
+) -> Result<(), NoMemory>
+    ensures { OnOk result (list.new.items ≡ (list.old.items ++ pair_with point first) ++ pair_with point second) }
+{
+    push_pair(point, first, list)?;
+    push_pair(point, second, list)
+}
+
 // The pairs of these parts, which are numbered from `n` and followed by the point `next`, if any.
 #[cycle(pairs)]
 fn push_pairs(
@@ -101,14 +114,14 @@ fn push_part(
         Part::Point => push_pair(n, next, list),
         Part::If(block, otherwise) => {
             let middle = inner + points_in(block);
-            push_pair(n, first_point(block, inner, next), list)?;
-            push_pair(n, first_point(otherwise, middle, next), list)?;
+            let first = first_point(block, inner, next);
+            let second = first_point(otherwise, middle, next);
+            push_both(n, first, second, list)?;
             push_pairs(block, inner, next, list)?;
             push_pairs(otherwise, middle, next, list)
         }
         Part::While(body) => {
-            push_pair(n, first_point(body, inner, Some(n)), list)?;
-            push_pair(n, next, list)?;
+            push_both(n, first_point(body, inner, Some(n)), next, list)?;
             push_pairs(body, inner, Some(n), list)
         }
     }

@@ -22,9 +22,9 @@ use Rattle.resolution.specs.declared.wanted.Want.TheVariants.{Condition}
 use Rattle.sections.specs.declared.stmt.Body as the_body
 use Rattle.sections.specs.Targets.{Row, row_of, body_of, pushed_to, body_pushed}
 use Rattle.resolution.specs.Limits.{PARAMETER_LIMIT}
-use Rattle.resolution.specs.Scopes.{Local, Scope, hidden_from, bound, entered, outside, type_of, left}
+use Rattle.resolution.specs.Scopes.{Scope, hidden_from, bound, entered, outside, type_of, left}
 use Rattle.resolution.specs.Expressions.{typed, test_resolved}
-use Rattle.resolution.specs.Statements.{Part, does, gives, Body, given_back, preceded, typed_body, typed_stmt, typed_if, after, after_else, after_all, block_of}
+use Rattle.resolution.specs.Statements.{Part, does, gives, Body, given_back, preceded, typed_body, typed_stmt, typed_if, after, after_else, after_all, block_of, repeats}
 use Rattle.resolution.specs.Resolution.{result_of, ahead_of, entry, core_locals, section_of, typed_section}
 use Rattle.source.specs.Mistakes.{least_of}
 use Rattle.resolution.specs.FaultLists.{one_if, local_faults, type_faults, param_faults, stmt_faults, stmts_faults, wanted_faults, else_faults}
@@ -213,6 +213,14 @@ while_seen s b x y z is hx hy hz = rw (hx, hy, hz) (while_is s b is)
 pub if_seen : (s : tree_stmt.Stmt) (b : Box tree_if.If Global) (x y z w : tree_if.If) → s ≡ If b → x ≡ b.value → y ≡ b.value → z ≡ b.value → w ≡ b.value
     → if_then (out-If z).start (expr_of (out-If x).condition) (stmts_of (out-If y).block.stmts.items) (out-If y).block.close (else_of (out-If w).otherwise) ≡ stmt_of s
 if_seen s b x y z w is hx hy hz hw = rw (hx, hy, hz, hw) (if_is s b is)
+
+module _ (sc : Scope) (at close : Span) (test : Expr) (body : Stmts) where
+  pub while_value : (p : Option Part) (cond : Option core.Condition) (block : Option core.Stmts) → p ≡ repeats at.start cond block → cond ≡ test_resolved (typed sc test) → block ≡ block_of (typed_body sc body) →
+      p ≡ typed_stmt sc (while at test body close)
+  while_value p cond block hp hc hb = hp ∙ ap (λ c. repeats at.start c block) hc ∙ ap (repeats at.start (test_resolved (typed sc test))) hb
+
+  pub while_faults : (f g h : Option Mistake) → g ≡ least_of f (wanted_faults sc Condition test) → h ≡ least_of g (stmts_faults sc body) → h ≡ least_of f (stmt_faults sc (while at test body close))
+  while_faults f g h hg hh = hh ∙ noted_one f g (wanted_faults sc Condition test) (stmts_faults sc body) hg
 
 module _ (sc sc2 : Scope) (at close : Span) (test : Expr) (body : Stmts) (other : Otherwise) (behind : sc2 ≡ left sc (after_all sc body)) where
   pub if_value : (cond : Option core.Condition) (block : Option core.Stmts) → cond ≡ test_resolved (typed sc test) → block ≡ block_of (typed_body sc body) →

@@ -1,5 +1,5 @@
 -- Chains and their links, one after another.
-use Rattle.std.proofs.Common.{◌≡◌, ℕ, ◌+◌, ◌<◌, List, [], ◌∷◌, ◌++◌, Option, Some, None, Vec, Global, length, drop, get_or, refl, sym, ap, ◌∙◌, inl, inr}
+use Rattle.std.proofs.Common.{◌≡◌, ℕ, ◌+◌, ◌<◌, List, [], ◌∷◌, ◌++◌, Option, Some, None, Vec, Global, length, drop, get_or, refl, sym, ap, ◌∙◌, append_assoc, inl, inr}
 use Rattle.std.specs.Prelude.{option_map, ◌⊎◌}
 use Rattle.syntax.specs.declared.tree.Op.{Op}
 use Rattle.source.specs.declared.mistake.Mistake.{Mistake}
@@ -9,7 +9,8 @@ use Rattle.syntax.specs.declared.tree.Expr as tree
 use Rattle.syntax.specs.declared.tree.Joined as joined
 use Rattle.syntax.specs.declared.tree.Joined.{Pair, Chain}
 use Rattle.syntax.specs.declared.tree.Link as tree_link
-use Rattle.syntax.specs.Trees.{Expr, Links, no_links, link, chain}
+use Rattle.syntax.specs.declared.tree.Comparison as written
+use Rattle.syntax.specs.Trees.{Expr, Links, no_links, link, chain, compare}
 use Rattle.core_lang.specs.declared.tree.Operator.{Operator}
 use Rattle.core_lang.specs.declared.tree.Operation as o
 use Rattle.core_lang.specs.declared.tree.Expr as r
@@ -20,10 +21,12 @@ use Rattle.syntax.specs.Rows.{joined_of-Chain}
 use Rattle.resolution.specs.Core as core
 use Rattle.resolution.specs.CoreViews.{core_expr, core_condition, core_operations, core_conditions}
 use Rattle.resolution.specs.Scopes.{Scope}
-use Rattle.resolution.specs.Expressions.{Tests, tested, typed, typed_links, typed_tests, chained, linked, operator_of, number_resolved, test_resolved, all_hold, one_holds}
+use Rattle.resolution.specs.Expressions.{ResolvedExpr, Tests, tested, compared, typed, typed_links, typed_tests, chained, linked, operator_of, number_resolved, test_resolved, all_hold, one_holds}
 use Rattle.resolution.specs.Faults.{start_of}
+use Rattle.resolution.specs.Where.{side_want}
+use Rattle.resolution.specs.declared.wanted.Want.{Want}
 use Rattle.source.specs.Mistakes.{least_of}
-use Rattle.resolution.specs.FaultLists.{expr_faults, link_faults, operator_faults, misfit, wanted_faults}
+use Rattle.resolution.specs.FaultLists.{expr_faults, link_faults, operator_faults, misfit, side_faults, wanted_faults}
 use Rattle.sections.specs.Parts.{pushed, operation_with, SoFar, so_far, tests_with, first_test}
 use Rattle.sections.specs.ResolvedExprs.{tests_of, holds}
 use Rattle.sections.specs.declared.resolved_expr.Tests as the_tests
@@ -177,6 +180,39 @@ module _ (sc : Scope) (k : Level) (first : Expr) (ls : Links) (e : Expr) (whole 
 
   pub tests_faults : (f g m : Option Mistake) → (k ≡ Conjunction) ⊎ (k ≡ Disjunction) → g ≡ least_of f (wanted_faults sc Condition first) → m ≡ least_of g (link_faults sc Conjunction ls) → m ≡ least_of f (expr_faults sc e)
   tests_faults f g m kind hg hm = hm ∙ tests_blamed sc first ls k f g kind hg ∙ ap (λ x. least_of f (expr_faults sc x)) whole
+
+-- ---- a comparison
+
+pub side_blamed : (sc : Scope) (w : Want) (e : Expr) (start : ℕ) (v : Option ResolvedExpr) (f g h : Option Mistake) → start ≡ start_of e → v ≡ typed sc e
+    → g ≡ least_of f (expr_faults sc e) → h ≡ least_of g (misfit w start v) → h ≡ least_of f (wanted_faults sc w e)
+side_blamed sc w e start v f g h at is hg hh =
+    hh ∙ ap (λ (p : ℕ). least_of g (misfit w p v)) at ∙ ap (λ (x : Option ResolvedExpr). least_of g (misfit w (start_of e) x)) is
+    ∙ noted_one f g (expr_faults sc e) (misfit w (start_of e) (typed sc e)) hg
+
+module _ (sc : Scope) (c : written.Comparison) (a b e : Expr) (whole : compare a c b ≡ e) where
+  pub sides_value : (left : Option ResolvedExpr) → left ≡ typed sc a → compared c left (typed sc b) ≡ typed sc e
+  sides_value left is = ap (λ (x : Option ResolvedExpr). compared c x (typed sc b)) is ∙ ap (typed sc) whole
+
+  pub sides_faults : (start : ℕ) (left : Option ResolvedExpr) (f g h : Option Mistake) → start ≡ start_of a → left ≡ typed sc a → g ≡ least_of f (wanted_faults sc (side_want c) a)
+      → h ≡ least_of g (wanted_faults sc (side_want c) b ++ side_faults c start (start_of b) left (typed sc b)) → h ≡ least_of f (expr_faults sc e)
+  sides_faults start left f g h at is hg hh =
+      let first = wanted_faults sc (side_want c) a in
+      let right = wanted_faults sc (side_want c) b in
+      let last = side_faults c (start_of a) (start_of b) (typed sc a) (typed sc b) in
+      hh ∙ ap (λ (p : ℕ). least_of g (right ++ side_faults c p (start_of b) left (typed sc b))) at
+      ∙ ap (λ (x : Option ResolvedExpr). least_of g (right ++ side_faults c (start_of a) (start_of b) x (typed sc b))) is
+      ∙ noted_one f g first (right ++ last) hg
+      ∙ ap (least_of f) (sym (append_assoc first right last) ∙ ap (λ (l : List Mistake). l ++ last) (sym (append_assoc first (expr_faults sc b) (misfit (side_want c) (start_of b) (typed sc b)))))
+      ∙ ap (λ (x : Expr). least_of f (expr_faults sc x)) whole
+
+module _ (sc : Scope) (c : written.Comparison) (b : Expr) where
+  -- by the right side
+  pub second_side : (start p : ℕ) (left v : Option ResolvedExpr) (w : Want) (f g h : Option Mistake) → w ≡ side_want c → p ≡ start_of b → v ≡ typed sc b → g ≡ least_of f (wanted_faults sc w b)
+      → h ≡ least_of g (side_faults c start p left v) → h ≡ least_of f (wanted_faults sc (side_want c) b ++ side_faults c start (start_of b) left (typed sc b))
+  second_side start p left v w f g h want at is hg hh =
+      hh ∙ ap (λ (q : ℕ). least_of g (side_faults c start q left v)) at
+      ∙ ap (λ (x : Option ResolvedExpr). least_of g (side_faults c start (start_of b) left x)) is
+      ∙ noted_one f g (wanted_faults sc (side_want c) b) (side_faults c start (start_of b) left (typed sc b)) (hg ∙ ap (λ (x : Want). least_of f (wanted_faults sc x b)) want)
 
 -- ---- a chain of two operands
 

@@ -1,19 +1,21 @@
 //! Expressions.
 
-ghost use Rattle.std.specs.Prelude.{◌≡◌, OnOk, IfOk, option_map};
+ghost use Rattle.std.specs.Prelude.{◌≡◌, ◌++◌, OnOk, IfOk, option_map};
 ghost use Rattle.syntax.specs.Views.{ident, expr_of, joined_of, element_of, path_of, place_of, links_of};
+ghost use Rattle.syntax.specs.Grammar.{level_of};
 ghost use Rattle.syntax.specs.Trees.{no_links, link};
 ghost use Rattle.syntax.specs.declared.tree.Level.TheVariants.{Sum, Conjunction};
 ghost use Rattle.core_lang.specs.declared.value.ValueType.TheVariants.{Integer};
 ghost use Rattle.resolution.specs.declared.wanted.Want.TheVariants as wanted;
 ghost use Rattle.resolution.specs.CoreViews.{core_expr, core_condition, core_operations};
 ghost use Rattle.resolution.specs.Statements.{first_name};
-ghost use Rattle.resolution.specs.Expressions.{typed, typed_place, typed_links, typed_tests, fitting, as_value, number_resolved, test_resolved};
+ghost use Rattle.resolution.specs.Expressions.{typed, typed_place, typed_links, typed_tests, chained, compared, fitting, as_value, number_resolved, test_resolved};
 ghost use Rattle.resolution.specs.Faults.{start_of};
+ghost use Rattle.resolution.specs.Where.{side_want};
 ghost use Rattle.source.specs.Mistakes.{least_of};
-ghost use Rattle.resolution.specs.FaultLists.{expr_faults, place_faults, link_faults, wanted_faults};
+ghost use Rattle.resolution.specs.FaultLists.{expr_faults, place_faults, link_faults, side_faults, wanted_faults};
 ghost use Rattle.sections.specs.Checkers.{scope};
-ghost use Rattle.sections.specs.ResolvedExprs.{resolved_expr_of, tests_of};
+ghost use Rattle.sections.specs.ResolvedExprs.{resolved_expr_of, seen, tests_of, holds};
 
 use crate::checker::{Checker, Judged, Least};
 use crate::place::{element_value, path_value};
@@ -63,7 +65,6 @@ fn start_of(e: &tree::Expr) -> usize
 impl<'a> Checker<'a> {
     // An expression, resolved, if it has a type.
     #[cycle(exprs)]
-    #[tactic(auto, using(source::specs::Leasts::least_append))]
     fn expr(&self, e: &tree::Expr, least: &mut Least) -> Judged<ResolvedExpr>
         ensures value { IfOk result (λ r. option_map resolved_expr_of r ≡ typed (scope self.now) (expr_of e.now)) }
         ensures faults { OnOk result (least.new ≡ least_of least.old (expr_faults (scope self.now) (expr_of e.now))) }
@@ -94,7 +95,6 @@ impl<'a> Checker<'a> {
 
     // Operands with operators between them, resolved, if they have a type.
     #[cycle(exprs)]
-    #[tactic(auto, using(source::specs::Leasts::least_append))]
     fn joined(&self, e: &Joined, least: &mut Least) -> Judged<ResolvedExpr>
         ensures value { IfOk result (λ r. option_map resolved_expr_of r ≡ typed (scope self.now) (joined_of e.now)) }
         ensures faults { OnOk result (least.new ≡ least_of least.old (expr_faults (scope self.now) (joined_of e.now))) }
@@ -103,21 +103,17 @@ impl<'a> Checker<'a> {
             Joined::Pair(op, left, right) => match op.level() {
                 Level::Term | Level::Sum => {
                     let first = self.number(left, least)?;
-                    let rest = self.operation(*op, right, least)?;
-                    chained(self.alloc(), first, rest)
+                    self.two_numbers(first, *op, right, least)
                 }
                 Level::Conjunction | Level::Disjunction => {
                     let first = self.test(left, least)?;
-                    let operand = self.test(right, least)?;
-                    let tests = with_test(one_test(self.alloc(), first, 1)?, operand)?;
-                    tested(self.alloc(), op.level(), tests)
+                    self.two_tests(first, *op, right, least)
                 }
             },
             Joined::Chain(level, first, links) => match level {
                 Level::Term | Level::Sum => {
                     let first = self.number(first, least)?;
-                    let rest = self.operations(links, least)?;
-                    chained(self.alloc(), first, rest)
+                    self.more_numbers(first, links, least)
                 }
                 Level::Conjunction | Level::Disjunction => {
                     let first = self.test(first, least)?;
@@ -127,15 +123,93 @@ impl<'a> Checker<'a> {
             },
             Joined::Compare(c, left, right) => {
                 let left = self.side(side_want(*c), left, least)?;
-                let right = self.side(side_want(*c), right, least)?;
-                Ok(compared(*c, left, right, least))
+                self.two_sides(*c, left, right, least)
             }
         }
     }
 
+    // A number, an operator and a second number.
+    #[cycle(exprs)]
+    fn two_numbers(
+        &self,
+        first: Option<Expr>,
+        op: Op,
+        right: &tree::Expr,
+        least: &mut Least,
+    ) -> Judged<ResolvedExpr>
+        ensures value { IfOk result (λ r. option_map resolved_expr_of r ≡ chained (option_map core_expr first) (typed_links (scope self.now) (link op (expr_of right.now) no_links))) }
+        ensures faults { OnOk result (least.new ≡ least_of least.old (link_faults (scope self.now) Sum (link op (expr_of right.now) no_links))) }
+    {
+        let Ok(rest) = self.operation(op, right, least) else {
+            drop(first);
+            return Err(AllocError);
+        };
+        chained(self.alloc(), first, rest)
+    }
+
+    // A condition, an operator and a second condition.
+    #[cycle(exprs)]
+    fn two_tests(
+        &self,
+        first: Option<Condition>,
+        op: Op,
+        right: &tree::Expr,
+        least: &mut Least,
+    ) -> Judged<ResolvedExpr>
+        ensures value { IfOk result (λ r. option_map resolved_expr_of r ≡ holds (level_of op) (typed_tests (scope self.now) (option_map core_condition first) (link op (expr_of right.now) no_links))) }
+        ensures faults { OnOk result (least.new ≡ least_of least.old (link_faults (scope self.now) Conjunction (link op (expr_of right.now) no_links))) }
+    {
+        let Ok(operand) = self.test(right, least) else {
+            drop(first);
+            return Err(AllocError);
+        };
+        let Ok(one) = one_test(self.alloc(), first, 1) else {
+            drop(operand);
+            return Err(AllocError);
+        };
+        let tests = with_test(one, operand)?;
+        tested(self.alloc(), op.level(), tests)
+    }
+
+    // A number and what follows it in a chain.
+    #[cycle(exprs)]
+    fn more_numbers(
+        &self,
+        first: Option<Expr>,
+        links: &[Link],
+        least: &mut Least,
+    ) -> Judged<ResolvedExpr>
+        ensures value { IfOk result (λ r. option_map resolved_expr_of r ≡ chained (option_map core_expr first) (typed_links (scope self.now) (links_of links.now))) }
+        ensures faults { OnOk result (least.new ≡ least_of least.old (link_faults (scope self.now) Sum (links_of links.now))) }
+    {
+        let Ok(rest) = self.operations(links, least) else {
+            drop(first);
+            return Err(AllocError);
+        };
+        chained(self.alloc(), first, rest)
+    }
+
+    // The left side of a comparison, and its right side.
+    #[cycle(exprs)]
+    fn two_sides(
+        &self,
+        c: tree::Comparison,
+        left: Side,
+        right: &tree::Expr,
+        least: &mut Least,
+    ) -> Judged<ResolvedExpr>
+        ensures value { IfOk result (λ r. option_map resolved_expr_of r ≡ compared c (seen left) (typed (scope self.now) (expr_of right.now))) }
+        ensures faults { OnOk result (least.new ≡ least_of least.old (wanted_faults (scope self.now) (side_want c) (expr_of right.now) ++ side_faults c left.start (start_of (expr_of right.now)) (seen left) (typed (scope self.now) (expr_of right.now)))) }
+    {
+        let Ok(right) = self.side(side_want(c), right, least) else {
+            drop(left);
+            return Err(AllocError);
+        };
+        Ok(compared(c, left, right, least))
+    }
+
     // An element as a value.
     #[cycle(exprs)]
-    #[tactic(auto, using(source::specs::Leasts::least_append, crate::proofs::Indices::element_is))]
     fn element(&self, element: &Element, least: &mut Least) -> Judged<ResolvedExpr>
         ensures value { IfOk result (λ r. option_map resolved_expr_of r ≡ typed_place (scope self.now) (element_of element.now)) }
         ensures faults { OnOk result (least.new ≡ least_of least.old (place_faults (scope self.now) (element_of element.now))) }
@@ -165,8 +239,11 @@ impl<'a> Checker<'a> {
     {
         let operator = operator(op, start_of(operand), least);
         let number = self.number(operand, least)?;
-        let none = Some(Vec::with_capacity(self.alloc(), 1)?);
-        with_operation(none, operator, number)
+        let Ok(none) = Vec::with_capacity(self.alloc(), 1) else {
+            drop(number);
+            return Err(AllocError);
+        };
+        with_operation(Some(none), operator, number)
     }
 
     // The further operands of a chain of numbers.
@@ -178,7 +255,10 @@ impl<'a> Checker<'a> {
         let mut operations = Some(Vec::with_capacity(self.alloc(), links.len())?);
         for link in links {
             let op = operator(link.op, start_of(&link.operand), least);
-            let operand = self.number(&link.operand, least)?;
+            let Ok(operand) = self.number(&link.operand, least) else {
+                drop(operations);
+                return Err(AllocError);
+            };
             operations = with_operation(operations, op, operand)?;
         }
         Ok(operations)
@@ -192,7 +272,10 @@ impl<'a> Checker<'a> {
     {
         let mut tests = one_test(self.alloc(), first, links.len())?;
         for link in links {
-            let operand = self.test(&link.operand, least)?;
+            let Ok(operand) = self.test(&link.operand, least) else {
+                drop(tests);
+                return Err(AllocError);
+            };
             tests = with_test(tests, operand)?;
         }
         Ok(tests)
@@ -200,7 +283,6 @@ impl<'a> Checker<'a> {
 
     // An expression of which something is wanted.
     #[cycle(exprs)]
-    #[tactic(auto, using(source::specs::Leasts::least_append))]
     fn side(&self, w: Want, e: &tree::Expr, least: &mut Least) -> Result<Side, AllocError>
         ensures start { IfOk result (λ s. s.start ≡ start_of (expr_of e.now)) }
         ensures value { IfOk result (λ s. option_map resolved_expr_of s.value ≡ typed (scope self.now) (expr_of e.now)) }

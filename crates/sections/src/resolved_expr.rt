@@ -84,7 +84,10 @@ pub fn value_in(w: Want, s: Option<ResolvedExpr>) -> Option<Expr>
                 None
             }
         }
-        _ => None,
+        s => {
+            drop(s);
+            None
+        }
     }
 }
 
@@ -101,7 +104,10 @@ pub fn test_in(s: Option<ResolvedExpr>) -> Option<Condition>
 {
     match s {
         Some(ResolvedExpr::Truth(c)) => Some(c),
-        _ => None,
+        s => {
+            drop(s);
+            None
+        }
     }
 }
 
@@ -236,11 +242,19 @@ pub fn with_operation(
         drop(operand);
         return Ok(None);
     };
-    let (Some(operator), Some(operand)) = (operator, operand) else {
+    let Some(operator) = operator else {
+        drop(operations);
+        drop(operand);
+        return Ok(None);
+    };
+    let Some(operand) = operand else {
         drop(operations);
         return Ok(None);
     };
-    operations.push(Operation { operator, operand })?;
+    if let Err(e) = operations.push(Operation { operator, operand }) {
+        drop(operations);
+        return Err(e.into());
+    }
     Ok(Some(operations))
 }
 
@@ -248,13 +262,14 @@ pub fn with_operation(
 pub fn one_test(alloc: Global, c: Option<Condition>, more: usize) -> Judged<Tests>
     ensures { IfOk result (λ r. option_map so_far r ≡ first_test c) }
 {
-    match c {
-        Some(last) => Ok(Some(Tests {
-            before: Vec::with_capacity(alloc, more)?,
-            last,
-        })),
-        None => Ok(None),
-    }
+    let Some(last) = c else {
+        return Ok(None);
+    };
+    let Ok(before) = Vec::with_capacity(alloc, more) else {
+        drop(last);
+        return Err(AllocError);
+    };
+    Ok(Some(Tests { before, last }))
 }
 
 /// The operands and one more, if none is missing.
@@ -270,7 +285,11 @@ pub fn with_test(tests: Option<Tests>, c: Option<Condition>) -> Judged<Tests>
         return Ok(None);
     };
     let Tests { mut before, last } = tests;
-    before.push(last)?;
+    if let Err(e) = before.push(last) {
+        drop(before);
+        drop(c);
+        return Err(e.into());
+    }
     Ok(Some(Tests { before, last: c }))
 }
 
@@ -281,16 +300,19 @@ pub fn tested(alloc: Global, level: Level, tests: Option<Tests>) -> Judged<Resol
     let Some(tests) = tests else {
         return Ok(None);
     };
+    let Tests { before, last } = tests;
+    let Ok(last) = Box::new(alloc, last) else {
+        drop(before);
+        return Err(AllocError);
+    };
     match level {
-        Level::Conjunction => Ok(Some(ResolvedExpr::Truth(Condition::And(
-            tests.before,
-            Box::new(alloc, tests.last)?,
-        )))),
-        Level::Disjunction => Ok(Some(ResolvedExpr::Truth(Condition::Or(
-            tests.before,
-            Box::new(alloc, tests.last)?,
-        )))),
-        Level::Term | Level::Sum => Ok(None),
+        Level::Conjunction => Ok(Some(ResolvedExpr::Truth(Condition::And(before, last)))),
+        Level::Disjunction => Ok(Some(ResolvedExpr::Truth(Condition::Or(before, last)))),
+        Level::Term | Level::Sum => {
+            drop(before);
+            drop(last);
+            Ok(None)
+        }
     }
 }
 

@@ -59,7 +59,10 @@ fn with_local(
         drop(locals);
         return Ok(None);
     };
-    locals.push(local)?;
+    if let Err(e) = locals.push(local) {
+        drop(locals);
+        return Err(e.into());
+    }
     Ok(Some(locals))
 }
 
@@ -69,7 +72,10 @@ fn core_locals(alloc: Global, locals: &[Local]) -> Judged<Vec<tree::Local>>
 {
     let mut made = Some(Vec::new(alloc));
     for local in locals {
-        let next = core_local(local)?;
+        let Ok(next) = core_local(local) else {
+            drop(made);
+            return Err(AllocError);
+        };
         made = with_local(made, next)?;
     }
     Ok(made)
@@ -123,12 +129,25 @@ impl<'a> Checker<'a> {
             (None, None) => None,
             (Some(t), Some(_)) => match self.type_outside(t) {
                 Some(t) => Some(t),
-                None => return Ok(None),
+                None => {
+                    drop(locals);
+                    drop(body);
+                    return Ok(None);
+                }
             },
-            _ => return Ok(None),
+            _ => {
+                drop(locals);
+                drop(body);
+                return Ok(None);
+            }
+        };
+        let Ok(name) = String::from_str(self.alloc(), s.name.text.as_str()) else {
+            drop(locals);
+            drop(body);
+            return Err(AllocError);
         };
         Ok(Some(Section {
-            name: String::from_str(self.alloc(), s.name.text.as_str())?,
+            name,
             parameters: s.params.len(),
             locals,
             result_type,
@@ -173,8 +192,20 @@ pub fn judge_section(
 {
     let result = result_type(symbols, s, least);
     let mut checker = Checker::new(alloc, symbols, result);
-    checker.params(&s.params, least)?;
-    let body = checker.body(&s.body.stmts, least)?;
-    let locals = core_locals(alloc, checker.locals())?;
-    checker.section_of(s, locals, body)
+    let Ok(()) = checker.params(&s.params, least) else {
+        drop(checker);
+        return Err(AllocError);
+    };
+    let Ok(body) = checker.body(&s.body.stmts, least) else {
+        drop(checker);
+        return Err(AllocError);
+    };
+    let Ok(locals) = core_locals(alloc, checker.locals()) else {
+        drop(checker);
+        drop(body);
+        return Err(AllocError);
+    };
+    let section = checker.section_of(s, locals, body);
+    drop(checker);
+    section
 }

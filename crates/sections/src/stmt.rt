@@ -241,7 +241,6 @@ fn with_part(body: Option<Body>, part: Option<Part>) -> Judged<Body>
 
 impl<'a> Checker<'a> {
     // A `let` or `var`.
-    #[tactic(auto, using(source::specs::Leasts::least_append))]
     fn let_or_var(
         &mut self,
         kind: LocalKind,
@@ -261,13 +260,15 @@ impl<'a> Checker<'a> {
     }
 
     // An assignment, resolved, if its place and its value have types that fit.
-    #[tactic(auto, using(source::specs::Leasts::least_append))]
     fn assignment(&self, place: &Place, e: &tree::Expr, least: &mut Least) -> Judged<Part>
         ensures value { IfOk result (λ r. option_map part_of r ≡ typed_stmt (scope self.now) (assign (place_of place.now) (expr_of e.now))) }
         ensures faults { OnOk result (least.new ≡ least_of least.old (stmt_faults (scope self.now) (assign (place_of place.now) (expr_of e.now)))) }
     {
         let assignee = self.target(place, least)?;
-        let value = self.value(wanted_by(&assignee), e, least)?;
+        let Ok(value) = self.value(wanted_by(&assignee), e, least) else {
+            drop(assignee);
+            return Err(AllocError);
+        };
         Ok(assign(first_name(place).start as usize, assignee, value))
     }
 
@@ -316,7 +317,6 @@ impl<'a> Checker<'a> {
     // A loop, resolved, if its condition and everything in its block have types. The block comes ahead
     // of the condition, since the recursion goes down the first tree that is passed.
     #[cycle(stmts)]
-    #[tactic(auto, using(source::specs::Leasts::least_append))]
     fn repetition(
         &mut self,
         start: Span,
@@ -329,7 +329,10 @@ impl<'a> Checker<'a> {
         ensures scope { OnOk result (scope self.new ≡ after (scope self.old) (while start (expr_of test.now) (stmts_of block.now.stmts.items) block.now.close)) }
     {
         let condition = self.test(test, least)?;
-        let body = self.block(block, least)?;
+        let Ok(body) = self.block(block, least) else {
+            drop(condition);
+            return Err(AllocError);
+        };
         Ok(repeat(start.start as usize, condition, body))
     }
 
@@ -354,7 +357,11 @@ impl<'a> Checker<'a> {
         let Some(other) = other else {
             return Ok(choose(start, condition, block));
         };
-        let otherwise = self.block(other, least)?;
+        let Ok(otherwise) = self.block(other, least) else {
+            drop(condition);
+            drop(block);
+            return Err(AllocError);
+        };
         Ok(choose_between(start, condition, block, otherwise))
     }
 
@@ -374,7 +381,6 @@ impl<'a> Checker<'a> {
 
     /// Statements, one after another.
     #[cycle(stmts)]
-    #[tactic(auto, using(source::specs::Leasts::least_append))]
     pub fn body(&mut self, stmts: &[tree::Stmt], least: &mut Least) -> Judged<Body>
         ensures value { IfOk result (λ r. option_map body_of r ≡ typed_body (scope self.old) (stmts_of stmts.now)) }
         ensures faults { OnOk result (least.new ≡ least_of least.old (stmts_faults (scope self.old) (stmts_of stmts.now))) }
@@ -385,7 +391,10 @@ impl<'a> Checker<'a> {
             result: None,
         });
         for s in stmts {
-            let part = self.stmt(s, least)?;
+            let Ok(part) = self.stmt(s, least) else {
+                drop(body);
+                return Err(AllocError);
+            };
             body = with_part(body, part)?;
         }
         Ok(body)

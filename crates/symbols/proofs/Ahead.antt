@@ -2,11 +2,14 @@
 use Rattle.std.proofs.Common.{◌≡◌, ℕ, zero, suc, ◌+◌, List, [], ◌∷◌, ◌++◌, Option, Some, None, Bool, true, false, length, take, refl, sym, ap, ◌∙◌, arith, if◌then◌else◌}
 use Rattle.std.specs.Prelude.{slice_get, nat_le}
 use Rattle.std.proofs.lemmas.Bool.Decides.{nat_tests}
+use Rattle.std.specs.Borrow.{Bor}
+use Rattle.std.specs.Slice.{IsItemAt}
 use Rattle.syntax.specs.Trees.{Decl, lock, struct, global, array, pool, init, atomic, thread, Member, lock_member, final_member, field_member}
 use Rattle.resolution.specs.Scopes.{count, alike, number_at, members_alike, number_in}
 use Rattle.symbols.specs.declared.declarations.Counts.{Counts}
 use Rattle.symbols.specs.declared.members.MemberCounts.{MemberCounts}
 use Rattle.symbols.specs.Found.{or_else, AreAhead}
+use Rattle.symbols.proofs.Items.{item_here, item_past}
 use Rattle.symbols.specs.Counted.{count_of, counted, no_counts, counts_from, member_count, member_counted, no_members, member_counts_from}
 
 -- ---- one place more
@@ -166,6 +169,14 @@ or_some o c all is = sym (ap (λ x. or_else x all) is)
 
 pub or_none : {C : Type 0} (o : Option C) (all : C) → o ≡ None → all ≡ or_else o all
 or_none o all is = sym (ap (λ x. or_else x all) is)
+
+-- what the table gives, at a place and behind its end
+module _ {A C : Type 0} (made : List A → C) (xs : List A) (ahead : List C) (all : C) (place : ℕ) (table : AreAhead made xs ahead all) where
+  pub ahead_here : (b : Bor C) → IsItemAt ahead place (Some b) → b.now ≡ made (take place xs)
+  ahead_here b here = or_some (slice_get ahead place) b.now all (item_here ahead place b here) ∙ table place
+
+  pub ahead_past : IsItemAt ahead place None → all ≡ made (take place xs)
+  ahead_past past = or_none (slice_get ahead place) all (item_past ahead place past) ∙ table place
 
 -- ---- members
 

@@ -1,3 +1,4 @@
+pub mod Items
 pub mod Tables
 pub mod Ahead
 pub mod Hiding
@@ -6,3 +7,4 @@ pub mod Sums
 pub mod Giving
 pub mod Structs
 pub mod Given
+pub mod Finding

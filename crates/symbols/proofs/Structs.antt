@@ -3,6 +3,8 @@ use Rattle.std.proofs.Common.{◌≡◌, ℕ, ◌≤◌, List, [], ◌∷◌, �
 use Rattle.std.proofs.lemmas.List.{map-append, append-nil}
 use Rattle.std.specs.Prelude.{is_some, not, map}
 use Rattle.source.specs.declared.fault.Code.TheVariants.{DeclaredTwice}
+use Rattle.source.specs.declared.mistake.Mistake.{Mistake}
+use Rattle.source.specs.Mistakes.{least_of}
 use Rattle.syntax.specs.declared.tree.Decl as rust
 use Rattle.syntax.specs.declared.tree.Decl.TheVariants as variant
 use Rattle.syntax.specs.declared.tree.Struct as rust_struct
@@ -10,7 +12,7 @@ use Rattle.syntax.specs.Trees.{Decl, lock, struct, global, array, pool, init, at
 use Rattle.syntax.specs.Views.{decl_of, struct_of}
 use Rattle.resolution.specs.Scopes.{structs_in}
 use Rattle.resolution.specs.Numbers.{new_field}
-use Rattle.resolution.specs.FaultLists.{one_if, again, struct_faults}
+use Rattle.resolution.specs.FaultLists.{one_if, again, member_twice_faults, struct_faults}
 use Rattle.symbols.specs.Counted.{field_if}
 use Rattle.symbols.specs.Views.{AreStructures}
 
@@ -49,11 +51,32 @@ structs_push (init x ∷ ds) d = structs_push ds d
 structs_push (atomic x ∷ ds) d = structs_push ds d
 structs_push (thread x ∷ ds) d = structs_push ds d
 
-pub structures_more : (ds : List Decl) (x y : rust_struct.Struct) (ss new : List rust_struct.Struct) → y ≡ x → new ≡ ss ++ y ∷ [] → AreStructures ds ss → AreStructures (ds ++ struct (struct_of x) ∷ []) new
-structures_more ds x y ss new is made all =
-    ap (map struct_of) made ∙ map-append struct_of ss (y ∷ []) ∙ ap (λ (l : List Struct). l ++ struct_of y ∷ []) all
-    ∙ ap (λ z. structs_in ds ++ struct_of z ∷ []) is ∙ sym (structs_push ds (struct (struct_of x)))
+-- what a declaration adds
+pub structures_more : (ds : List Decl) (d : Decl) (ss new : List rust_struct.Struct) → map struct_of new ≡ map struct_of ss ++ structs_in (d ∷ []) → AreStructures ds ss → AreStructures (ds ++ d ∷ []) new
+structures_more ds d ss new made all = made ∙ ap (λ (l : List Struct). l ++ structs_in (d ∷ [])) all ∙ sym (structs_push ds d)
 
+pub faults_more : (d : Decl) (ds : List Decl) → struct_faults (d ∷ []) ++ struct_faults ds ≡ struct_faults (d ∷ ds)
+faults_more (lock x) ds = refl
+faults_more (struct s) ds = ap (λ (l : List Mistake). l ++ struct_faults ds) (append-nil (member_twice_faults [] s.members))
+faults_more (global x) ds = refl
+faults_more (array x) ds = refl
+faults_more (pool x) ds = refl
+faults_more (init x) ds = refl
+faults_more (atomic x) ds = refl
+faults_more (thread x) ds = refl
+
+-- a struct
+module _ (d : rust.Decl) (x : rust_struct.Struct) where
+  pub structure_added : (y : rust_struct.Struct) (ss new : List rust_struct.Struct) → d ≡ variant.Struct x → y ≡ x → new ≡ ss ++ y ∷ [] → map struct_of new ≡ map struct_of ss ++ structs_in (decl_of d ∷ [])
+  structure_added y ss new is same made =
+      ap (map struct_of) made ∙ map-append struct_of ss (y ∷ []) ∙ ap (λ (z : rust_struct.Struct). map struct_of ss ++ struct_of z ∷ []) same
+      ∙ ap (λ (e : rust.Decl). map struct_of ss ++ structs_in (decl_of e ∷ [])) (sym is)
+
+  pub structure_blamed : (f g : Option Mistake) → d ≡ variant.Struct x → g ≡ least_of f (member_twice_faults [] (struct_of x).members) → g ≡ least_of f (struct_faults (decl_of d ∷ []))
+  structure_blamed f g is noted =
+      noted ∙ ap (least_of f) (sym (append-nil (member_twice_faults [] (struct_of x).members))) ∙ ap (λ (e : rust.Decl). least_of f (struct_faults (decl_of e ∷ []))) (sym is)
+
+-- and what is none
 none_struct : (d : rust.Decl) → ((x : rust_struct.Struct) → d ≡ variant.Struct x → ⊥) → structs_in (decl_of d ∷ []) ≡ []
 none_struct (variant.Lock x) h = refl
 none_struct (variant.Struct x) h = absurd (h x refl)
@@ -64,16 +87,15 @@ none_struct (variant.Init x) h = refl
 none_struct (variant.Atomic x) h = refl
 none_struct (variant.Thread x) h = refl
 
-pub no_faults : (d : rust.Decl) (ds : List Decl) → ((x : rust_struct.Struct) → d ≡ variant.Struct x → ⊥) → struct_faults ds ≡ struct_faults (decl_of d ∷ ds)
-no_faults (variant.Lock x) ds h = refl
-no_faults (variant.Struct x) ds h = absurd (h x refl)
-no_faults (variant.Global x) ds h = refl
-no_faults (variant.Array x) ds h = refl
-no_faults (variant.Pool x) ds h = refl
-no_faults (variant.Init x) ds h = refl
-no_faults (variant.Atomic x) ds h = refl
-no_faults (variant.Thread x) ds h = refl
+pub none_added : (d : rust.Decl) (ss : List rust_struct.Struct) → ((x : rust_struct.Struct) → d ≡ variant.Struct x → ⊥) → map struct_of ss ≡ map struct_of ss ++ structs_in (decl_of d ∷ [])
+none_added d ss other = sym (ap (λ (l : List Struct). map struct_of ss ++ l) (none_struct d other) ∙ append-nil (map struct_of ss))
 
-pub structures_same : (ds : List Decl) (d : rust.Decl) (ss : List rust_struct.Struct) → ((x : rust_struct.Struct) → d ≡ variant.Struct x → ⊥) → AreStructures ds ss → AreStructures (ds ++ decl_of d ∷ []) ss
-structures_same ds d ss other all =
-    all ∙ sym (structs_push ds (decl_of d) ∙ ap (λ (l : List Struct). structs_in ds ++ l) (none_struct d other) ∙ append-nil (structs_in ds))
+pub none_blamed : (d : rust.Decl) (f : Option Mistake) → ((x : rust_struct.Struct) → d ≡ variant.Struct x → ⊥) → f ≡ least_of f (struct_faults (decl_of d ∷ []))
+none_blamed (variant.Lock x) f h = refl
+none_blamed (variant.Struct x) f h = absurd (h x refl)
+none_blamed (variant.Global x) f h = refl
+none_blamed (variant.Array x) f h = refl
+none_blamed (variant.Pool x) f h = refl
+none_blamed (variant.Init x) f h = refl
+none_blamed (variant.Atomic x) f h = refl
+none_blamed (variant.Thread x) f h = refl

@@ -107,10 +107,14 @@ fn at_struct<'a, 't>(
     ensures { IfOk result (λ r. option_map cursor_of r ≡ at_struct through.items number (the_decl (decls_of symbols.now) (ident target.now).text)) }
 {
     let Some((place, structure)) = symbols.struct_of(target) else {
+        drop(through);
         return Ok(None);
     };
     let mut through = through;
-    through.push(number)?;
+    let Ok(()) = through.push(number) else {
+        drop(through);
+        return Err(AllocError);
+    };
     Ok(Some(AnnotationCursor {
         place,
         structure,
@@ -130,12 +134,18 @@ fn stepped_on<'a, 't>(
         return Ok(None);
     };
     let Some((place, m)) = cursor.structure.find(y.text.as_str()) else {
+        drop(cursor);
         return Ok(None);
     };
-    let number = cursor.structure.step(place, m);
     match m {
-        Member::Final(reference) => at_struct(symbols, cursor.through, number, &reference.target),
-        Member::Lock(_) | Member::Field(_) => Ok(None),
+        Member::Final(reference) => {
+            let number = cursor.structure.step(place, m);
+            at_struct(symbols, cursor.through, number, &reference.target)
+        }
+        Member::Lock(_) | Member::Field(_) => {
+            drop(cursor);
+            Ok(None)
+        }
     }
 }
 
@@ -144,14 +154,22 @@ fn ended(symbols: &SymbolTable, cursor: Option<AnnotationCursor>, y: &Name) -> O
     ensures { option_map core_protection result ≡ ended (decls_of symbols.now) (option_map cursor_of cursor.entry) (ident y.now) }
 {
     let cursor = cursor?;
-    let (place, m) = cursor.structure.find(y.text.as_str())?;
-    let number = cursor.structure.number(place, m);
+    let Some((place, m)) = cursor.structure.find(y.text.as_str()) else {
+        drop(cursor);
+        return None;
+    };
     match m {
-        Member::Lock(_) => Some(Protection {
-            through: cursor.through,
-            class: symbols.class(cursor.place, number),
-        }),
-        Member::Final(_) | Member::Field(_) => None,
+        Member::Lock(_) => {
+            let number = cursor.structure.number(place, m);
+            Some(Protection {
+                through: cursor.through,
+                class: symbols.class(cursor.place, number),
+            })
+        }
+        Member::Final(_) | Member::Field(_) => {
+            drop(cursor);
+            None
+        }
     }
 }
 
@@ -252,7 +270,6 @@ fn note_last(
 }
 
 /// Notes what is wrong along names, of which the first of all starts there.
-#[tactic(auto, using(source::specs::Leasts::least_append))]
 fn note_along<'a, 't>(
     symbols: &'a SymbolTable<'t>,
     start: usize,
@@ -271,6 +288,7 @@ fn note_along<'a, 't>(
         y = z;
     }
     note_last(symbols, start, &cursor, y, least);
+    drop(cursor);
     Ok(())
 }
 

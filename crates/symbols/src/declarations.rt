@@ -1,11 +1,11 @@
 //! The declarations, with tables to find them by name and to number them.
 
-ghost use Rattle.std.specs.Prelude.{◌≡◌, ◌<◌, ◌+◌, ◌++◌, ◌^◌, [], OnOk, IfOk, option_map, slice_get, take};
+ghost use Rattle.std.specs.Prelude.{◌≡◌, ◌<◌, ◌+◌, ◌∷◌, ◌++◌, ◌^◌, ℕ, List, [], None, OnOk, IfOk, option_map, map, slice_get, take};
 ghost use Rattle.syntax.specs.Views.{ident, decl_of, struct_of};
-ghost use Rattle.resolution.specs.Scopes.{declared, bears, the_decl, number_at, the_struct};
+ghost use Rattle.resolution.specs.Scopes.{declared, bears, the_decl, number_at, structs_in, the_struct};
 ghost use Rattle.source.specs.Mistakes.{least_of};
 ghost use Rattle.resolution.specs.FaultLists.{twice_faults, struct_faults};
-ghost use Rattle.symbols.specs.Found.{IsTableOf, IsTableWith, declared_in, AreAhead};
+ghost use Rattle.symbols.specs.Found.{found, IsTableOf, IsTableWith, declared_in, AreAhead};
 ghost use Rattle.symbols.specs.Counted.{count_of, counted, counts_from, no_counts};
 ghost use Rattle.symbols.specs.Views.{decls_of, name_seen, struct_in, AreStructures};
 
@@ -18,7 +18,7 @@ use std::marker::Model;
 use syntax::tree::{Decl, Name};
 
 /// How many declarations of each kind there are. Those whose name another bears count too.
-#[derive(Clone, Copy, Debug, PartialEq, Eq)]
+#[derive(Clone, Copy)]
 pub struct Counts {
     /// The global locks.
     pub locks: usize,
@@ -177,53 +177,70 @@ fn add_name(
     }
 }
 
-/// The names of declarations, and how many of each kind stand ahead of each and are in all.
-#[tactic(auto, using(source::specs::Leasts::least_append))]
+/// Fills tables, which are empty, with the names of declarations and with how many of each kind stand ahead of each; and
+/// says how many there are in all. (These tables and those of structs are the caller's, so that nothing is to be let go
+/// where a growth is refused.)
 fn judge_names(
     alloc: Global,
     decls: &[Decl],
+    names: &mut Names,
+    ahead: &mut Vec<Counts>,
     least: &mut Option<Mistake>,
-) -> Result<(Names, Vec<Counts>, Counts), AllocError>
-    ensures names { IfOk result (λ t. IsTableOf bears (decls_of decls.now) t.0) }
-    ensures counts { IfOk result (λ t. AreAhead (counts_from no_counts) (decls_of decls.now) t.1.items t.2) }
+) -> Result<Counts, AllocError>
+    requires no_names { (q : List ℕ) → found names.old q ≡ None }
+    requires none_ahead { ahead.old.items ≡ [] }
+    ensures names { OnOk result (IsTableOf bears (decls_of decls.now) names.new) }
+    ensures counts { IfOk result (λ all. AreAhead (counts_from no_counts) (decls_of decls.now) ahead.new.items all) }
     ensures faults { OnOk result (least.new ≡ least_of least.old (twice_faults [] (decls_of decls.now))) }
 {
-    let mut names = Names::new(alloc);
-    let mut ahead = Vec::new(alloc);
     let mut counts = Counts::none();
     for (place, d) in decls.iter().enumerate() {
         let name = name_in(d);
-        note_twice(&names, name, least);
-        add_name(alloc, &mut names, name, place)?;
+        note_twice(names, name, least);
+        add_name(alloc, names, name, place)?;
         ahead.push(counts)?;
         counts.count(d);
     }
-    Ok((names, ahead, counts))
+    Ok(counts)
 }
 
-/// The structs among declarations, by number, with tables of their members.
-#[tactic(auto, using(source::specs::Leasts::least_append))]
+/// Adds a declaration to the structs if it is one, with tables of its members.
+fn judge_struct<'t>(
+    alloc: Global,
+    d: &'t Decl,
+    structs: &mut Vec<Structure<'t>>,
+    least: &mut Option<Mistake>,
+) -> Result<(), AllocError>
+    ensures structs { OnOk result (map struct_of structs.new.items ≡ map struct_of structs.old.items ++ structs_in (decl_of d.now ∷ [])) }
+    ensures faults { OnOk result (least.new ≡ least_of least.old (struct_faults (decl_of d.now ∷ []))) }
+{
+    let Decl::Struct(item) = d else {
+        return Ok(());
+    };
+    let structure = Structure::new(alloc, item, least)?;
+    structs.push(structure)?;
+    Ok(())
+}
+
+/// Fills a list, which is empty, with the structs among declarations, by number, with tables of their members.
 fn judge_structs<'t>(
     alloc: Global,
     decls: &'t [Decl],
+    structs: &mut Vec<Structure<'t>>,
     least: &mut Option<Mistake>,
-) -> Result<Vec<Structure<'t>>, AllocError>
-    ensures structs { IfOk result (λ t. AreStructures (decls_of decls.now) t.items) }
+) -> Result<(), AllocError>
+    requires { structs.old.items ≡ [] }
+    ensures structs { OnOk result (AreStructures (decls_of decls.now) structs.new.items) }
     ensures faults { OnOk result (least.new ≡ least_of least.old (struct_faults (decls_of decls.now))) }
 {
-    let mut structs = Vec::new(alloc);
     for d in decls {
-        if let Decl::Struct(item) = d {
-            let structure = Structure::new(alloc, item, least)?;
-            structs.push(structure)?;
-        }
+        judge_struct(alloc, d, structs, least)?;
     }
-    Ok(structs)
+    Ok(())
 }
 
 impl<'t> Declarations<'t> {
     /// The declarations with their tables. Names that are declared twice are noted. The one error is a refused growth.
-    #[tactic(auto, using(source::specs::Leasts::least_append))]
     pub(crate) fn new(
         alloc: Global,
         items: &'t [Decl],
@@ -232,8 +249,20 @@ impl<'t> Declarations<'t> {
         ensures items { IfOk result (λ t. t ≡ items.now) }
         ensures faults { OnOk result (least.new ≡ least_of least.old (twice_faults [] (decls_of items.now) ++ struct_faults (decls_of items.now))) }
     {
-        let (names, ahead, all) = judge_names(alloc, items, least)?;
-        let structs = judge_structs(alloc, items, least)?;
+        let mut names = Names::new(alloc);
+        let mut ahead = Vec::new(alloc);
+        let Ok(all) = judge_names(alloc, items, &mut names, &mut ahead, least) else {
+            drop(names);
+            drop(ahead);
+            return Err(AllocError);
+        };
+        let mut structs = Vec::new(alloc);
+        let Ok(()) = judge_structs(alloc, items, &mut structs, least) else {
+            drop(names);
+            drop(ahead);
+            drop(structs);
+            return Err(AllocError);
+        };
         Ok(Declarations {
             items,
             names,

@@ -145,7 +145,6 @@ fn judge_decl(
 }
 
 /// What `init`s give. Notes those that give what is given already. The one error is a refused growth.
-#[tactic(auto, using(source::specs::Leasts::least_append))]
 pub(crate) fn judge_first_inits(
     alloc: Global,
     decls: &Declarations,
@@ -157,7 +156,10 @@ pub(crate) fn judge_first_inits(
     let mut first_inits = FirstInits::new(alloc);
     let items = decls.items();
     for (place, d) in items.iter().enumerate() {
-        judge_decl(decls, &mut first_inits, place, d, least)?;
+        let Ok(()) = judge_decl(decls, &mut first_inits, place, d, least) else {
+            drop(first_inits);
+            return Err(AllocError);
+        };
     }
     Ok(first_inits)
 }

@@ -1,6 +1,6 @@
 //! Structs, with tables to find their members by name and to number them.
 
-ghost use Rattle.std.specs.Prelude.{◌≡◌, ◌<◌, ◌+◌, ◌^◌, [], OnOk, IfOk, option_map, not, take};
+ghost use Rattle.std.specs.Prelude.{◌≡◌, ◌<◌, ◌+◌, ◌^◌, ℕ, List, [], None, OnOk, IfOk, option_map, map, not, take};
 ghost use Rattle.syntax.specs.Views.{ident, member_of, struct_of};
 ghost use Rattle.source.specs.declared.fault.Code.TheVariants.{DeclaredTwice};
 ghost use Rattle.resolution.specs.Scopes.{member_name, member_bears, place_of, the_member, number_in};
@@ -8,6 +8,7 @@ ghost use Rattle.resolution.specs.Numbers.{fields_from};
 ghost use Rattle.resolution.specs.Expressions.{member_number};
 ghost use Rattle.source.specs.Mistakes.{least_of};
 ghost use Rattle.resolution.specs.FaultLists.{one_if, member_twice_faults};
+ghost use Rattle.symbols.specs.Found.{found, IsTableOf, AreAhead};
 ghost use Rattle.symbols.specs.Counted.{member_count, member_counted, member_counts_from, no_members, field_if};
 ghost use Rattle.symbols.specs.Views.{members_seen};
 
@@ -22,7 +23,7 @@ use syntax::tree::{Member, Name, Struct};
 pub(crate) const MEMBER_LIMIT: usize = 32;
 
 /// How many members of each kind there are. Members whose name another bears count too.
-#[derive(Clone, Copy, Debug, PartialEq, Eq)]
+#[derive(Clone, Copy)]
 pub struct MemberCounts {
     /// The lock fields.
     pub locks: usize,
@@ -133,9 +134,39 @@ fn note_again(is_first: bool, start: usize, least: &mut Option<Mistake>)
     }
 }
 
+/// Fills tables, which are empty, with the names of members and with what stands ahead of each; and says how many there
+/// are of each kind, and how many fields that are neither locks nor final have a name of their own. Names that two
+/// members bear are noted. (The tables are the caller's, so that nothing is to be let go where a growth is refused.)
+fn judge_members(
+    alloc: Global,
+    members: &[Member],
+    names: &mut Names,
+    ahead: &mut Vec<MemberCounts>,
+    least: &mut Option<Mistake>,
+) -> Result<(MemberCounts, usize), AllocError>
+    requires no_names { (q : List ℕ) → found names.old q ≡ None }
+    requires none_ahead { ahead.old.items ≡ [] }
+    ensures names { OnOk result (IsTableOf member_bears (map member_of members.now) names.new) }
+    ensures counts { IfOk result (λ t. AreAhead (member_counts_from no_members) (map member_of members.now) ahead.new.items t.0) }
+    ensures width { IfOk result (λ t. t.1 ≡ fields_from [] (map member_of members.now)) }
+    ensures faults { OnOk result (least.new ≡ least_of least.old (member_twice_faults [] (map member_of members.now))) }
+{
+    let mut counts = MemberCounts::none();
+    let mut width = 0;
+    for (place, m) in members.iter().enumerate() {
+        let name = name_of(m);
+        let is_first = names.find(name.text.as_str()).is_none();
+        note_again(is_first, name.start as usize, least);
+        width = width + fields_with(is_first, m);
+        names.add(alloc, &name.text, place)?;
+        ahead.push(counts)?;
+        counts.count(m);
+    }
+    Ok((counts, width))
+}
+
 impl<'t> Structure<'t> {
     /// A struct with its tables. Names that two members bear are noted. The one error is a refused growth.
-    #[tactic(auto, using(source::specs::Leasts::least_append))]
     pub(crate) fn new(
         alloc: Global,
         item: &'t Struct,
@@ -146,23 +177,17 @@ impl<'t> Structure<'t> {
     {
         let mut names = Names::new(alloc);
         let mut ahead = Vec::new(alloc);
-        let mut counts = MemberCounts::none();
-        let mut width = 0;
         let members = &item.members;
-        for (place, m) in members.iter().enumerate() {
-            let name = name_of(m);
-            let is_first = names.find(name.text.as_str()).is_none();
-            note_again(is_first, name.start as usize, least);
-            width = width + fields_with(is_first, m);
-            names.add(alloc, &name.text, place)?;
-            ahead.push(counts)?;
-            counts.count(m);
-        }
+        let Ok((all, width)) = judge_members(alloc, members, &mut names, &mut ahead, least) else {
+            drop(names);
+            drop(ahead);
+            return Err(AllocError);
+        };
         Ok(Structure {
             item,
             names,
             ahead,
-            all: counts,
+            all,
             width,
         })
     }

@@ -46,10 +46,11 @@ impl Names {
     ) -> Result<(), AllocError>
         ensures { OnOk result ((q : List ℕ) → found self.new q ≡ option_or (found self.old q) (if bytes_eq q (rc_str_bytes name.now) then Some place else None)) }
     {
-        if self.places.get(name.as_str()).is_none() {
-            self.places
-                .insert(String::from_str(alloc, name.as_str())?, place)?;
+        if self.find(name.as_str()).is_some() {
+            return Ok(());
         }
+        let key = String::from_str(alloc, name.as_str())?;
+        self.places.insert(key, place)?;
         Ok(())
     }
 }

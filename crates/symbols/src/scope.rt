@@ -1,12 +1,16 @@
 //! What names mean, and the types that are written.
 
-ghost use Rattle.std.specs.Prelude.{◌≡◌, [], List, OnOk, length, option_map};
+ghost use Rattle.std.specs.Prelude.{◌≡◌, ◌∷◌, ◌++◌, [], ℕ, List, Some, None, OnOk, length, option_map, if◌then◌else◌};
+ghost use Rattle.std.specs.Option.{option_or};
+ghost use Rattle.std.specs.Rc.{rc_str_bytes};
+ghost use Rattle.std.specs.Str.{bytes_eq};
 ghost use Rattle.syntax.specs.Views.{ident, member_of, type_of as type_seen};
 ghost use Rattle.syntax.specs.Trees as trees;
 ghost use Rattle.syntax.specs.Trees.{ref_type};
 ghost use Rattle.resolution.specs.Scopes.{meaning, outside, bound, hidden_from, struct_meant, struct_named, type_of, has_type, member_has_type, the_local};
 ghost use Rattle.source.specs.Mistakes.{least_of};
 ghost use Rattle.resolution.specs.FaultLists.{no_struct, type_faults, unfit, unfit_member};
+ghost use Rattle.symbols.specs.Found.{found};
 ghost use Rattle.symbols.specs.Views.{decls_of};
 ghost use Rattle.symbols.specs.Scoped.{locals_seen, local_seen, scope_of, meaning_of};
 
@@ -19,6 +23,7 @@ use source::fault::Code;
 use source::mistake::{Mistake, note};
 use std::alloc::{AllocError, Global};
 use std::marker::Model;
+use std::rc::RcStr;
 use syntax::tree;
 use syntax::tree::{Decl, Member, Name};
 
@@ -68,6 +73,22 @@ pub enum Meaning<'a> {
     Decl(usize, &'a Decl),
     /// Nothing: the name is unknown there.
     Nothing,
+}
+
+/// Adds a local behind the others, and its name to their table.
+fn push_local(
+    alloc: Global,
+    names: &mut Names,
+    items: &mut Vec<Local>,
+    name: &RcStr,
+    local: Local,
+) -> Result<(), AllocError>
+    ensures items { OnOk result (items.new.items ≡ items.old.items ++ local ∷ []) }
+    ensures names { OnOk result ((q : List ℕ) → found names.new q ≡ option_or (found names.old q) (if bytes_eq q (rc_str_bytes name.now) then Some (length items.old.items) else None)) }
+{
+    let place = items.len();
+    items.push(local)?;
+    names.add(alloc, name, place)
 }
 
 impl Locals {
@@ -130,15 +151,11 @@ impl Locals {
             value_type,
             is_visible: true,
         };
-        // Where the table may have got the name of a local that isn't there, none is kept.
-        if let Err(e) = self.names.add(alloc, &name.text, self.items.len()) {
+        let Ok(()) = push_local(alloc, &mut self.names, &mut self.items, &name.text, local) else {
+            // There may be a local that the table lacks, so none is kept.
             *self = Locals::new(alloc, None);
-            return Err(e);
-        }
-        if let Err(e) = self.items.push(local) {
-            *self = Locals::new(alloc, None);
-            return Err(e.into());
-        }
+            return Err(AllocError);
+        };
         Ok(())
     }
 

@@ -60,7 +60,6 @@ impl<'t> Model for SymbolTable<'t> {
 impl<'t> SymbolTable<'t> {
     /// The declarations with all their tables. What is wrong with names, counts and repeated `init`s is noted. The one
     /// error is a refused growth.
-    #[tactic(auto, using(source::specs::Leasts::least_append))]
     pub fn new(
         alloc: Global,
         items: &'t [Decl],
@@ -70,8 +69,15 @@ impl<'t> SymbolTable<'t> {
         ensures faults { OnOk result (least.new ≡ least_of least.old (twice_faults [] (decls_of items.now) ++ struct_faults (decls_of items.now) ++ total_faults (decls_of items.now) [] (decls_of items.now) ++ repeated_faults (decls_of items.now) [] (decls_of items.now))) }
     {
         let decls = Declarations::new(alloc, items, least)?;
-        let (ahead, all) = judge_totals(alloc, &decls, least)?;
-        let first_inits = judge_first_inits(alloc, &decls, least)?;
+        let Ok((ahead, all)) = judge_totals(alloc, &decls, least) else {
+            drop(decls);
+            return Err(AllocError);
+        };
+        let Ok(first_inits) = judge_first_inits(alloc, &decls, least) else {
+            drop(decls);
+            drop(ahead);
+            return Err(AllocError);
+        };
         Ok(SymbolTable {
             decls,
             ahead,

@@ -42,7 +42,7 @@ const THREAD_LIMIT: usize = 64;
 pub(crate) const CALL_LIMIT: usize = 100000;
 
 /// How much declarations add together. Each is at most one more than its limit: all past the limit count alike.
-#[derive(Clone, Copy, Debug, PartialEq, Eq)]
+#[derive(Clone, Copy)]
 pub struct Totals {
     /// The lock classes: global locks, and lock fields of structs.
     pub classes: usize,
@@ -265,7 +265,6 @@ fn note_decl(number: usize, ahead: Totals, own: Totals, d: &Decl, least: &mut Op
 
 /// How much stands ahead of each declaration and is in all. Notes where there are too many. The one error is a refused
 /// growth.
-#[tactic(auto, using(source::specs::Leasts::least_append))]
 pub(crate) fn judge_totals(
     alloc: Global,
     decls: &Declarations,
@@ -280,7 +279,10 @@ pub(crate) fn judge_totals(
     for (place, d) in items.iter().enumerate() {
         let own = Totals::of(decls, d);
         note_decl(decls.number(place, d), totals, own, d, least);
-        ahead.push(totals)?;
+        let Ok(()) = ahead.push(totals) else {
+            drop(ahead);
+            return Err(AllocError);
+        };
         totals = totals.with(own);
     }
     Ok((ahead, totals))

@@ -4,6 +4,7 @@ pub mod Grammar
 pub mod Returns
 pub mod Faults
 pub mod Printing
+pub mod Adding
 pub mod Bare
 pub mod Rows
 -- what public clauses cite

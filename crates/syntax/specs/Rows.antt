@@ -1,7 +1,7 @@
 -- The view of a `Vec` in a tree is that of the same `Vec` by itself. Nobody has to believe these equations: they are proved here,
 -- for proofs of this crate and of the crates above.
 use Rattle.std.specs.Prelude.{Box}
-use Rattle.std.proofs.Common.{◌≡◌, Vec, Global, Option, Some, None, refl, sym, ap, ◌∙◌}
+use Rattle.std.proofs.Common.{◌≡◌, Vec, Global, Option, refl, sym, ap, ◌∙◌}
 use mathlib.Core.Former.{Count}
 use Rattle.source.specs.declared.span.Span.{Span}
 use Rattle.syntax.specs.declared.tree.Level.{Level}

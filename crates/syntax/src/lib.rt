@@ -14,6 +14,7 @@ mod print_decl;
 mod print_stmt;
 mod print_thread;
 mod print_whole;
+mod printer;
 pub mod tree;
 
 pub use print_whole::print_tree;

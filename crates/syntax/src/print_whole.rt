@@ -9,6 +9,7 @@ ghost use Rattle.syntax.specs.Bare.{HasTextOf};
 ghost use Rattle.syntax.specs.Printing.{tree_text};
 
 use crate::print_decl::push_decls;
+use crate::printer::Printer;
 use crate::tree::Tree;
 use source::memory::NoMemory;
 use std::alloc::Global;
@@ -22,7 +23,7 @@ pub fn print_tree(alloc: Global, tree: &Tree) -> Result<String, NoMemory>
     // For a tree that some text has, the text printed has that tree, but for places.
     ensures same { IfOk result (λ printed. (text : List ℕ) (ts : List Tok) → HasTokens text ts → HasTree ts (tree_of tree.now) → HasTextOf (string_bytes printed) (tree_of tree.now)) }
 {
-    let mut out = String::new(alloc);
-    push_decls(&mut out, &tree.decls)?;
-    Ok(out)
+    let mut out = Printer::new(alloc);
+    push_decls(&mut out, &tree.decls);
+    out.finish()
 }

@@ -41,7 +41,7 @@ pub enum Const {
 }
 
 /// An operator of a chain.
-#[derive(Clone, Copy, Debug, PartialEq, Eq)]
+#[derive(Clone, Copy, PartialEq, Eq)]
 pub enum Op {
     /// `+`
     Add,
@@ -60,7 +60,7 @@ pub enum Op {
 }
 
 /// How tightly the operators of a chain bind.
-#[derive(Clone, Copy, Debug, PartialEq, Eq)]
+#[derive(Clone, Copy)]
 pub enum Level {
     /// `*`, `/` and `%`
     Term,
@@ -90,7 +90,7 @@ impl Op {
 }
 
 /// An operator between two sums.
-#[derive(Clone, Copy, Debug, PartialEq, Eq)]
+#[derive(Clone, Copy)]
 pub enum Comparison {
     /// `==`
     Equal,
@@ -107,7 +107,7 @@ pub enum Comparison {
 }
 
 /// An operator before its operand.
-#[derive(Clone, Copy, Debug, PartialEq, Eq)]
+#[derive(Clone, Copy)]
 pub enum Prefix {
     /// `-`
     Negate,

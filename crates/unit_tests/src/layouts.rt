@@ -16,9 +16,7 @@ init q[1].owner = b[0];
 #[test]
 fn lays_out(rt: HostRuntime) -> Result<(), Fail> {
     let alloc = rt.alloc();
-    let Ok(program) = compile(alloc, SHARED_OWNER.as_bytes()) else {
-        return compare(alloc, "refused", "a program");
-    };
+    let program = compile(alloc, SHARED_OWNER.as_bytes())?;
     let layout = program.layout();
     let mut text = String::new(alloc);
     for lock in layout.locks() {

@@ -1,6 +1,6 @@
-use Rattle.std.proofs.Common.{◌≡◌, ◌<◌, ◌++◌, [], ◌∷◌, false, length, sym, ap, ◌∙◌, subst, arith}
+use Rattle.std.proofs.Common.{◌≡◌, ◌<◌, false, length, sym, ap, ◌∙◌, subst, arith}
 use Rattle.std.proofs.lemmas.Bool.{both_ways}
-use Rattle.std.proofs.lemmas.List.{length-replicate, replicate_more}
+use Rattle.std.proofs.lemmas.List.{length-replicate}
 use Rattle.lockorder.specs.Sections.{is_found, unfound}
 use Rattle.lockorder.proofs.Spreading.{all_before, none_found, put_back}
 use Rattle.lockorder.proofs.before.points_before.Goals as goal
@@ -35,14 +35,11 @@ returns-clause-points c =
     (omega (arith, c.spread.auto.found, c.deref_mut.ensures.len, c.loop.found.ok.0)) (omega (arith, c.loop.found.ok.0)) in
     ap length same ∙ omega (arith, c.spread.auto.found, c.deref_mut.ensures.len, c.loop.found.ok.0, c.loop.invariant.long)
 
-pub loop-point-preserved : goal.loop-point-preserved
-loop-point-preserved c = c.in_ok-push.ensures.items ∙ ap (λ l. l ++ false ∷ []) c.loop-point.invariant ∙ replicate_more c.loop-point._point false
-
 pub loop-init : goal.loop-init
 loop-init c =
-    let none = c.loop-point.invariant in
-    let n = c.loop-point._point in
+    let none = c.in_ok-found.ensures.items_if_clones_equal (λ y e. e) in
+    let n = c.args.points in
     record {
-      long = ap length none ∙ length-replicate n false ∙ omega (arith, c.loop-point-test.false, c.loop-point.auto._point-end);
-      sound = λ p e. absurd (both_ways (is_found c.loop-point.found.items p) (ap (λ l. is_found l p) none ∙ none_found n p) e);
+      long = ap length none ∙ length-replicate n false;
+      sound = λ p e. absurd (both_ways (is_found c.in_ok-found.found.items p) (ap (λ l. is_found l p) none ∙ none_found n p) e);
     }

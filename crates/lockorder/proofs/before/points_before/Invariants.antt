@@ -1,9 +1,6 @@
-use Rattle.std.proofs.Common.{◌≡◌, false, length, replicate}
+use Rattle.std.proofs.Common.{◌≡◌, length}
 use Rattle.lockorder.specs.Sections.{AreBefore, unfound}
 use Rattle.lockorder.proofs.before.points_before.Given as goal
-
-abbrev pub invariant-loop-point : goal.invariant-loop-point
-invariant-loop-point l = l.found.items ≡ replicate l._point false
 
 abbrev pub invariant-loop : goal.invariant-loop
 invariant-loop l = record {

@@ -14,10 +14,10 @@ pub returns-clause-value : goal.returns-clause-value
 returns-clause-value c =
     let start = scope c.new-checker.result in
     let entry = scope c.params.new.self in
-    subst (λ x. IfOk c.section_of.result (λ r. option_map core_section r ≡ x))
+    subst (λ x. IfOk c.section_of-section.result (λ r. option_map core_section r ≡ x))
     (section_is (decls_of c.args.symbols.now) (section_view c.args.s.now) _ start entry (scope c.body.new.self) _ _ c.result_type-result.ensures.value c.new-checker.ensures
-    (c.in_ok-params.ensures.scope ∙ ap (λ ps. entered start (map param_of ps)) c.deref.ensures.value)
-    (c.in_ok-body.ensures.value ∙ ap (λ ss. typed_body entry (stmts_of ss)) c.deref-2.ensures.value)
-    (c.in_ok-body.ensures.scope ∙ ap (λ ss. after_all entry (stmts_of ss)) c.deref-2.ensures.value)
-    (c.in_ok-locals.ensures ∙ ap core_locals c.locals.ensures))
-    c.section_of.ensures
+    (c.in-Ok.ensures.scope ∙ ap (λ ps. entered start (map param_of ps)) c.deref.ensures.value)
+    (c.in-Ok-body.ensures.value ∙ ap (λ ss. typed_body entry (stmts_of ss)) c.deref-2.ensures.value)
+    (c.in-Ok-body.ensures.scope ∙ ap (λ ss. after_all entry (stmts_of ss)) c.deref-2.ensures.value)
+    (c.in-Ok-core_locals.ensures ∙ ap core_locals c.locals.ensures))
+    c.section_of-section.ensures

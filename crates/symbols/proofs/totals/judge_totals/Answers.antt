@@ -38,7 +38,7 @@ loop-place-preserved c =
     ∙ ap (least_of c.loop-place.least) (faults_are all ds d) in
     record {
       counts = subst (λ (es : List Decl). AreAhead F es c.push.new.self.items c.with-totals.result) (sym more)
-          (subst (λ (cs : List Totals). AreAhead F (ds ++ d ∷ []) cs c.with-totals.result) (sym c.in_ok-push.ensures.items)
+          (subst (λ (cs : List Totals). AreAhead F (ds ++ d ∷ []) cs c.with-totals.result) (sym c.in-Ok.ensures.items)
           (ahead_more F ds d c.loop-place.ahead.items c.loop-place.totals c.with-totals.result (c.loop-place.invariant.len ∙ taken_length decl_of items i lt) new c.loop-place.invariant.counts));
       so_far = new ∙ ap F (sym more);
       len = grind (arith, common_steps);

@@ -1,5 +1,6 @@
-use Rattle.std.proofs.Common.{append_assoc}
+use Rattle.syntax.proofs.Added.{followed_by}
 use Rattle.syntax.proofs.print_decl.push_annotation.Goals as goal
 
 pub returns : goal.returns
-returns c = rw (c.in_ok-push_str-3.ensures.bytes, c.in_ok-push_fields.ensures, c.deref.ensures.value, c.in_ok-push_str-2.ensures.bytes, c.as_str.ensures.value, c.in_ok-push_str.ensures.bytes) (simp append_assoc)
+returns c =
+    followed_by (followed_by c.push_named.ensures (rw c.deref.ensures.value at c.push_fields.ensures)) c.push_str.ensures

@@ -1,7 +1,8 @@
-use Rattle.std.proofs.Common.{◌≡◌, ◌++◌, drop, map, string_bytes}
+use Rattle.std.proofs.Common.{drop, map}
 use Rattle.syntax.specs.Views.{member_of}
 use Rattle.syntax.specs.Printing.{many_text, member_text}
+use Rattle.syntax.proofs.Added.{Leads}
 use Rattle.syntax.proofs.print_decl.push_members.Given as goal
 
 abbrev pub invariant-members : goal.invariant-members
-invariant-members l = string_bytes l.out ++ many_text member_text (map member_of (drop l.member-index l.members)) ≡ string_bytes l.initial.out ++ many_text member_text (map member_of l.members)
+invariant-members l = Leads l.initial.out l.out (many_text member_text (map member_of (drop l.member-index l.members))) (many_text member_text (map member_of l.members))

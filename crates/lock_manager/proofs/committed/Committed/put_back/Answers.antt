@@ -1,8 +1,9 @@
-use Rattle.std.proofs.Common.{◌∙◌, ◌∷◌, [], subst}
+use Rattle.std.proofs.Common.{◌∙◌, ◌∷◌, [], sym, subst}
 use Rattle.std.specs.List.{All, Contains}
 use Rattle.std.proofs.Math.ListN.{length-set}
 use Rattle.moved_cells.specs.Grants.{GrantOf}
-use Rattle.lock_manager.proofs.Lists.{all_front}
+use Rattle.locks.specs.declared.lock.Lock.{Lock}
+use Rattle.lock_manager.proofs.Lists.{all_front, all_last}
 use Rattle.lock_manager.proofs.GivenBack.{one_given_back}
 use Rattle.lock_manager.proofs.committed.Committed.put_back.Goals as goal
 
@@ -23,3 +24,9 @@ loop-grant-preserved c = record {
   listed = all_front (λ (g : GrantOf). Contains c.args.self.now.layout.locks g.lock) c.pop.new.self.items (c.in-Some.grant ∷ [])
       (subst (All (λ (g : GrantOf). Contains c.args.self.now.layout.locks g.lock)) c.in-Some.ensures.items c.loop-grant.invariant.listed);
 }
+
+pub number_of-number-requires : goal.number_of-number-requires
+number_of-number-requires c =
+    subst (λ (l : Lock). Contains c.args.self.now.layout.locks l) (sym c.into_parts-cells.ensures.lock)
+    (all_last (λ (g : GrantOf). Contains c.args.self.now.layout.locks g.lock) c.pop.new.self.items c.in-Some.grant
+    (subst (All (λ (g : GrantOf). Contains c.args.self.now.layout.locks g.lock)) c.in-Some.ensures.items c.loop-grant.invariant.listed))

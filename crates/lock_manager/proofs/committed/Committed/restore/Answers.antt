@@ -1,8 +1,10 @@
-use Rattle.std.proofs.Common.{◌∙◌, ◌∷◌, [], subst}
+use Rattle.std.proofs.Common.{◌∙◌, ◌∷◌, [], length, sym, ap, subst}
 use Rattle.std.specs.List.{All, Contains}
 use Rattle.std.proofs.Math.ListN.{length-set}
 use Rattle.moved_cells.specs.Grants.{GrantOf, IsWhole}
-use Rattle.lock_manager.proofs.Lists.{all_front}
+use Rattle.locks.specs.declared.lock.Lock.{Lock}
+use Rattle.layout.specs.LockCells.{cells_of}
+use Rattle.lock_manager.proofs.Lists.{all_front, all_last}
 use Rattle.lock_manager.proofs.GivenBack.{one_restored}
 use Rattle.lock_manager.proofs.committed.Committed.restore.Goals as goal
 
@@ -27,3 +29,22 @@ loop-grant-preserved c = record {
   listed = all_front (λ (g : GrantOf). Contains c.args.self.now.layout.locks g.lock) c.pop.new.self.items (c.in-Some.grant ∷ [])
       (subst (All (λ (g : GrantOf). Contains c.args.self.now.layout.locks g.lock)) c.in-Some.ensures.items c.loop-grant.invariant.listed);
 }
+
+pub reset-requires-clause-listed : goal.reset-requires-clause-listed
+reset-requires-clause-listed c =
+    subst (λ (l : Lock). Contains c.args.self.now.layout.locks l) (sym c.into_parts-cells.ensures.lock)
+    (all_last (λ (g : GrantOf). Contains c.args.self.now.layout.locks g.lock) c.pop.new.self.items c.in-Some.grant
+    (subst (All (λ (g : GrantOf). Contains c.args.self.now.layout.locks g.lock)) c.in-Some.ensures.items c.loop-grant.invariant.listed))
+
+pub reset-requires-clause-count : goal.reset-requires-clause-count
+reset-requires-clause-count c =
+    ap length c.into_parts-cells.ensures.cells
+    ∙ all_last (IsWhole c.args.self.now.layout.cell_locks) c.pop.new.self.items c.in-Some.grant
+    (subst (All (IsWhole c.args.self.now.layout.cell_locks)) c.in-Some.ensures.items c.loop-grant.invariant.whole)
+    ∙ ap (λ (l : Lock). length (cells_of c.args.self.now.layout.cell_locks l)) (sym c.into_parts-cells.ensures.lock)
+
+pub number_of-number-requires : goal.number_of-number-requires
+number_of-number-requires c =
+    subst (λ (l : Lock). Contains c.args.self.now.layout.locks l) (sym c.into_parts-cells.ensures.lock)
+    (all_last (λ (g : GrantOf). Contains c.args.self.now.layout.locks g.lock) c.pop.new.self.items c.in-Some.grant
+    (subst (All (λ (g : GrantOf). Contains c.args.self.now.layout.locks g.lock)) c.in-Some.ensures.items c.loop-grant.invariant.listed))

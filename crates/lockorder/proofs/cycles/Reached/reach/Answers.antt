@@ -2,7 +2,7 @@ use Rattle.std.proofs.Common.{◌<◌, not, length, sym, ap, ◌∙◌, arith}
 use Rattle.std.proofs.lemmas.Bool.{both_ways}
 use Rattle.lockorder.specs.Tables.{has_edge}
 use Rattle.lockorder.specs.declared.cycles.Reached.{Reached}
-use Rattle.lockorder.proofs.Reaching.{reached_within, reaching_take, reaching_skip, distance_read, distance_none, distance_some}
+use Rattle.lockorder.proofs.Reaching.{all_kept, reached_within, reached_room, reaching_take, reaching_skip, distance_read, distance_none, distance_some}
 use Rattle.lockorder.proofs.cycles.Reached.reach.Goals as goal
 use Rattle.lockorder.proofs.cycles.Reached.reach.Goals.{then-has_edge+then-is_none+in_ok-push, else-has_edge, else-has_edge-via-then-has_edge+else-is_none, else-has_edge-via-else-has_edge}
 
@@ -27,3 +27,47 @@ loop-before-preserved c =
         | else-has_edge-via-else-has_edge v ↦ absurd (both_ways (has_edge before b c.args.class) (sym c.has_edge.ensures ∙ v.if-has_edge.false) e)
       ])
     ]
+
+pub loop-before-init : goal.loop-before-init
+loop-before-init c = record {
+  reached = c.requires.reached;
+  kept = all_kept c.args.self.now;
+  done = λ b lt e. absurd (omega (arith, lt));
+}
+
+pub index-requires : goal.index-requires
+index-requires c =
+    omega (arith, reached_within c.args.table.now.before.items _ c.requires.reached c.args.class c.requires.class, c.requires.reached.long, c.args.self.now.distances.ok.0)
+
+pub returns-clause-reached : goal.returns-clause-reached
+returns-clause-reached c = c.loop-before.invariant.reached
+
+pub returns-clause-kept : goal.returns-clause-kept
+returns-clause-kept c = c.loop-before.invariant.kept
+
+pub returns-clause-done : goal.returns-clause-done
+returns-clause-done c b edge =
+    c.loop-before.invariant.done b
+    (omega (arith, c.args.table.now.within b c.args.class edge, c.loop-before-test.false, c.len-before-end.ensures, c.args.table.now.before.ok.0)) edge
+
+pub overflow_add-distance : goal.overflow_add-distance
+overflow_add-distance c =
+    let before = c.args.table.now.before.items in
+    let there : c.args.class < length c.args.self.now.distances.items =
+    omega (arith, reached_within before _ c.requires.reached c.args.class c.requires.class, c.requires.reached.long) in
+    let at = distance_read c.args.self.now.distances.items c.args.class c.index.result.now c.in-Some.distance there c.index.ensures c.in-Some.is in
+    omega (arith, c.requires.reached.small c.args.class c.in-Some.distance at, reached_room before _ c.requires.reached, c.args.table.now.few)
+
+pub has_edge-requires-clause-from : goal.has_edge-requires-clause-from
+has_edge-requires-clause-from c = omega (arith, c.loop-before-test.true, c.len-before-end.ensures, c.args.table.now.before.ok.0)
+
+pub has_edge-requires-clause-to : goal.has_edge-requires-clause-to
+has_edge-requires-clause-to c = reached_within c.args.table.now.before.items _ c.requires.reached c.args.class c.requires.class
+
+pub index-requires-then-has_edge : goal.index-requires-then-has_edge
+index-requires-then-has_edge c =
+    omega (arith, c.loop-before-test.true, c.len-before-end.ensures, c.args.table.now.before.ok.0, c.loop-before.invariant.reached.long, c.loop-before.self.distances.ok.0)
+
+pub index_mut-requires : goal.index_mut-requires
+index_mut-requires c =
+    omega (arith, c.loop-before-test.true, c.len-before-end.ensures, c.args.table.now.before.ok.0, c.loop-before.invariant.reached.long, c.loop-before.self.distances.ok.0)

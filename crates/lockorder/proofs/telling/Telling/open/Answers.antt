@@ -1,6 +1,8 @@
-use Rattle.std.proofs.Common.{◌++◌, [], ◌∷◌, None, ap, ◌∙◌}
-use Rattle.std.proofs.lemmas.List.{replicate_more}
+use Rattle.std.proofs.Common.{ap, ◌∙◌}
+use Rattle.lockorder.specs.Tellings.{told_at}
+use Rattle.lockorder.proofs.Lists.{none_only}
+use Rattle.lockorder.proofs.Tells.{none_told}
 use Rattle.lockorder.proofs.telling.Telling.open.Goals as goal
 
-pub loop-class-preserved : goal.loop-class-preserved
-loop-class-preserved c = c.in_ok-push.ensures.items ∙ ap (λ l. l ++ None ∷ []) c.loop-class.invariant ∙ replicate_more c.loop-class._class None
+pub returns-clause-none : goal.returns-clause-none
+returns-clause-none c i = ap (λ l. told_at l i) (c.in_ok-told.ensures.items_if_clones_equal (none_only _ (λ x e. e))) ∙ none_told _ i

@@ -1,7 +1,7 @@
-use Rattle.std.proofs.Common.{rules, ◌+◌, ◌*◌, ◌<◌, ◌++◌, ◌∙◌, refl, sym, ap, arith}
+use Rattle.std.proofs.Common.{rules, ◌+◌, ◌*◌, ◌<◌, ◌++◌, ◌∙◌, refl, sym, ap, arith, append-nil}
 use Rattle.flow.specs.Skeletons.{count, Nil}
 use Rattle.flow.specs.Parts.{skeleton_of, part_in_front}
-use Rattle.flow.specs.Theory.Held.{holds}
+use Rattle.flow.specs.Theory.Held.{holds, through}
 use Rattle.locks.specs.Sets.{has}
 use Rattle.points.specs.Passes.{column}
 use Rattle.flow.specs.Theory.HeldLists.{held_turn, through_turn}
@@ -11,6 +11,7 @@ use Rattle.points.specs.HeldPasses.{past_point}
 use Rattle.points.proofs.Arms.{as_point, as_if, as_while}
 use Rattle.points.proofs.HeldArms.{past_of, through_step, through_fork, through_loop, held_step, held_fork, held_loop}
 use Rattle.points.proofs.PairLists.{has_point}
+use Rattle.std.proofs.lemmas.List.{at_drop_all}
 use Rattle.points.proofs.held.Held.+push.Goals as goal
 
 pub push-loop-part-preserved : goal.push-loop-part-preserved
@@ -133,3 +134,22 @@ push-push_part-requires t c =
     let all = count_drop c.args.parts.now c.loop-part.part-index in
     let falls : 2 * count (part_in_front c.part-item.result Nil) < 2 * count (skeleton_of c.args.parts.now) + 1 = omega (arith, turn, all) in
     (search rules, (omega (arith, turn, c.loop-part.invariant.len, c.requires.wanted), omega (arith, turn, c.loop-part.invariant.len, c.requires.bound)))
+
+pub push-loop-part-init : goal.push-loop-part-init
+push-loop-part-init t c = record { sets = λ k. refl; len = refl; set = λ k. refl }
+
+pub push-returns-clause-sets : goal.push-returns-clause-sets
+push-returns-clause-sets t c = λ k.
+    let sets = c.loop-part.sets in
+    sym (append-nil (column k sets.items))
+    ∙ sym (at_drop_all (λ ps. column k sets.items ++ holds (past_point c.args.self.now k) and (skeleton_of ps) sets.len (has c.loop-part.all k)) c.args.parts.now c.loop-part.part-index c.loop-part-test.false)
+    ∙ c.loop-part.invariant.sets k
+
+pub push-returns-clause-len : goal.push-returns-clause-len
+push-returns-clause-len t c =
+    omega (arith, at_drop_all (λ ps. count (skeleton_of ps)) c.args.parts.now c.loop-part.part-index c.loop-part-test.false, c.loop-part.invariant.len)
+
+pub push-returns-clause-set : goal.push-returns-clause-set
+push-returns-clause-set t c = λ k.
+    sym (at_drop_all (λ ps. through (past_point c.args.self.now k) and (skeleton_of ps) c.loop-part.sets.len (has c.loop-part.all k)) c.args.parts.now c.loop-part.part-index c.loop-part-test.false)
+    ∙ c.loop-part.invariant.set k

@@ -1,4 +1,4 @@
-use Rattle.std.proofs.Common.{rules, ◌+◌, ◌*◌, ◌<◌, ◌∙◌, refl, ap, arith}
+use Rattle.std.proofs.Common.{rules, ◌+◌, ◌*◌, ◌<◌, ◌∙◌, refl, ap, arith, sym}
 use Rattle.flow.specs.Skeletons.{count, Nil}
 use Rattle.flow.specs.Parts.{skeleton_of, part_in_front}
 use Rattle.flow.specs.Theory.HeldLists.{through_turn}
@@ -8,6 +8,9 @@ use Rattle.points.specs.HeldPasses.{past_point}
 use Rattle.points.proofs.Arms.{as_point, as_if, as_while}
 use Rattle.points.proofs.HeldArms.{through_step, through_fork}
 use Rattle.points.proofs.PairLists.{has_point}
+use Rattle.std.proofs.lemmas.List.{at_drop_all}
+use Rattle.flow.specs.Theory.Held.{through}
+use Rattle.locks.specs.Sets.{has}
 use Rattle.points.proofs.held.Held.+through.Goals as goal
 
 pub through-loop-part-preserved : goal.through-loop-part-preserved
@@ -76,3 +79,12 @@ through_part-through-end-requires-in-While t c =
     let is = ap count (as_while c.args.part.now _ _ c.in-While.is c.deref-in-While.ensures.value) in
     let falls : 2 * count (skeleton_of c.deref-in-While.result.now) + 1 < 2 * count (part_in_front c.args.part.now Nil) = omega (arith, is) in
     (search rules, (omega (arith, is, c.requires.wanted), omega (arith, is, c.requires.bound)))
+
+pub through-returns-clause-set : goal.through-returns-clause-set
+through-returns-clause-set t c = λ k.
+    sym (at_drop_all (λ ps. through (past_point c.args.self.now k) and (skeleton_of ps) c.loop-part.at (has c.loop-part.all k)) c.args.parts.now c.loop-part.part-index c.loop-part-test.false)
+    ∙ c.loop-part.invariant.set k
+
+pub through-returns-clause-next : goal.through-returns-clause-next
+through-returns-clause-next t c =
+    omega (arith, at_drop_all (λ ps. count (skeleton_of ps)) c.args.parts.now c.loop-part.part-index c.loop-part-test.false, c.loop-part.invariant.next)

@@ -1,7 +1,7 @@
 use Rattle.std.proofs.Common.{subst}
 use Rattle.std.proofs.lemmas.List.{take_all}
-use Rattle.points.specs.Scoping.{IsAfter, behind_block}
-use Rattle.points.proofs.Scopings.{scopes_if, scopes_if_else, scopes_while, scopes_turn, behind_turn}
+use Rattle.points.specs.Scoping.{AreScopes, IsAfter, of_block, behind_block}
+use Rattle.points.proofs.Scopings.{scopes_none, scopes_if, scopes_if_else, scopes_while, scopes_turn, behind_turn}
 use Rattle.points.proofs.roots.Roots.+scopes.Goals as goal
 
 pub push_block-loop-statement-preserved : goal.push_block-loop-statement-preserved
@@ -35,3 +35,14 @@ pub push_block-returns-clause-behind : goal.push_block-returns-clause-behind
 push_block-returns-clause-behind t c =
     let all = take_all c.loop-statement.statement-index c.args.statements.now c.loop-statement-test.false in
     subst (λ ss. IsAfter c.args.self.now.paths.now c.args.scope (behind_block ss) c.loop-statement.now) all c.loop-statement.invariant.behind
+
+pub push_block-loop-statement-init : goal.push_block-loop-statement-init
+push_block-loop-statement-init t c = record {
+  sets = scopes_none c.args.self.now.paths.now c.args.scope c.args.sets.now;
+  behind = λ locals opens. opens;
+}
+
+pub push_block-returns-clause-sets : goal.push_block-returns-clause-sets
+push_block-returns-clause-sets t c =
+    let all = take_all c.loop-statement.statement-index c.args.statements.now c.loop-statement-test.false in
+    subst (λ ss. AreScopes c.args.self.now.paths.now c.args.scope (of_block ss) c.args.sets.now c.loop-statement.sets) all c.loop-statement.invariant.sets

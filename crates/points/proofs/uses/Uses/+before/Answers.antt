@@ -1,11 +1,14 @@
-use Rattle.std.proofs.Common.{rules, ◌≡◌, ◌+◌, ◌*◌, ◌-◌, ◌<◌, ◌∙◌, refl, ap, arith}
+use Rattle.std.proofs.Common.{rules, ◌≡◌, ◌+◌, ◌*◌, ◌-◌, ◌<◌, ◌∙◌, refl, ap, arith, ◌++◌, sym, append-nil}
 use Rattle.flow.specs.Skeletons.{count, Nil}
 use Rattle.flow.specs.Parts.{skeleton_of, part_in_front}
 use Rattle.flow.specs.Theory.Gather.{or}
 use Rattle.flow.specs.Theory.Joined.{count_turn, count_drop, gather_turn, before_turn}
-use Rattle.points.specs.Passes.{uses}
+use Rattle.points.specs.Passes.{uses, column}
 use Rattle.points.proofs.Arms.{as_point, as_if, as_while, with_point, gathered_step, gathered_fork, gathered_loop, before_step, before_fork, before_loop}
 use Rattle.points.proofs.PairLists.{has_point}
+use Rattle.std.proofs.lemmas.List.{at_drop_all}
+use Rattle.flow.specs.Theory.Passes.{gather, befores}
+use Rattle.locks.specs.Sets.{has}
 use Rattle.points.proofs.uses.Uses.+before.Goals as goal
 
 pub before-loop-part-preserved : goal.before-loop-part-preserved
@@ -108,3 +111,22 @@ before_part-returns-in_ok-push_times-in-While-clause-set t c =
     gathered_loop r n _ _ _ c.args.earlier c.union-here.result c.gather-end.result.0 (as_while c.args.part.now _ _ c.in-While.is c.deref-in-While.ensures.value)
     (ap (λ m. m + 1) c.len-n.ensures)
     (with_point r n c.len-n.result c.args.earlier c.at.result c.union-here.result c.len-n.ensures c.at.ensures c.union-here.ensures) c.gather-end.ensures.set
+
+pub before-loop-part-init : goal.before-loop-part-init
+before-loop-part-init t c = record { sets = λ k. refl; len = refl; set = λ k. refl }
+
+pub before-returns-clause-sets : goal.before-returns-clause-sets
+before-returns-clause-sets t c = λ k.
+    let sets = c.loop-part.sets in
+    sym (append-nil (column k sets.items))
+    ∙ sym (at_drop_all (λ ps. column k sets.items ++ befores or (uses c.args.self.now k) (skeleton_of ps) sets.len (has c.loop-part.all k)) c.args.parts.now c.loop-part.part-index c.loop-part-test.false)
+    ∙ c.loop-part.invariant.sets k
+
+pub before-returns-clause-len : goal.before-returns-clause-len
+before-returns-clause-len t c =
+    omega (arith, at_drop_all (λ ps. count (skeleton_of ps)) c.args.parts.now c.loop-part.part-index c.loop-part-test.false, c.loop-part.invariant.len)
+
+pub before-returns-clause-set : goal.before-returns-clause-set
+before-returns-clause-set t c = λ k.
+    sym (at_drop_all (λ ps. gather or (uses c.args.self.now k) (skeleton_of ps) c.loop-part.sets.len (has c.loop-part.all k)) c.args.parts.now c.loop-part.part-index c.loop-part-test.false)
+    ∙ c.loop-part.invariant.set k

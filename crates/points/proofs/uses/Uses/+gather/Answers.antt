@@ -1,4 +1,4 @@
-use Rattle.std.proofs.Common.{rules, ◌+◌, ◌*◌, ◌<◌, ◌∙◌, refl, ap, arith}
+use Rattle.std.proofs.Common.{rules, ◌+◌, ◌*◌, ◌<◌, ◌∙◌, refl, ap, arith, sym}
 use Rattle.flow.specs.Skeletons.{count, Nil}
 use Rattle.flow.specs.Parts.{skeleton_of, part_in_front}
 use Rattle.flow.specs.Theory.Gather.{or}
@@ -6,6 +6,9 @@ use Rattle.flow.specs.Theory.Joined.{count_turn, count_drop, gather_turn}
 use Rattle.points.specs.Passes.{uses}
 use Rattle.points.proofs.Arms.{as_point, as_if, as_while, with_point, gathered_step, gathered_fork}
 use Rattle.points.proofs.PairLists.{has_point}
+use Rattle.std.proofs.lemmas.List.{at_drop_all}
+use Rattle.flow.specs.Theory.Passes.{gather}
+use Rattle.locks.specs.Sets.{has}
 use Rattle.points.proofs.uses.Uses.+gather.Goals as goal
 
 pub gather-loop-part-preserved : goal.gather-loop-part-preserved
@@ -72,3 +75,12 @@ gather_part-gather-requires t c =
     let is = ap count (as_while c.args.part.now _ _ c.in-While.is c.deref-in-While.ensures.value) in
     let falls : 2 * count (skeleton_of c.deref-in-While.result.now) + 1 < 2 * count (part_in_front c.args.part.now Nil) = omega (arith, is) in
     (search rules, omega (arith, is, c.requires))
+
+pub gather-returns-clause-set : goal.gather-returns-clause-set
+gather-returns-clause-set t c = λ k.
+    sym (at_drop_all (λ ps. gather or (uses c.args.self.now k) (skeleton_of ps) c.loop-part.at (has c.loop-part.all k)) c.args.parts.now c.loop-part.part-index c.loop-part-test.false)
+    ∙ c.loop-part.invariant.set k
+
+pub gather-returns-clause-next : goal.gather-returns-clause-next
+gather-returns-clause-next t c =
+    omega (arith, at_drop_all (λ ps. count (skeleton_of ps)) c.args.parts.now c.loop-part.part-index c.loop-part-test.false, c.loop-part.invariant.next)

@@ -4,7 +4,8 @@ use Rattle.flow.specs.Parts.{skeleton_of, part_in_front}
 use Rattle.flow.specs.Theory.Gather.{or}
 use Rattle.flow.specs.Theory.Joined.{later_turn, behind_turn, start_turn, count_room}
 use Rattle.points.specs.Passes.{uses}
-use Rattle.points.proofs.Arms.{as_if, as_while, with_point, behind_fork, later_fork, later_loop_of}
+use Rattle.points.proofs.Arms.{as_point, as_if, as_while, with_point, behind_step, behind_fork, behind_loop, later_step, later_fork, later_loop_of}
+use Rattle.points.proofs.PairLists.{has_point}
 use Rattle.points.proofs.uses.Uses.+later.Goals as goal
 
 pub later-later_part-requires : goal.later-later_part-requires
@@ -65,3 +66,67 @@ later_part-later-requires-in-If t c =
     let two = c.in_ok-two-in-If.ensures.start in
     let falls : 2 * count (skeleton_of c.deref-in-If.result.now) + 1 < 2 * count (part_in_front c.args.part.now Nil) = omega (arith, is) in
     (search rules, (omega (arith, is, two, c.requires.low), omega (arith, two, c.requires.high)))
+
+pub later_part-overflow_sub-n : goal.later_part-overflow_sub-n
+later_part-overflow_sub-n t c = omega (arith, has_point c.args.part.now, c.requires.low)
+
+pub later_part-at-requires : goal.later_part-at-requires
+later_part-at-requires t c = omega (arith, has_point c.args.part.now, c.requires.low, c.requires.high)
+
+pub later_part-returns-in_ok-push-in-Point-clause-sets : goal.later_part-returns-in_ok-push-in-Point-clause-sets
+later_part-returns-in_ok-push-in-Point-clause-sets t c =
+    later_step c.args.self.now (c.args.end - 1) _ c.args.behind c.args.sets.now c.push.new.self (as_point c.args.part.now c.in-Point.is) c.in_ok-push-in-Point.ensures.items
+
+pub later_part-returns-in_ok-push-in-Point-clause-start : goal.later_part-returns-in_ok-push-in-Point-clause-start
+later_part-returns-in_ok-push-in-Point-clause-start t c = omega (arith, ap count (as_point c.args.part.now c.in-Point.is), c.requires.low)
+
+pub later_part-returns-in_ok-push-in-Point-clause-set : goal.later_part-returns-in_ok-push-in-Point-clause-set
+later_part-returns-in_ok-push-in-Point-clause-set t c =
+    let n = c.args.end - 1 in
+    behind_step c.args.self.now n _ c.args.behind c.union.result (as_point c.args.part.now c.in-Point.is)
+    (with_point c.args.self.now n n c.args.behind c.at.result c.union.result refl c.at.ensures c.union.ensures)
+
+pub later_part-overflow_sub-n-in-If : goal.later_part-overflow_sub-n-in-If
+later_part-overflow_sub-n-in-If t c =
+    let is = ap count (as_if c.args.part.now _ _ _ _ c.in-If.is c.deref-in-If.ensures.value c.deref.ensures.value) in
+    omega (arith, is, c.in_ok-one-in-If.ensures.start, c.in_ok-two-in-If.ensures.start, c.requires.low)
+
+pub later_part-at-requires-in-If : goal.later_part-at-requires-in-If
+later_part-at-requires-in-If t c =
+    let is = ap count (as_if c.args.part.now _ _ _ _ c.in-If.is c.deref-in-If.ensures.value c.deref.ensures.value) in
+    omega (arith, is, c.in_ok-one-in-If.ensures.start, c.in_ok-two-in-If.ensures.start, c.requires.low, c.requires.high)
+
+pub later_part-returns-in_ok-push-in-If-clause-start : goal.later_part-returns-in_ok-push-in-If-clause-start
+later_part-returns-in_ok-push-in-If-clause-start t c =
+    let is = ap count (as_if c.args.part.now _ _ _ _ c.in-If.is c.deref-in-If.ensures.value c.deref.ensures.value) in
+    omega (arith, is, c.in_ok-one-in-If.ensures.start, c.in_ok-two-in-If.ensures.start, c.requires.low)
+
+pub later_part-points_in-points-requires : goal.later_part-points_in-points-requires
+later_part-points_in-points-requires t c =
+    omega (arith, ap count (as_while c.args.part.now _ _ c.in-While.is c.deref-in-While.ensures.value), c.requires.low, c.ranges.end)
+
+pub later_part-overflow_sub-n-in-While : goal.later_part-overflow_sub-n-in-While
+later_part-overflow_sub-n-in-While t c =
+    omega (arith, ap count (as_while c.args.part.now _ _ c.in-While.is c.deref-in-While.ensures.value), c.points_in-points.ensures, c.requires.low)
+
+pub later_part-at-requires-in-While : goal.later_part-at-requires-in-While
+later_part-at-requires-in-While t c =
+    omega (arith, ap count (as_while c.args.part.now _ _ c.in-While.is c.deref-in-While.ensures.value), c.points_in-points.ensures, c.requires.low, c.requires.high)
+
+pub later_part-gather-requires : goal.later_part-gather-requires
+later_part-gather-requires t c =
+    let one = ap count (as_while c.args.part.now _ _ c.in-While.is c.deref-in-While.ensures.value) in
+    let two = ap count (as_while c.args.part.now _ _ c.in-While.is c.deref-in-While-2.ensures.value) in
+    omega (arith, one, two, c.points_in-points.ensures, c.requires.low, c.requires.high)
+
+pub later_part-returns-in_ok-push_times-in-While-clause-start : goal.later_part-returns-in_ok-push_times-in-While-clause-start
+later_part-returns-in_ok-push_times-in-While-clause-start t c =
+    omega (arith, ap count (as_while c.args.part.now _ _ c.in-While.is c.deref-in-While.ensures.value), c.points_in-points.ensures, c.requires.low)
+
+pub later_part-returns-in_ok-push_times-in-While-clause-set : goal.later_part-returns-in_ok-push_times-in-While-clause-set
+later_part-returns-in_ok-push_times-in-While-clause-set t c =
+    let n = c.args.end - c.points_in-points.result - 1 in
+    behind_loop c.args.self.now n _ _ _ c.args.behind c.union-here.result c.gather.result.0
+    (as_while c.args.part.now _ _ c.in-While.is c.deref-in-While-2.ensures.value) refl
+    (with_point c.args.self.now n n c.args.behind c.at-in-While.result c.union-here.result refl c.at-in-While.ensures c.union-here.ensures)
+    c.gather.ensures.set

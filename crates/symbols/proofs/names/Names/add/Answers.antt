@@ -7,9 +7,9 @@ use Rattle.symbols.specs.Found.{found}
 use Rattle.symbols.proofs.Tables.{table-first}
 use Rattle.symbols.proofs.names.Names.add.Goals as goal
 
-pub returns-in_ok-insert : goal.returns-in_ok-insert
-returns-in_ok-insert c = λ q.
-    let same : string_bytes c.in_ok-from_str.field-0 ≡ rc_str_bytes c.args.name.now = search rules in
+pub returns : goal.returns
+returns c = λ q.
+    let same : string_bytes c.in_ok-key.key ≡ rc_str_bytes c.args.name.now = search rules in
     let none : found c.args.self.now (rc_str_bytes c.args.name.now) ≡ None = search rules in
-    hash_map_updates_text (string_bytes c.in_ok-from_str.field-0) c.args.self.now.places c.insert.new.self (Some c.args.place) c.in_ok-insert.ensures.updates q
+    hash_map_updates_text (string_bytes c.in_ok-key.key) c.args.self.now.places c.insert.new.self (Some c.args.place) c.in_ok-insert.ensures.updates q
     ∙ ap (λ (k : List ℕ). update bytes_eq (found c.args.self.now) k (Some c.args.place) q) same ∙ table-first (found c.args.self.now) (rc_str_bytes c.args.name.now) q c.args.place none

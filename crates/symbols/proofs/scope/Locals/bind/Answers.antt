@@ -1,20 +1,23 @@
-use Rattle.std.proofs.Common.{◌≡◌, ◌∙◌, ap, sym, subst, arith, List, ℕ, [], ◌∷◌, ◌++◌, length, Some, None, if◌then◌else◌, true}
-use Rattle.std.proofs.lemmas.Grind.{common_steps}
+use Rattle.std.proofs.Common.{◌≡◌, ◌∙◌, ap, sym, subst, List, ℕ, [], ◌∷◌, ◌++◌, length, Some, None, if◌then◌else◌, true, string_bytes, rules}
+use Rattle.std.proofs.lemmas.List.{map-append, length-map}
 use Rattle.std.specs.Option.{option_or}
 use Rattle.std.specs.Rc.{rc_str_bytes}
 use Rattle.std.specs.Str.{bytes_eq}
 use Rattle.resolution.specs.Scopes.{Local, local_bears}
 use Rattle.symbols.specs.Found.{found, IsTableOf}
-use Rattle.symbols.specs.Scoped.{locals_seen}
+use Rattle.symbols.specs.Scoped.{local_seen, locals_seen}
 use Rattle.symbols.proofs.Tables.{table-more}
 use Rattle.symbols.proofs.scope.Locals.bind.Goals as goal
 
-pub invariant_of-self-in_default-push : goal.invariant_of-self-in_default-push
-invariant_of-self-in_default-push c =
-    let here : Local = record { name = rc_str_bytes c.args.name.now.text; kind = c.args.kind; value_type = c.args.value_type; is_visible = true } in
-    let old = locals_seen c.self.inside.items.items in
-    let same : locals_seen c.push.new.self.items ≡ old ++ here ∷ [] = grind (arith, common_steps) in
-    let place : c.len.result ≡ length old = grind (arith, common_steps) in
-    let P : List Local → Type 0 = λ ws. IsTableOf local_bears ws c.add.new.self in
-    subst P (sym same) (table-more local_bears old here c.self.inside.names c.add.new.self c.self.invariant
-    (λ q. c.in_default.ensures q ∙ ap (λ (n : ℕ). option_or (found c.self.inside.names q) (if bytes_eq q here.name then Some n else None)) place))
+pub invariant_of-self : goal.invariant_of-self
+invariant_of-self c =
+    let s = c.self.inside in
+    let named : List ℕ → Local = λ n. record { name = n; kind = c.args.kind; value_type = c.args.value_type; is_visible = true } in
+    let text = rc_str_bytes c.args.name.now.text in
+    let old = locals_seen s.items.items in
+    let name : string_bytes c.in_ok-from_str.field-0 ≡ text = search rules in
+    let same : locals_seen c.push_local.new.items.items ≡ old ++ named text ∷ [] =
+    ap locals_seen c.in-Ok.ensures.items ∙ map-append local_seen s.items.items (_ ∷ []) ∙ ap (λ (n : List ℕ). old ++ named n ∷ []) name in
+    let place : length s.items.items ≡ length old = sym (length-map s.items.items local_seen) in
+    subst (λ (ws : List Local). IsTableOf local_bears ws c.push_local.new.names) (sym same) (table-more local_bears old (named text) s.names c.push_local.new.names c.self.invariant
+    (λ q. c.in-Ok.ensures.names q ∙ ap (λ (n : ℕ). option_or (found s.names q) (if bytes_eq q text then Some n else None)) place))

@@ -1,7 +1,6 @@
 use Rattle.std.proofs.Common.{◌≡◌, ◌∙◌, ap, sym, List, Some}
 use Rattle.std.specs.Prelude.{option_map, slice_get}
 use Rattle.syntax.specs.declared.tree.Decl as rust
-use Rattle.syntax.specs.Trees.{Decl}
 use Rattle.syntax.specs.Views.{decl_of}
 use Rattle.resolution.specs.Scopes.{place_of}
 use Rattle.resolution.specs.Constants.{gives, giver, value_in}

@@ -1,0 +1,13 @@
+use Rattle.std.proofs.Common.{◌++◌, ◌∷◌, [], replicate, ap, ◌∙◌, append_assoc, arith}
+use Rattle.std.proofs.lemmas.List.{replicate_more}
+use Rattle.points.proofs.uses.push_times.Goals as goal
+
+pub loop-time-preserved : goal.loop-time-preserved
+loop-time-preserved c =
+    let first = c.args.sets.now.items in
+    let n = c.loop-time._time in
+    record {
+      items = c.in_ok-push.ensures.items ∙ ap (λ l. l ++ c.args.set ∷ []) c.loop-time.invariant.items ∙ append_assoc first (replicate n c.args.set) (c.args.set ∷ [])
+          ∙ ap (λ l. first ++ l) (replicate_more n c.args.set);
+      len = omega (arith, c.in_ok-push.ensures.len, c.loop-time.invariant.len);
+    }

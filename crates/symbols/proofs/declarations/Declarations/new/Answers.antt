@@ -1,0 +1,10 @@
+use Rattle.std.proofs.Common.{[], ◌∙◌}
+use Rattle.resolution.specs.FaultLists.{twice_faults, struct_faults}
+use Rattle.symbols.specs.Views.{decls_of}
+use Rattle.symbols.specs.Steps.{noted_one}
+use Rattle.symbols.proofs.declarations.Declarations.new.Goals as goal
+
+pub returns-clause-faults : goal.returns-clause-faults
+returns-clause-faults c =
+    let decls = decls_of c.args.items.now in
+    c.in-Ok-judge_structs.ensures.faults ∙ noted_one c.args.least.now c.judge_names.new.least (twice_faults [] decls) (struct_faults decls) c.in-Ok.ensures.faults

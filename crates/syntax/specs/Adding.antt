@@ -1,0 +1,8 @@
+-- What a printer writes.
+use Rattle.std.specs.Prelude.{◌≡◌, ℕ, List, ◌++◌, false, string_bytes}
+use Rattle.syntax.specs.declared.printer.Printer.{Printer}
+
+-- where no growth was refused up to the end, none was at the start, and the text behind what was there is this one
+pub record Adds (before after : Printer) (text : List ℕ) : Type 0 where
+  pub unrefused : after.is_refused ≡ false → before.is_refused ≡ false
+  pub bytes : after.is_refused ≡ false → string_bytes after.text ≡ string_bytes before.text ++ text

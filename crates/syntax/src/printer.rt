@@ -1,0 +1,77 @@
+//! A text that grows until memory is refused.
+
+ghost use Rattle.std.specs.Prelude.{◌≡◌, ◌++◌, [], IfOk, OnOk, false, string_bytes};
+ghost use Rattle.std.specs.Fmt.{decimal};
+ghost use Rattle.syntax.specs.Views.{ident};
+ghost use Rattle.syntax.specs.Adding.{Adds};
+
+use crate::tree::Name;
+use source::memory::NoMemory;
+use std::alloc::{AllocError, Global};
+
+/// A text, and whether a growth of it was refused. From then on nothing is added, and `finish`
+/// gives the error, so what adds several pieces has no way out behind each.
+#[derive(Drop)]
+pub struct Printer {
+    pub text: String,
+    pub is_refused: bool,
+}
+
+impl Printer {
+    pub fn new(alloc: Global) -> Printer
+        ensures { string_bytes result.text ≡ [] }
+    {
+        Printer {
+            text: String::new(alloc),
+            is_refused: false,
+        }
+    }
+
+    pub fn push_str(&mut self, piece: &str)
+        ensures { Adds self.old self.new piece.now }
+    {
+        if self.is_refused {
+            return;
+        }
+        self.is_refused = self.text.push_str(piece).is_err();
+    }
+
+    pub fn push_name(&mut self, name: &Name)
+        ensures { Adds self.old self.new (ident name.now).text }
+    {
+        self.push_str(name.text.as_str());
+    }
+
+    /// A name behind a piece.
+    pub fn push_named(&mut self, before: &str, name: &Name)
+        ensures { Adds self.old self.new (before.now ++ (ident name.now).text) }
+    {
+        self.push_str(before);
+        self.push_name(name);
+    }
+
+    pub fn push_number(&mut self, n: u64)
+        ensures { Adds self.old self.new (decimal n) }
+    {
+        if self.is_refused {
+            return;
+        }
+        self.is_refused = append_number(&mut self.text, n).is_err();
+    }
+
+    /// The text, unless a growth of it was refused.
+    pub fn finish(self) -> Result<String, NoMemory>
+        ensures { IfOk result (λ text. self.is_refused ≡ false × (text ≡ self.text)) }
+    {
+        if self.is_refused {
+            return Err(NoMemory);
+        }
+        Ok(self.text)
+    }
+}
+
+fn append_number(text: &mut String, n: u64) -> Result<(), AllocError>
+    ensures { OnOk result (string_bytes text.new ≡ string_bytes text.old ++ decimal n) }
+{
+    write!(text, "{n}")
+}
