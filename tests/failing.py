@@ -17,7 +17,7 @@ The program is run once to count its calls, and then once for each of them with 
 tests/failing/failing.c does where it is preloaded. A refused growth must end with status 4, the line
 `autolock: no memory` and nothing written; a failed read with status 3 and `autolock: cannot read NAME`; a failed write
 of a text with status 3 and `autolock: cannot write`, and of a line of standard error with the status that the whole run
-has. `cases` must end with 4, or find all as wanted; of the tests one at most may fail, by an error that says that memory
+has. `cases` must end with 4, or find all as wanted; a test must pass, or fail by an error that says that memory
 was refused. The last line is 'N runs, M failed'; exit status 1 where M is not 0.
 """
 import argparse
@@ -74,19 +74,16 @@ def wrong_cases(whole, ended, _names):
     return None if is_right and b", 0 not as wanted" in whole.stdout else "neither status 4 nor all as wanted"
 
 
-TEST = re.compile(rb"^test (\S+) \.\.\. (\w+)", re.M)
-REFUSED = re.compile(rb"FAILED\s+(?:error: )?(NoMemory|AllocError|AllocFailed|OutOfMemory|Memory)\b")
+REFUSED = re.compile(rb"error: (NoMemory|AllocError|AllocFailed|OutOfMemory)\b")
 
 
-def wrong_tests(whole, ended, _names):
-    """What is wrong with a run of the tests that was refused a growth, or nothing."""
-    tests = TEST.findall(ended.stdout + ended.stderr)
-    fails = [name for name, said in tests if said != b"ok"]
-    if len(tests) != len(TEST.findall(whole.stdout + whole.stderr)):
-        return "not every test was run"
-    if len(fails) > 1 or len(fails) != len(REFUSED.findall(ended.stdout + ended.stderr)):
-        return f"another answer of {b', '.join(fails).decode()}"
-    return None if (ended.returncode != 0) == bool(fails) else "a status that says otherwise"
+def passes(ended):
+    return ended.returncode == 0 and b"test result: ok" in ended.stdout + ended.stderr
+
+
+def wrong_test(whole, ended, _names):
+    """What is wrong with a run of a test that was refused a growth, or nothing: it may then pass or tell so."""
+    return None if passes(whole) and (passes(ended) or REFUSED.match(ended.stderr)) else "another answer"
 
 
 def fail_each(part):
@@ -128,7 +125,9 @@ def of_cases(a):
 
 def of_unit_tests(a):
     program = str((a.program or TOP / "crates/unit_tests/out/unit_tests_tests").resolve())
-    yield Subject([program], [], {"growth": wrong_tests}, a.every)
+    listed = subprocess.run([program, "--list"], capture_output=True, check=True, text=True)
+    for name in re.findall(r"^(\S+): test$", listed.stdout + listed.stderr, re.M):
+        yield Subject([program, name], [], {"growth": wrong_test}, a.every)
 
 
 def main():
