@@ -1,6 +1,6 @@
 //! The listing of a program's code, put together piece by piece. The one error is a refused growth.
 
-ghost use Rattle.std.specs.Prelude.{◌≡◌, ◌+◌, OnOk, IfOk, string_bytes};
+ghost use Rattle.std.specs.Prelude.{◌≡◌, ◌+◌, ◌++◌, codes, OnOk, IfOk, string_bytes};
 ghost use Rattle.std.specs.Fmt.{decimal};
 ghost use Rattle.std.proofs.Props.{props};
 ghost use Rattle.code.specs.Listing.{named, global_text, final_text, field_text, operator_text, comparison_text, paths_text, acquired_text, instr_text, code_text, section_text, listing_text};
@@ -29,6 +29,20 @@ fn push_named(out: &mut String, names: &[String], number: usize) -> Result<(), A
         Some(name) => out.push_str(name.as_str()),
         None => Ok(()),
     }
+}
+
+/// A member of a struct, as `S.f`, by its number among the members of its kind.
+fn push_member(
+    out: &mut String,
+    structure: &str,
+    members: &[String],
+    number: usize,
+) -> Result<(), AllocError>
+    ensures { OnOk result (AddsText (structure.now ++ codes "." ++ named members.now number) out.old out.new) }
+{
+    out.push_str(structure)?;
+    out.push_str(".")?;
+    push_named(out, members, number)
 }
 
 /// The place behind `over` instructions after the one at `place`.
@@ -171,24 +185,20 @@ impl<'a> Lister<'a> {
     fn push_final(&self, out: &mut String, structure: usize, number: u32) -> Result<(), AllocError>
         ensures { OnOk result (AddsText (final_text self.now.names.now structure number) out.old out.new) }
     {
-        let Some(structure) = self.names.structs.get(structure) else {
-            return Ok(());
-        };
-        out.push_str(structure.name.as_str())?;
-        out.push_str(".")?;
-        push_named(out, &structure.finals, number as usize)
+        match self.names.structs.get(structure) {
+            Some(names) => { push_member(out, names.name.as_str(), &names.finals, number as usize) }
+            None => Ok(()),
+        }
     }
 
     // A field of a struct, as `S.f`.
     fn push_field(&self, out: &mut String, structure: usize, number: u32) -> Result<(), AllocError>
         ensures { OnOk result (AddsText (field_text self.now.names.now structure number) out.old out.new) }
     {
-        let Some(structure) = self.names.structs.get(structure) else {
-            return Ok(());
-        };
-        out.push_str(structure.name.as_str())?;
-        out.push_str(".")?;
-        push_named(out, &structure.fields, number as usize)
+        match self.names.structs.get(structure) {
+            Some(names) => { push_member(out, names.name.as_str(), &names.fields, number as usize) }
+            None => Ok(()),
+        }
     }
 
     // What stands behind the word of an instruction at this place of a section.

@@ -1,16 +1,17 @@
 -- Values of cells.
-use Rattle.std.proofs.Common.{◌≡◌, ◌≢◌, ℕ, zero, suc, ◌+◌, ◌-◌, ◌<◌, ◌≤◌, List, [], ◌∷◌, ◌++◌, length, take, get_or, Option, Some, None, ◌⊎◌, refl, sym, ap, ◌∙◌, subst, arith, inl, inr}
+use Rattle.std.proofs.Common.{◌≡◌, ◌≢◌, ℕ, zero, suc, ◌+◌, ◌-◌, ◌<◌, ◌≤◌, List, [], ◌∷◌, ◌++◌, length, take, get_or, Option, Some, None, ◌⊎◌, refl, sym, ap, ◌∙◌, subst, arith, inl, inr, drop, set}
 use Rattle.std.specs.Prelude.{slice_get, nat_eq, if◌then◌else◌}
 use Rattle.std.specs.List.{All, Contains}
 use Rattle.std.proofs.Math.ListN.{length-set}
 use Rattle.std.proofs.lemmas.Bool.Decides.{eqb_tells}
 use Rattle.std.proofs.lemmas.Bool.{cases_eq}
-use Rattle.std.proofs.lemmas.List.{take_all, take_more}
+use Rattle.std.proofs.lemmas.List.{take_all, take_more, at_drop_all}
 use Rattle.std.proofs.lemmas.Option.{none-some, slice_get_within, slice_get-get_or}
 use Rattle.core_lang.specs.declared.value.Value.{Value}
 use Rattle.code.specs.Memory.{value_at, overwritten, Agrees}
 use Rattle.moved_cells.specs.Grants.{numbered, values_on, if_there}
 use Rattle.lock_manager.specs.Ties.{Rise}
+use Rattle.std.proofs.Math.Seq.{drop-cons}
 
 -- ---- what was read
 
@@ -220,3 +221,31 @@ value_among heap (c ∷ cs) cell all k =
       | inr h ↦ first_is_not c cell v.0 (value_at (numbered cs (values_on heap cs)) cell) h.1
           ∙ later_cell (value_at (numbered cs (values_on heap cs)) cell ≡ slice_get heap cell) c cell cs k.0 k.1 k.2 h.1 (λ there. value_among heap cs cell rest there)
     ]
+
+-- ---- one write more
+
+pub rise_more : (ws : List (ℕ × Value)) (k : ℕ) (w : ℕ × Value) → 1 ≤ k → k < length ws → ((i : ℕ) (d : ℕ × Value) → i + 1 < k → (get_or ws i d).0 < (get_or ws (i + 1) d).0) →
+    (get_or ws (k - 1) w).0 < (get_or ws k w).0 → (i : ℕ) (d : ℕ × Value) → i + 1 < k + 1 → (get_or ws i d).0 < (get_or ws (i + 1) d).0
+rise_more ws k w low lt rise step i d within = elim (cases_eq (i + 1) k) [
+  | inl e ↦ (
+      let first : k - 1 ≡ i = omega (arith, e) in
+      let here = ap (λ (x : ℕ × Value). x.0) (same_default ws i d w (omega (arith, e, lt))) in
+      let next = ap (λ (x : ℕ × Value). x.0) (same_default ws (i + 1) d w (omega (arith, e, lt))) in
+      let less = subst (λ (n : ℕ). (get_or ws i w).0 < (get_or ws n w).0) (sym e) (subst (λ (n : ℕ). (get_or ws n w).0 < (get_or ws k w).0) first step) in
+      omega (arith, here, next, less))
+  | inr ne ↦ rise i d (omega (arith, within, ne))
+]
+
+-- the writes are made from the last to the first
+pub one_more_made : (heap : List Value) (ws : List (ℕ × Value)) (left : ℕ) (d : ℕ × Value) (now : List Value) → 0 < left → left ≤ length ws → now ≡ overwritten heap (drop left ws) →
+    set now (get_or ws (left - 1) d).0 (get_or ws (left - 1) d).1 ≡ overwritten heap (drop (left - 1) ws)
+one_more_made heap ws left d now more le is =
+    let next : left ≡ suc (left - 1) = omega (arith, more) in
+    ap (λ (h : List Value). set h (get_or ws (left - 1) d).0 (get_or ws (left - 1) d).1) (is ∙ ap (λ (n : ℕ). overwritten heap (drop n ws)) next)
+    ∙ sym (ap (overwritten heap) (drop-cons ws (left - 1) d (omega (arith, more, le))))
+
+pub none_made : (heap : List Value) (ws : List (ℕ × Value)) → heap ≡ overwritten heap (drop (length ws) ws)
+none_made heap ws = sym (at_drop_all (overwritten heap) ws (length ws) (omega arith))
+
+pub one_less_left : (left n : ℕ) → left ≤ n → left - 1 ≤ n
+one_less_left left n le = omega (arith, le)

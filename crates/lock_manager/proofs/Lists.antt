@@ -2,7 +2,7 @@
 use Rattle.std.proofs.Common.{◌≡◌, ◌≢◌, ℕ, zero, suc, ◌+◌, ◌<◌, ◌≤◌, Bool, true, false, List, [], ◌∷◌, ◌++◌, length, take, get_or, map, set, Some, refl, sym, ap, ◌∙◌, subst, arith, IsTrue, ◌⊎◌, inl, inr}
 use Rattle.std.specs.Prelude.{slice_get}
 use Rattle.std.specs.List.{All, Contains}
-use Rattle.std.proofs.lemmas.List.{take_all, take_more}
+use Rattle.std.proofs.lemmas.List.{take_all, take_more, map_push}
 use Rattle.std.proofs.lemmas.List.Elements.{All-more, Contains-append_cases, Contains-append_left, Contains-push}
 use Rattle.std.proofs.lemmas.Option.{none-some, slice_get_within, slice_get-get_or, get_or_from_slice_get}
 
@@ -127,3 +127,38 @@ unmapped f xs y c =
 
 pub one_place : {X : Type 0} (xs : List X) (i : ℕ) (x y : X) → slice_get xs i ≡ Some x → slice_get xs i ≡ Some y → x ≡ y
 one_place xs i x y a b = some_same x y (sym a ∙ b)
+
+-- ---- a search
+
+pub is_among : {X : Type 0} (xs : List X) (i : ℕ) (x d : X) → i < length xs → get_or xs i d ≡ x → (IsTrue true → Contains xs x) × (Contains xs x → IsTrue true)
+is_among xs i x d lt e = (λ t. contains_at xs i x (slice_get-get_or xs i d lt ∙ ap Some e), λ c. refl)
+
+pub not_among_more : {X : Type 0} (xs : List X) (i : ℕ) (x d : X) → i < length xs → (Contains (take i xs) x → ⊥) → get_or xs i d ≢ x → Contains (take (i + 1) xs) x → ⊥
+not_among_more xs i x d lt none ne c = elim (push_cases (take i xs) (get_or xs i d) x (subst (λ ys. Contains ys x) (take_more xs i d lt) c)) [ inl h ↦ none h | inr e ↦ ne e ]
+
+pub not_among : {X : Type 0} (xs : List X) (i : ℕ) (x : X) → (Contains (take i xs) x → ⊥) → length xs ≤ i → (IsTrue false → Contains xs x) × (Contains xs x → IsTrue false)
+not_among xs i x none le = both_false (λ c. none (subst (λ ys. Contains ys x) (sym (take_all i xs le)) c))
+
+pub is_mapped : {X Y : Type 0} (f : X → Y) (xs : List X) (i : ℕ) (x : X) (y : Y) → i < length xs → x ≡ get_or xs i x → f x ≡ y →
+    (IsTrue true → Contains (map f xs) y) × (Contains (map f xs) y → IsTrue true)
+is_mapped f xs i x y lt is e = (λ t. contains_at (map f xs) i y (map_at f xs i x (read_at xs i x lt is) ∙ ap Some e), λ c. refl)
+
+pub not_mapped_more : {X Y : Type 0} (f : X → Y) (xs : List X) (i : ℕ) (x : X) (y : Y) → i < length xs → x ≡ get_or xs i x → (Contains (map f (take i xs)) y → ⊥) → f x ≢ y →
+    Contains (map f (take (i + 1) xs)) y → ⊥
+not_mapped_more f xs i x y lt is none ne c =
+    elim (push_cases (map f (take i xs)) (f (get_or xs i x)) y (subst (λ ys. Contains ys y) (ap (map f) (take_more xs i x lt) ∙ map_push f (take i xs) (get_or xs i x)) c)) [
+      | inl h ↦ none h
+      | inr e ↦ ne (ap f is ∙ e)
+    ]
+
+pub not_mapped : {X Y : Type 0} (f : X → Y) (xs : List X) (i : ℕ) (y : Y) → (Contains (map f (take i xs)) y → ⊥) → length xs ≤ i →
+    (IsTrue false → Contains (map f xs) y) × (Contains (map f xs) y → IsTrue false)
+not_mapped f xs i y none le = both_false (λ c. none (subst (λ ys. Contains (map f ys) y) (sym (take_all i xs le)) c))
+
+-- ---- bounds
+
+pub same_bound : (a b : ℕ) → a ≤ b → b ≤ a → a ≡ b
+same_bound a b le ge = omega (arith, le, ge)
+
+pub below_bound : (a b c : ℕ) → a < b → b ≤ c → a < c
+below_bound a b c lt le = omega (arith, lt, le)

@@ -19,12 +19,15 @@ both_parts false b e = absurd cc
 same_itself : (a : Lock) → same_lock a a ≡ true
 same_itself a = ap (λ b. b && (a.object == a.object)) (eq-eqb a.class a.class refl) ∙ eq-eqb a.object a.object refl
 
-same_is : (a b : Lock) → same_lock a b ≡ true → a ≡ b
+pub same_is : (a b : Lock) → same_lock a b ≡ true → a ≡ b
 same_is a b e =
     let p = both_parts (a.class == b.class) (a.object == b.object) e in
     let class : a.class ≡ b.class = eqb-true a.class b.class p.0 in
     let object : a.object ≡ b.object = eqb-true a.object b.object p.1 in
     ap (λ (c : ℕ). record { class = c; object = a.object }) class ∙ ap (λ (o : ℕ). record { class = b.class; object = o }) object
+
+pub other_than : (a b : Lock) → same_lock a b ≡ false → a ≢ b
+other_than a b f same = let t : same_lock a b ≡ true = ap (λ (l : Lock). same_lock a l) (sym same) ∙ same_itself a in let bad : true ≡ false = sym t ∙ f in absurd cc
 
 pub lock_cases : (a b : Lock) → ((same_lock a b ≡ true) × (a ≡ b)) ⊎ ((same_lock a b ≡ false) × (a ≢ b))
 lock_cases a b = elim (cases_Bool (same_lock a b)) [

@@ -1,11 +1,16 @@
 -- Who waits, with some gone and some come.
-use Rattle.std.proofs.Common.{◌≡◌, ◌≢◌, ℕ, zero, suc, ◌+◌, ◌<◌, ◌≤◌, List, [], ◌∷◌, ◌++◌, length, take, drop, get_or, inl, inr, refl, sym, ap, ◌∙◌, subst, arith}
-use Rattle.std.specs.Prelude.{nat_eq, if◌then◌else◌}
+use Rattle.std.proofs.Common.{◌≡◌, ◌≢◌, ℕ, zero, suc, ◌+◌, ◌<◌, ◌≤◌, List, [], ◌∷◌, ◌++◌, length, take, drop, get_or, inl, inr, refl, sym, ap, ◌∙◌, subst, arith, true, false, Some, None, append_assoc, Bool}
+use Rattle.std.specs.Prelude.{nat_eq, if◌then◌else◌, slice_get}
 use Rattle.std.specs.List.{All, Contains}
 use Rattle.std.proofs.lemmas.Bool.Decides.{eqb_tells}
 use Rattle.lock_manager.specs.declared.queue.Waiter.{Waiter}
-use Rattle.lock_manager.specs.Queues.{leaving}
-use Rattle.lock_manager.proofs.Lists.{first_or_rest, later, first}
+use Rattle.lock_manager.specs.Queues.{leaving, waiting_in}
+use Rattle.lock_manager.proofs.Lists.{first_or_rest, later, first, some_same}
+use Rattle.std.proofs.lemmas.List.{drop_more}
+use Rattle.std.proofs.lemmas.Option.{none-some}
+use Rattle.locks.specs.declared.lock.Lock.{Lock}
+use Rattle.lock_manager.specs.Calls.{first_and, first_waiters}
+use Rattle.layout.specs.LockCells.{same_lock}
 
 goes : (t : ℕ) (w : Waiter) (ws : List Waiter) → w.thread ≡ t → leaving t (w ∷ ws) ≡ leaving t ws
 goes t w ws e = elim (eqb_tells w.thread t) [ inl h ↦ ap (λ b. if b then leaving t ws else w ∷ leaving t ws) h.0 | inr h ↦ absurd (h.1 e) ]
@@ -73,3 +78,46 @@ one_less t (x ∷ ws) w c e = elim (eqb_tells x.thread t) [
     | inr r ↦ omega (arith, ap length (stays t x ws h.1), one_less t ws w r e)
   ]
 ]
+
+-- ---- whom to wake
+
+first_there : (ts more : List ℕ) (t : ℕ) → Some t ≡ slice_get ts 0 → first_and ts more ≡ t ∷ more
+first_there [] more t e = absurd (none-some t (sym e))
+first_there (x ∷ ts) more t e = ap (λ y. y ∷ more) (sym (some_same t x e))
+
+none_first : (ts more : List ℕ) → None ≡ slice_get ts 0 → first_and ts more ≡ more
+none_first [] more e = refl
+none_first (x ∷ ts) more e = absurd (none-some x e)
+
+module _ (ws : List Waiter) (ls : List Lock) (i : ℕ) (d : Lock) (wake : List ℕ) (lt : i < length ls) (so_far : first_waiters ws ls ≡ wake ++ first_waiters ws (drop i ls)) where
+  next_lock : first_waiters ws ls ≡ wake ++ first_and (waiting_in ws (get_or ls i d)) (first_waiters ws (drop (i + 1) ls))
+  next_lock = so_far ∙ ap (λ xs. wake ++ first_waiters ws xs) (drop_more ls i d lt)
+
+  pub one_woken : (now : List ℕ) (t : ℕ) → Some t ≡ slice_get (waiting_in ws (get_or ls i d)) 0 → now ≡ wake ++ t ∷ [] → first_waiters ws ls ≡ now ++ first_waiters ws (drop (i + 1) ls)
+  one_woken now t e is =
+      next_lock
+      ∙ ap (λ (xs : List ℕ). wake ++ xs) (first_there (waiting_in ws (get_or ls i d)) (first_waiters ws (drop (i + 1) ls)) t e)
+      ∙ sym (append_assoc wake (t ∷ []) (first_waiters ws (drop (i + 1) ls)))
+      ∙ ap (λ (xs : List ℕ). xs ++ first_waiters ws (drop (i + 1) ls)) (sym is)
+
+  pub none_woken : (now : List ℕ) → None ≡ slice_get (waiting_in ws (get_or ls i d)) 0 → now ≡ wake → first_waiters ws ls ≡ now ++ first_waiters ws (drop (i + 1) ls)
+  none_woken now e is =
+      next_lock
+      ∙ ap (λ (xs : List ℕ). wake ++ xs) (none_first (waiting_in ws (get_or ls i d)) (first_waiters ws (drop (i + 1) ls)) e)
+      ∙ ap (λ (xs : List ℕ). xs ++ first_waiters ws (drop (i + 1) ls)) (sym is)
+
+pub one_longer : (b : Bool) (n m : ℕ) → n ≡ (if b then m + 1 else m) → n ≤ m + 1
+one_longer true n m e = omega (arith, e)
+one_longer false n m e = omega (arith, e)
+
+-- the waiter that is looked for
+pub nth_found : (items queue : List Waiter) (i left n : ℕ) (d : Waiter) (lock : Lock) → items ≡ queue → i < length items → same_lock (get_or items i d).lock lock ≡ true → left ≡ 0 →
+    slice_get (waiting_in queue lock) n ≡ slice_get (waiting_in (drop i queue) lock) left → Some (get_or items i d).thread ≡ slice_get (waiting_in queue lock) n
+nth_found items queue i left n d lock same lt its first so_far =
+    let w = get_or items i d in
+    let rest = waiting_in (drop (i + 1) items) lock in
+    sym (so_far
+    ∙ ap (λ (ws : List Waiter). slice_get (waiting_in (drop i ws) lock) left) (sym same)
+    ∙ ap (λ (k : ℕ). slice_get (waiting_in (drop i items) lock) k) first
+    ∙ ap (λ (ws : List Waiter). slice_get (waiting_in ws lock) 0) (drop_more items i d lt)
+    ∙ ap (λ (b : Bool). slice_get (if b then w.thread ∷ rest else rest) 0) its)

@@ -156,12 +156,17 @@ sound_opened layout ranks l = (
     never : (values : List Value) (t : ℕ) → Free values ≡ Taken t → ⊥
     never values t e = cc
 
+pub opened_from : (layout : LayoutOf) (ranks : List ℕ) (committed : CommittedOf) (places : List Place) (waiters : List Waiter) (slots : List (Option SessionOf)) (history : HistoryOf) →
+    committed ≡ at_opening layout → places ≡ map (λ (l : Lock). Free (lock_values committed l)) committed.layout.locks → waiters ≡ [] → slots ≡ replicate threads None →
+    history ≡ record { commits = []; promised = 0 } → managed committed ranks places waiters slots history.commits ≡ opened layout ranks
+opened_from layout ranks committed places waiters slots history is places_are none closed empty =
+    let all : places ≡ (opened layout ranks).places = places_are ∙ ap (λ (c : CommittedOf). map (λ (x : Lock). Free (lock_values c x)) c.layout.locks) is in
+    λ i. managed (is i) ranks (all i) (none i) (closed i) (empty i).commits
+
 pub sound_from : (layout : LayoutOf) (ranks : List ℕ) (committed : CommittedOf) (places : List Place) (waiters : List Waiter) (slots : List (Option SessionOf)) (history : HistoryOf) →
     IsLayout layout → committed ≡ at_opening layout → places ≡ map (λ (l : Lock). Free (lock_values committed l)) committed.layout.locks → waiters ≡ [] → slots ≡ replicate threads None →
     history ≡ record { commits = []; promised = 0 } → Sound (managed committed ranks places waiters slots history.commits) history.promised
 sound_from layout ranks committed places waiters slots history l is places_are none closed empty =
-    let all : places ≡ (opened layout ranks).places = places_are ∙ ap (λ (c : CommittedOf). map (λ (x : Lock). Free (lock_values c x)) c.layout.locks) is in
-    let same : opened layout ranks ≡ managed committed ranks places waiters slots history.commits =
-    sym (λ i. managed (is i) ranks (all i) (none i) (closed i) (empty i).commits) in
+    let same = sym (opened_from layout ranks committed places waiters slots history is places_are none closed empty) in
     let promised : 0 ≡ history.promised = sym (ap (λ (h : HistoryOf). h.promised) empty) in
     subst (Sound (managed committed ranks places waiters slots history.commits)) promised (subst (λ (m : Managed). Sound m 0) same (sound_opened layout ranks l))

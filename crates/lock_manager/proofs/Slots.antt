@@ -1,9 +1,9 @@
 -- The open sections, with one changed.
-use Rattle.std.proofs.Common.{◌≡◌, ◌≢◌, ℕ, zero, suc, ◌+◌, ◌<◌, ◌≤◌, List, [], ◌∷◌, length, set, Option, Some, None, ◌⊎◌, inl, inr, refl, sym, ap, ◌∙◌, arith}
+use Rattle.std.proofs.Common.{◌≡◌, ◌≢◌, ℕ, zero, suc, ◌+◌, ◌<◌, ◌≤◌, List, [], ◌∷◌, length, set, Option, Some, None, ◌⊎◌, inl, inr, refl, sym, ap, ◌∙◌, arith, get_or}
 use Rattle.std.specs.Prelude.{slice_get}
 use Rattle.std.specs.List.{Contains}
 use Rattle.std.proofs.lemmas.Bool.{cases_eq}
-use Rattle.std.proofs.lemmas.Option.{none-some, slice_get_within}
+use Rattle.std.proofs.lemmas.Option.{none-some, slice_get_within, slice_get_past}
 use Rattle.core_lang.specs.Typing.{lookup}
 use Rattle.layout.specs.Layouts.{AreDistinct}
 use Rattle.locks.specs.declared.lock.Lock.{Lock}
@@ -102,3 +102,28 @@ at_most_one (Some s) = some_at_most s.ask
 pub few_ask : (ss : List (Option SessionOf)) → sum_over one_if_asking ss ≤ length ss
 few_ask [] = omega arith
 few_ask (s ∷ ss) = omega (arith, at_most_one s, few_ask ss)
+
+-- ---- a slot that is read
+
+pub none_there : (slots : List (Option SessionOf)) (t : ℕ) (x : Option SessionOf) → x ≡ get_or slots t x → x ≡ None → session_in slots t ≡ None
+none_there [] t x is e = refl
+none_there (s ∷ slots) zero x is e = sym is ∙ e
+none_there (s ∷ slots) (suc t) x is e = none_there slots t x is e
+
+pub some_there : (slots : List (Option SessionOf)) (t : ℕ) (x : Option SessionOf) (s : SessionOf) → x ≡ get_or slots t x → session_in slots t ≡ Some s → x ≡ Some s
+some_there [] t x s is e = absurd (none-some s e)
+some_there (y ∷ slots) zero x s is e = is ∙ e
+some_there (y ∷ slots) (suc t) x s is e = some_there slots t x s is e
+
+pub open_within : (slots : List (Option SessionOf)) (t : ℕ) → session_in slots t ≢ None → t < length slots
+open_within [] t is_open = absurd (is_open refl)
+open_within (s ∷ slots) zero is_open = omega arith
+open_within (s ∷ slots) (suc t) is_open = omega (arith, open_within slots t is_open)
+
+pub session_read : (slots : List (Option SessionOf)) (t : ℕ) (x : Option SessionOf) (s : SessionOf) → t < length slots → x ≡ get_or slots t x → x ≡ Some s → session_in slots t ≡ Some s
+session_read [] t x s lt is e = absurd (omega (arith, lt))
+session_read (y ∷ slots) zero x s lt is e = sym is ∙ e
+session_read (y ∷ slots) (suc t) x s lt is e = session_read slots t x s (omega (arith, lt)) is e
+
+pub none_past : (slots : List (Option SessionOf)) (t : ℕ) → length slots ≤ t → session_in slots t ≡ None
+none_past slots t le = ap (λ o. lookup o (λ x. x)) (slice_get_past slots t le)

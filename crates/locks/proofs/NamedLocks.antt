@@ -22,18 +22,17 @@ use Rattle.core_lang.specs.declared.typed.Protection.{Protection}
 use Rattle.core_lang.specs.declared.typed.Struct.{Struct}
 use Rattle.core_lang.specs.declared.typed.Cell.{Cell}
 use Rattle.core_lang.specs.declared.typed.Typed.{Typed}
-use Rattle.core_lang.specs.Typing.{lookup, struct_of, local_types, HasType, HaveTypes, LeadsTo, IsPathTo, IsOf, GivesLocal, final_target}
+use Rattle.core_lang.specs.Typing.{lookup, struct_of, local_types, HasType, HaveTypes, LeadsTo, IsOf, GivesLocal}
 use Rattle.core_lang.specs.WellFormed.{IsWellFormed, FinalsLead, EndsAt, IsGlobalLock}
 use Rattle.flow.specs.Points.{Point, statement, result, points}
 use Rattle.flow.specs.Theory.Each.{each_there}
 use Rattle.flow.specs.Theory.PointTypes.{IsTypedPoint, points_typed}
 use Rattle.locks.specs.declared.lock.Lock.{Lock}
-use Rattle.locks.specs.declared.path.Root.{Root}
 use Rattle.locks.specs.declared.path.Root.TheVariants.{GlobalLock, Local as AtLocal}
 use Rattle.locks.specs.Accesses.{Target, global, element, field, accesses_at}
 use Rattle.locks.specs.Locks.{final_of, led_to, global_lock, protection_of, IsLockOfClass, IsLock}
-use Rattle.locks.specs.LockPaths.{LockPath, StablePath, Binding, all_final, stable, stable_value, binding_at, bindings, behind, all_replaced, normal_form, global_path, class_if_global, target_path, lock_path, named, object_at, lock_from, lock_named}
-use Rattle.locks.specs.Laws.{IsClassFor, PathsHaveClasses, NamedAreLocks}
+use Rattle.locks.specs.LockPaths.{LockPath, StablePath, Binding, all_final, stable, stable_value, binding_at, bindings, all_replaced, normal_form, global_path, class_if_global, target_path, lock_path, named, object_at, lock_from, lock_named}
+use Rattle.locks.specs.Laws.{IsClassFor, NamedAreLocks}
 use Rattle.locks.proofs.Lists.{in_first, in_rest, from_filter_map, each_at}
 use Rattle.locks.proofs.Normal.{lookup_some, map_some, if_none, stable_parts, Replaces, other, no_path, by_path, replaces}
 use Rattle.locks.proofs.InScope.{IsFieldPath, of_global, of_object, field_path}

@@ -1,19 +1,15 @@
 -- Chains, a turn at a time.
-use Rattle.std.proofs.Common.{◌≡◌, Vec, Global, ◌<◌, List, [], ◌∷◌, ◌++◌, length, Option, Some, None, Result, Ok, Err, refl, sym, ap, ◌∙◌, subst, arith, false}
+use Rattle.std.proofs.Common.{◌≡◌, ◌<◌, List, [], ◌∷◌, ◌++◌, length, Option, Some, None, Result, Ok, Err, refl, sym, ap, ◌∙◌, subst, arith, false}
 use Rattle.std.specs.Option.{is_some}
-use Rattle.std.specs.Prelude.{Box, IfSome, option_map}
+use Rattle.std.specs.Prelude.{IfSome, option_map}
 use Rattle.std.proofs.lemmas.Option.{IfSome_then}
 use Rattle.source.specs.Tokens.{Tok}
 use Rattle.syntax.specs.declared.tree.Op.{Op}
 use Rattle.syntax.specs.declared.tree.Level.{Level}
-use Rattle.syntax.specs.declared.tree.Expr as the_expr
-use Rattle.syntax.specs.declared.tree.Joined as the_joined
-use Rattle.syntax.specs.declared.tree.Joined.{Pair, Chain}
 use Rattle.syntax.specs.declared.tree.Link as l
 use Rattle.syntax.specs.Grammar.{level_of}
 use Rattle.syntax.specs.Trees.{Expr, chain, Links, no_links, link}
-use Rattle.syntax.specs.Views.{expr_of, joined_of, links_of}
-use Rattle.syntax.specs.Rows.{joined_of-Chain}
+use Rattle.syntax.specs.Views.{expr_of, links_of}
 use Rattle.parser.specs.declared.stop.Stop.{Stop}
 use Rattle.parser.specs.Reading.{◌>>=◌, Fails, Reader, turn}
 use Rattle.parser.specs.Bodies.{op_of, before_rest, op_at, link_from, next_link, add_link, links_at, chained, chain_at, links_behind}
@@ -134,11 +130,3 @@ module _ (operand : Reader Expr) (shorter : Shortens operand) (k : Level) (ts mi
 pub none_found : {A B : Type 0} (f : A → B) (o : Option A) → is_some o ≡ false → option_map f o ≡ None
 none_found f None h = refl
 none_found f (Some x) h = absurd cc
-
--- a pair and a chain in their boxes
-pub pair_made : (b : Box the_joined.Joined Global) (op : Op) (left right : the_expr.Expr) → b.value ≡ Pair op left right
-    → expr_of (the_expr.Joined b) ≡ chain (level_of op) (expr_of left) (link op (expr_of right) no_links)
-pair_made b op left right is = ap joined_of is
-
-pub chain_made : (b : Box the_joined.Joined Global) (k : Level) (first : the_expr.Expr) (links : Vec l.Link Global) → b.value ≡ Chain k first links → expr_of (the_expr.Joined b) ≡ chain k (expr_of first) (links_of links.items)
-chain_made b k first links is = ap joined_of is ∙ joined_of-Chain k first links

@@ -11,6 +11,8 @@ pub mod Chains
 pub mod Shorter
 pub mod Turns
 pub mod Behind
+pub mod Closed
+pub mod Ended
 pub mod Least
 pub mod Finding
 pub mod Complete

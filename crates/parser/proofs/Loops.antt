@@ -1,18 +1,16 @@
 -- Loops that read items into a list: what was read before stands in front of what is still to come.
 use Rattle.std.proofs.Common.{◌≡◌, ◌<◌, Bool, true, false, List, [], ◌∷◌, ◌++◌, length, Some, None, Result, Ok, map, refl, sym, ap, ◌∙◌, subst, arith}
 use Rattle.std.proofs.lemmas.List.{length-map}
-use Rattle.source.specs.declared.span.Span.{Span}
 use Rattle.source.specs.declared.token.Sign.{Sign}
-use Rattle.source.specs.declared.token.Sign.TheVariants.{CloseParen, Comma, Dot}
+use Rattle.source.specs.declared.token.Sign.TheVariants.{CloseParen, Comma}
 use Rattle.source.specs.declared.token.Token.{Token}
 use Rattle.source.specs.Tokens.{Lexeme, mark, Tok, seen_token, seen}
 use Rattle.syntax.specs.declared.tree.Stmt as the_stmt
 use Rattle.syntax.specs.declared.tree.Item as the_item
-use Rattle.syntax.specs.Trees.{Ident, stmt, no_stmts, item, no_items}
+use Rattle.syntax.specs.Trees.{stmt, no_stmts, item, no_items}
 use Rattle.syntax.specs.Views.{stmt_of, stmts_of, item_of, items_of}
 use Rattle.parser.specs.declared.stop.Stop.{Stop}
-use Rattle.parser.specs.Reading.{◌>>=◌, Fails, Reader, Next, many_at, is_next, next_unless, next_until, skip_at, behind, next_after, after_each, listed_from, listed_at, sign_at, name_at}
-use Rattle.parser.specs.Bodies.{fields_at}
+use Rattle.parser.specs.Reading.{◌>>=◌, Fails, Reader, Next, many_at, is_next, next_unless, next_until, skip_at, behind, next_after, after_each, listed_from, listed_at}
 use Rattle.parser.proofs.Readers.{OnValue, Shortens, fails_on}
 use Rattle.parser.proofs.Many.{NextShortens, with_front, goes_on, ends, stops}
 
@@ -92,21 +90,6 @@ module _ {X A : Type 0} (view : X → A) (f : Reader A) (ts : List Tok) where
   pub first_listed : (x : X) (rest : List Tok) → is_next (mark CloseParen) ts ≡ false → f ts ≡ Ok (view x, rest) → with_front (before ◌∷◌ view (x ∷ [])) (after_each Comma f rest) ≡ listed_at f ts
   unfolding listed_at
   first_listed x rest more read = sym (ap (λ b. listed_from f b ts) more ∙ ap (λ (r : Result (A × List Tok) Stop). r >>= λ x. after_each Comma f x.1 >>= λ l. Ok (x.0 ∷ l.0, l.1)) read)
-
--- ---- fields behind dots
-
-module _ {X : Type 0} (view : X → Ident) (ts after : List Tok) (dot : Span) (taken : sign_at Dot ts ≡ Ok (dot, after)) where
-  pub field_stops : (e : Stop) → Fails e (name_at after) → Fails e (fields_at ts)
-  unfolding fields_at
-  field_stops e fails = subst (λ (r : Result (Span × List Tok) Stop). Fails {Y = List Ident × List Tok} e (r >>= λ d. name_at d.1 >>= λ x. after_each Dot name_at x.1 >>= λ l. Ok (x.0 ∷ l.0, l.1))) (sym taken) (fails_on e (name_at after) (λ x. after_each Dot name_at x.1 >>= λ l. Ok (x.0 ∷ l.0, l.1)) fails)
-
-  pub first_field : (x : X) (rest : List Tok) → name_at after ≡ Ok (view x, rest) → with_front (before ◌∷◌ view (x ∷ [])) (after_each Dot name_at rest) ≡ fields_at ts
-  unfolding fields_at
-  first_field x rest read = sym (ap (λ (r : Result (Span × List Tok) Stop). r >>= λ d. name_at d.1 >>= λ x. after_each Dot name_at x.1 >>= λ l. Ok (x.0 ∷ l.0, l.1)) taken ∙ ap (λ (r : Result (Ident × List Tok) Stop). r >>= λ x. after_each Dot name_at x.1 >>= λ l. Ok (x.0 ∷ l.0, l.1)) read)
-
-pub no_dot : (e : Stop) (ts : List Tok) → Fails e (sign_at Dot ts) → Fails e (fields_at ts)
-unfolding fields_at
-no_dot e ts fails = fails_on e (sign_at Dot ts) (λ d. name_at d.1 >>= λ x. after_each Dot name_at x.1 >>= λ l. Ok (x.0 ∷ l.0, l.1)) fails
 
 -- ---- the lists that items make
 

@@ -12,7 +12,7 @@ use crate::member::{lock, structure};
 use crate::parts::{constant, index, opening_value, params, protection, result_type, value_type};
 use crate::stmt::block;
 use crate::stop::Stop;
-use crate::take::{is_end_next, is_sign_next, take_name, take_sign};
+use crate::take::{ended_by, is_end_next, is_sign_next, take_name};
 use crate::thread::thread;
 use source::span::Span;
 use source::token::{Keyword, Sign, Token};
@@ -20,7 +20,6 @@ use std::alloc::Global;
 use syntax::tree::{Array, Decl, Init, Name, Pool, Section, Tree, ValueType, Variable};
 
 /// A global that is an array, behind its type and name.
-#[tactic(auto, unfolding(crate::specs::Declarations::array_at))]
 fn array(
     alloc: Global,
     value_type: ValueType,
@@ -31,8 +30,7 @@ fn array(
     ensures { Gives (λ x. (decl_of x.0, seen x.1.now)) result (array_at room (type_of value_type) (ident name) (seen tokens.now)) }
 {
     let (length, rest) = index(tokens, room)?;
-    let (protection, rest) = protection(alloc, rest, room)?;
-    let (_, rest) = take_sign(rest, Sign::Semicolon)?;
+    let (protection, rest) = ended_by(protection(alloc, rest, room), Sign::Semicolon)?;
     let array = Array {
         name,
         value_type,
@@ -43,7 +41,6 @@ fn array(
 }
 
 /// A global that is no array, behind its type and name.
-#[tactic(auto, unfolding(crate::specs::Declarations::variable_at))]
 fn variable(
     alloc: Global,
     value_type: ValueType,
@@ -54,8 +51,7 @@ fn variable(
     ensures { Gives (λ x. (decl_of x.0, seen x.1.now)) result (variable_at room (type_of value_type) (ident name) (seen tokens.now)) }
 {
     let (protection, rest) = protection(alloc, tokens, room)?;
-    let (value, rest) = opening_value(alloc, rest, room)?;
-    let (_, rest) = take_sign(rest, Sign::Semicolon)?;
+    let (value, rest) = ended_by(opening_value(alloc, rest, room), Sign::Semicolon)?;
     let variable = Variable {
         name,
         value_type,
@@ -79,14 +75,12 @@ fn global(alloc: Global, tokens: &[Token], room: u32) -> Result<(Decl, &[Token])
 }
 
 /// A pool, behind its first word.
-#[tactic(auto, unfolding(crate::specs::Declarations::pool_at))]
 fn pool(alloc: Global, tokens: &[Token], room: u32) -> Result<(Decl, &[Token]), Stop>
     ensures { Gives (λ x. (decl_of x.0, seen x.1.now)) result (pool_decl room (seen tokens.now)) }
 {
     let (target, rest) = take_name(tokens)?;
     let (name, rest) = take_name(rest)?;
-    let (length, rest) = index(rest, room)?;
-    let (_, rest) = take_sign(rest, Sign::Semicolon)?;
+    let (length, rest) = ended_by(index(rest, room), Sign::Semicolon)?;
     let pool = Pool {
         name,
         target,
@@ -96,17 +90,13 @@ fn pool(alloc: Global, tokens: &[Token], room: u32) -> Result<(Decl, &[Token]), 
 }
 
 /// An opening value of a member's field, behind the word `init`, which stands at `start`.
-#[tactic(auto, unfolding(crate::specs::Declarations::init_at))]
 fn init(alloc: Global, start: Span, tokens: &[Token], room: u32) -> Result<(Decl, &[Token]), Stop>
     ensures { Gives (λ x. (decl_of x.0, seen x.1.now)) result (init_decl room start (seen tokens.now)) }
 {
     let (pool, rest) = take_name(tokens)?;
-    let (index, rest) = index(rest, room)?;
-    let (_, rest) = take_sign(rest, Sign::Dot)?;
-    let (field, rest) = take_name(rest)?;
-    let (_, rest) = take_sign(rest, Sign::Equals)?;
-    let (value, rest) = constant(alloc, rest, room)?;
-    let (_, rest) = take_sign(rest, Sign::Semicolon)?;
+    let (index, rest) = ended_by(index(rest, room), Sign::Dot)?;
+    let (field, rest) = ended_by(take_name(rest), Sign::Equals)?;
+    let (value, rest) = ended_by(constant(alloc, rest, room), Sign::Semicolon)?;
     let init = Init {
         start,
         pool,
@@ -118,7 +108,6 @@ fn init(alloc: Global, start: Span, tokens: &[Token], room: u32) -> Result<(Decl
 }
 
 /// A section, behind its first word.
-#[tactic(auto, unfolding(crate::specs::Declarations::section_at))]
 fn section(alloc: Global, tokens: &[Token], room: u32) -> Result<(Decl, &[Token]), Stop>
     ensures { Gives (λ x. (decl_of x.0, seen x.1.now)) result (section_decl room (seen tokens.now)) }
 {

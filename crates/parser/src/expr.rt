@@ -1,17 +1,17 @@
 //! Expressions and places.
 
-ghost use Rattle.std.specs.Prelude.{◌≡◌, map, option_map};
+ghost use Rattle.std.specs.Prelude.{◌≡◌, option_map};
 ghost use Rattle.source.specs.Tokens.{seen};
-ghost use Rattle.syntax.specs.Views.{ident, expr_of, place_of, link_of, links_of};
+ghost use Rattle.syntax.specs.Views.{ident, expr_of, joined_of, place_of, link_of, links_of};
 ghost use Rattle.syntax.specs.Trees as trees;
 ghost use Rattle.parser.specs.Reading.{Gives};
-ghost use Rattle.parser.specs.Bodies.{prim_at, unary_with, sum_with, compared_with, prefix_at, comparison_at, place_at, fields_at, element_at, parens_at, inside_at, operand_at, level_at, expr_at, ended_at, condition_at, links_behind, op_at};
+ghost use Rattle.parser.specs.Rests.{closed_at, given};
+ghost use Rattle.parser.specs.Bodies.{prim_at, unary_with, sum_with, compared_with, prefix_at, comparison_at, place_at, element_at, parens_at, inside_at, operand_at, level_at, expr_at, ended_at, condition_at, links_behind, op_at};
 
 use crate::growth::push;
+use crate::parts::names_after_dots;
 use crate::stop::Stop;
-use crate::take::{
-    after_sign, is_same, is_sign_next, named, small, take_name, take_open, take_sign,
-};
+use crate::take::{ended_by, is_same, is_sign_next, named, small, take_open};
 use source::span::Span;
 use source::token::{Keyword, Sign, Token};
 use std::alloc::Global;
@@ -77,22 +77,6 @@ fn comparison(tokens: &[Token]) -> Option<(Comparison, &[Token])>
     None
 }
 
-/// One field or more, each behind a dot.
-fn fields(alloc: Global, tokens: &[Token]) -> Result<(Vec<Name>, &[Token]), Stop>
-    ensures { Gives (λ x. (map ident x.0.items, seen x.1.now)) result (fields_at (seen tokens.now)) }
-{
-    let mut fields = Vec::new(alloc);
-    let (_, after) = take_sign(tokens, Sign::Dot)?;
-    let (first, mut rest) = take_name(after)?;
-    push(&mut fields, first)?;
-    while let Some(after) = after_sign(rest, Sign::Dot) {
-        let (next, after) = take_name(after)?;
-        push(&mut fields, next)?;
-        rest = after;
-    }
-    Ok((fields, rest))
-}
-
 /// A place, behind its first name.
 #[cycle(expr)]
 #[tactic(auto, unfolding(crate::specs::Reading::choose))]
@@ -108,7 +92,7 @@ pub fn place(
         return element(alloc, name, tokens, room);
     }
     if is_sign_next(tokens, Sign::Dot) {
-        let (fields, rest) = fields(alloc, tokens)?;
+        let (fields, rest) = names_after_dots(alloc, tokens)?;
         let path = Path {
             first: name,
             fields,
@@ -120,7 +104,6 @@ pub fn place(
 
 /// An element, behind the name of what it is an element of.
 #[cycle(expr)]
-#[tactic(auto, unfolding(crate::specs::Bodies::element_at))]
 fn element(
     alloc: Global,
     name: Name,
@@ -130,8 +113,7 @@ fn element(
     ensures { Gives (λ x. (place_of x.0, seen x.1.now)) result (element_at room (inside_at room) (ident name) (seen tokens.now)) }
 {
     let (_, rest) = take_open(tokens, Sign::OpenBracket, room)?;
-    let (index, rest) = chain(alloc, Level::Disjunction, rest, room - 1)?;
-    let (_, rest) = take_sign(rest, Sign::CloseBracket)?;
+    let (index, rest) = closed(alloc, Sign::CloseBracket, rest, room - 1)?;
     let element = Element { name, index };
     Ok((Place::Element(Box::new(alloc, element)?), rest))
 }
@@ -182,8 +164,7 @@ fn parens(alloc: Global, at: Span, tokens: &[Token], room: u32) -> Result<(Expr,
     if room == 0 {
         return Err(Stop::TooDeep(tokens.len() + 1));
     }
-    let (inner, rest) = chain(alloc, Level::Disjunction, tokens, room - 1)?;
-    let (_, rest) = take_sign(rest, Sign::CloseParen)?;
+    let (inner, rest) = closed(alloc, Sign::CloseParen, tokens, room - 1)?;
     Ok((Expr::Paren(at, Box::new(alloc, inner)?), rest))
 }
 
@@ -219,6 +200,13 @@ fn operand(
     }
 }
 
+/// Joined operands as an expression, and the tokens behind it.
+fn joined(alloc: Global, operands: Joined, rest: &[Token]) -> Result<(Expr, &[Token]), Stop>
+    ensures { Gives (λ x. (expr_of x.0, seen x.1.now)) result (given (joined_of operands) (seen rest.now)) }
+{
+    Ok((Expr::Joined(Box::new(alloc, operands)?), rest))
+}
+
 /// A sum, or two with a comparison between them.
 #[cycle(expr)]
 #[tactic(auto, unfolding(crate::specs::Bodies::compared_with))]
@@ -230,8 +218,7 @@ fn compared(alloc: Global, tokens: &[Token], room: u32) -> Result<(Expr, &[Token
         None => Ok((left, rest)),
         Some((comparison, after)) => {
             let (right, rest) = chain(alloc, Level::Sum, after, room)?;
-            let compared = Joined::Compare(comparison, left, right);
-            Ok((Expr::Joined(Box::new(alloc, compared)?), rest))
+            joined(alloc, Joined::Compare(comparison, left, right), rest)
         }
     }
 }
@@ -271,12 +258,19 @@ fn chain(alloc: Global, level: Level, tokens: &[Token], room: u32) -> Result<(Ex
     let (right, rest) = operand(alloc, level, after, room)?;
     if operator(level, rest).is_none() {
         let pair = Joined::Pair(op, left, right);
-        return Ok((Expr::Joined(Box::new(alloc, pair)?), rest));
+        return joined(alloc, pair, rest);
     }
     let first = Link { op, operand: right };
     let (links, rest) = links(alloc, level, first, rest, room)?;
-    let chain = Joined::Chain(level, left, links);
-    Ok((Expr::Joined(Box::new(alloc, chain)?), rest))
+    joined(alloc, Joined::Chain(level, left, links), rest)
+}
+
+/// An expression, in which `room` signs may still be opened, and the sign behind it.
+#[cycle(expr)]
+fn closed(alloc: Global, sign: Sign, tokens: &[Token], room: u32) -> Result<(Expr, &[Token]), Stop>
+    ensures { Gives (λ x. (expr_of x.0, seen x.1.now)) result (closed_at sign (expr_at room) (seen tokens.now)) }
+{
+    ended_by(chain(alloc, Level::Disjunction, tokens, room), sign)
 }
 
 /// An expression, in which `room` signs may still be opened, and the semicolon behind it.
@@ -284,18 +278,13 @@ fn chain(alloc: Global, level: Level, tokens: &[Token], room: u32) -> Result<(Ex
 pub fn ended(alloc: Global, tokens: &[Token], room: u32) -> Result<(Expr, &[Token]), Stop>
     ensures { Gives (λ x. (expr_of x.0, seen x.1.now)) result (ended_at room (seen tokens.now)) }
 {
-    let (value, rest) = chain(alloc, Level::Disjunction, tokens, room)?;
-    let (_, rest) = take_sign(rest, Sign::Semicolon)?;
-    Ok((value, rest))
+    closed(alloc, Sign::Semicolon, tokens, room)
 }
 
 /// An expression in parentheses, which are no part of it.
-#[tactic(auto, unfolding(crate::specs::Bodies::condition_at))]
 pub fn condition(alloc: Global, tokens: &[Token], room: u32) -> Result<(Expr, &[Token]), Stop>
     ensures { Gives (λ x. (expr_of x.0, seen x.1.now)) result (condition_at room (seen tokens.now)) }
 {
     let (_, rest) = take_open(tokens, Sign::OpenParen, room)?;
-    let (condition, rest) = chain(alloc, Level::Disjunction, rest, room - 1)?;
-    let (_, rest) = take_sign(rest, Sign::CloseParen)?;
-    Ok((condition, rest))
+    closed(alloc, Sign::CloseParen, rest, room - 1)
 }

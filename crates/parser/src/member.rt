@@ -9,23 +9,19 @@ ghost use Rattle.parser.specs.Declarations.{lock_at, lock_member_at, final_at, f
 use crate::growth::push;
 use crate::parts::{protection, value_type};
 use crate::stop::Stop;
-use crate::take::{is_sign_next, is_word_next, take_name, take_open, take_sign, take_word};
+use crate::take::{ended_by, is_sign_next, is_word_next, take_name, take_open, take_word};
 use source::token::{Keyword, Sign, Token};
 use std::alloc::Global;
 use syntax::tree::{Field, Final, Member, Name, Struct};
 
 /// A lock, behind its first word.
-#[tactic(auto, unfolding(crate::specs::Declarations::lock_at))]
 pub fn lock(tokens: &[Token]) -> Result<(Name, &[Token]), Stop>
     ensures { Gives (λ x. (ident x.0, seen x.1.now)) result (lock_at (seen tokens.now)) }
 {
-    let (name, rest) = take_name(tokens)?;
-    let (_, rest) = take_sign(rest, Sign::Semicolon)?;
-    Ok((name, rest))
+    ended_by(take_name(tokens), Sign::Semicolon)
 }
 
 /// A lock of a struct.
-#[tactic(auto, unfolding(crate::specs::Declarations::lock_member_at))]
 fn lock_member(tokens: &[Token]) -> Result<(Member, &[Token]), Stop>
     ensures { Gives (λ x. (member_of x.0, seen x.1.now)) result (lock_member_at (seen tokens.now)) }
 {
@@ -35,27 +31,23 @@ fn lock_member(tokens: &[Token]) -> Result<(Member, &[Token]), Stop>
 }
 
 /// A reference that never changes.
-#[tactic(auto, unfolding(crate::specs::Declarations::final_at))]
 fn final_member(tokens: &[Token]) -> Result<(Member, &[Token]), Stop>
     ensures { Gives (λ x. (member_of x.0, seen x.1.now)) result (final_at (seen tokens.now)) }
 {
     let (_, rest) = take_word(tokens, Keyword::Final)?;
     let (_, rest) = take_word(rest, Keyword::Ref)?;
     let (target, rest) = take_name(rest)?;
-    let (name, rest) = take_name(rest)?;
-    let (_, rest) = take_sign(rest, Sign::Semicolon)?;
+    let (name, rest) = ended_by(take_name(rest), Sign::Semicolon)?;
     Ok((Member::Final(Final { name, target }), rest))
 }
 
 /// A field that can change.
-#[tactic(auto, unfolding(crate::specs::Declarations::field_at))]
 fn field(alloc: Global, tokens: &[Token], room: u32) -> Result<(Member, &[Token]), Stop>
     ensures { Gives (λ x. (member_of x.0, seen x.1.now)) result (field_at room (seen tokens.now)) }
 {
     let (value_type, rest) = value_type(tokens)?;
     let (name, rest) = take_name(rest)?;
-    let (protection, rest) = protection(alloc, rest, room)?;
-    let (_, rest) = take_sign(rest, Sign::Semicolon)?;
+    let (protection, rest) = ended_by(protection(alloc, rest, room), Sign::Semicolon)?;
     let field = Field {
         name,
         value_type,
@@ -92,13 +84,11 @@ fn members(alloc: Global, tokens: &[Token], room: u32) -> Result<(Vec<Member>, &
 }
 
 /// A struct, behind its first word.
-#[tactic(auto, unfolding(crate::specs::Declarations::struct_at))]
 pub fn structure(alloc: Global, tokens: &[Token], room: u32) -> Result<(Struct, &[Token]), Stop>
     ensures { Gives (λ x. (struct_of x.0, seen x.1.now)) result (struct_at room (seen tokens.now)) }
 {
     let (name, rest) = take_name(tokens)?;
     let (_, rest) = take_open(rest, Sign::OpenBrace, room)?;
-    let (members, rest) = members(alloc, rest, room - 1)?;
-    let (_, rest) = take_sign(rest, Sign::CloseBrace)?;
+    let (members, rest) = ended_by(members(alloc, rest, room - 1), Sign::CloseBrace)?;
     Ok((Struct { name, members }, rest))
 }

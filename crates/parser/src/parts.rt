@@ -12,8 +12,8 @@ ghost use Rattle.parser.specs.Declarations.{param_at, params_at, protection_at};
 use crate::growth::push;
 use crate::stop::Stop;
 use crate::take::{
-    after_sign, is_same, is_sign_next, is_word_next, named, small, take_int, take_name, take_open,
-    take_sign, take_word,
+    after_sign, ended_by, is_same, is_sign_next, is_word_next, named, small, take_int, take_name,
+    take_open, take_word,
 };
 use source::span::Span;
 use source::token::{Keyword, Number, Sign, Token};
@@ -39,14 +39,11 @@ pub fn value_type(tokens: &[Token]) -> Result<(ValueType, &[Token]), Stop>
 }
 
 /// A number in brackets.
-#[tactic(auto, unfolding(crate::specs::Reading::index_at))]
 pub fn index(tokens: &[Token], room: u32) -> Result<(Number, &[Token]), Stop>
     ensures { Gives (λ x. (x.0, seen x.1.now)) result (index_at room (seen tokens.now)) }
 {
     let (_, rest) = take_open(tokens, Sign::OpenBracket, room)?;
-    let (number, rest) = take_int(rest)?;
-    let (_, rest) = take_sign(rest, Sign::CloseBracket)?;
-    Ok((number, rest))
+    ended_by(take_int(rest), Sign::CloseBracket)
 }
 
 /// A member of a pool, behind the pool's name.
@@ -89,7 +86,6 @@ pub fn constant(alloc: Global, tokens: &[Token], room: u32) -> Result<(Const, &[
 }
 
 /// A parameter.
-#[tactic(auto, unfolding(crate::specs::Declarations::param_at))]
 fn param(tokens: &[Token]) -> Result<(Param, &[Token]), Stop>
     ensures { Gives (λ x. (param_of x.0, seen x.1.now)) result (param_at (seen tokens.now)) }
 {
@@ -117,14 +113,11 @@ fn param_list(alloc: Global, tokens: &[Token]) -> Result<(Vec<Param>, &[Token]),
 }
 
 /// Parameters in parentheses.
-#[tactic(auto, unfolding(crate::specs::Declarations::params_at))]
 pub fn params(alloc: Global, tokens: &[Token], room: u32) -> Result<(Vec<Param>, &[Token]), Stop>
     ensures { Gives (λ x. (map param_of x.0.items, seen x.1.now)) result (params_at room (seen tokens.now)) }
 {
     let (_, rest) = take_open(tokens, Sign::OpenParen, room)?;
-    let (params, rest) = param_list(alloc, rest)?;
-    let (_, rest) = take_sign(rest, Sign::CloseParen)?;
-    Ok((params, rest))
+    ended_by(param_list(alloc, rest), Sign::CloseParen)
 }
 
 /// Constants with commas between them, up to a closing parenthesis.
@@ -146,7 +139,7 @@ pub fn constants(alloc: Global, tokens: &[Token], room: u32) -> Result<(Vec<Cons
 }
 
 /// Names, each behind a dot.
-fn names_after_dots(alloc: Global, tokens: &[Token]) -> Result<(Vec<Name>, &[Token]), Stop>
+pub fn names_after_dots(alloc: Global, tokens: &[Token]) -> Result<(Vec<Name>, &[Token]), Stop>
     ensures { Gives (λ x. (map ident x.0.items, seen x.1.now)) result (after_each Dot name_at (seen tokens.now)) }
 {
     let mut names = Vec::new(alloc);
@@ -160,7 +153,6 @@ fn names_after_dots(alloc: Global, tokens: &[Token]) -> Result<(Vec<Name>, &[Tok
 }
 
 /// An annotation.
-#[tactic(auto, unfolding(crate::specs::Declarations::protection_at))]
 fn some_protection(
     alloc: Global,
     tokens: &[Token],
@@ -171,8 +163,7 @@ fn some_protection(
     let (_, after) = take_word(tokens, Keyword::ProtectedBy)?;
     let (_, after) = take_open(after, Sign::OpenParen, room)?;
     let (first, after) = take_name(after)?;
-    let (rest, after) = names_after_dots(alloc, after)?;
-    let (_, after) = take_sign(after, Sign::CloseParen)?;
+    let (rest, after) = ended_by(names_after_dots(alloc, after), Sign::CloseParen)?;
     Ok((Protection { first, rest }, after))
 }
 
@@ -193,7 +184,6 @@ pub fn protection(
 }
 
 /// A constant behind `=`, or nothing.
-#[tactic(auto, unfolding(crate::specs::Reading::maybe_at, crate::specs::Reading::after_at))]
 pub fn opening_value(
     alloc: Global,
     tokens: &[Token],
@@ -201,23 +191,20 @@ pub fn opening_value(
 ) -> Result<(Option<Const>, &[Token]), Stop>
     ensures { Gives (λ x. (option_of const_of x.0, seen x.1.now)) result (maybe_at (mark Equals) (after_at Equals (const_at room)) (seen tokens.now)) }
 {
-    if !is_sign_next(tokens, Sign::Equals) {
+    let Some(rest) = after_sign(tokens, Sign::Equals) else {
         return Ok((None, tokens));
-    }
-    let (_, rest) = take_sign(tokens, Sign::Equals)?;
+    };
     let (value, rest) = constant(alloc, rest, room)?;
     Ok((Some(value), rest))
 }
 
 /// A type behind `:`, or nothing.
-#[tactic(auto, unfolding(crate::specs::Reading::maybe_at, crate::specs::Reading::after_at))]
 pub fn result_type(tokens: &[Token]) -> Result<(Option<ValueType>, &[Token]), Stop>
     ensures { Gives (λ x. (option_of type_of x.0, seen x.1.now)) result (maybe_at (mark Colon) (after_at Colon type_at) (seen tokens.now)) }
 {
-    if !is_sign_next(tokens, Sign::Colon) {
+    let Some(rest) = after_sign(tokens, Sign::Colon) else {
         return Ok((None, tokens));
-    }
-    let (_, rest) = take_sign(tokens, Sign::Colon)?;
+    };
     let (value_type, rest) = value_type(rest)?;
     Ok((Some(value_type), rest))
 }

@@ -10,14 +10,15 @@ use crate::expr::{condition, ended, place};
 use crate::growth::push;
 use crate::parts::value_type;
 use crate::stop::Stop;
-use crate::take::{is_sign_next, is_word_next, named, take_name, take_open, take_sign, take_word};
+use crate::take::{
+    ended_by, is_sign_next, is_word_next, named, take_name, take_open, take_sign, take_word,
+};
 use source::span::Span;
 use source::token::{Keyword, Sign, Token};
 use std::alloc::Global;
 use syntax::tree::{Block, If, Local, Name, Stmt, While};
 
 /// What stands behind `let` or `var`, a word that stands at `start`.
-#[tactic(auto, unfolding(crate::specs::Bodies::local_at))]
 fn local(
     alloc: Global,
     start: Span,
@@ -26,10 +27,8 @@ fn local(
 ) -> Result<(Box<Local>, &[Token]), Stop>
     ensures { Gives (λ x. (local_of x.0.value, seen x.1.now)) result (local_at room start (seen tokens.now)) }
 {
-    let (name, rest) = take_name(tokens)?;
-    let (_, rest) = take_sign(rest, Sign::Colon)?;
-    let (value_type, rest) = value_type(rest)?;
-    let (_, rest) = take_sign(rest, Sign::Equals)?;
+    let (name, rest) = ended_by(take_name(tokens), Sign::Colon)?;
+    let (value_type, rest) = ended_by(value_type(rest), Sign::Equals)?;
     let (value, rest) = ended(alloc, rest, room)?;
     let local = Local {
         start,
@@ -41,7 +40,6 @@ fn local(
 }
 
 /// An assignment, behind its first name.
-#[tactic(auto, unfolding(crate::specs::Bodies::assign_at))]
 fn assignment(
     alloc: Global,
     name: Name,
@@ -50,8 +48,7 @@ fn assignment(
 ) -> Result<(Stmt, &[Token]), Stop>
     ensures { Gives (λ x. (stmt_of x.0, seen x.1.now)) result (assign_at room (ident name) (seen tokens.now)) }
 {
-    let (place, rest) = place(alloc, name, tokens, room)?;
-    let (_, rest) = take_sign(rest, Sign::Equals)?;
+    let (place, rest) = ended_by(place(alloc, name, tokens, room), Sign::Equals)?;
     let (value, rest) = ended(alloc, rest, room)?;
     Ok((Stmt::Assign(place, value), rest))
 }
@@ -105,7 +102,6 @@ fn stmts(alloc: Global, tokens: &[Token], room: u32) -> Result<(Vec<Stmt>, &[Tok
 
 /// Statements in braces, in which `room` signs may be opened, the first brace among them.
 #[cycle(stmt)]
-#[tactic(auto, unfolding(crate::specs::Bodies::braced_with))]
 pub fn block(alloc: Global, tokens: &[Token], room: u32) -> Result<(Block, &[Token]), Stop>
     ensures { Gives (λ x. ((stmts_of x.0.stmts.items, x.0.close), seen x.1.now)) result (braced_at room (seen tokens.now)) }
 {
@@ -117,7 +113,6 @@ pub fn block(alloc: Global, tokens: &[Token], room: u32) -> Result<(Block, &[Tok
 
 /// A branch, behind its first word, which stands at `start`.
 #[cycle(stmt)]
-#[tactic(auto, unfolding(crate::specs::Bodies::if_with))]
 fn if_rest(
     alloc: Global,
     start: Span,
@@ -154,7 +149,6 @@ fn otherwise(alloc: Global, tokens: &[Token], room: u32) -> Result<(Option<Block
 
 /// A loop, behind its first word, which stands at `start`.
 #[cycle(stmt)]
-#[tactic(auto, unfolding(crate::specs::Bodies::while_with))]
 fn while_rest(
     alloc: Global,
     start: Span,

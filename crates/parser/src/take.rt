@@ -4,6 +4,7 @@ ghost use Rattle.std.specs.Prelude.{◌≡◌, ◌<◌, IfOk, OnOk, option_map};
 ghost use Rattle.std.specs.Rc.{rc_str_bytes};
 ghost use Rattle.source.specs.Tokens.{seen, word, mark, end};
 ghost use Rattle.syntax.specs.Views.{ident};
+ghost use Rattle.parser.specs.Rests.{closing};
 ghost use Rattle.parser.specs.Reading.{Gives, same_sign, same_keyword, sign_at, open_at, word_at, name_at, int_at, skip_at, is_next};
 
 use crate::stop::Stop;
@@ -59,6 +60,18 @@ pub fn take_open(tokens: &[Token], sign: Sign, room: u32) -> Result<(Span, &[Tok
         }
     }
     Err(Stop::Unexpected(tokens.len()))
+}
+
+/// What was read, if the sign comes next behind it, and the tokens after that.
+pub fn ended_by<T: Drop>(
+    read: Result<(T, &[Token]), Stop>,
+    sign: Sign,
+) -> Result<(T, &[Token]), Stop>
+    ensures { Gives (λ x. (x.0, seen x.1.now)) result (closing sign (λ r. seen r.now) read.entry) }
+{
+    let (value, rest) = read?;
+    let (_, rest) = take_sign(rest, sign)?;
+    Ok((value, rest))
 }
 
 /// The keyword, which has to come next.

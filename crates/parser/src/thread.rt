@@ -10,21 +10,19 @@ use crate::growth::push;
 use crate::parts::constants;
 use crate::stop::Stop;
 use crate::take::{
-    is_sign_next, is_word_next, take_int, take_name, take_open, take_sign, take_word,
+    ended_by, is_sign_next, is_word_next, take_int, take_name, take_open, take_sign, take_word,
 };
 use source::token::{Keyword, Sign, Token};
 use std::alloc::Global;
 use syntax::tree::{Call, Item, Thread};
 
 /// A call.
-#[tactic(auto, unfolding(crate::specs::Declarations::call_at))]
 fn call(alloc: Global, tokens: &[Token], room: u32) -> Result<(Call, &[Token]), Stop>
     ensures { Gives (λ x. (call_of x.0, seen x.1.now)) result (call_at room (seen tokens.now)) }
 {
     let (section, rest) = take_name(tokens)?;
     let (_, rest) = take_open(rest, Sign::OpenParen, room)?;
-    let (arguments, rest) = constants(alloc, rest, room - 1)?;
-    let (_, rest) = take_sign(rest, Sign::CloseParen)?;
+    let (arguments, rest) = ended_by(constants(alloc, rest, room - 1), Sign::CloseParen)?;
     let (_, rest) = take_sign(rest, Sign::Semicolon)?;
     Ok((Call { section, arguments }, rest))
 }
@@ -44,15 +42,13 @@ fn item(alloc: Global, tokens: &[Token], room: u32) -> Result<(Item, &[Token]), 
 
 /// A repetition.
 #[cycle(item)]
-#[tactic(auto, unfolding(crate::specs::Declarations::repeat_with))]
 fn repeat(alloc: Global, tokens: &[Token], room: u32) -> Result<(Item, &[Token]), Stop>
     ensures { Gives (λ x. (item_of x.0, seen x.1.now)) result (repeat_with room (items_in room) (seen tokens.now)) }
 {
     let (_, rest) = take_word(tokens, Keyword::Repeat)?;
     let (count, rest) = take_int(rest)?;
     let (_, rest) = take_open(rest, Sign::OpenBrace, room)?;
-    let (items, rest) = items(alloc, rest, room - 1)?;
-    let (_, rest) = take_sign(rest, Sign::CloseBrace)?;
+    let (items, rest) = ended_by(items(alloc, rest, room - 1), Sign::CloseBrace)?;
     Ok((Item::Repeat(count, items), rest))
 }
 
@@ -71,13 +67,11 @@ fn items(alloc: Global, tokens: &[Token], room: u32) -> Result<(Vec<Item>, &[Tok
 }
 
 /// A thread, behind its first word.
-#[tactic(auto, unfolding(crate::specs::Declarations::thread_at))]
 pub fn thread(alloc: Global, tokens: &[Token], room: u32) -> Result<(Thread, &[Token]), Stop>
     ensures { Gives (λ x. (thread_of x.0, seen x.1.now)) result (thread_at room (seen tokens.now)) }
 {
     let (name, rest) = take_name(tokens)?;
     let (_, rest) = take_open(rest, Sign::OpenBrace, room)?;
-    let (items, rest) = items(alloc, rest, room - 1)?;
-    let (_, rest) = take_sign(rest, Sign::CloseBrace)?;
+    let (items, rest) = ended_by(items(alloc, rest, room - 1), Sign::CloseBrace)?;
     Ok((Thread { name, items }, rest))
 }

@@ -84,14 +84,7 @@ impl<'a> Roots<'a> {
         match point {
             PointRef::Statement(statement) => match &statement.action {
                 Action::Bind { local, .. } => self.at(*local),
-                Action::SetLocal { .. }
-                | Action::SetGlobal { .. }
-                | Action::SetElement { .. }
-                | Action::SetField { .. }
-                | Action::Print(_)
-                | Action::If { .. }
-                | Action::IfElse { .. }
-                | Action::While { .. } => PathSet::empty(),
+                _ => PathSet::empty(),
             },
             PointRef::Result(_) => PathSet::empty(),
         }
@@ -103,14 +96,7 @@ impl<'a> Roots<'a> {
     {
         match action {
             Action::Bind { local, .. } => scope.union(self.at(*local)),
-            Action::SetLocal { .. }
-            | Action::SetGlobal { .. }
-            | Action::SetElement { .. }
-            | Action::SetField { .. }
-            | Action::Print(_)
-            | Action::If { .. }
-            | Action::IfElse { .. }
-            | Action::While { .. } => scope,
+            _ => scope,
         }
     }
 
@@ -162,12 +148,7 @@ impl<'a> Roots<'a> {
                 self.push_block(body, scope, sets)?;
                 Ok(())
             }
-            Action::Bind { .. }
-            | Action::SetLocal { .. }
-            | Action::SetGlobal { .. }
-            | Action::SetElement { .. }
-            | Action::SetField { .. }
-            | Action::Print(_) => Ok(()),
+            _ => Ok(()),
         }
     }
 

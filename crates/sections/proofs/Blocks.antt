@@ -5,17 +5,21 @@ use Rattle.source.specs.declared.fault.Code.TheVariants.{LimitExceeded}
 use Rattle.source.specs.declared.span.Span.{Span}
 use Rattle.source.specs.declared.mistake.Mistake.{Mistake}
 use Rattle.syntax.specs.declared.tree.Stmt as tree_stmt
-use Rattle.syntax.specs.declared.tree.Stmt.{While, If}
+use Rattle.syntax.specs.declared.tree.Stmt.{Let, Var, While, If}
 use Rattle.syntax.specs.declared.tree.If as tree_if
 use Rattle.syntax.specs.declared.tree.If.{out-If}
 use Rattle.syntax.specs.declared.tree.While as tree_while
+use Rattle.syntax.specs.declared.tree.Block as tree_block
+use Rattle.syntax.specs.declared.tree.Local as tree_local
 use Rattle.syntax.specs.declared.tree.Param as tree_param
-use Rattle.syntax.specs.Views.{expr_of, stmt_of, stmts_of, else_of, param_of}
-use Rattle.syntax.specs.Trees.{Decl, Expr, Stmt, let_local, var_local, assign, if_then, while, print, return_value, Stmts, no_stmts, stmt, Otherwise, no_else, else_do, Param, Section}
+use Rattle.syntax.specs.Views.{expr_of, stmt_of, if_of, local_of, stmts_of, else_of, param_of}
+use Rattle.syntax.specs.Trees.{Decl, Expr, Stmt, let_local, var_local, assign, if_then, while, print, return_value, Stmts, no_stmts, stmt, no_else, else_do, Param, Section}
 use Rattle.core_lang.specs.declared.value.ValueType as core_type
 use Rattle.syntax.specs.Rows.{stmt_of-While, if_of-out}
 use Rattle.core_lang.specs.declared.tree.LocalKind.TheVariants.{Parameter}
 use Rattle.core_lang.specs.declared.tree.Stmt as r
+use Rattle.core_lang.specs.declared.tree.Return as r_return
+use Rattle.std.proofs.lemmas.List.{map-append}
 use Rattle.resolution.specs.Core as core
 use Rattle.resolution.specs.CoreViews.{core_stmt, core_stmts, core_return}
 use Rattle.resolution.specs.declared.wanted.Want.TheVariants.{Condition}
@@ -24,7 +28,7 @@ use Rattle.sections.specs.Targets.{Row, row_of, body_of, pushed_to, body_pushed}
 use Rattle.resolution.specs.Limits.{PARAMETER_LIMIT}
 use Rattle.resolution.specs.Scopes.{Scope, hidden_from, bound, entered, outside, type_of, left}
 use Rattle.resolution.specs.Expressions.{typed, test_resolved}
-use Rattle.resolution.specs.Statements.{Part, does, gives, Body, given_back, preceded, typed_body, typed_stmt, typed_if, after, after_else, after_all, block_of, repeats}
+use Rattle.resolution.specs.Statements.{Part, does, gives, Body, given_back, preceded, typed_body, typed_stmt, typed_if, after, after_else, after_all, block_of, repeats, chooses_between}
 use Rattle.resolution.specs.Resolution.{result_of, ahead_of, entry, core_locals, section_of, typed_section}
 use Rattle.source.specs.Mistakes.{least_of}
 use Rattle.resolution.specs.FaultLists.{one_if, local_faults, type_faults, param_faults, stmt_faults, stmts_faults, wanted_faults, else_faults}
@@ -96,6 +100,12 @@ body_end (Some b) = last b.stmts.items (option_map core_return b.result)
     last : (xs : List r.Stmt) (q : Option core.Return) → body_and (map core_stmt xs) q core.no_stmts None ≡ Some (record { stmts = core_stmts xs; result = q })
     last xs None = ap (λ (ys : core.Stmts). Some (record { stmts = ys; result = None })) (stmts_all xs)
     last xs (Some q) = ap (λ (ys : core.Stmts). Some (record { stmts = ys; result = Some q })) (stmts_all xs)
+
+-- one statement more, and no `return`
+pub one_more : (b : the_body.Body) (xs : List r.Stmt) (x : r.Stmt) → b.stmts.items ≡ xs ++ x ∷ [] → b.result ≡ None → Some (row_of b) ≡ pushed_to (map core_stmt xs) None (does (core_stmt x))
+one_more b xs x is none =
+    ap (λ (q : Option r_return.Return). Some (record { stmts = map core_stmt b.stmts.items; result = option_map core_return q })) none
+    ∙ ap (λ (ys : List core.Stmt). Some (record { stmts = ys; result = None })) (ap (map core_stmt) is ∙ map-append core_stmt xs (x ∷ []))
 
 -- ---- statements one after another
 
@@ -201,18 +211,21 @@ while_is : (s : tree_stmt.Stmt) (b : Box tree_while.While Global) → s ≡ Whil
     → while b.value.start (expr_of b.value.condition) (stmts_of b.value.block.stmts.items) b.value.block.close ≡ stmt_of s
 while_is s b is = sym (ap stmt_of is ∙ stmt_of-While b)
 
-if_is : (s : tree_stmt.Stmt) (b : Box tree_if.If Global) → s ≡ If b
-    → if_then (out-If b.value).start (expr_of (out-If b.value).condition) (stmts_of (out-If b.value).block.stmts.items) (out-If b.value).block.close (else_of (out-If b.value).otherwise) ≡ stmt_of s
-if_is s b is = sym (ap stmt_of is ∙ if_of-out b.value)
+-- a local, read through the box
+pub let_seen : (s : tree_stmt.Stmt) (b : Box tree_local.Local Global) (x : tree_local.Local) → s ≡ Let b → x ≡ b.value → let_local (local_of x) ≡ stmt_of s
+let_seen s b x is hx = ap (λ (l : tree_local.Local). let_local (local_of l)) hx ∙ sym (ap stmt_of is)
+
+pub var_seen : (s : tree_stmt.Stmt) (b : Box tree_local.Local Global) (x : tree_local.Local) → s ≡ Var b → x ≡ b.value → var_local (local_of x) ≡ stmt_of s
+var_seen s b x is hx = ap (λ (l : tree_local.Local). var_local (local_of l)) hx ∙ sym (ap stmt_of is)
+
+-- a choice, read through the box
+pub if_seen : (s : tree_stmt.Stmt) (b : Box tree_if.If Global) (x : tree_if.If) → s ≡ If b → x ≡ b.value → if_of x ≡ stmt_of s
+if_seen s b x is hx = ap if_of hx ∙ sym (ap stmt_of is)
 
 -- the same, where each part was read through the box anew
 pub while_seen : (s : tree_stmt.Stmt) (b : Box tree_while.While Global) (x y z : tree_while.While) → s ≡ While b → x ≡ b.value → y ≡ b.value → z ≡ b.value
     → while x.start (expr_of z.condition) (stmts_of y.block.stmts.items) y.block.close ≡ stmt_of s
 while_seen s b x y z is hx hy hz = rw (hx, hy, hz) (while_is s b is)
-
-pub if_seen : (s : tree_stmt.Stmt) (b : Box tree_if.If Global) (x y z w : tree_if.If) → s ≡ If b → x ≡ b.value → y ≡ b.value → z ≡ b.value → w ≡ b.value
-    → if_then (out-If z).start (expr_of (out-If x).condition) (stmts_of (out-If y).block.stmts.items) (out-If y).block.close (else_of (out-If w).otherwise) ≡ stmt_of s
-if_seen s b x y z w is hx hy hz hw = rw (hx, hy, hz, hw) (if_is s b is)
 
 module _ (sc : Scope) (at close : Span) (test : Expr) (body : Stmts) where
   pub while_value : (p : Option Part) (cond : Option core.Condition) (block : Option core.Stmts) → p ≡ repeats at.start cond block → cond ≡ test_resolved (typed sc test) → block ≡ block_of (typed_body sc body) →
@@ -222,19 +235,35 @@ module _ (sc : Scope) (at close : Span) (test : Expr) (body : Stmts) where
   pub while_faults : (f g h : Option Mistake) → g ≡ least_of f (wanted_faults sc Condition test) → h ≡ least_of g (stmts_faults sc body) → h ≡ least_of f (stmt_faults sc (while at test body close))
   while_faults f g h hg hh = hh ∙ noted_one f g (wanted_faults sc Condition test) (stmts_faults sc body) hg
 
-module _ (sc sc2 : Scope) (at close : Span) (test : Expr) (body : Stmts) (other : Otherwise) (behind : sc2 ≡ left sc (after_all sc body)) where
-  pub if_value : (cond : Option core.Condition) (block : Option core.Stmts) → cond ≡ test_resolved (typed sc test) → block ≡ block_of (typed_body sc body) →
-      typed_if sc2 at.start cond block other ≡ typed_stmt sc (if_then at test body close other)
-  if_value cond block hc hb =
-      ap (λ z. typed_if z at.start cond block other) behind
-      ∙ ap (λ c. typed_if (left sc (after_all sc body)) at.start c block other) hc
-      ∙ ap (λ b. typed_if (left sc (after_all sc body)) at.start (test_resolved (typed sc test)) b other) hb
+-- a choice by its parts, where the scope behind its block is sc2
+module _ (sc sc2 : Scope) (choice : tree_if.If) (behind : sc2 ≡ left sc (after_all sc (stmts_of (out-If choice).block.stmts.items))) where
+  pub if_value : (cond : Option core.Condition) (block : Option core.Stmts) (p : Option Part) → cond ≡ test_resolved (typed sc (expr_of (out-If choice).condition)) →
+      block ≡ block_of (typed_body sc (stmts_of (out-If choice).block.stmts.items)) → p ≡ typed_if sc2 (out-If choice).start.start cond block (else_of (out-If choice).otherwise) →
+      p ≡ typed_stmt sc (if_of choice)
+  if_value cond block p hc hb hp =
+      let at = (out-If choice).start.start in
+      let other = else_of (out-If choice).otherwise in
+      let body = stmts_of (out-If choice).block.stmts.items in
+      hp ∙ ap (λ z. typed_if z at cond block other) behind
+      ∙ ap (λ c. typed_if (left sc (after_all sc body)) at c block other) hc
+      ∙ ap (λ b. typed_if (left sc (after_all sc body)) at (test_resolved (typed sc (expr_of (out-If choice).condition))) b other) hb
+      ∙ ap (typed_stmt sc) (sym (if_of-out choice))
 
-  pub if_faults : (f g h k : Option Mistake) → g ≡ least_of f (wanted_faults sc Condition test) → h ≡ least_of g (stmts_faults sc body) → k ≡ least_of h (else_faults sc2 other) →
-      k ≡ least_of f (stmt_faults sc (if_then at test body close other))
+  pub if_faults : (f g h k : Option Mistake) → g ≡ least_of f (wanted_faults sc Condition (expr_of (out-If choice).condition)) →
+      h ≡ least_of g (stmts_faults sc (stmts_of (out-If choice).block.stmts.items)) → k ≡ least_of h (else_faults sc2 (else_of (out-If choice).otherwise)) →
+      k ≡ least_of f (stmt_faults sc (if_of choice))
   if_faults f g h k hg hh hk =
+      let other = else_of (out-If choice).otherwise in
+      let body = stmts_of (out-If choice).block.stmts.items in
       hk ∙ ap (λ z. least_of h (else_faults z other)) behind
-      ∙ noted_two f g h (wanted_faults sc Condition test) (stmts_faults sc body) (else_faults (left sc (after_all sc body)) other) hg hh
+      ∙ noted_two f g h (wanted_faults sc Condition (expr_of (out-If choice).condition)) (stmts_faults sc body) (else_faults (left sc (after_all sc body)) other) hg hh
+      ∙ ap (λ s. least_of f (stmt_faults sc s)) (sym (if_of-out choice))
 
-  pub if_scope : (sc3 : Scope) → sc3 ≡ after_else sc2 other → sc3 ≡ after sc (if_then at test body close other)
-  if_scope sc3 made = made ∙ ap (λ z. after_else z other) behind
+  pub if_scope : (sc3 : Scope) → sc3 ≡ after_else sc2 (else_of (out-If choice).otherwise) → sc3 ≡ after sc (if_of choice)
+  if_scope sc3 made = made ∙ ap (λ z. after_else z (else_of (out-If choice).otherwise)) behind ∙ ap (after sc) (sym (if_of-out choice))
+
+-- what stands behind `else`
+pub otherwise_value : (sc : Scope) (start : ℕ) (cond : Option core.Condition) (block inner : Option core.Stmts) (other : Option tree_block.Block) (b : tree_block.Block) (p : Option Part) → other ≡ Some b →
+    inner ≡ block_of (typed_body sc (stmts_of b.stmts.items)) → p ≡ chooses_between start cond block inner → p ≡ typed_if sc start cond block (else_of other)
+otherwise_value sc start cond block inner other b p is hi hp =
+    hp ∙ ap (chooses_between start cond block) hi ∙ ap (λ (o : Option tree_block.Block). typed_if sc start cond block (else_of o)) (sym is)

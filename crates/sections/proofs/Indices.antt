@@ -64,6 +64,16 @@ assigned_is decls (a_decl i (array a)) (Some e) = array_assigned (number_at decl
 assigned_is decls (a_decl i (pool p)) (Some e) = pool_assigned (number_at decls i (pool p)) (struct_named decls p.target) e
 assigned_is decls _ (Some e) = refl
 
+-- by what each part is
+pub assigned_seen : (decls : List Decl) (m n : Meaning) (x : Option Indexed) (e f : Option core.Expr) → m ≡ n → x ≡ indexed_by decls m → e ≡ f → assigned_at x e ≡ assignee_at_element decls n f
+assigned_seen decls m n x e f hm hx he =
+    ap (λ (y : Option Indexed). assigned_at y e) hx ∙ ap (λ (k : Meaning). assigned_at (indexed_by decls k) e) hm
+    ∙ ap (assigned_at (indexed_by decls n)) he ∙ assigned_is decls n f
+
+pub assigned_blamed : (decls : List Decl) (start : ℕ) (m n : Meaning) (f g : Option Mistake) (a : List Mistake) → m ≡ n → g ≡ least_of f (no_elements decls start m ++ no_array decls start m) → least_of g a ≡ least_of f (no_elements decls start n ++ no_array decls start n ++ a)
+assigned_blamed decls start m n f g a hm hg =
+    noted_one f g (no_elements decls start n ++ no_array decls start n) a (hg ∙ ap (λ (k : Meaning). least_of f (no_elements decls start k ++ no_array decls start k)) hm)
+
 -- a pool's member on the left
 abbrev pub not_array : ℕ → Option Indexed → List Mistake
 not_array start (Some (Pool n t)) = one NotAssignable start

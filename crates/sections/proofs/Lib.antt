@@ -3,3 +3,4 @@ pub mod Chains
 pub mod Blocks
 pub mod Indices
 pub mod Lasts
+pub mod Zips

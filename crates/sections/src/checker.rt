@@ -160,13 +160,9 @@ impl<'a> Checker<'a> {
     fn note_taken(&self, name: &Name, least: &mut Least)
         ensures { least.new ≡ least_of least.old (taken (ident name.now).span.start (the_local (scope self.now).locals (ident name.now).text) (the_decl (scope self.now).decls (ident name.now).text)) }
     {
-        if self.locals.find(name.text.as_str()).is_some() {
-            note(least, Code::DeclaredTwice, name.start as usize);
-            return;
-        }
-        if self.symbols.find(name.text.as_str()).is_some() {
-            note(least, Code::DeclaredTwice, name.start as usize);
-        }
+        let text = name.text.as_str();
+        let is_taken = self.locals.find(text).is_some() || self.symbols.find(text).is_some();
+        note_if(is_taken, Code::DeclaredTwice, name.start as usize, least);
     }
 
     /// Notes what is wrong with the name of the next local.

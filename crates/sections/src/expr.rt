@@ -159,12 +159,9 @@ impl<'a> Checker<'a> {
         ensures value { IfOk result (λ r. option_map resolved_expr_of r ≡ holds (level_of op) (typed_tests (scope self.now) (option_map core_condition first) (link op (expr_of right.now) no_links))) }
         ensures faults { OnOk result (least.new ≡ least_of least.old (link_faults (scope self.now) Conjunction (link op (expr_of right.now) no_links))) }
     {
+        let one = one_test(self.alloc(), first, 1)?;
         let Ok(operand) = self.test(right, least) else {
-            drop(first);
-            return Err(AllocError);
-        };
-        let Ok(one) = one_test(self.alloc(), first, 1) else {
-            drop(operand);
+            drop(one);
             return Err(AllocError);
         };
         let tests = with_test(one, operand)?;

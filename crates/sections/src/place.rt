@@ -63,11 +63,7 @@ pub fn element_value(
 ) -> Judged<ResolvedExpr>
     ensures { IfOk result (λ r. option_map resolved_expr_of r ≡ element_by start indexed (option_map core_expr index)) }
 {
-    let Some(indexed) = indexed else {
-        drop(index);
-        return Ok(None);
-    };
-    let Some(index) = index else {
+    let Some((indexed, index)) = indexed.zip(index) else {
         return Ok(None);
     };
     let index = Box::new(alloc, index)?;

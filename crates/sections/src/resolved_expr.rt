@@ -1,8 +1,8 @@
 //! What expressions give, put together from what their parts give.
 
-ghost use Rattle.std.specs.Prelude.{◌≡◌, IfOk, option_map};
-ghost use Rattle.resolution.specs.CoreViews.{core_expr, core_condition, core_operations};
-ghost use Rattle.resolution.specs.Expressions.{fits, fitting, as_value, number_resolved, test_resolved, alike_sorts, literal, value_of, parenthesised, negated, not_so, number_value, operator_of, chained, ordered, equated, compared};
+ghost use Rattle.std.specs.Prelude.{◌≡◌, IfOk, Some, option_map};
+ghost use Rattle.resolution.specs.CoreViews.{core_expr, core_condition, core_conditions, core_operations};
+ghost use Rattle.resolution.specs.Expressions.{value, fits, fitting, as_value, number_resolved, test_resolved, alike_sorts, literal, value_of, parenthesised, negated, not_so, number_value, operator_of, chained, ordered, equated, compared};
 ghost use Rattle.source.specs.Mistakes.{least_of};
 ghost use Rattle.resolution.specs.FaultLists.{misfit, number_faults, unlike, side_faults, operator_faults};
 ghost use Rattle.resolution.specs.Where.{side_want};
@@ -154,7 +154,10 @@ pub fn value_of(e: Expr, t: Option<ValueType>) -> Option<ResolvedExpr>
 {
     match t {
         Some(t) => Some(ResolvedExpr::Value(e, Sort::Of(t))),
-        None => None,
+        None => {
+            drop(e);
+            None
+        }
     }
 }
 
@@ -217,12 +220,7 @@ pub fn chained(
 ) -> Judged<ResolvedExpr>
     ensures { IfOk result (λ r. option_map resolved_expr_of r ≡ chained (option_map core_expr first) (option_map (λ os. core_operations os.items) rest)) }
 {
-    let Some(first) = first else {
-        drop(rest);
-        return Ok(None);
-    };
-    let Some(rest) = rest else {
-        drop(first);
+    let Some((first, rest)) = first.zip(rest) else {
         return Ok(None);
     };
     let first = Box::new(alloc, first)?;
@@ -238,17 +236,7 @@ pub fn with_operation(
 ) -> Judged<Vec<Operation>>
     ensures { IfOk result (λ r. option_map (λ os. os.items) r ≡ pushed (option_map (λ os. os.items) operations) (operation_with operator operand)) }
 {
-    let Some(mut operations) = operations else {
-        drop(operand);
-        return Ok(None);
-    };
-    let Some(operator) = operator else {
-        drop(operations);
-        drop(operand);
-        return Ok(None);
-    };
-    let Some(operand) = operand else {
-        drop(operations);
+    let Some((mut operations, (operator, operand))) = operations.zip(operator.zip(operand)) else {
         return Ok(None);
     };
     if let Err(e) = operations.push(Operation { operator, operand }) {
@@ -276,12 +264,7 @@ pub fn one_test(alloc: Global, c: Option<Condition>, more: usize) -> Judged<Test
 pub fn with_test(tests: Option<Tests>, c: Option<Condition>) -> Judged<Tests>
     ensures { IfOk result (λ r. option_map so_far r ≡ tests_with (option_map so_far tests) c) }
 {
-    let Some(tests) = tests else {
-        drop(c);
-        return Ok(None);
-    };
-    let Some(c) = c else {
-        drop(tests);
+    let Some((tests, c)) = tests.zip(c) else {
         return Ok(None);
     };
     let Tests { mut before, last } = tests;
@@ -293,6 +276,21 @@ pub fn with_test(tests: Option<Tests>, c: Option<Condition>) -> Judged<Tests>
     Ok(Some(Tests { before, last: c }))
 }
 
+/// Conditions with `&&` or `||` between them; nothing, if the level has numbers.
+fn joined_by(level: Level, before: Vec<Condition>, last: Box<Condition>) -> Option<ResolvedExpr>
+    ensures { option_map resolved_expr_of result ≡ holds level (Some (record { before = core_conditions before.items; last = core_condition last.value })) }
+{
+    match level {
+        Level::Conjunction => Some(ResolvedExpr::Truth(Condition::And(before, last))),
+        Level::Disjunction => Some(ResolvedExpr::Truth(Condition::Or(before, last))),
+        Level::Term | Level::Sum => {
+            drop(before);
+            drop(last);
+            None
+        }
+    }
+}
+
 /// A chain of conditions.
 pub fn tested(alloc: Global, level: Level, tests: Option<Tests>) -> Judged<ResolvedExpr>
     ensures { IfOk result (λ r. option_map resolved_expr_of r ≡ holds level (option_map tests_of tests)) }
@@ -301,35 +299,30 @@ pub fn tested(alloc: Global, level: Level, tests: Option<Tests>) -> Judged<Resol
         return Ok(None);
     };
     let Tests { before, last } = tests;
-    let Ok(last) = Box::new(alloc, last) else {
-        drop(before);
-        return Err(AllocError);
-    };
-    match level {
-        Level::Conjunction => Ok(Some(ResolvedExpr::Truth(Condition::And(before, last)))),
-        Level::Disjunction => Ok(Some(ResolvedExpr::Truth(Condition::Or(before, last)))),
-        Level::Term | Level::Sum => {
+    match Box::new(alloc, last) {
+        Ok(last) => Ok(joined_by(level, before, last)),
+        Err(e) => {
             drop(before);
-            drop(last);
-            Ok(None)
+            Err(e.into())
         }
     }
+}
+
+/// A comparison of two values, if neither is missing.
+fn comparison(c: Comparison, a: Option<Expr>, b: Option<Expr>) -> Option<ResolvedExpr>
+    ensures { option_map resolved_expr_of result ≡ ordered c (option_map core_expr a) (option_map core_expr b) }
+{
+    let Some((a, b)) = a.zip(b) else {
+        return None;
+    };
+    Some(ResolvedExpr::Truth(Condition::Compare(c, a, b)))
 }
 
 /// A comparison of two numbers.
 fn ordered(c: Comparison, left: Side, right: Side) -> Option<ResolvedExpr>
     ensures { option_map resolved_expr_of result ≡ ordered c (number_resolved (seen left)) (number_resolved (seen right)) }
 {
-    let right = number_in(right.value);
-    let Some(a) = number_in(left.value) else {
-        drop(right);
-        return None;
-    };
-    let Some(b) = right else {
-        drop(a);
-        return None;
-    };
-    Some(ResolvedExpr::Truth(Condition::Compare(c, a, b)))
+    comparison(c, number_in(left.value), number_in(right.value))
 }
 
 /// Notes sides that `==` doesn't take.
@@ -353,6 +346,33 @@ fn note_unlike(left: &Side, right: &Side, least: &mut Least)
     }
 }
 
+/// A comparison of a value of a sort with what stands on the right, if the two are alike.
+fn equated_with(
+    c: Comparison,
+    a: Expr,
+    s: Sort,
+    right: Option<ResolvedExpr>,
+) -> Option<ResolvedExpr>
+    ensures { option_map resolved_expr_of result ≡ equated c (Some (value (core_expr a) s)) (option_map resolved_expr_of right) }
+{
+    match right {
+        Some(ResolvedExpr::Value(b, t)) => {
+            if are_alike(s, t) {
+                Some(ResolvedExpr::Truth(Condition::Compare(c, a, b)))
+            } else {
+                drop(a);
+                drop(b);
+                None
+            }
+        }
+        right => {
+            drop(a);
+            drop(right);
+            None
+        }
+    }
+}
+
 /// A comparison of two that are alike. The fault is noted ahead of it, by reference: an arm that owns the sides and
 /// gives none back has to take both apart, which makes the proof long.
 fn equated(c: Comparison, left: Side, right: Side, least: &mut Least) -> Option<ResolvedExpr>
@@ -361,20 +381,13 @@ fn equated(c: Comparison, left: Side, right: Side, least: &mut Least) -> Option<
 {
     note_unlike(&left, &right, least);
     let (left, right) = (left.value, right.value);
-    let Some(ResolvedExpr::Value(a, s)) = left else {
-        drop(right);
-        return None;
-    };
-    let Some(ResolvedExpr::Value(b, t)) = right else {
-        drop(a);
-        return None;
-    };
-    if are_alike(s, t) {
-        Some(ResolvedExpr::Truth(Condition::Compare(c, a, b)))
-    } else {
-        drop(a);
-        drop(b);
-        None
+    match left {
+        Some(ResolvedExpr::Value(a, s)) => equated_with(c, a, s, right),
+        left => {
+            drop(left);
+            drop(right);
+            None
+        }
     }
 }
 

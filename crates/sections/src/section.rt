@@ -51,12 +51,7 @@ fn with_local(
 ) -> Judged<Vec<tree::Local>>
     ensures { IfOk result (λ r. option_map (λ ls. core.core_locals ls.items) r ≡ pushed (option_map (λ ls. core.core_locals ls.items) locals) (option_map core.core_local local)) }
 {
-    let Some(mut locals) = locals else {
-        drop(local);
-        return Ok(None);
-    };
-    let Some(local) = local else {
-        drop(locals);
+    let Some((mut locals, local)) = locals.zip(local) else {
         return Ok(None);
     };
     if let Err(e) = locals.push(local) {
@@ -165,12 +160,7 @@ impl<'a> Checker<'a> {
     ) -> Judged<Section>
         ensures { IfOk result (λ r. option_map core_section r ≡ section_of (scope self.now).decls (section_view s.now) (option_map (λ ls. core.core_locals ls.items) locals) (option_map body_of body)) }
     {
-        let Some(locals) = locals else {
-            drop(body);
-            return Ok(None);
-        };
-        let Some(body) = body else {
-            drop(locals);
+        let Some((locals, body)) = locals.zip(body) else {
             return Ok(None);
         };
         self.section_with(s, locals, body)

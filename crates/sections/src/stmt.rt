@@ -2,7 +2,7 @@
 
 ghost use Rattle.std.specs.Prelude.{◌≡◌, OnOk, IfOk, Some, None, map, option_map};
 ghost use Rattle.syntax.specs.Trees.{assign, while};
-ghost use Rattle.syntax.specs.Views.{expr_of, place_of, stmt_of, stmts_of, local_of, else_of};
+ghost use Rattle.syntax.specs.Views.{expr_of, place_of, stmt_of, if_of, stmts_of, local_of, else_of};
 ghost use Rattle.resolution.specs.CoreViews.{core_expr, core_condition, core_stmt, core_stmts, core_action};
 ghost use Rattle.resolution.specs.Scopes.{bound, left, type_of};
 ghost use Rattle.resolution.specs.Statements.{does, acts, local_bound, binds, assigns, prints, returns, repeats, chooses, chooses_between, block_of, after, after_else, after_all, typed_stmt, typed_if, typed_body};
@@ -60,7 +60,10 @@ fn bind(start: usize, local: usize, t: Option<ValueType>, value: Option<Expr>) -
 {
     match (t, value) {
         (Some(_), Some(value)) => act(start, Action::Bind { local, value }),
-        _ => None,
+        (_, value) => {
+            drop(value);
+            None
+        }
     }
 }
 
@@ -68,11 +71,7 @@ fn bind(start: usize, local: usize, t: Option<ValueType>, value: Option<Expr>) -
 fn assign(start: usize, assignee: Option<Assignee>, value: Option<Expr>) -> Option<Part>
     ensures { option_map part_of result ≡ assigns start (option_map assignee_of assignee) (option_map core_expr value) }
 {
-    let Some(assignee) = assignee else {
-        return None;
-    };
-    let Some(value) = value else {
-        drop(assignee);
+    let Some((assignee, value)) = assignee.zip(value) else {
         return None;
     };
     match assignee.target {
@@ -122,12 +121,7 @@ fn give(start: usize, value: Option<Expr>) -> Option<Part>
 fn repeat(start: usize, condition: Option<Condition>, body: Option<Vec<Stmt>>) -> Option<Part>
     ensures { option_map part_of result ≡ repeats start (option_map core_condition condition) (option_map (λ b. core_stmts b.items) body) }
 {
-    let Some(condition) = condition else {
-        drop(body);
-        return None;
-    };
-    let Some(body) = body else {
-        drop(condition);
+    let Some((condition, body)) = condition.zip(body) else {
         return None;
     };
     act(start, Action::While { condition, body })
@@ -137,12 +131,7 @@ fn repeat(start: usize, condition: Option<Condition>, body: Option<Vec<Stmt>>) -
 fn choose(start: usize, condition: Option<Condition>, block: Option<Vec<Stmt>>) -> Option<Part>
     ensures { option_map part_of result ≡ chooses start (option_map core_condition condition) (option_map (λ b. core_stmts b.items) block) }
 {
-    let Some(condition) = condition else {
-        drop(block);
-        return None;
-    };
-    let Some(block) = block else {
-        drop(condition);
+    let Some((condition, block)) = condition.zip(block) else {
         return None;
     };
     act(start, Action::If { condition, block })
@@ -157,19 +146,7 @@ fn choose_between(
 ) -> Option<Part>
     ensures { option_map part_of result ≡ chooses_between start (option_map core_condition condition) (option_map (λ b. core_stmts b.items) block) (option_map (λ b. core_stmts b.items) otherwise) }
 {
-    let Some(condition) = condition else {
-        drop(block);
-        drop(otherwise);
-        return None;
-    };
-    let Some(block) = block else {
-        drop(condition);
-        drop(otherwise);
-        return None;
-    };
-    let Some(otherwise) = otherwise else {
-        drop(condition);
-        drop(block);
+    let Some((condition, (block, otherwise))) = condition.zip(block.zip(otherwise)) else {
         return None;
     };
     let choice = Action::IfElse {
@@ -185,11 +162,16 @@ fn block_of(body: Option<Body>) -> Option<Vec<Stmt>>
     ensures { option_map (λ b. core_stmts b.items) result ≡ block_of (option_map body_of body) }
 {
     match body {
-        Some(body) => match body.result {
-            None => Some(body.stmts),
-            Some(_) => None,
-        },
-        None => None,
+        Some(
+            Body {
+                stmts,
+                result: None,
+            },
+        ) => Some(stmts),
+        body => {
+            drop(body);
+            None
+        }
     }
 }
 
@@ -198,7 +180,10 @@ fn one_longer(stmts: Vec<Stmt>, stmt: Stmt) -> Judged<Body>
     ensures { IfOk result (λ r. option_map row_of r ≡ pushed_to (map core_stmt stmts.items) None (does (core_stmt stmt))) }
 {
     let mut stmts = stmts;
-    stmts.push(stmt)?;
+    if let Err(e) = stmts.push(stmt) {
+        drop(stmts);
+        return Err(e.into());
+    }
     Ok(Some(Body {
         stmts,
         result: None,
@@ -215,10 +200,15 @@ fn followed_by(body: Body, part: Part) -> Judged<Body>
         drop(part);
         return Ok(None);
     }
+    let Body {
+        stmts,
+        result: none,
+    } = body;
+    drop(none);
     match part {
-        Part::Does(stmt) => one_longer(body.stmts, stmt),
+        Part::Does(stmt) => one_longer(stmts, stmt),
         Part::Gives(result) => Ok(Some(Body {
-            stmts: body.stmts,
+            stmts,
             result: Some(result),
         })),
     }
@@ -228,12 +218,7 @@ fn followed_by(body: Body, part: Part) -> Judged<Body>
 fn with_part(body: Option<Body>, part: Option<Part>) -> Judged<Body>
     ensures { IfOk result (λ r. option_map row_of r ≡ body_pushed (option_map row_of body) (option_map part_of part)) }
 {
-    let Some(part) = part else {
-        drop(body);
-        return Ok(None);
-    };
-    let Some(body) = body else {
-        drop(part);
+    let Some((body, part)) = body.zip(part) else {
         return Ok(None);
     };
     followed_by(body, part)
@@ -255,7 +240,10 @@ impl<'a> Checker<'a> {
         let t = self.local_type(&local.value_type, least);
         let value = self.value(want(t), &local.value, least)?;
         let number = self.next();
-        self.bind(&local.name, kind, t)?;
+        let Ok(()) = self.bind(&local.name, kind, t) else {
+            drop(value);
+            return Err(AllocError);
+        };
         Ok(bind(local.start.start as usize, number, t, value))
     }
 
@@ -283,20 +271,7 @@ impl<'a> Checker<'a> {
             tree::Stmt::Let(local) => self.let_or_var(LocalKind::Let, local, least),
             tree::Stmt::Var(local) => self.let_or_var(LocalKind::Var, local, least),
             tree::Stmt::Assign(place, e) => self.assignment(place, e, least),
-            tree::Stmt::If(choice) => {
-                let condition = self.test(&choice.condition, least)?;
-                let block = self.block(&choice.block, least)?;
-                let start = choice.start.start as usize;
-                self.otherwise(
-                    &choice.otherwise,
-                    Choice {
-                        start,
-                        condition,
-                        block,
-                    },
-                    least,
-                )
-            }
+            tree::Stmt::If(choice) => self.choice(choice, least),
             tree::Stmt::While(repetition) => self.repetition(
                 repetition.start,
                 &repetition.block,
@@ -334,6 +309,30 @@ impl<'a> Checker<'a> {
             return Err(AllocError);
         };
         Ok(repeat(start.start as usize, condition, body))
+    }
+
+    // A choice, resolved, if its condition and everything in its blocks have types.
+    #[cycle(stmts)]
+    fn choice(&mut self, choice: &tree::If, least: &mut Least) -> Judged<Part>
+        ensures value { IfOk result (λ r. option_map part_of r ≡ typed_stmt (scope self.old) (if_of choice.now)) }
+        ensures faults { OnOk result (least.new ≡ least_of least.old (stmt_faults (scope self.old) (if_of choice.now))) }
+        ensures scope { OnOk result (scope self.new ≡ after (scope self.old) (if_of choice.now)) }
+    {
+        let condition = self.test(&choice.condition, least)?;
+        let Ok(block) = self.block(&choice.block, least) else {
+            drop(condition);
+            return Err(AllocError);
+        };
+        let start = choice.start.start as usize;
+        self.otherwise(
+            &choice.otherwise,
+            Choice {
+                start,
+                condition,
+                block,
+            },
+            least,
+        )
     }
 
     // A choice with what stands behind `else`.

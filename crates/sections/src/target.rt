@@ -1,7 +1,7 @@
 //! The left sides of assignments.
 
 ghost use Rattle.std.specs.Prelude.{◌≡◌, ◌++◌, OnOk, IfOk, option_map, Some};
-ghost use Rattle.syntax.specs.Views.{place_of};
+ghost use Rattle.syntax.specs.Views.{element_of, path_of, place_of};
 ghost use Rattle.resolution.specs.CoreViews.{core_expr};
 ghost use Rattle.resolution.specs.Statements.{assignee, assignee_at, assignee_along, target_of, wanted_by};
 ghost use Rattle.source.specs.Mistakes.{least_of};
@@ -21,7 +21,8 @@ use source::fault::Code;
 use source::mistake::note;
 use std::alloc::AllocError;
 use symbols::scope::Meaning;
-use syntax::tree::{Decl, Place};
+use syntax::tree;
+use syntax::tree::{Decl, Element, Place};
 
 /// What is assigned to.
 #[derive(Drop)]
@@ -51,7 +52,10 @@ fn assignee_of_type(target: Target, t: Option<ValueType>) -> Option<Assignee>
 {
     match t {
         Some(value_type) => Some(Assignee { target, value_type }),
-        None => None,
+        None => {
+            drop(target);
+            None
+        }
     }
 }
 
@@ -63,7 +67,10 @@ fn assigned_at(indexed: Option<Indexed>, index: Option<Expr>) -> Option<Assignee
         (Some(Indexed::Array(number, t)), Some(index)) => {
             assignee_of_type(Target::Element(number, index), Some(t))
         }
-        _ => None,
+        (_, index) => {
+            drop(index);
+            None
+        }
     }
 }
 
@@ -135,8 +142,29 @@ impl<'a> Checker<'a> {
         indexed
     }
 
+    // An element on the left, with the faults of its index.
+    fn element_target(&self, element: &Element, least: &mut Least) -> Judged<Assignee>
+        ensures value { IfOk result (λ r. option_map assignee_of r ≡ target_of (scope self.now) (element_of element.now)) }
+        ensures faults { OnOk result (least.new ≡ least_of least.old (target_faults (scope self.now) (element_of element.now))) }
+    {
+        let start = element.name.start as usize;
+        let array = self.array_at(start, self.meaning(&element.name), least);
+        let index = self.number(&element.index, least)?;
+        Ok(assigned_at(array, index))
+    }
+
+    // A path on the left.
+    fn path_target(&self, path: &tree::Path, least: &mut Least) -> Judged<Assignee>
+        ensures value { IfOk result (λ r. option_map assignee_of r ≡ target_of (scope self.now) (path_of path.now)) }
+        ensures faults { OnOk result (least.new ≡ least_of least.old (target_faults (scope self.now) (path_of path.now))) }
+    {
+        let start = path.first.start as usize;
+        let m = self.meaning(&path.first);
+        let w = self.walk(start, m, &path.fields, least)?;
+        Ok(assignee_along(start, m, w, least))
+    }
+
     /// The left side of an assignment, if it is one.
-    #[tactic(auto, using(source::specs::Leasts::least_append))]
     pub fn target(&self, p: &Place, least: &mut Least) -> Judged<Assignee>
         ensures value { IfOk result (λ r. option_map assignee_of r ≡ target_of (scope self.now) (place_of p.now)) }
         ensures faults { OnOk result (least.new ≡ least_of least.old (target_faults (scope self.now) (place_of p.now))) }
@@ -145,18 +173,8 @@ impl<'a> Checker<'a> {
             Place::Name(name) => {
                 Ok(self.assignee_at(name.start as usize, self.meaning(name), least))
             }
-            Place::Element(element) => {
-                let start = element.name.start as usize;
-                let array = self.array_at(start, self.meaning(&element.name), least);
-                let index = self.number(&element.index, least)?;
-                Ok(assigned_at(array, index))
-            }
-            Place::Path(path) => {
-                let start = path.first.start as usize;
-                let m = self.meaning(&path.first);
-                let w = self.walk(start, m, &path.fields, least)?;
-                Ok(assignee_along(start, m, w, least))
-            }
+            Place::Element(element) => self.element_target(element, least),
+            Place::Path(path) => self.path_target(path, least),
         }
     }
 }

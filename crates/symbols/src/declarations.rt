@@ -1,11 +1,11 @@
 //! The declarations, with tables to find them by name and to number them.
 
-ghost use Rattle.std.specs.Prelude.{◌≡◌, ◌<◌, ◌+◌, ◌∷◌, ◌++◌, ◌^◌, ℕ, List, [], None, OnOk, IfOk, option_map, map, slice_get, take};
+ghost use Rattle.std.specs.Prelude.{◌≡◌, ◌<◌, ◌+◌, ◌∷◌, ◌++◌, ◌^◌, [], OnOk, IfOk, option_map, map, slice_get, take};
 ghost use Rattle.syntax.specs.Views.{ident, decl_of, struct_of};
 ghost use Rattle.resolution.specs.Scopes.{declared, bears, the_decl, number_at, structs_in, the_struct};
 ghost use Rattle.source.specs.Mistakes.{least_of};
 ghost use Rattle.resolution.specs.FaultLists.{twice_faults, struct_faults};
-ghost use Rattle.symbols.specs.Found.{found, IsTableOf, IsTableWith, declared_in, AreAhead};
+ghost use Rattle.symbols.specs.Found.{IsTableOf, IsTableWith, declared_in, AreAhead};
 ghost use Rattle.symbols.specs.Counted.{count_of, counted, counts_from, no_counts};
 ghost use Rattle.symbols.specs.Views.{decls_of, name_seen, struct_in, AreStructures};
 
@@ -177,31 +177,27 @@ fn add_name(
     }
 }
 
-/// Fills tables, which are empty, with the names of declarations and with how many of each kind stand ahead of each; and
-/// says how many there are in all. (These tables and those of structs are the caller's, so that nothing is to be let go
-/// where a growth is refused.)
+/// The names of declarations, and how many of each kind stand ahead of each and are in all.
 fn judge_names(
     alloc: Global,
     decls: &[Decl],
-    names: &mut Names,
-    ahead: &mut Vec<Counts>,
     least: &mut Option<Mistake>,
-) -> Result<Counts, AllocError>
-    requires no_names { (q : List ℕ) → found names.old q ≡ None }
-    requires none_ahead { ahead.old.items ≡ [] }
-    ensures names { OnOk result (IsTableOf bears (decls_of decls.now) names.new) }
-    ensures counts { IfOk result (λ all. AreAhead (counts_from no_counts) (decls_of decls.now) ahead.new.items all) }
+) -> Result<(Names, Vec<Counts>, Counts), AllocError>
+    ensures names { IfOk result (λ t. IsTableOf bears (decls_of decls.now) t.0) }
+    ensures counts { IfOk result (λ t. AreAhead (counts_from no_counts) (decls_of decls.now) t.1.items t.2) }
     ensures faults { OnOk result (least.new ≡ least_of least.old (twice_faults [] (decls_of decls.now))) }
 {
+    let mut names = Names::new(alloc);
+    let mut ahead = Vec::new(alloc);
     let mut counts = Counts::none();
     for (place, d) in decls.iter().enumerate() {
         let name = name_in(d);
-        note_twice(names, name, least);
-        add_name(alloc, names, name, place)?;
+        note_twice(&names, name, least);
+        add_name(alloc, &mut names, name, place)?;
         ahead.push(counts)?;
         counts.count(d);
     }
-    Ok(counts)
+    Ok((names, ahead, counts))
 }
 
 /// Adds a declaration to the structs if it is one, with tables of its members.
@@ -222,21 +218,20 @@ fn judge_struct<'t>(
     Ok(())
 }
 
-/// Fills a list, which is empty, with the structs among declarations, by number, with tables of their members.
+/// The structs among declarations, by number, with tables of their members.
 fn judge_structs<'t>(
     alloc: Global,
     decls: &'t [Decl],
-    structs: &mut Vec<Structure<'t>>,
     least: &mut Option<Mistake>,
-) -> Result<(), AllocError>
-    requires { structs.old.items ≡ [] }
-    ensures structs { OnOk result (AreStructures (decls_of decls.now) structs.new.items) }
+) -> Result<Vec<Structure<'t>>, AllocError>
+    ensures structs { IfOk result (λ t. AreStructures (decls_of decls.now) t.items) }
     ensures faults { OnOk result (least.new ≡ least_of least.old (struct_faults (decls_of decls.now))) }
 {
+    let mut structs = Vec::new(alloc);
     for d in decls {
-        judge_struct(alloc, d, structs, least)?;
+        judge_struct(alloc, d, &mut structs, least)?;
     }
-    Ok(())
+    Ok(structs)
 }
 
 impl<'t> Declarations<'t> {
@@ -249,20 +244,8 @@ impl<'t> Declarations<'t> {
         ensures items { IfOk result (λ t. t ≡ items.now) }
         ensures faults { OnOk result (least.new ≡ least_of least.old (twice_faults [] (decls_of items.now) ++ struct_faults (decls_of items.now))) }
     {
-        let mut names = Names::new(alloc);
-        let mut ahead = Vec::new(alloc);
-        let Ok(all) = judge_names(alloc, items, &mut names, &mut ahead, least) else {
-            drop(names);
-            drop(ahead);
-            return Err(AllocError);
-        };
-        let mut structs = Vec::new(alloc);
-        let Ok(()) = judge_structs(alloc, items, &mut structs, least) else {
-            drop(names);
-            drop(ahead);
-            drop(structs);
-            return Err(AllocError);
-        };
+        let (names, ahead, all) = judge_names(alloc, items, least)?;
+        let structs = judge_structs(alloc, items, least)?;
         Ok(Declarations {
             items,
             names,

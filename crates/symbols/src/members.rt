@@ -1,6 +1,6 @@
 //! Structs, with tables to find their members by name and to number them.
 
-ghost use Rattle.std.specs.Prelude.{◌≡◌, ◌<◌, ◌+◌, ◌^◌, ℕ, List, [], None, OnOk, IfOk, option_map, map, not, take};
+ghost use Rattle.std.specs.Prelude.{◌≡◌, ◌<◌, ◌+◌, ◌^◌, [], OnOk, IfOk, option_map, map, not, take};
 ghost use Rattle.syntax.specs.Views.{ident, member_of, struct_of};
 ghost use Rattle.source.specs.declared.fault.Code.TheVariants.{DeclaredTwice};
 ghost use Rattle.resolution.specs.Scopes.{member_name, member_bears, place_of, the_member, number_in};
@@ -8,7 +8,7 @@ ghost use Rattle.resolution.specs.Numbers.{fields_from};
 ghost use Rattle.resolution.specs.Expressions.{member_number};
 ghost use Rattle.source.specs.Mistakes.{least_of};
 ghost use Rattle.resolution.specs.FaultLists.{one_if, member_twice_faults};
-ghost use Rattle.symbols.specs.Found.{found, IsTableOf, AreAhead};
+ghost use Rattle.symbols.specs.Found.{IsTableOf, AreAhead};
 ghost use Rattle.symbols.specs.Counted.{member_count, member_counted, member_counts_from, no_members, field_if};
 ghost use Rattle.symbols.specs.Views.{members_seen};
 
@@ -134,23 +134,20 @@ fn note_again(is_first: bool, start: usize, least: &mut Option<Mistake>)
     }
 }
 
-/// Fills tables, which are empty, with the names of members and with what stands ahead of each; and says how many there
-/// are of each kind, and how many fields that are neither locks nor final have a name of their own. Names that two
-/// members bear are noted. (The tables are the caller's, so that nothing is to be let go where a growth is refused.)
+/// Members with their tables: their names, how many of each kind stand ahead of each and are in all, and how many fields
+/// that are neither locks nor final have a name of their own. Names that two members bear are noted.
 fn judge_members(
     alloc: Global,
     members: &[Member],
-    names: &mut Names,
-    ahead: &mut Vec<MemberCounts>,
     least: &mut Option<Mistake>,
-) -> Result<(MemberCounts, usize), AllocError>
-    requires no_names { (q : List ℕ) → found names.old q ≡ None }
-    requires none_ahead { ahead.old.items ≡ [] }
-    ensures names { OnOk result (IsTableOf member_bears (map member_of members.now) names.new) }
-    ensures counts { IfOk result (λ t. AreAhead (member_counts_from no_members) (map member_of members.now) ahead.new.items t.0) }
-    ensures width { IfOk result (λ t. t.1 ≡ fields_from [] (map member_of members.now)) }
+) -> Result<(Names, Vec<MemberCounts>, MemberCounts, usize), AllocError>
+    ensures names { IfOk result (λ t. IsTableOf member_bears (map member_of members.now) t.0) }
+    ensures counts { IfOk result (λ t. AreAhead (member_counts_from no_members) (map member_of members.now) t.1.items t.2) }
+    ensures width { IfOk result (λ t. t.3 ≡ fields_from [] (map member_of members.now)) }
     ensures faults { OnOk result (least.new ≡ least_of least.old (member_twice_faults [] (map member_of members.now))) }
 {
+    let mut names = Names::new(alloc);
+    let mut ahead = Vec::new(alloc);
     let mut counts = MemberCounts::none();
     let mut width = 0;
     for (place, m) in members.iter().enumerate() {
@@ -162,7 +159,7 @@ fn judge_members(
         ahead.push(counts)?;
         counts.count(m);
     }
-    Ok((counts, width))
+    Ok((names, ahead, counts, width))
 }
 
 impl<'t> Structure<'t> {
@@ -175,14 +172,7 @@ impl<'t> Structure<'t> {
         ensures item { IfOk result (λ s. s ≡ item.now) }
         ensures faults { OnOk result (least.new ≡ least_of least.old (member_twice_faults [] (struct_of item.now).members)) }
     {
-        let mut names = Names::new(alloc);
-        let mut ahead = Vec::new(alloc);
-        let members = &item.members;
-        let Ok((all, width)) = judge_members(alloc, members, &mut names, &mut ahead, least) else {
-            drop(names);
-            drop(ahead);
-            return Err(AllocError);
-        };
+        let (names, ahead, all, width) = judge_members(alloc, &item.members, least)?;
         Ok(Structure {
             item,
             names,

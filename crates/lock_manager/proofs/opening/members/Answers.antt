@@ -1,7 +1,7 @@
-use Rattle.std.proofs.Common.{ℕ, ◌<◌, length, take, replicate, [], ◌∙◌, sym, ap, arith}
+use Rattle.std.proofs.Common.{ℕ, ◌<◌, ◌≤◌, length, take, replicate, [], ◌∙◌, sym, ap, arith, subst}
 use Rattle.std.proofs.lemmas.Option.{slice_get_within}
 use Rattle.lock_manager.proofs.Lists.{read_at}
-use Rattle.lock_manager.proofs.Members.{none_yet, cell_added, as_many}
+use Rattle.lock_manager.proofs.Members.{none_yet, cell_added, as_many, all_cells}
 use Rattle.lock_manager.proofs.opening.members.Goals as goal
 
 pub loop-cell-init : goal.loop-cell-init
@@ -27,3 +27,8 @@ loop-cell-preserved c =
     ) in
     cell_added locks c.args.layout.now.cell_locks c.loop-cell.all.items c.index_mut.result.now c.push.new.self c.loop-cell.cell n c.lock_of.result c.requires.1.distinct
     c.loop-cell.invariant c.lock_of.ensures.lock c.lock_number-number.ensures (read_at c.loop-cell.all.items n c.index_mut.result.now lt c.index_mut.ensures.value) c.in_ok-push.ensures.items
+
+pub returns : goal.returns
+returns c =
+    c.loop-cell.invariant
+    ∙ all_cells c.args.layout.now.locks c.args.layout.now.cell_locks c.loop-cell.cell (subst (λ (n : ℕ). n ≤ c.loop-cell.cell) c.cells_count-cell-end.ensures c.loop-cell-test.false)

@@ -10,6 +10,9 @@ use Rattle.parser.proofs.expr.+expr.Given as goal
 abbrev pub decreases-chain : goal.decreases-chain
 decreases-chain l = 40 * l.room + 4 * rank l.level + 4
 
+abbrev pub decreases-closed : goal.decreases-closed
+decreases-closed l = 40 * l.room + 29
+
 abbrev pub decreases-links : goal.decreases-links
 decreases-links l = 40 * l.room + 4 * rank l.level + 3
 

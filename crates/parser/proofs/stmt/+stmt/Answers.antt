@@ -1,10 +1,12 @@
-use Rattle.std.proofs.Common.{sym, ◌∙◌, rules}
+use Rattle.std.proofs.Common.{refl, sym, ◌∙◌}
 use Rattle.parser.proofs.Behind.{while_done, if_done}
 use Rattle.std.proofs.lemmas.Result.{err_from_is_err_and}
 use Rattle.syntax.specs.Rows.{stmt_of-made_While, stmt_of-made_If}
 use Rattle.source.specs.Tokens.{seen}
 use Rattle.syntax.specs.Views.{stmt_of}
-use Rattle.parser.specs.Bodies.{stmt_at, braced_with}
+use Rattle.parser.specs.Bodies.{stmt_at, braced_with, while_with, if_with}
+use Rattle.parser.specs.Reading.{choose}
+use Rattle.parser.proofs.Readers.{fails_on}
 use Rattle.parser.proofs.Loops.{fewer}
 use Rattle.parser.proofs.Shorter.{stmt_shortens}
 use Rattle.parser.proofs.Turns.{stmts_go_on, stmts_end, stmts_stop}
@@ -38,12 +40,64 @@ if_rest-returns t c =
 
 pub block-returns : goal.block-returns
 unfolding braced_with
-block-returns t c = rw (stmts_in_some c.args.room c.in_ok-rest.ensures.room) (search rules)
+block-returns t c = rw (c.in_ok-rest.ensures.gives, stmts_in_some c.args.room c.in_ok-rest.ensures.room, c.in_ok-stmts.ensures, c.in_ok-close.ensures) refl
+
+pub block-returns-in_err-rest : goal.block-returns-in_err-rest
+unfolding braced_with
+block-returns-in_err-rest t c =
+    let p = err_from_is_err_and c.from_residual.result c.from_residual.ensures.1 in
+    rw (p.1, p.2) (fails_on c.in_err-rest.field-0.0 _ _ c.in_err-rest.ensures.gives)
 
 pub block-returns-in_err-stmts : goal.block-returns-in_err-stmts
 unfolding braced_with
-block-returns-in_err-stmts t c = rw (stmts_in_some c.args.room c.in_ok-rest.ensures.room) (search rules)
+block-returns-in_err-stmts t c =
+    let p = err_from_is_err_and c.from_residual-in_err-stmts.result c.from_residual-in_err-stmts.ensures.1 in
+    rw (p.1, p.2, c.in_ok-rest.ensures.gives, stmts_in_some c.args.room c.in_ok-rest.ensures.room) (fails_on c.in_err-stmts.field-0.0 _ _ c.in_err-stmts.ensures)
 
 pub block-returns-in_err-close : goal.block-returns-in_err-close
 unfolding braced_with
-block-returns-in_err-close t c = rw (stmts_in_some c.args.room c.in_ok-rest.ensures.room) (search rules)
+block-returns-in_err-close t c =
+    let p = err_from_is_err_and c.from_residual-in_err-close.result c.from_residual-in_err-close.ensures.1 in
+    rw (p.1, p.2, c.in_ok-rest.ensures.gives, stmts_in_some c.args.room c.in_ok-rest.ensures.room, c.in_ok-stmts.ensures) (fails_on c.in_err-close.field-0.0 _ _ c.in_err-close.ensures)
+
+pub while_rest-returns-in_err-condition : goal.while_rest-returns-in_err-condition
+unfolding while_with
+while_rest-returns-in_err-condition t c =
+    let p = err_from_is_err_and c.from_residual.result c.from_residual.ensures.1 in
+    rw (p.1, p.2) (fails_on c.in_err-condition.field-0.0 _ _ c.in_err-condition.ensures)
+
+pub while_rest-returns-in_err-block : goal.while_rest-returns-in_err-block
+unfolding while_with
+while_rest-returns-in_err-block t c =
+    let p = err_from_is_err_and c.from_residual-in_err-block.result c.from_residual-in_err-block.ensures.1 in
+    rw (p.1, p.2, c.in_ok-condition.ensures) (fails_on c.in_err-block.field-0.0 _ _ c.in_err-block.ensures)
+
+pub if_rest-returns-in_err-condition : goal.if_rest-returns-in_err-condition
+unfolding if_with
+if_rest-returns-in_err-condition t c =
+    let p = err_from_is_err_and c.from_residual.result c.from_residual.ensures.1 in
+    rw (p.1, p.2) (fails_on c.in_err-condition.field-0.0 _ _ c.in_err-condition.ensures)
+
+pub if_rest-returns-in_err-block : goal.if_rest-returns-in_err-block
+unfolding if_with
+if_rest-returns-in_err-block t c =
+    let p = err_from_is_err_and c.from_residual-in_err-block.result c.from_residual-in_err-block.ensures.1 in
+    rw (p.1, p.2, c.in_ok-condition.ensures) (fails_on c.in_err-block.field-0.0 _ _ c.in_err-block.ensures)
+
+pub if_rest-returns-in_err-otherwise : goal.if_rest-returns-in_err-otherwise
+unfolding if_with
+if_rest-returns-in_err-otherwise t c =
+    let p = err_from_is_err_and c.from_residual-in_err-otherwise.result c.from_residual-in_err-otherwise.ensures.1 in
+    rw (p.1, p.2, c.in_ok-condition.ensures, c.in_ok-block.ensures) (fails_on c.in_err-otherwise.field-0.0 _ _ c.in_err-otherwise.ensures)
+
+pub otherwise-returns-in_err-rest : goal.otherwise-returns-in_err-rest
+unfolding choose
+otherwise-returns-in_err-rest t c =
+    let p = err_from_is_err_and c.from_residual.result c.from_residual.ensures.1 in
+    rw (p.1, p.2, sym c.is_word_next.ensures ∙ c.if-not-is_word_next.false) (fails_on c.in_err-rest.field-0.0 _ _ c.in_err-rest.ensures)
+
+pub otherwise-returns-in_err-body : goal.otherwise-returns-in_err-body
+unfolding choose
+otherwise-returns-in_err-body t c =
+    let p = err_from_is_err_and c.from_residual-in_err-body.result c.from_residual-in_err-body.ensures.1 in
+    rw (p.1, p.2, sym c.is_word_next.ensures ∙ c.if-not-is_word_next.false, c.in_ok-rest.ensures) (fails_on c.in_err-body.field-0.0 _ _ c.in_err-body.ensures)

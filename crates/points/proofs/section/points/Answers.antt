@@ -1,4 +1,4 @@
-use Rattle.std.proofs.Common.{◌≡◌, ◌≤◌, ◌<◌, ◌∙◌, ℕ, List, length, map, get_or, Some, refl, sym, ap, subst, arith}
+use Rattle.std.proofs.Common.{◌≡◌, ◌≤◌, ◌<◌, ◌∙◌, ℕ, List, length, map, get_or, Some, refl, sym, ap, subst, arith, vec_len}
 use Rattle.std.specs.Prelude.{◌↔◌, slice_get}
 use Rattle.std.specs.List.{Contains}
 use Rattle.std.proofs.lemmas.List.{length-map}
@@ -127,3 +127,14 @@ returns c = λ s at.
           later_sets program section counted (record { used = c.deref-2.result }) used (skeleton_of c.deref-5.result.now) c.in_ok-used_later.used_later.items
           (ap skeleton_of c.deref-5.ensures.value ∙ c.in_ok-parts.ensures) (sym c.in_ok-used_later.used_later.ok.0 ∙ c.in_ok-used_later.ensures.len) c.in_ok-used_later.ensures.sets;
     })
+
+-- a list has fewer items than there are numbers
+fits : (n m capacity : ℕ) → n ≡ m → n ≤ capacity → capacity < 9223372036854775808 → m < 18446744073709551616
+fits n m capacity e le lt = omega (arith, e, le, lt)
+
+pub pairs_of-requires : goal.pairs_of-requires
+pairs_of-requires c =
+    let sets = c.in_ok-used_before.used_before in
+    let e : vec_len sets ≡ count (skeleton_of c.deref-6.result.now) =
+    c.in_ok-used_before.ensures.len ∙ ap (λ ps. count (skeleton_of ps)) (c.deref-4.ensures.value ∙ sym c.deref-6.ensures.value) in
+    fits _ (count (skeleton_of c.deref-6.result.now)) sets.cap e sets.ok.1 sets.small

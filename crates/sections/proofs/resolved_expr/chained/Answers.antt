@@ -4,4 +4,4 @@ use Rattle.sections.proofs.CoreRows.{core_chain_view}
 use Rattle.sections.proofs.resolved_expr.chained.Goals as goal
 
 pub returns : goal.returns
-returns c = rw (core_chain_view c.in_ok-first.first c.in-Some-rest.rest, c.in_ok-first.ensures.ok) (grind (arith, common_steps))
+returns c = rw (core_chain_view c.in_ok-first.first c.in-Some.rest, c.in_ok-first.ensures.ok) (grind (arith, common_steps))

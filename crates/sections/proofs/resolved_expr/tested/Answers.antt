@@ -1,10 +1,13 @@
-use Rattle.std.proofs.Common.{arith}
-use Rattle.std.proofs.lemmas.Grind.{common_steps}
-use Rattle.sections.proofs.CoreRows.{core_and_view, core_or_view}
+use Rattle.std.proofs.Common.{Some, ap, sym, ◌∙◌}
+use Rattle.std.specs.Prelude.{option_map}
+use Rattle.core_lang.specs.declared.tree.Condition.{Condition}
+use Rattle.resolution.specs.CoreViews.{core_condition, core_conditions}
+use Rattle.sections.specs.ResolvedExprs.{holds, tests_of}
 use Rattle.sections.proofs.resolved_expr.tested.Goals as goal
 
-pub returns-in-Conjunction : goal.returns-in-Conjunction
-returns-in-Conjunction c = rw (core_and_view c.in-Some.tests.before c.in-Ok.last, c.in-Ok.ensures.ok) (grind (arith, common_steps))
-
-pub returns-in-Disjunction : goal.returns-in-Disjunction
-returns-in-Disjunction c = rw (core_or_view c.in-Some.tests.before c.in-Ok.last, c.in-Ok.ensures.ok) (grind (arith, common_steps))
+pub returns-in-Ok : goal.returns-in-Ok
+returns-in-Ok c =
+    let before = core_conditions c.in-Some.tests.before.items in
+    c.joined_by.ensures
+    ∙ ap (λ (k : Condition). holds c.args.level (Some (record { before = before; last = core_condition k }))) c.in-Ok.ensures.ok
+    ∙ sym (ap (λ ts. holds c.args.level (option_map tests_of ts)) c.in-Some.is)

@@ -4,4 +4,4 @@ use Rattle.sections.proofs.CoreRows.{core_if_view}
 use Rattle.sections.proofs.stmt.choose.Goals as goal
 
 pub returns : goal.returns
-returns c = let h = core_if_view c.in-Some.condition c.in-Some-block.block in grind (arith, common_steps, h)
+returns c = let h = core_if_view c.in-Some.condition c.in-Some.block in grind (arith, common_steps, h)

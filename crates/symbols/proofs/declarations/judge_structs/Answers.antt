@@ -33,7 +33,7 @@ loop-d-preserved c =
 
 pub loop-d-init : goal.loop-d-init
 loop-d-init c = record {
-  structs = ap (map struct_of) c.requires;
+  structs = ap (map struct_of) c.new-structs.ensures.items;
   faults = refl;
 }
 

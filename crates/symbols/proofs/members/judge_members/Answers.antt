@@ -74,10 +74,10 @@ loop-place-preserved c =
 
 pub loop-place-init : goal.loop-place-init
 loop-place-init c = record {
-  table = c.requires.no_names;
-  counts = ahead_none (member_counts_from no_members) c.args.ahead.now.items c.none-counts.result c.requires.none_ahead c.none-counts.ensures;
+  table = c.new-names.ensures;
+  counts = ahead_none (member_counts_from no_members) c.new-ahead.result.items c.none-counts.result c.new-ahead.ensures.items c.none-counts.ensures;
   so_far = c.none-counts.ensures;
-  len = ap length c.requires.none_ahead;
+  len = ap length c.new-ahead.ensures.items;
   width = omega arith;
   few = omega arith;
   faults = refl;

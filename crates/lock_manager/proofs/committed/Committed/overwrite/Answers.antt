@@ -1,5 +1,6 @@
-use Rattle.std.proofs.Common.{◌∙◌, length, ap}
+use Rattle.std.proofs.Common.{◌∙◌, length, ap, subst, sym}
 use Rattle.lock_manager.proofs.Heaps.{length-overwritten}
+use Rattle.lock_manager.specs.Committed.{CommittedOf, IsWithin}
 use Rattle.lock_manager.proofs.committed.Committed.overwrite.Goals as goal
 
 pub invariant_of-self : goal.invariant_of-self
@@ -8,3 +9,6 @@ invariant_of-self c = record {
   distinct = c.self.invariant.distinct;
   count = ap length c.write_all.ensures ∙ length-overwritten c.self.inside.values.items c.args.writes.now ∙ c.self.invariant.count;
 }
+
+pub write_all-requires : goal.write_all-requires
+write_all-requires c = subst (λ (v : CommittedOf). IsWithin v c.args.writes.now) (sym c.self.view_is) c.requires

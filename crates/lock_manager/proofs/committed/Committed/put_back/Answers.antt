@@ -1,10 +1,11 @@
-use Rattle.std.proofs.Common.{◌∙◌, ◌∷◌, [], sym, subst}
+use Rattle.std.proofs.Common.{◌∙◌, ◌∷◌, [], sym, subst, arith}
 use Rattle.std.specs.List.{All, Contains}
 use Rattle.std.proofs.Math.ListN.{length-set}
 use Rattle.moved_cells.specs.Grants.{GrantOf}
 use Rattle.locks.specs.declared.lock.Lock.{Lock}
 use Rattle.lock_manager.proofs.Lists.{all_front, all_last}
 use Rattle.lock_manager.proofs.GivenBack.{one_given_back}
+use Rattle.std.proofs.lemmas.Option.{slice_get_within}
 use Rattle.lock_manager.proofs.committed.Committed.put_back.Goals as goal
 
 pub loop-grant-preserved-in-Some : goal.loop-grant-preserved-in-Some
@@ -30,3 +31,12 @@ number_of-number-requires c =
     subst (λ (l : Lock). Contains c.args.self.now.layout.locks l) (sym c.into_parts-cells.ensures.lock)
     (all_last (λ (g : GrantOf). Contains c.args.self.now.layout.locks g.lock) c.pop.new.self.items c.in-Some.grant
     (subst (All (λ (g : GrantOf). Contains c.args.self.now.layout.locks g.lock)) c.in-Some.ensures.items c.loop-grant.invariant.listed))
+
+pub index_mut-requires : goal.index_mut-requires
+index_mut-requires c =
+    omega (
+      arith,
+      slice_get_within c.args.self.now.layout.locks c.number_of-number.result c.into_parts-cells.result.0 c.number_of-number.ensures.at,
+      c.loop-grant.invariant.count,
+      c.loop-grant.places.ok.0,
+    )

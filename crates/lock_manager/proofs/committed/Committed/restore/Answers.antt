@@ -1,4 +1,4 @@
-use Rattle.std.proofs.Common.{◌∙◌, ◌∷◌, [], length, sym, ap, subst}
+use Rattle.std.proofs.Common.{◌∙◌, ◌∷◌, [], length, sym, ap, subst, arith}
 use Rattle.std.specs.List.{All, Contains}
 use Rattle.std.proofs.Math.ListN.{length-set}
 use Rattle.moved_cells.specs.Grants.{GrantOf, IsWhole}
@@ -6,6 +6,7 @@ use Rattle.locks.specs.declared.lock.Lock.{Lock}
 use Rattle.layout.specs.LockCells.{cells_of}
 use Rattle.lock_manager.proofs.Lists.{all_front, all_last}
 use Rattle.lock_manager.proofs.GivenBack.{one_restored}
+use Rattle.std.proofs.lemmas.Option.{slice_get_within}
 use Rattle.lock_manager.proofs.committed.Committed.restore.Goals as goal
 
 pub loop-grant-preserved-in-Some : goal.loop-grant-preserved-in-Some
@@ -48,3 +49,12 @@ number_of-number-requires c =
     subst (λ (l : Lock). Contains c.args.self.now.layout.locks l) (sym c.into_parts-cells.ensures.lock)
     (all_last (λ (g : GrantOf). Contains c.args.self.now.layout.locks g.lock) c.pop.new.self.items c.in-Some.grant
     (subst (All (λ (g : GrantOf). Contains c.args.self.now.layout.locks g.lock)) c.in-Some.ensures.items c.loop-grant.invariant.listed))
+
+pub index_mut-requires : goal.index_mut-requires
+index_mut-requires c =
+    omega (
+      arith,
+      slice_get_within c.args.self.now.layout.locks c.number_of-number.result c.into_parts-cells.result.0 c.number_of-number.ensures.at,
+      c.loop-grant.invariant.count,
+      c.loop-grant.places.ok.0,
+    )

@@ -28,3 +28,14 @@ returns-clause-within c =
     within_same c.as_slice.result.now (length x.layout.now.cell_locks) (length c.args.self.now.values)
     (sym c.self.invariant.count ∙ ap (λ (v : CommittedOf). length v.values) c.self.view_is)
     (subst (All (λ (cell : ℕ). cell < length x.layout.now.cell_locks)) (sym (found c)) (cells_within x.layout.now.cell_locks c.args.lock))
+
+pub index-requires : goal.index-requires
+index-requires c =
+    let x = c.self.inside in
+    let at : slice_get x.layout.now.locks c.number_of.result ≡ Some c.args.lock = ap (λ (v : CommittedOf). slice_get v.layout.locks c.number_of.result) c.self.view_is ∙ c.number_of.ensures.at in
+    omega (
+      arith,
+      rows_count x.layout.now x.members.items c.self.invariant.members,
+      slice_get_within x.layout.now.locks c.number_of.result c.args.lock at,
+      x.members.ok.0,
+    )

@@ -3,7 +3,7 @@ use Rattle.std.specs.List.{All, Contains}
 use Rattle.locks.specs.declared.lock.Lock.{Lock}
 use Rattle.moved_cells.specs.Grants.{GrantOf, IsWhole}
 use Rattle.lock_manager.specs.Managers.{Managed}
-use Rattle.lock_manager.proofs.Lists.{all_contained, all_from}
+use Rattle.lock_manager.proofs.Lists.{all_contained, all_from, both_false, never_both}
 use Rattle.lock_manager.proofs.manager.Manager.are_of.Goals as goal
 
 pub are_whole-requires : goal.are_whole-requires
@@ -24,3 +24,12 @@ returns c =
       },
       λ own. c.are_whole.ensures.1 (subst (λ (ls : List Lock). All (IsWhole ls) c.args.grants.now) (sym layout) own.whole),
     )
+
+pub returns-then-grants-held : goal.returns-then-grants-held
+returns-then-grants-held c = both_false (λ own. c.if-grants-held.true own.count)
+
+pub returns-then-not-all_granted : goal.returns-then-not-all_granted
+returns-then-not-all_granted c = both_false (λ own. never_both (c.all_granted.ensures.1 own.all) c.if-not-all_granted.true)
+
+pub returns-then-not-all_held : goal.returns-then-not-all_held
+returns-then-not-all_held c = both_false (λ own. never_both (c.all_held.ensures.1 own.only) c.if-not-all_held.true)

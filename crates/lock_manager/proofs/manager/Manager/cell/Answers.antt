@@ -1,4 +1,4 @@
-use Rattle.std.proofs.Common.{◌≡◌, ◌∙◌, Some, None, subst, sym, ap, arith}
+use Rattle.std.proofs.Common.{◌≡◌, ◌∙◌, Some, None, subst, sym, ap, arith, refl}
 use Rattle.std.proofs.lemmas.Option.{slice_get_within}
 use Rattle.lock_manager.specs.Managers.{Managed, managed, cell_of}
 use Rattle.lock_manager.proofs.Lists.{read_at}
@@ -28,3 +28,12 @@ returns-in-Taken c =
     let here = read_at m.places n c.index.result.now (place_within m n c.in_ok-lock.lock c.self.invariant.0 c.number_of.ensures.at) c.index.ensures ∙ ap Some c.in-Taken.is in
     subst (λ (v : Managed). None ≡ cell_of v c.args.cell) c.self.view_is
     (taken_cell m c.args.cell c.in_ok-lock.lock n c.in-Taken.field-0 (sym c.in_ok-lock.ensures.lock) c.number_of.ensures.found here)
+
+pub index-requires : goal.index-requires
+index-requires c =
+    let x = c.self.inside in
+    let m = managed x.committed x.ranks.now x.places.items x.queue x.sections x.history.commits in
+    omega (arith, place_within m c.number_of.result c.in_ok-lock.lock c.self.invariant.0 c.number_of.ensures.at, x.places.ok.0)
+
+pub number_of-requires : goal.number_of-requires
+number_of-requires c = c.in_ok-lock.ensures.listed c.in_ok-lock.lock refl

@@ -1,12 +1,16 @@
-use Rattle.std.proofs.Common.{◌≡◌, List, subst, sym, ap, ◌∙◌}
+use Rattle.std.proofs.Common.{◌≡◌, List, subst, sym, ap, ◌∙◌, ℕ, Option, None, false, refl, Some}
 use Rattle.std.specs.Prelude.{is_some}
 use Rattle.std.proofs.lemmas.Bool.{false≢true}
 use Rattle.std.specs.List.{All, Contains}
 use Rattle.locks.specs.declared.lock.Lock.{Lock}
 use Rattle.lock_manager.specs.Sessions.{TicketOf}
 use Rattle.lock_manager.specs.Managers.{Managed, managed}
-use Rattle.lock_manager.specs.Calls.{AreOf, Knows}
+use Rattle.lock_manager.specs.Calls.{AreOf, Knows, IsOwnWrite}
 use Rattle.lock_manager.proofs.Rules.{listed_held, listed_grants}
+use Rattle.lock_manager.proofs.manager.Manager.fits.Goals.{then-thread-ticket-via-then-thread-ticket, then-thread-ticket-via-else-thread-ticket+then-begun}
+use Rattle.core_lang.specs.declared.value.Value.{Value}
+use Rattle.code.specs.Memory.{overwritten, Agrees}
+use Rattle.moved_cells.specs.Grants.{GrantOf, cells_in}
 use Rattle.lock_manager.proofs.manager.Manager.fits.Goals as goal
 
 pub are_of-requires : goal.are_of-requires
@@ -51,3 +55,60 @@ returns-then-not-are_own c =
     let held = c.held-2.ensures ∙ ap (λ (t : TicketOf). t.session.held) c.ticket.view_is in
     let locks : c.self.inside.committed.layout.cell_locks ≡ c.args.self.now.layout.cell_locks = ap (λ (m : Managed). m.layout.cell_locks) c.self.view_is in
     (λ t. absurd (false≢true t), λ can. c.if-not-are_own.ensures.1 (rw (locks, held, c.writes.ensures) can.1.writes))
+
+pub are_now-requires-clause-whole : goal.are_now-requires-clause-whole
+are_now-requires-clause-whole c =
+    (subst (λ (v : Managed). AreOf v.layout.cell_locks c.held.result.now c.args.grants.now) (sym c.self.view_is) (c.are_of.ensures.0 c.if-not-are_of.false)).whole
+
+pub returns-then-thread-ticket : goal.returns-then-thread-ticket
+returns-then-thread-ticket c =
+    elim c.then-thread-ticket.branch [
+      | then-thread-ticket-via-then-thread-ticket w ↦ (
+        λ t. absurd (false≢true t),
+        λ can.
+            absurd (w.if-thread-ticket.true (c.thread.ensures ∙ can.1.thread ∙ sym (ap (λ (t : TicketOf). t.thread) c.ticket.view_is))),
+      )
+      | then-thread-ticket-via-else-thread-ticket+then-begun w ↦ (
+        λ t. absurd (false≢true t),
+        λ can.
+            absurd (w.if-begun.true (w.begun.ensures ∙ can.1.begun ∙ sym (w.begun-else-thread-ticket.ensures ∙ ap (λ (t : TicketOf). t.session.begun) c.ticket.view_is))),
+      )
+    ]
+
+nothing_asked : (o : Option Lock) → false ≡ is_some o → o ≡ None
+nothing_asked None e = refl
+nothing_asked (Some lock) e = absurd (false≢true e)
+
+pub returns : goal.returns
+returns c =
+    let ticket = c.args.ticket.now in
+    let grants = c.args.grants.now in
+    let entry = c.args.entry.now in
+    let m = c.args.self.now in
+    let x = c.self.inside in
+    let values = ap (λ (v : Managed). v.values) c.self.view_is in
+    let locks = ap (λ (v : Managed). v.layout.cell_locks) c.self.view_is in
+    let held = c.held.ensures ∙ ap (λ (t : TicketOf). t.session.held) c.ticket.view_is in
+    let held_too = c.held-2.ensures ∙ ap (λ (t : TicketOf). t.session.held) c.ticket.view_is in (
+      λ e. (
+        c.knows.ensures.0 c.if-not-knows.false,
+        record {
+          no_ask = sym (c.ask.ensures ∙ ap (λ (t : TicketOf). t.session.ask) c.ticket.view_is) ∙ nothing_asked c.ask.result c.if-is_some.ensures;
+          own = subst (λ (ls : List Lock). AreOf m.layout.cell_locks ls grants) held (c.are_of.ensures.0 c.if-not-are_of.false);
+          thread = sym c.thread.ensures ∙ c.if-thread-ticket.false ∙ ap (λ (t : TicketOf). t.thread) c.ticket.view_is;
+          begun = sym c.begun.ensures ∙ c.if-begun.false ∙ c.begun-else-thread-ticket.ensures ∙ ap (λ (t : TicketOf). t.session.begun) c.ticket.view_is;
+          reads = subst (λ (h : List Value). Agrees h entry.reads) values (subst (Agrees x.committed.values) c.reads.ensures (c.agrees.ensures.0 c.if-not-agrees.false));
+          writes = subst (λ (ls : List Lock). All (IsOwnWrite ls ticket.session.held) entry.writes) locks
+              (subst (λ (ls : List Lock). All (IsOwnWrite x.committed.layout.cell_locks ls) entry.writes) held_too
+              (subst (All (IsOwnWrite x.committed.layout.cell_locks c.held-2.result.now)) c.writes.ensures (c.are_own.ensures.0 c.if-not-are_own.false)));
+          now = subst (λ (h : List Value). All (λ (g : GrantOf). Agrees (overwritten h entry.writes) (cells_in m.layout.cell_locks g)) grants) values
+              (subst (λ (ls : List Lock). All (λ (g : GrantOf). Agrees (overwritten x.committed.values entry.writes) (cells_in ls g)) grants) locks
+              (subst (λ (ws : List (ℕ × Value)). All (λ (g : GrantOf). Agrees (overwritten x.committed.values ws) (cells_in x.committed.layout.cell_locks g)) grants) c.writes-2.ensures
+              (c.are_now.ensures.0 e)));
+        },
+      ),
+      λ can. c.are_now.ensures.1
+          (subst (λ (ws : List (ℕ × Value)). All (λ (g : GrantOf). Agrees (overwritten x.committed.values ws) (cells_in x.committed.layout.cell_locks g)) grants) (sym c.writes-2.ensures)
+          (subst (λ (ls : List Lock). All (λ (g : GrantOf). Agrees (overwritten x.committed.values entry.writes) (cells_in ls g)) grants) (sym locks)
+          (subst (λ (h : List Value). All (λ (g : GrantOf). Agrees (overwritten h entry.writes) (cells_in m.layout.cell_locks g)) grants) (sym values) can.1.now))),
+    )

@@ -1,10 +1,10 @@
-use Rattle.std.proofs.Common.{◌<◌, ℕ, None, set, subst, sym, ap, ◌∙◌}
+use Rattle.std.proofs.Common.{◌<◌, ℕ, None, set, subst, sym, ap, ◌∙◌, length, ◌≡◌}
 use Rattle.std.specs.List.{All, Contains}
 use Rattle.code.specs.Memory.{overwritten}
 use Rattle.moved_cells.specs.Grants.{GrantOf}
-use Rattle.lock_manager.specs.Committed.{CommittedOf, IsWithin}
+use Rattle.lock_manager.specs.Committed.{CommittedOf, IsWithin, with_writes}
 use Rattle.lock_manager.specs.Managers.{Managed, managed, given_back, threads}
-use Rattle.lock_manager.specs.Calls.{Knows, Fits}
+use Rattle.lock_manager.specs.Calls.{Knows, Fits, after_release, first_waiters}
 use Rattle.lock_manager.proofs.Rules.{listed_held, listed_grants, thread_within, writes_within}
 use Rattle.lock_manager.proofs.Sound.{Sound, promised_one, sound_release}
 use Rattle.lock_manager.proofs.manager.Manager.release.Goals as goal
@@ -53,3 +53,21 @@ invariant_of-self c =
     c.enter.ensures.commits
     (ap (overwritten x.committed.values) c.writes.ensures)
     c.enter.ensures.promised)
+
+pub put_back-requires-clause-count : goal.put_back-requires-clause-count
+put_back-requires-clause-count c = c.self.invariant.0.lock_count ∙ sym (ap (λ (v : CommittedOf). length v.layout.locks) c.overwrite.ensures)
+
+pub returns : goal.returns
+returns c =
+    let x = c.self.inside in
+    let m = managed x.committed x.ranks.now x.places.items x.queue x.sections x.history.commits in
+    let committed = c.overwrite.ensures ∙ ap (with_writes x.committed) c.writes.ensures in
+    let places = c.put_back.ensures ∙ ap (λ (v : CommittedOf). given_back v.layout.locks x.places.items c.args.grants.items) c.overwrite.ensures in
+    let slots = c.close.ensures ∙ ap (λ (t : ℕ). set x.sections t None) c.woken-thread.ensures.thread in
+    let same : managed c.overwrite.new.self x.ranks.now c.put_back.new.places.items x.queue c.close.new.self c.enter.new.self.commits ≡ after_release m c.args.ticket c.args.grants.items c.args.entry =
+    λ i. managed (committed i) x.ranks.now (places i) x.queue (slots i) (c.enter.ensures.commits i) in
+    record {
+      position = c.len-position.ensures ∙ ap (λ (v : Managed). length v.history) c.self.view_is;
+      wake = c.woken-thread.ensures.wake ∙ ap (λ (v : Managed). first_waiters v.waiters c.args.ticket.session.held) c.self.view_is;
+      manager = same ∙ ap (λ (v : Managed). after_release v c.args.ticket c.args.grants.items c.args.entry) c.self.view_is;
+    }

@@ -6,7 +6,7 @@ use Rattle.flow.specs.Theory.Joined.{count_turn, count_drop}
 use Rattle.flow.specs.Theory.MustHold.{and}
 use Rattle.points.specs.HeldPasses.{past_point}
 use Rattle.points.proofs.Arms.{as_point, as_if, as_while}
-use Rattle.points.proofs.HeldArms.{through_step, through_fork}
+use Rattle.points.proofs.HeldArms.{through_step, through_fork, through_loop}
 use Rattle.points.proofs.PairLists.{has_point}
 use Rattle.std.proofs.lemmas.List.{at_drop_all}
 use Rattle.flow.specs.Theory.Held.{through}
@@ -88,3 +88,18 @@ through-returns-clause-set t c = λ k.
 pub through-returns-clause-next : goal.through-returns-clause-next
 through-returns-clause-next t c =
     omega (arith, at_drop_all (λ ps. count (skeleton_of ps)) c.args.parts.now c.loop-part.part-index c.loop-part-test.false, c.loop-part.invariant.next)
+
+pub through_part-returns-in-While-clause-set : goal.through_part-returns-in-While-clause-set
+through_part-returns-in-While-clause-set t c =
+    through_loop c.args.self.now c.args.n _ _ _ c.args.set c.past-here.result c.through-end-in-While.result.0 c.meet-in-While.result c.past.result
+    (as_while c.args.part.now _ _ c.in-While.is c.deref-in-While.ensures.value) refl c.past-here.ensures c.through-end-in-While.ensures.set c.meet-in-While.ensures c.past.ensures
+
+pub through_part-returns-in-While-clause-next : goal.through_part-returns-in-While-clause-next
+through_part-returns-in-While-clause-next t c =
+    omega (arith, ap count (as_while c.args.part.now _ _ c.in-While.is c.deref-in-While.ensures.value), c.through-end-in-While.ensures.next)
+
+pub through_part-past-requires-clause-wanted : goal.through_part-past-requires-clause-wanted
+through_part-past-requires-clause-wanted t c = omega (arith, has_point c.args.part.now, c.requires.wanted)
+
+pub through_part-past-requires-clause-bound : goal.through_part-past-requires-clause-bound
+through_part-past-requires-clause-bound t c = omega (arith, has_point c.args.part.now, c.requires.bound)

@@ -1,4 +1,4 @@
-use Rattle.std.proofs.Common.{◌∙◌, map, refl, sym, ap, subst}
+use Rattle.std.proofs.Common.{◌∙◌, map, refl, sym, ap, subst, length}
 use Rattle.std.specs.Prelude.{slice_index}
 use Rattle.flow.specs.Skeletons.{count}
 use Rattle.flow.specs.Parts.{skeleton_of}
@@ -20,3 +20,12 @@ returns c = λ program section are.
     held_sets program section counted listed x ranks by_path are refl (record { wanted = c.deref.result; bound = c.deref-2.result }) (skeleton_of c.deref-3.result.now)
     c.in_ok-sets.sets.items (subst (AreSets program section (IsWanted program section ranks)) (sym c.deref.ensures.value) wanted) c.deref-2.ensures.value
     (ap skeleton_of c.deref-3.ensures.value ∙ are.parts) (sym c.in_ok-sets.sets.ok.0 ∙ c.in_ok-sets.ensures.len) c.in_ok-sets.ensures.sets
+
+pub surely_held-requires-clause-wanted : goal.surely_held-requires-clause-wanted
+surely_held-requires-clause-wanted c =
+    ap length c.deref.ensures.value ∙ sym c.in_ok-wanted.wanted.ok.0 ∙ c.in_ok-wanted.ensures.len ∙ ap (λ ps. count (skeleton_of ps)) (sym c.deref-3.ensures.value)
+
+pub surely_held-requires-clause-bound : goal.surely_held-requires-clause-bound
+surely_held-requires-clause-bound c =
+    let x = c.args.self.now in
+    ap length c.deref-2.ensures.value ∙ sym x.bound.ok.0 ∙ x.of_bound ∙ ap (λ ps. count (skeleton_of ps)) (sym c.deref-3.ensures.value)

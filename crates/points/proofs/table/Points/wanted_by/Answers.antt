@@ -51,3 +51,6 @@ returns-clause-sets c =
 pub returns-clause-len : goal.returns-clause-len
 returns-clause-len c =
     omega (arith, c.loop-p.invariant.len, c.loop-p-test.false, c.loop-p.auto.p-end, c.len-p-end.ensures, c.args.self.now.of_used)
+
+pub loop-p-init : goal.loop-p-init
+loop-p-init c = record { len = c.in_ok-sets.ensures.len; sets = λ p i lt within. absurd (omega (arith, lt)) }

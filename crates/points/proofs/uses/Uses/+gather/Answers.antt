@@ -4,7 +4,7 @@ use Rattle.flow.specs.Parts.{skeleton_of, part_in_front}
 use Rattle.flow.specs.Theory.Gather.{or}
 use Rattle.flow.specs.Theory.Joined.{count_turn, count_drop, gather_turn}
 use Rattle.points.specs.Passes.{uses}
-use Rattle.points.proofs.Arms.{as_point, as_if, as_while, with_point, gathered_step, gathered_fork}
+use Rattle.points.proofs.Arms.{as_point, as_if, as_while, with_point, gathered_step, gathered_fork, gathered_loop}
 use Rattle.points.proofs.PairLists.{has_point}
 use Rattle.std.proofs.lemmas.List.{at_drop_all}
 use Rattle.flow.specs.Theory.Passes.{gather}
@@ -84,3 +84,13 @@ gather-returns-clause-set t c = λ k.
 pub gather-returns-clause-next : goal.gather-returns-clause-next
 gather-returns-clause-next t c =
     omega (arith, at_drop_all (λ ps. count (skeleton_of ps)) c.args.parts.now c.loop-part.part-index c.loop-part-test.false, c.loop-part.invariant.next)
+
+pub gather_part-returns-in-While-clause-set : goal.gather_part-returns-in-While-clause-set
+gather_part-returns-in-While-clause-set t c =
+    gathered_loop c.args.self.now c.args.n _ _ _ c.args.other c.union-here.result c.gather.result.0
+    (as_while c.args.part.now _ _ c.in-While.is c.deref-in-While.ensures.value) refl
+    (with_point c.args.self.now c.args.n c.args.n c.args.other c.at.result c.union-here.result refl c.at.ensures c.union-here.ensures) c.gather.ensures.set
+
+pub gather_part-returns-in-While-clause-next : goal.gather_part-returns-in-While-clause-next
+gather_part-returns-in-While-clause-next t c =
+    omega (arith, ap count (as_while c.args.part.now _ _ c.in-While.is c.deref-in-While.ensures.value), c.gather.ensures.next)

@@ -1,11 +1,15 @@
-use Rattle.std.proofs.Common.{rules, ◌+◌, ◌-◌, ◌<◌, ◌∙◌, ◌*◌, refl, sym, ap, arith}
+use Rattle.std.proofs.Common.{rules, ◌+◌, ◌-◌, ◌<◌, ◌∙◌, ◌*◌, refl, sym, ap, arith, ◌++◌, length, append-nil, ◌≤◌}
 use Rattle.flow.specs.Skeletons.{count, Nil}
 use Rattle.flow.specs.Parts.{skeleton_of, part_in_front}
 use Rattle.flow.specs.Theory.Gather.{or}
 use Rattle.flow.specs.Theory.Joined.{later_turn, behind_turn, start_turn, count_room}
-use Rattle.points.specs.Passes.{uses}
+use Rattle.points.specs.Passes.{uses, column}
 use Rattle.points.proofs.Arms.{as_point, as_if, as_while, with_point, behind_step, behind_fork, behind_loop, later_step, later_fork, later_loop_of}
 use Rattle.points.proofs.PairLists.{has_point}
+use Rattle.std.specs.Prelude.{reverse}
+use Rattle.std.proofs.lemmas.List.{at_drop_all}
+use Rattle.flow.specs.Theory.Passes.{behind, laters}
+use Rattle.locks.specs.Sets.{has}
 use Rattle.points.proofs.uses.Uses.+later.Goals as goal
 
 pub later-later_part-requires : goal.later-later_part-requires
@@ -130,3 +134,18 @@ later_part-returns-in_ok-push_times-in-While-clause-set t c =
     (as_while c.args.part.now _ _ c.in-While.is c.deref-in-While-2.ensures.value) refl
     (with_point c.args.self.now n n c.args.behind c.at-in-While.result c.union-here.result refl c.at-in-While.ensures c.union-here.ensures)
     c.gather.ensures.set
+
+pub later-loop-i-init : goal.later-loop-i-init
+later-loop-i-init t c =
+    let parts = c.args.parts.now in
+    let end = c.args.end in
+    let n = length parts in
+    let all : n ≤ n = omega arith in
+    record {
+      within = all;
+      sets = λ i.
+          sym (append-nil (column i c.args.sets.now.items))
+          ∙ sym (at_drop_all (λ ps. column i c.args.sets.now.items ++ reverse (laters or (uses c.args.self.now i) (skeleton_of ps) end (has c.args.behind i))) parts n all);
+      start = omega (arith, at_drop_all (λ ps. count (skeleton_of ps)) parts n all);
+      set = λ i. sym (at_drop_all (λ ps. behind or (uses c.args.self.now i) (skeleton_of ps) end (has c.args.behind i)) parts n all);
+    }

@@ -3,19 +3,20 @@ use Rattle.std.proofs.lemmas.Result.{IfOk-weaker}
 use Rattle.std.specs.Prelude.{IfOk, ◌⊎◌, option_map}
 use Rattle.std.proofs.Math.ListN.{drop_of_length-le}
 use Rattle.syntax.specs.Grammar.{level_of}
-use Rattle.syntax.specs.Views.{ident, expr_of, joined_of, links_of}
+use Rattle.syntax.specs.Views.{ident, expr_of, joined_of, element_of, path_of, links_of}
+use Rattle.syntax.specs.declared.tree.Expr as tree
 use Rattle.syntax.specs.declared.tree.Link as tree_link
-use Rattle.syntax.specs.declared.tree.Level.TheVariants.{Conjunction, Disjunction}
-use Rattle.resolution.specs.Expressions.{chained, typed, typed_links}
+use Rattle.syntax.specs.declared.tree.Level.TheVariants.{Sum, Conjunction, Disjunction}
+use Rattle.resolution.specs.Expressions.{chained, compared, named_value, number_resolved, parenthesised, test_resolved, typed, typed_links, typed_place}
 use Rattle.resolution.specs.CoreViews.{core_expr}
 use Rattle.source.specs.Mistakes.{least_of}
-use Rattle.resolution.specs.FaultLists.{expr_faults, misfit, wanted_faults}
+use Rattle.resolution.specs.FaultLists.{expr_faults, link_faults, misfit, wanted_faults}
 use Rattle.resolution.specs.Faults.{start_of}
 use Rattle.resolution.specs.declared.wanted.Want.TheVariants.{Value}
 use Rattle.core_lang.specs.declared.value.ValueType.TheVariants.{Integer}
 use Rattle.sections.specs.Checkers.{scope}
 use Rattle.sections.specs.Parts.{so_far}
-use Rattle.sections.specs.ResolvedExprs.{resolved_expr_of, tests_of, holds}
+use Rattle.sections.specs.ResolvedExprs.{resolved_expr_of, seen, tests_of, holds}
 use Rattle.symbols.specs.Steps.{on_ok, on_ok_by}
 use Rattle.sections.proofs.Chains.{operations_joined, operations_end, tests_joined, tests_first, tests_end, link_step, link_fault_step, test_step, test_fault_step, chain_seen, pair_seen, one_operation, two_tests, one_link_faults, second_test_faults, numbers_value, tests_value, numbers_faults, tests_faults, sides_value, sides_faults, second_side, side_blamed}
 use Rattle.sections.proofs.Indices.{element_seen, index_blamed}
@@ -131,7 +132,7 @@ more_numbers-returns-clause-faults t c = on_ok c.chained.result c.in-Ok.ensures.
 pub two_tests-returns-clause-value : goal.two_tests-returns-clause-value
 two_tests-returns-clause-value t c =
     let sc = scope c.args.self.now in
-    let both = two_tests sc c.args.op (expr_of c.args.right.now) c.args.first c.in-Ok.operand _ _ c.in-Ok-one_test.ensures c.in-Ok.ensures.value c.in_ok-tests.ensures in
+    let both = two_tests sc c.args.op (expr_of c.args.right.now) c.args.first c.in-Ok.operand _ _ c.in_ok-one.ensures c.in-Ok.ensures.value c.in_ok-tests.ensures in
     subst (λ x. IfOk c.tested.result (λ r. option_map resolved_expr_of r ≡ x)) (ap (λ k. holds k (option_map tests_of c.in_ok-tests.tests)) c.level.ensures ∙ ap (holds (level_of c.args.op)) both) c.tested.ensures
 
 pub two_tests-returns-clause-faults : goal.two_tests-returns-clause-faults
@@ -187,3 +188,49 @@ tests-returns-clause-value t c =
     let sc = scope c.args.self.now in
     let none : drop c.loop-link.link-index c.args.links.now ≡ [] = drop_of_length-le c.args.links.now c.loop-link-test.false in
     sym (tests_end sc c.loop-link.tests) ∙ ap (λ (ls : List tree_link.Link). tests_joined sc (option_map so_far c.loop-link.tests) (links_of ls)) (sym none) ∙ c.loop-link.invariant.value
+
+pub two_sides-returns-clause-value : goal.two_sides-returns-clause-value
+two_sides-returns-clause-value t c = c.compared.ensures.value ∙ ap (compared c.args.c (seen c.args.left)) c.in-Ok.ensures.value
+
+pub operations-returns-clause-faults : goal.operations-returns-clause-faults
+operations-returns-clause-faults t c =
+    let none : drop c.loop-link.link-index c.args.links.now ≡ [] = drop_of_length-le c.args.links.now c.loop-link-test.false in
+    ap (λ (ls : List tree_link.Link). least_of c.loop-link.least (link_faults (scope c.args.self.now) Sum (links_of ls))) (sym none) ∙ c.loop-link.invariant.faults
+
+pub tests-returns-clause-faults : goal.tests-returns-clause-faults
+tests-returns-clause-faults t c =
+    let none : drop c.loop-link.link-index c.args.links.now ≡ [] = drop_of_length-le c.args.links.now c.loop-link-test.false in
+    ap (λ (ls : List tree_link.Link). least_of c.loop-link.least (link_faults (scope c.args.self.now) Conjunction (links_of ls))) (sym none) ∙ c.loop-link.invariant.faults
+
+pub number-returns-clause-value : goal.number-returns-clause-value
+number-returns-clause-value t c = c.number_in.ensures ∙ ap number_resolved c.in_ok-side.ensures.value
+
+pub test-returns-clause-value : goal.test-returns-clause-value
+test-returns-clause-value t c = c.test_in.ensures ∙ ap test_resolved c.in_ok-side.ensures.value
+
+pub expr-returns-in_ok-inner-in-Paren-clause-value : goal.expr-returns-in_ok-inner-in-Paren-clause-value
+expr-returns-in_ok-inner-in-Paren-clause-value t c =
+    let sc = scope c.args.self.now in
+    c.parenthesised.ensures
+    ∙ ap parenthesised (c.in_ok-inner-in-Paren.ensures.value ∙ ap (λ (x : tree.Expr). typed sc (expr_of x)) c.deref-in-Paren.ensures)
+    ∙ sym (ap (λ (x : tree.Expr). typed sc (expr_of x)) c.in-Paren.is)
+
+pub expr-returns-in-Name-clause-value : goal.expr-returns-in-Name-clause-value
+expr-returns-in-Name-clause-value t c =
+    let sc = scope c.args.self.now in
+    c.named.ensures.value ∙ ap (named_value sc.decls (ident c.in-Name.name).span.start) c.meaning.ensures ∙ sym (ap (λ (x : tree.Expr). typed sc (expr_of x)) c.in-Name.is)
+
+pub expr-returns-in-Int-clause-value : goal.expr-returns-in-Int-clause-value
+expr-returns-in-Int-clause-value t c = c.literal.ensures.value ∙ sym (ap (λ (x : tree.Expr). typed (scope c.args.self.now) (expr_of x)) c.in-Int.is)
+
+pub expr-returns-in-Path-clause-value : goal.expr-returns-in-Path-clause-value
+expr-returns-in-Path-clause-value t c =
+    let sc = scope c.args.self.now in
+    subst (λ s. IfOk c.path.result (λ r. option_map resolved_expr_of r ≡ s))
+    (ap (λ x. typed_place sc (path_of x)) c.deref-in-Path.ensures ∙ sym (ap (λ (x : tree.Expr). typed sc (expr_of x)) c.in-Path.is)) c.path.ensures.value
+
+pub expr-returns-in-Element-clause-value : goal.expr-returns-in-Element-clause-value
+expr-returns-in-Element-clause-value t c =
+    let sc = scope c.args.self.now in
+    subst (λ s. IfOk c.element.result (λ r. option_map resolved_expr_of r ≡ s))
+    (ap (λ x. typed_place sc (element_of x)) c.deref.ensures ∙ sym (ap (λ (x : tree.Expr). typed sc (expr_of x)) c.in-Element.is)) c.element.ensures.value

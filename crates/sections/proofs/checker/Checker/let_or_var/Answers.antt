@@ -1,15 +1,29 @@
-use Rattle.std.proofs.Common.{ap, ◌∙◌}
+use Rattle.std.proofs.Common.{length, ap, ◌∙◌}
+use Rattle.std.specs.Prelude.{option_map}
 use Rattle.syntax.specs.Views.{ident, expr_of, type_of as type_seen}
 use Rattle.resolution.specs.Scopes.{bound, type_of}
-use Rattle.resolution.specs.Expressions.{want}
+use Rattle.resolution.specs.Expressions.{as_value, fitting, typed, want}
+use Rattle.resolution.specs.CoreViews.{core_expr}
+use Rattle.resolution.specs.Statements.{binds}
 use Rattle.source.specs.Mistakes.{least_of}
 use Rattle.resolution.specs.FaultLists.{local_faults, type_faults, wanted_faults}
 use Rattle.sections.specs.Checkers.{scope}
 use Rattle.symbols.specs.Steps.{noted_two}
 use Rattle.sections.proofs.checker.Checker.let_or_var.Goals as goal
 
+pub returns-clause-value : goal.returns-clause-value
+returns-clause-value c =
+    let sc = scope c.args.self.now in
+    let l = c.args.local.now in
+    let at = l.start.start in
+    c.bind-2.ensures
+    ∙ ap (λ n. binds at n c.local_type-t.result (option_map core_expr c.in_ok-value.value)) c.next-number.ensures
+    ∙ ap (λ t. binds at (length sc.locals) t (option_map core_expr c.in_ok-value.value)) c.local_type-t.ensures.value
+    ∙ ap (binds at (length sc.locals) (type_of sc (type_seen l.value_type)))
+    (c.in_ok-value.ensures.value ∙ ap (λ w. as_value (fitting w (typed sc (expr_of l.value)))) (c.want.ensures ∙ ap want c.local_type-t.ensures.value))
+
 pub returns-clause-scope : goal.returns-clause-scope
-returns-clause-scope c = c.in_ok-bind.ensures ∙ ap (bound (scope c.args.self.now) c.args.kind (ident c.args.local.now.name)) c.local_type-t.ensures.value
+returns-clause-scope c = c.in-Ok.ensures ∙ ap (bound (scope c.args.self.now) c.args.kind (ident c.args.local.now.name)) c.local_type-t.ensures.value
 
 pub returns-clause-faults : goal.returns-clause-faults
 returns-clause-faults c =

@@ -7,4 +7,4 @@ use Rattle.symbols.proofs.declarations.Declarations.new.Goals as goal
 pub returns-clause-faults : goal.returns-clause-faults
 returns-clause-faults c =
     let decls = decls_of c.args.items.now in
-    c.in-Ok-judge_structs.ensures.faults ∙ noted_one c.args.least.now c.judge_names.new.least (twice_faults [] decls) (struct_faults decls) c.in-Ok.ensures.faults
+    c.in_ok-structs.ensures.faults ∙ noted_one c.args.least.now c.judge_names.new.least (twice_faults [] decls) (struct_faults decls) c.in_ok-names.ensures.faults

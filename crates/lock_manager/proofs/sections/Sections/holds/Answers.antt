@@ -1,0 +1,18 @@
+use Rattle.std.proofs.Common.{List, sym, ap, subst, ◌∙◌}
+use Rattle.std.specs.List.{Contains}
+use Rattle.locks.specs.declared.lock.Lock.{Lock}
+use Rattle.lock_manager.specs.Sessions.{SessionOf}
+use Rattle.lock_manager.proofs.Lists.{both_false, some_same}
+use Rattle.std.proofs.lemmas.Option.{none-some}
+use Rattle.lock_manager.proofs.sections.Sections.holds.Goals as goal
+
+pub returns-in-None : goal.returns-in-None
+returns-in-None c = both_false (λ h. none-some h.session (sym c.in-None.ensures ∙ h.is))
+
+pub returns-in-Some : goal.returns-in-Some
+returns-in-Some c =
+    let s = c.in-Some.session.now in (
+      λ e. record { session = s; is = c.in-Some.ensures; held = subst (λ (ls : List Lock). Contains ls c.args.lock) c.held.ensures (c.holds.ensures.0 e) },
+      λ h. c.holds.ensures.1
+          (subst (λ (ls : List Lock). Contains ls c.args.lock) (ap (λ (x : SessionOf). x.held) (some_same h.session s (sym h.is ∙ c.in-Some.ensures)) ∙ sym c.held.ensures) h.held),
+    )
