@@ -12,7 +12,7 @@ use Rattle.emission.specs.declared.emitter.Emitter.{Emitter}
 use Rattle.emission.specs.Assembly.{Adds, Lands}
 use Rattle.emission.specs.CodeLists.{points_of_all, sequence_code}
 use Rattle.emission.proofs.CodeViews.{points_of-If, points_of-IfElse, points_of-While, stmt_code-If, stmt_code-IfElse, stmt_code-While}
-use Rattle.emission.specs.Emission.{lists_of, IsBefore, CodeAt, Emits, Opens, Skips, Joins, condition_code, choice_code, loop_code}
+use Rattle.emission.specs.Emission.{lists_of, IsBefore, CodeAt, Emits, Opens, Skips, Joins, condition_code, choice_code, loop_code, statement_code}
 use Rattle.emission.proofs.Landing.{landed}
 use Rattle.emission.proofs.Steps.{both, again, longer, same_lists, same_before}
 
@@ -138,6 +138,9 @@ skip_within d s o place skip n f skips second =
     omega (arith, l, skips.last, longer s o n f second)
 
 -- ---- of the statements
+
+pub emits_as : (x y : Action) (a e : Emitter) → x ≡ y → Emits a e (points_of y) (statement_code y) → Emits a e (points_of x) (statement_code x)
+emits_as x y a e is h = subst (λ (z : Action). Emits a e (points_of z) (statement_code z)) (sym is) h
 
 pub if_is : (x : Action) (c : Condition) (block : Vec Stmt Global) (items : List Stmt) (a e : Emitter) → x ≡ If c block → items ≡ block.items →
     Emits a e (1 + points_of_all items) (choice_code c items) → Emits a e (points_of x) (λ ls p. stmt_code ls x p)

@@ -1,4 +1,5 @@
 pub mod Lists
+pub mod Found
 pub mod Numbered
 pub mod Placed
 pub mod Locked

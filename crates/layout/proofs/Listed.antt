@@ -1,5 +1,5 @@
 -- The list of all locks has each lock of the program, and nothing else.
-use Rattle.std.proofs.Common.{◌≡◌, ℕ, zero, suc, ◌+◌, ◌<◌, List, [], ◌∷◌, ◌++◌, length, map, Option, Some, None, inl, inr, refl, sym, ap, ◌∙◌, subst, arith, add-one, append_assoc}
+use Rattle.std.proofs.Common.{◌≡◌, ℕ, zero, suc, ◌+◌, ◌<◌, List, [], ◌∷◌, ◌++◌, length, get_or, take, map, Option, Some, None, inl, inr, refl, sym, ap, ◌∙◌, subst, arith, add-one, append_assoc}
 use Rattle.std.specs.Prelude.{◌↔◌, slice_get}
 use Rattle.std.specs.List.{Contains}
 use Rattle.std.specs.Option.{option_map}
@@ -18,8 +18,9 @@ use Rattle.locks.specs.Locks.{global_lock, IsLockOfClass, IsLock}
 use Rattle.layout.specs.declared.places.ClassPlace.{ClassPlace}
 use Rattle.layout.specs.declared.places.ClassPlace.TheVariants as place
 use Rattle.layout.specs.Layouts.{if_global_lock, global_locks, lock_fields, object_struct, locks_of_object, object_locks, all_locks}
-use Rattle.layout.specs.Numbers.{KnowFields, AreFields, class_place}
-use Rattle.layout.proofs.Lists.{lookup_some, lookup_at, contains_there, there_contains, still_at, last_at, map_at}
+use Rattle.layout.specs.Numbers.{KnowFields, AreFields, class_place, locks_at}
+use Rattle.layout.proofs.Lists.{lookup_some, lookup_at, contains_there, there_contains, read_at, still_at, last_at, map_at, take_one_more}
+use Rattle.std.proofs.lemmas.List.{map_push}
 use Rattle.layout.proofs.Locked.{object_there}
 
 not_in_none : (x : Lock) → Contains [] x → ⊥
@@ -171,3 +172,13 @@ one_class program n c at = rw add-one (ap (λ (o : Option LockClass). global_loc
 
 pub one_object : (program : Typed) (locks : List Lock) (n : ℕ) → (locks ++ object_locks program n) ++ locks_of_object program n ≡ locks ++ object_locks program (n + 1)
 one_object program locks n = rw add-one (append_assoc locks (object_locks program n) (locks_of_object program n))
+
+-- one lock of an object more
+pub one_more_lock : (object i : ℕ) (fields : List LockField) (x : LockField) (old before after : List Lock) → i < length fields → x ≡ get_or fields i x →
+    before ≡ old ++ locks_at object (take i fields) → after ≡ before ++ record { class = x.class; object = object } ∷ [] → after ≡ old ++ locks_at object (take (i + 1) fields)
+one_more_lock object i fields x old before after lt is at more =
+    let made : LockField → Lock = λ (y : LockField). record { class = y.class; object = object } in
+    more ∙ ap (λ (ls : List Lock). ls ++ made x ∷ []) at
+    ∙ append_assoc old (locks_at object (take i fields)) (made x ∷ [])
+    ∙ ap (λ (ls : List Lock). old ++ ls)
+    (sym (map_push made (take i fields) x) ∙ ap (locks_at object) (sym (take_one_more fields i x (read_at fields i x lt is)) ∙ ap (λ (k : ℕ). take k fields) (sym (add-one i))))

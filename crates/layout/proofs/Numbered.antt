@@ -1,15 +1,15 @@
 -- Locks found at their numbers.
-use Rattle.std.proofs.Common.{◌≡◌, ℕ, ◌+◌, Bool, true, false, if◌then◌else◌, List, [], ◌∷◌, ◌++◌, get_or, length, Option, Some, inl, inr, refl, sym, ap, ◌∙◌, subst}
+use Rattle.std.proofs.Common.{◌≡◌, ℕ, ◌+◌, Bool, true, false, if◌then◌else◌, List, [], ◌∷◌, ◌++◌, get_or, length, IsTrue, Option, Some, None, inl, inr, refl, sym, ap, ◌∙◌, subst}
 use Rattle.std.specs.Prelude.{slice_get}
 use Rattle.std.specs.List.{Contains}
-use Rattle.std.proofs.lemmas.Option.{slice_get_within}
+use Rattle.std.proofs.lemmas.Option.{none-some, same_Some, slice_get_within}
 use Rattle.locks.specs.declared.lock.Lock.{Lock}
 use Rattle.layout.specs.declared.places.ClassPlace.{ClassPlace}
 use Rattle.layout.specs.declared.places.ClassPlace.TheVariants as place
 use Rattle.layout.specs.declared.places.ObjectPlace.{ObjectPlace}
 use Rattle.layout.specs.Layouts.{AreDistinct}
 use Rattle.layout.specs.Numbers.{number_at, number_of, AreNumbered}
-use Rattle.layout.proofs.Lists.{lookup_some, lookup_at, there_contains, read_at, still_at, push_cases}
+use Rattle.layout.proofs.Lists.{lookup_some, lookup_at, contains_there, there_contains, read_at, still_at, push_cases}
 
 -- ---- what is found of a lock
 
@@ -158,3 +158,22 @@ pub field_added : (b : Bool) (classes : List ClassPlace) (objects : List ObjectP
 field_added b classes objects locks more c l object x are at_c at_o long is_more =
     subst (λ (ls : List Lock). AreNumbered classes objects ls) (sym is_more)
     (more_locks b classes objects locks (record { class = c; object = object }) are (field_number classes objects c l object x at_c at_o ∙ ap Some (sym long)))
+
+-- ---- whether a lock is one of the locks
+
+both_false : {P : Type 0} → (P → ⊥) → (IsTrue false → P) × (P → IsTrue false)
+both_false {P} fails = (λ e. absurd (let bad : false ≡ true = e in cc), λ p. absurd (fails p))
+
+pub none_there : (locks : List Lock) (n : ℕ) (lock : Lock) → slice_get locks n ≡ None → (IsTrue false → slice_get locks n ≡ Some lock) × (slice_get locks n ≡ Some lock → IsTrue false)
+none_there locks n lock none = both_false (λ at. none-some lock (sym none ∙ at))
+
+pub has_none : (locks : List Lock) (lock : Lock) → ((n : ℕ) → slice_get locks n ≡ Some lock → ◌≡◌ {A = Option ℕ} None (Some n)) →
+    (IsTrue false → Contains locks lock) × (Contains locks lock → IsTrue false)
+has_none locks lock nowhere = both_false (λ c. let n = there_contains locks lock c in none-some n.0 (nowhere n.0 n.1))
+
+pub has_found : (locks : List Lock) (lock : Lock) (k : ℕ) (b : Bool) → (IsTrue b → slice_get locks k ≡ Some lock) × (slice_get locks k ≡ Some lock → IsTrue b) →
+    ((n : ℕ) → slice_get locks n ≡ Some lock → Some k ≡ Some n) → (IsTrue b → Contains locks lock) × (Contains locks lock → IsTrue b)
+has_found locks lock k b at only = (
+  λ t. contains_there locks k lock (at.0 t),
+  λ c. let n = there_contains locks lock c in at.1 (subst (λ (m : ℕ). slice_get locks m ≡ Some lock) (sym (same_Some k n.0 (only n.0 n.1))) n.1),
+)

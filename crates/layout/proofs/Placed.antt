@@ -1,16 +1,18 @@
 -- Cells placed behind those that their locks have.
-use Rattle.std.proofs.Common.{replicate, ◌≡◌, ◌≢◌, ℕ, zero, suc, ◌+◌, ◌<◌, ◌≤◌, Bool, true, false, if◌then◌else◌, ◌==◌, ◌&&◌, List, [], ◌∷◌, ◌++◌, length, get_or, set, Some, inl, inr, refl, sym, ap, ◌∙◌, subst, arith, add-zero, length-append}
+use Rattle.std.proofs.Common.{replicate, ◌≡◌, ◌≢◌, ℕ, zero, suc, ◌+◌, ◌<◌, ◌≤◌, Bool, true, false, if◌then◌else◌, ◌==◌, ◌&&◌, List, [], ◌∷◌, ◌++◌, length, get_or, set, IsTrue, Some, inl, inr, refl, sym, ap, ◌∙◌, subst, arith, add-zero, length-append}
 use Rattle.std.specs.Prelude.{slice_get}
 use Rattle.std.specs.List.{Contains}
 use Rattle.std.proofs.lemmas.Bool.{cases_Bool, both_ways, eqb-true, eq-eqb}
-use Rattle.std.proofs.lemmas.Option.{slice_get_within}
+use Rattle.std.proofs.lemmas.Option.{same_Some, get_or_from_slice_get, slice_get_within}
 use Rattle.std.proofs.lemmas.List.{length-map, map_push, length-replicate}
 use Rattle.std.proofs.Math.ListN.{length-set}
 use Rattle.locks.specs.declared.lock.Lock.{Lock}
 use Rattle.layout.specs.declared.places.CellPlace.{CellPlace}
 use Rattle.layout.specs.LockCells.{same_lock, cells_from, cells_of, IsSlot}
-use Rattle.layout.specs.Layouts.{AreDistinct}
-use Rattle.layout.specs.Numbers.{locks_in, IsPlaced, ArePlaced}
+use Rattle.layout.specs.Layouts.{LayoutOf, AreDistinct}
+use Rattle.layout.specs.Numbers.{openings_in, locks_in, IsPlaced, ArePlaced}
+use Rattle.layout.specs.Growth.{with_cell}
+use Rattle.core_lang.specs.declared.value.Value.{Value}
 use Rattle.layout.proofs.Lists.{read_at, still_at, last_at, map_at, push_cases, get_set_same, get_set_other, contains_there}
 
 -- ---- the same lock
@@ -28,6 +30,13 @@ same_is a b e =
     let class : a.class ≡ b.class = eqb-true a.class b.class p.0 in
     let object : a.object ≡ b.object = eqb-true a.object b.object p.1 in
     ap (λ (c : ℕ). record { class = c; object = a.object }) class ∙ ap (λ (o : ℕ). record { class = b.class; object = o }) object
+
+pub is_same_lock : (locks : List Lock) (n : ℕ) (other lock : Lock) (b : Bool) → slice_get locks n ≡ Some other → b ≡ same_lock other lock →
+    (IsTrue b → slice_get locks n ≡ Some lock) × (slice_get locks n ≡ Some lock → IsTrue b)
+is_same_lock locks n other lock b at is = (
+  λ t. at ∙ ap Some (same_is other lock (sym is ∙ t)),
+  λ e. is ∙ ap (λ (l : Lock). same_lock l lock) (same_Some other lock (sym at ∙ e)) ∙ same_itself lock,
+)
 
 -- ---- one cell more
 
@@ -191,3 +200,27 @@ offset_few locks cells sizes number lock offset p here size_is =
     let e : Some offset ≡ Some (length (cells_of (locks_in cells) lock)) = sym size_is ∙ p.size number lock here in
     let same : offset ≡ length (cells_of (locks_in cells) lock) = cc in
     omega (arith, same, few_cells cells lock)
+
+-- ---- a layout with one cell more
+
+pub one_longer : (l : LayoutOf) (cells grown : List CellPlace) (x : CellPlace) (locks : List Lock) (firsts finals : List ℕ) →
+    record { opening = openings_in cells; cell_locks = locks_in cells; locks = locks; first_finals = firsts; finals = finals } ≡ l → grown ≡ cells ++ x ∷ [] →
+    ◌≡◌ {A = LayoutOf} (record { opening = openings_in grown; cell_locks = locks_in grown; locks = locks; first_finals = firsts; finals = finals }) (with_cell l x.opening x.lock)
+one_longer l cells grown x locks firsts finals is more =
+    let made : List Value → List Lock → LayoutOf = λ opening cell_locks. record { opening = opening; cell_locks = cell_locks; locks = locks; first_finals = firsts; finals = finals } in
+    ap (λ (cs : List CellPlace). made (openings_in cs) (locks_in cs)) more
+    ∙ ap (λ (vs : List Value). made vs (locks_in (cells ++ x ∷ []))) (map_push (λ (y : CellPlace). y.opening) cells x)
+    ∙ ap (λ (ls : List Lock). made (openings_in cells ++ x.opening ∷ []) ls) (map_push (λ (y : CellPlace). y.lock) cells x)
+    ∙ ap (λ (v : LayoutOf). with_cell v x.opening x.lock) is
+
+-- how many cells a lock has
+pub size_within : (locks : List Lock) (sizes : List ℕ) (n size : ℕ) (lock : Lock) → length sizes ≡ length locks → slice_get locks n ≡ Some lock → size ≡ length sizes → n < size
+size_within locks sizes n size lock long at is = let lt = slice_get_within locks n lock at in below n (length locks) (length sizes) size lt long is
+  where
+    below : (k a b d : ℕ) → k < a → b ≡ a → d ≡ b → k < d
+    below k a b d lt e f = omega arith
+
+pub size_read : (locks : List Lock) (cells : List CellPlace) (sizes : List ℕ) (n size : ℕ) (lock : Lock) → ArePlaced locks cells sizes → slice_get locks n ≡ Some lock →
+    size ≡ get_or sizes n size → size ≡ length (cells_of (locks_in cells) lock)
+size_read locks cells sizes n size lock placed at is =
+    is ∙ get_or_from_slice_get sizes n (length (cells_of (locks_in cells) lock)) size (placed.size n lock at)

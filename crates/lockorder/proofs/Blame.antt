@@ -48,14 +48,21 @@ module _ (program : Typed) where
       cycle x.class (classes_of rest) x.section x.used x.bound (h.0, leads x.class (x ∷ rest) h.1) (head_makes x rest h.1)
       (subst (λ (y : written.Edge). StartsAt program y.section y.used fault.start) e starts) code detail
 
+  pub used_within : (number used bound c d : ℕ) (s : Section) (items : List PointRef) → Makes program number used bound c d → s ≡ get_or program.sections.items number s →
+      map point_at items ≡ points s → used < length items
+  used_within number used bound c d s items m is listed =
+      let here : slice_get program.sections.items number ≡ Some s =
+      slice_get_read program.sections.items (length program.sections.items) number s refl (slice_get_within program.sections.items number m.section m.here) is in
+      let same : m.section ≡ s = same_Some m.section s (sym m.here ∙ here) in
+      let lt : used < length (points s) = subst (λ (x : Section). used < length (points x)) same (slice_get_within (points m.section) used m.uses.1.0 m.uses.1.1) in
+      omega (arith, lt, ap length listed, length-map items point_at)
+
   pub starts_at : (number used bound c d : ℕ) (s : Section) (items : List PointRef) (r : PointRef) (start : ℕ) → Makes program number used bound c d →
       s ≡ get_or program.sections.items number s → map point_at items ≡ points s → r ≡ get_or items used r → start ≡ start_of (point_at r) → StartsAt program number used start
   starts_at number used bound c d s items r start m is listed read starts =
       let here : slice_get program.sections.items number ≡ Some s =
       slice_get_read program.sections.items (length program.sections.items) number s refl (slice_get_within program.sections.items number m.section m.here) is in
-      let same : m.section ≡ s = same_Some m.section s (sym m.here ∙ here) in
-      let lt : used < length (points s) = subst (λ (x : Section). used < length (points x)) same (slice_get_within (points m.section) used m.uses.1.0 m.uses.1.1) in
-      let within : used < length items = omega (arith, lt, ap length listed, length-map items point_at) in
+      let within : used < length items = used_within number used bound c d s items m is listed in
       let there : slice_get (points s) used ≡ Some (point_at r) =
       ap (λ l. slice_get l used) (sym listed) ∙ slice_get-map point_at items used ∙ ap (option_map point_at) (slice_get_read items (length items) used r refl within read) in
       record { section = s; here = here; point = point_at r; there = there; starts = sym starts }

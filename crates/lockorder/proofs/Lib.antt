@@ -7,6 +7,7 @@ pub mod Bridge
 pub mod Tells
 pub mod Making
 pub mod InSection
+pub mod Added
 pub mod Spreading
 pub mod Edges
 pub mod Bits

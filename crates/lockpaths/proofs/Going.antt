@@ -1,5 +1,5 @@
 -- Going over the accesses of the parts of a tree.
-use Rattle.std.proofs.Common.{◌≡◌, ◌⊎◌, inl, inr, ℕ, zero, suc, ◌+◌, ◌<◌, ◌≤◌, arith, List, [], ◌∷◌, ◌++◌, length, drop, take, get_or, Option, Some, None, Bool, true, false, refl, sym, ap, ◌∙◌, add-one, Vec, Box, Global}
+use Rattle.std.proofs.Common.{◌≡◌, ◌⊎◌, inl, inr, ℕ, zero, suc, ◌+◌, ◌<◌, ◌≤◌, arith, List, [], ◌∷◌, ◌++◌, length, map, drop, take, get_or, Option, Some, None, Bool, true, false, refl, sym, ap, ◌∙◌, add-one, Vec, Box, Global}
 use Rattle.std.proofs.Math.Seq.{drop-cons, take-suc}
 use Rattle.std.proofs.lemmas.List.Sums.{fold-append}
 use Rattle.std.specs.Prelude.{if◌then◌else◌}
@@ -10,16 +10,21 @@ use Rattle.core_lang.specs.declared.tree.Local.{Local}
 use Rattle.core_lang.specs.declared.tree.Section.{Section}
 use Rattle.core_lang.specs.declared.tree.Operation.{Operation}
 use Rattle.core_lang.specs.declared.tree.Expr.{Expr, Chain}
-use Rattle.core_lang.specs.declared.tree.Condition.{Condition, And, Or}
+use Rattle.core_lang.specs.declared.tree.Action.{Action, SetElement, SetField}
+use Rattle.core_lang.specs.declared.tree.Comparison.{Comparison}
+use Rattle.core_lang.specs.declared.tree.Condition.{Condition, Compare, And, Or}
+use Rattle.core_lang.specs.declared.tree.Path.{Path}
 use Rattle.core_lang.specs.Typing.{lookup}
-use Rattle.locks.specs.Accesses.{Access, along, in_expr, in_operations, in_condition, in_conditions}
+use Rattle.locks.specs.Accesses.{Access, access, along, in_action, in_path, in_expr, in_operations, in_condition, in_conditions}
 use Rattle.locks.specs.Accesses as target
 use Rattle.locks.specs.LockPaths.{StablePath, LockPath, is_fixed, all_final, stable}
 use Rattle.locks.specs.Lists.{in_expr-Chain, in_condition-And, in_condition-Or}
 use Rattle.lockpaths.specs.declared.finder.Finder.{Finder}
 use Rattle.normal_forms.specs.Forms.{form_by}
 use Rattle.lockpaths.specs.Gathering.{Gathered, field_path, met as met_by}
-use Rattle.lockpaths.specs.Finding.{table_of, target_of, over, in_all, in_operands}
+use Rattle.lockpaths.specs.Finding.{table_of, target_of, over, over_point, over_points, in_all, in_operands}
+use Rattle.flow.specs.Points.{Point}
+use Rattle.std.specs.List.{flat_map}
 
 -- ---- a fault of the base
 
@@ -126,3 +131,55 @@ module _ (f : Finder) (g g' : Gathered) (start local : ℕ) (fields : List Field
 
     pub field_behind : all_final (take (k + 1) fields) ≡ None
     field_behind = ap all_final taken_field ∙ none_behind (take k fields) s n
+
+-- ---- one part more of a list
+
+next_of : {A : Type 0} (xs : List A) (i : ℕ) (x : A) → i < length xs → x ≡ get_or xs i x → drop i xs ≡ x ∷ drop (i + 1) xs
+next_of {A = A} xs i x lt is = drop-cons xs i x lt ∙ ap (λ (y : A). y ∷ drop (suc i) xs) (sym is) ∙ ap (λ (k : ℕ). x ∷ drop k xs) (sym (add-one i))
+
+module _ {A : Type 0} (f : Finder) (h k : Gathered) where
+  pub over_next : (part : A → List Access) (xs : List A) (i : ℕ) (x : A) → i < length xs → x ≡ get_or xs i x → k ≡ over f h (part x) →
+      over f k (flat_map part (drop (i + 1) xs)) ≡ over f h (flat_map part (drop i xs))
+  over_next part xs i x lt is all =
+      ap (λ (g : Gathered). over f g (flat_map part (drop (i + 1) xs))) all
+      ∙ sym (fold-append _ h (part x) (flat_map part (drop (i + 1) xs)))
+      ∙ sym (ap (λ (ys : List A). over f h (flat_map part ys)) (next_of xs i x lt is))
+
+  pub points_next : (at : A → Point) (xs : List A) (i : ℕ) (x : A) → i < length xs → x ≡ get_or xs i x → k ≡ over_point f h (at x) →
+      over_points f k (map at (drop (i + 1) xs)) ≡ over_points f h (map at (drop i xs))
+  points_next at xs i x lt is all =
+      ap (λ (g : Gathered). over_points f g (map at (drop (i + 1) xs))) all
+      ∙ sym (ap (λ (ys : List A). over_points f h (map at ys)) (next_of xs i x lt is))
+
+  -- and past the last
+  pub points_past : (at : A → Point) (xs : List A) (i : ℕ) → length xs ≤ i → over_points f h (map at (drop i xs)) ≡ k → h ≡ k
+  points_past at xs i past all = sym (ap (λ (ys : List A). over_points f h (map at ys)) (drop_past xs i past)) ∙ all
+
+-- ---- the parts of a comparison and of an assignment
+
+pub over_compare : (f : Finder) (g h k : Gathered) (x : Condition) (sign : Comparison) (a b : Expr) → x ≡ Compare sign a b → h ≡ over f g (in_expr a) → k ≡ over f h (in_expr b) →
+    k ≡ over f g (in_condition x)
+over_compare f g h k x sign a b is one all =
+    all ∙ ap (λ (y : Gathered). over f y (in_expr b)) one ∙ sym (fold-append _ g (in_expr a) (in_expr b)) ∙ sym (ap (λ (y : Condition). over f g (in_condition y)) is)
+
+module _ (f : Finder) (g h m k : Gathered) (start : ℕ) (action : Action) where
+  pub over_element : (array : ℕ) (index value : Expr) → action ≡ SetElement array index value → h ≡ over f g (access start (target.element array) ∷ []) → m ≡ over f h (in_expr index) →
+      k ≡ over f m (in_expr value) → k ≡ over f g (in_action start action)
+  over_element array index value is one two all =
+      let first = access start (target.element array) in
+      all ∙ ap (λ (y : Gathered). over f y (in_expr value)) (two ∙ ap (λ (y : Gathered). over f y (in_expr index)) one)
+      ∙ sym (fold-append _ (over f g (first ∷ [])) (in_expr index) (in_expr value))
+      ∙ sym (ap (λ (y : Action). over f g (in_action start y)) is)
+
+  pub over_field : (base : Path) (s n : ℕ) (value : Expr) → action ≡ SetField base s n value → (given : List FieldStep) (form : Option StablePath) (lock : Option LockPath) →
+      h ≡ over f g (in_path base) → given ≡ base.fields.items → form ≡ option_map (form_by (table_of f)) (stable f.forms.section.now base.local given) →
+      lock ≡ field_path f.program.now s n form → m ≡ met_by h base.start lock → k ≡ over f m (in_expr value) → k ≡ over f g (in_action start action)
+  over_field base s n value is given form lock one same found locked two all =
+      let here = access base.start (target.field base.local base.fields.items s n) in
+      all
+      ∙ ap (λ (y : Gathered). over f y (in_expr value))
+      (two ∙ ap (met_by h base.start)
+      (locked ∙ ap (field_path f.program.now s n) (found ∙ ap (λ (l : List FieldStep). option_map (form_by (table_of f)) (stable f.forms.section.now base.local l)) same)))
+      ∙ ap (λ (y : Gathered). over f y (here ∷ in_expr value)) one
+      ∙ sym (fold-append _ g (in_path base) (here ∷ in_expr value))
+      ∙ sym (ap (λ (y : Action). over f g (in_action start y)) is)

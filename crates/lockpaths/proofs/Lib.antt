@@ -1,4 +1,5 @@
 pub mod Going
+pub mod Reading
 pub mod Contained
 pub mod Formed
 pub mod Once

@@ -1,4 +1,6 @@
 pub mod Rooms
+pub mod First
+pub mod Done
 pub mod Readers
 pub mod Law
 pub mod Many

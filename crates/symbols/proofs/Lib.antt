@@ -8,3 +8,5 @@ pub mod Giving
 pub mod Structs
 pub mod Given
 pub mod Finding
+pub mod Named
+pub mod Counting

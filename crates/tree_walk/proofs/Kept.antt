@@ -2,6 +2,7 @@
 use Rattle.std.proofs.Common.{◌≡◌, ◌≢◌, ℕ, zero, suc, ◌<◌, inl, inr, ◌⊎◌, List, [], ◌∷◌, ◌++◌, length, get_or, set-set, replicate, Bool, true, false, Some, refl, sym, ap, ◌∙◌, subst, ⊎_elim, arith, length-set, get_or-set_other, get_or-set_same, drop, drop-cons, ◌+◌}
 use Rattle.std.proofs.Math.Dec.{eqb}
 use Rattle.std.specs.Prelude.{slice_get, slice_set}
+use Rattle.std.proofs.Math.ListN.{length-replicate}
 use Rattle.std.proofs.lemmas.List.{set_comm}
 use Rattle.std.proofs.lemmas.Bool.Decides.{eqb_tells}
 use Rattle.std.proofs.lemmas.Option.{slice_get_within, slice_get-get_or, get_or_from_slice_get}
@@ -151,3 +152,13 @@ kept_after marks marks' ws i d n lt kept is =
     subst (λ m. IsKept m (drop (i + 1) ws) n) (sym is)
     (subst (λ k. IsKept (slice_set marks (get_or ws i d).0 false) (drop k ws) n) (sym one)
     (kept_less marks (get_or ws i d) (drop (suc i) ws) n (subst (λ l. IsKept marks l n) (drop-cons ws i d lt) kept)))
+
+pub kept_at_first : (marks : List Bool) (cells : List Value) (ws : List (ℕ × Value)) → marks ≡ replicate (length cells) false → ws ≡ [] → IsKept marks ws (length cells)
+kept_at_first marks cells ws clear none = subst (λ l. IsKept marks l (length cells)) (sym none) (kept_none marks (length cells) clear (length-replicate (length cells) false))
+
+-- of lists that are as long, or the same
+pub kept_as : (marks : List Bool) (ws : List (ℕ × Value)) (xs ys : List Value) → length xs ≡ length ys → IsKept marks ws (length xs) → IsKept marks ws (length ys)
+kept_as marks ws xs ys e kept = subst (IsKept marks ws) e kept
+
+pub kept_of : (marks : List Bool) (ws ws' : List (ℕ × Value)) (xs ys : List Value) → ws' ≡ ws → ys ≡ xs → IsKept marks ws (length xs) → IsKept marks ws' (length ys)
+kept_of marks ws ws' xs ys e same kept = subst (λ l. IsKept marks l (length ys)) (sym e) (subst (λ l. IsKept marks ws (length l)) (sym same) kept)

@@ -1,5 +1,5 @@
 -- A heap that is put back, and what stays failed.
-use Rattle.std.proofs.Common.{◌≡◌, ℕ, ◌<◌, ◌+◌, arith, List, [], ◌∷◌, ◌++◌, length, get_or, set, set-set, length-set, drop, suc, drop-cons, Vec, Box, Global, refl, sym, ap, ◌∙◌, Result, Err}
+use Rattle.std.proofs.Common.{◌≡◌, ℕ, ◌<◌, List, [], ◌∷◌, ◌++◌, length, get_or, set, set-set, length-set, drop, suc, drop-cons, Vec, Box, Global, refl, sym, ap, ◌∙◌, Result, Err}
 use Rattle.std.proofs.lemmas.List.{set-get_or}
 use Rattle.core_lang.specs.declared.tree.Expr.{Expr, Chain}
 use Rattle.core_lang.specs.declared.tree.Condition.{Condition, And, Or}
@@ -61,3 +61,11 @@ or_starts e before last items shape locals heap is all =
 pub undone-length : (ws : List (ℕ × Value)) (heap : List Value) → length (undone ws heap) ≡ length heap
 undone-length [] heap = refl
 undone-length (w ∷ ws) heap = length-set (undone ws heap) w.0 w.1 ∙ undone-length ws heap
+
+pub chain_fails_first : (e : Expr) (first : Box Expr Global) (rest : Vec Operation Global) (inner : Expr) (shape : Shape) (locals heap : List Value) (f : Failure) →
+    e ≡ Chain first rest → inner ≡ first.value → Err f ≡ value_of inner shape locals heap → Err f ≡ value_of e shape locals heap
+chain_fails_first e first rest inner shape locals heap f is one fails =
+    sym (ap (λ x. value_of x shape locals heap) is
+    ∙ value_of-Chain first rest shape locals heap
+    ∙ ap (operations rest.items shape locals heap) (ap (λ x. value_of x shape locals heap) (sym one) ∙ sym fails)
+    ∙ operations-failed rest.items shape locals heap f)

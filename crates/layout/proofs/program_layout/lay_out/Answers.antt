@@ -8,6 +8,7 @@ use Rattle.locks.specs.declared.lock.Lock.{Lock}
 use Rattle.layout.specs.Layouts.{LayoutOf, AreDistinct}
 use Rattle.layout.proofs.Lists.{read_at, map_at, take_one_more, taken_whole, same_items}
 use Rattle.layout.proofs.Listed.{listed}
+use Rattle.layout.proofs.Found.{below_end}
 use Rattle.layout.proofs.Laid.{AreLocked, one_locked, laid_out}
 use Rattle.layout.proofs.program_layout.lay_out.Goals as goal
 
@@ -65,3 +66,6 @@ returns c =
     let locks = c.in_ok-numbering.ensures.locks ∙ sym i.locks in
     laid_out program layout c.requires opening (i.long ∙ through) (subst (λ (n : ℕ). AreLocked program n layout.cell_locks) through i.cell_locks) i.locks
     (subst AreDistinct locks c.in_ok-numbering.ensures.distinct) i.first_finals i.finals
+
+pub lock_of_cell-requires-clause-cell : goal.lock_of_cell-requires-clause-cell
+lock_of_cell-requires-clause-cell c = below_end c.loop-cell.cell c.len-cell-end.result _ (length c.args.program.now.cells.items) c.loop-cell-test.true c.len-cell-end.ensures c.args.program.now.cells.ok.0

@@ -4,6 +4,7 @@ use Rattle.lexer.specs.Reading.{seen_kind}
 use Rattle.source.specs.Texts.{too_big}
 use Rattle.lexer.proofs.Steps.{begun, skip_le, unit_shortens}
 use Rattle.lexer.proofs.Ends.{tok_of, none_left, some_left, end_seen, went_on, all_found, all_rise, all_sliced, all_only, none_refused, stop_fault, stop_only, stop_refused}
+use Rattle.lexer.proofs.First.{less_behind, here_within, behind_within, can_stand}
 use Rattle.lexer.proofs.whole.lex.Goals as goal
 
 pub returns-then-text-gt-MOST_BYTES-clause-fault : goal.returns-then-text-gt-MOST_BYTES-clause-fault
@@ -57,3 +58,16 @@ tokens-preserved c = record {
   state = rw c.in_ok-push-2.ensures.items (went_on c.args.text.now c.tokens.rest.now c.tokens.tokens.items c.tokens.invariant.state _ c.in-Ok.token.1.now c.in_ok-token_at.field-0 (rw c.after_gap-here.ensures at c.in-Ok.ensures) (c.in_ok-token_at.ensures ∙ ap (λ (at : List ℕ). tok_of (seen_kind c.in-Ok.token.0) (length c.args.text.now - length at) (length c.args.text.now - length c.in-Ok.token.1.now)) c.after_gap-here.ensures));
   short = omega (arith, unit_shortens c.after_gap-here.result.now _ c.in-Ok.token.1.now c.in-Ok.ensures, skip_le c.tokens.rest.now, ap length c.after_gap-here.ensures);
 }
+
+pub tokens-smaller : goal.tokens-smaller
+tokens-smaller c = less_behind c.args.text.now c.tokens.rest.now c.after_gap-here.result.now c.after_gap-here.ensures c.tokens.invariant.short (seen_kind c.in-Ok.token.0) c.in-Ok.token.1.now c.in-Ok.ensures
+
+pub overflow_sub-start : goal.overflow_sub-start
+overflow_sub-start c = here_within c.args.text.now c.tokens.rest.now c.after_gap-here.result.now c.after_gap-here.ensures c.tokens.invariant.short
+
+pub overflow_sub-end : goal.overflow_sub-end
+overflow_sub-end c = behind_within c.args.text.now c.tokens.rest.now c.after_gap-here.result.now c.after_gap-here.ensures c.tokens.invariant.short (seen_kind c.in-Ok.token.0) c.in-Ok.token.1.now c.in-Ok.ensures
+
+pub token_at-requires : goal.token_at-requires
+token_at-requires c =
+    can_stand c.args.text.now c.tokens.rest.now c.after_gap-here.result.now c.after_gap-here.ensures c.tokens.invariant.short (seen_kind c.in-Ok.token.0) c.in-Ok.token.1.now c.in-Ok.ensures c.if-text-gt-MOST_BYTES.false

@@ -1,4 +1,4 @@
-use Rattle.std.proofs.Common.{◌<◌, ℕ, List, length, ◌∙◌, subst, arith}
+use Rattle.std.proofs.Common.{◌<◌, ℕ, List, length, ◌∙◌, sym, ap, subst, arith}
 use Rattle.std.specs.Prelude.{slice_index}
 use Rattle.lockorder.specs.Tellings.{IsToldMore, follower, told_at}
 use Rattle.std.proofs.lemmas.Option.{slice_get_within}
@@ -58,3 +58,6 @@ edges-requires c =
 pub returns : goal.returns
 returns c =
     told_cycle c.args.program.now c.args.cycle.now c.loop-section.telling.told.items c.in_ok-edges.edges.items c.loop-section.section c.requires.cycle c.loop-section.invariant.told c.in_ok-edges.ensures
+
+pub tell-requires-clause-long : goal.tell-requires-clause-long
+tell-requires-clause-long c = c.loop-section.invariant.told.long ∙ ap length (sym c.loop-section.invariant.cycle)

@@ -1,4 +1,11 @@
-use Rattle.std.proofs.Common.{◌≡◌, ◌∙◌, sym, ap}
+use Rattle.std.proofs.Common.{◌≡◌, ◌∙◌, List, [], None, refl, sym, ap, subst}
+use Rattle.std.specs.List.{flat_map}
+use Rattle.std.proofs.lemmas.List.{take_all}
+use Rattle.source.specs.Mistakes.{least_of}
+use Rattle.core_lang.specs.declared.tree.Section.{Section}
+use Rattle.lockpaths.specs.declared.table.SectionPaths.{SectionPaths}
+use Rattle.lockpaths.specs.Faulted.{faults_in}
+use Rattle.lockpaths.specs.Numbers.{AreEach}
 use Rattle.lockpaths.specs.Gathering.{Gathered}
 use Rattle.lockpaths.proofs.Used.{IsFound, found_none}
 use Rattle.lockpaths.proofs.Turns.{not_some, not_none, least_next, each_next}
@@ -30,3 +37,20 @@ loop-section-preserved c =
       }
       | else-is_none w ↦ record { least = least; found = λ e. absurd (not_none c.found.inside.least w.if-is_none.ensures e) }
     ]
+
+pub returns-clause-least : goal.returns-clause-least
+returns-clause-least c =
+    c.loop-section.invariant.least
+    ∙ ap (λ (xs : List Section). least_of None (flat_map (faults_in c.args.program.now) xs))
+    (take_all c.loop-section.section-index c.deref-section-items.result.now c.loop-section-test.false ∙ c.deref-section-items.ensures.value)
+
+pub returns-clause-found : goal.returns-clause-found
+returns-clause-found c = λ e.
+    subst (λ (xs : List Section). AreEach c.args.program.now xs c.loop-section.sections.items)
+    (take_all c.loop-section.section-index c.deref-section-items.result.now c.loop-section-test.false ∙ c.deref-section-items.ensures.value) (c.loop-section.invariant.found e)
+
+pub loop-section-init : goal.loop-section-init
+loop-section-init c = record {
+  least = refl;
+  found = λ e. subst (λ (xs : List SectionPaths). AreEach c.args.program.now [] xs) (sym c.in_ok-sections.ensures.items) tt;
+}

@@ -1,18 +1,17 @@
-use Rattle.std.proofs.Common.{refl}
 use Rattle.std.proofs.lemmas.Result.{err_from_is_err_and}
 use Rattle.source.specs.declared.token.Sign.TheVariants.{Semicolon}
 use Rattle.source.specs.Tokens.{seen}
-use Rattle.syntax.specs.Views.{option_of, protection_of}
+use Rattle.syntax.specs.Views.{option_of, protection_of, type_of, ident}
 use Rattle.parser.specs.Declarations.{array_at, maybe_protection}
 use Rattle.parser.proofs.Readers.{fails_on}
 use Rattle.parser.proofs.Ended.{ended, unended}
+use Rattle.parser.proofs.Done.{array_done}
 use Rattle.parser.proofs.decl.array.Goals as goal
 
 pub returns : goal.returns
-unfolding array_at
 returns c =
     let x1 = ended Semicolon (maybe_protection c.args.room) (seen c.in_ok-length.rest.now) c.protection.result (option_of protection_of) (λ r. seen r.now) c.in_ok-protection.protection _ c.protection.ensures c.in_ok-protection.ensures in
-    rw (c.in_ok-length.ensures, x1.read, x1.sign) refl
+    array_done (seen c.args.tokens.now) c.args.room (type_of c.args.value_type) (ident c.args.name) c.in_ok-length.ensures x1.read x1.sign
 
 pub returns-in_err-length : goal.returns-in_err-length
 unfolding array_at

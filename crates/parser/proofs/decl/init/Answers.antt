@@ -1,4 +1,3 @@
-use Rattle.std.proofs.Common.{refl}
 use Rattle.std.proofs.lemmas.Result.{err_from_is_err_and}
 use Rattle.source.specs.declared.token.Sign.TheVariants.{Dot, Equals, Semicolon}
 use Rattle.source.specs.Tokens.{seen}
@@ -7,15 +6,15 @@ use Rattle.parser.specs.Reading.{const_at, index_at, name_at}
 use Rattle.parser.specs.Declarations.{init_at}
 use Rattle.parser.proofs.Readers.{fails_on}
 use Rattle.parser.proofs.Ended.{ended, unended}
+use Rattle.parser.proofs.Done.{init_done}
 use Rattle.parser.proofs.decl.init.Goals as goal
 
 pub returns : goal.returns
-unfolding init_at
 returns c =
     let x1 = ended Dot (index_at c.args.room) (seen c.in_ok-pool.rest.now) c.index.result (λ n. n) (λ r. seen r.now) c.in_ok-index.index _ c.index.ensures c.in_ok-index.ensures in
     let x2 = ended Equals name_at (seen c.in_ok-index.rest.now) c.take_name-2.result ident (λ r. seen r.now) c.in_ok-field.field _ c.take_name-2.ensures c.in_ok-field.ensures in
     let x3 = ended Semicolon (const_at c.args.room) (seen c.in_ok-field.rest.now) c.constant.result const_of (λ r. seen r.now) c.in_ok-value.value _ c.constant.ensures c.in_ok-value.ensures in
-    rw (c.in_ok-pool.ensures, x1.read, x1.sign, x2.read, x2.sign, x3.read, x3.sign) refl
+    init_done (seen c.args.tokens.now) c.in_ok-pool.ensures c.args.room c.args.start x1.read x1.sign x2.read x2.sign x3.read x3.sign
 
 pub returns-in_err-pool : goal.returns-in_err-pool
 unfolding init_at

@@ -1,4 +1,3 @@
-use Rattle.std.proofs.Common.{refl}
 use Rattle.std.proofs.lemmas.Result.{err_from_is_err_and}
 use Rattle.source.specs.declared.token.Sign.TheVariants.{Semicolon}
 use Rattle.source.specs.Tokens.{seen}
@@ -6,13 +5,13 @@ use Rattle.parser.specs.Reading.{index_at}
 use Rattle.parser.specs.Declarations.{pool_at}
 use Rattle.parser.proofs.Readers.{fails_on}
 use Rattle.parser.proofs.Ended.{ended, unended}
+use Rattle.parser.proofs.Done.{pool_done}
 use Rattle.parser.proofs.decl.pool.Goals as goal
 
 pub returns : goal.returns
-unfolding pool_at
 returns c =
     let x2 = ended Semicolon (index_at c.args.room) (seen c.in_ok-name.rest.now) c.index.result (λ n. n) (λ r. seen r.now) c.in_ok-length.length _ c.index.ensures c.in_ok-length.ensures in
-    rw (c.in_ok-target.ensures, c.in_ok-name.ensures, x2.read, x2.sign) refl
+    pool_done (seen c.args.tokens.now) c.in_ok-target.ensures c.args.room c.in_ok-name.ensures x2.read x2.sign
 
 pub returns-in_err-target : goal.returns-in_err-target
 unfolding pool_at

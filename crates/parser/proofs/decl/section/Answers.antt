@@ -1,13 +1,13 @@
-use Rattle.std.proofs.Common.{refl}
+use Rattle.source.specs.Tokens.{seen}
 use Rattle.std.proofs.lemmas.Result.{err_from_is_err_and}
 use Rattle.parser.specs.Declarations.{section_at}
 use Rattle.parser.proofs.Readers.{fails_on}
+use Rattle.parser.proofs.Done.{section_done}
 use Rattle.parser.proofs.decl.section.Goals as goal
 
 pub returns : goal.returns
-unfolding section_at
 returns c =
-    rw (c.in_ok-name.ensures, c.in_ok-params.ensures, c.in_ok-result.ensures, c.in_ok-body.ensures) refl
+    section_done (seen c.args.tokens.now) c.in_ok-name.ensures c.args.room c.in_ok-params.ensures c.in_ok-result.ensures c.in_ok-body.ensures
 
 pub returns-in_err-name : goal.returns-in_err-name
 unfolding section_at

@@ -1,19 +1,18 @@
-use Rattle.std.proofs.Common.{refl}
 use Rattle.std.proofs.lemmas.Result.{err_from_is_err_and}
 use Rattle.source.specs.declared.token.Sign.TheVariants.{Equals, Semicolon}
 use Rattle.source.specs.Tokens.{mark, seen}
-use Rattle.syntax.specs.Views.{const_of, option_of}
+use Rattle.syntax.specs.Views.{const_of, option_of, type_of, ident}
 use Rattle.parser.specs.Reading.{after_at, const_at, maybe_at}
 use Rattle.parser.specs.Declarations.{variable_at}
 use Rattle.parser.proofs.Readers.{fails_on}
 use Rattle.parser.proofs.Ended.{ended, unended}
+use Rattle.parser.proofs.Done.{variable_done}
 use Rattle.parser.proofs.decl.variable.Goals as goal
 
 pub returns : goal.returns
-unfolding variable_at
 returns c =
     let x1 = ended Semicolon (maybe_at (mark Equals) (after_at Equals (const_at c.args.room))) (seen c.in_ok-protection.rest.now) c.opening_value.result (option_of const_of) (λ r. seen r.now) c.in_ok-value.value _ c.opening_value.ensures c.in_ok-value.ensures in
-    rw (c.in_ok-protection.ensures, x1.read, x1.sign) refl
+    variable_done (seen c.args.tokens.now) c.args.room (type_of c.args.value_type) (ident c.args.name) c.in_ok-protection.ensures x1.read x1.sign
 
 pub returns-in_err-protection : goal.returns-in_err-protection
 unfolding variable_at

@@ -1,18 +1,28 @@
-use Rattle.std.proofs.Common.{◌<◌, Ok, sym, ap, ◌∙◌, arith}
+use Rattle.parser.specs.declared.stop.Stop.{Stop}
+use Rattle.std.proofs.Common.{◌<◌, Bool, if◌then◌else◌, refl, Ok, sym, ap, ◌∙◌, arith, List, Result}
 use Rattle.std.specs.Prelude.{not}
 use Rattle.std.proofs.lemmas.Result.{err_from_is_err_and}
-use Rattle.source.specs.Tokens.{seen}
+use Rattle.source.specs.Tokens.{seen, Tok}
 use Rattle.syntax.specs.declared.tree.Element as the_element
 use Rattle.syntax.specs.declared.tree.Expr as the_expr
 use Rattle.syntax.specs.declared.tree.Path as the_path
 use Rattle.syntax.specs.Rows.{joined_of-Chain}
-use Rattle.syntax.specs.Trees.{paren}
+use Rattle.syntax.specs.Trees.{paren, Place}
 use Rattle.syntax.specs.Views.{ident, expr_of, path_of, element_of}
 use Rattle.parser.specs.Bodies.{operand_at, inside_at, expr_at}
 use Rattle.parser.proofs.Chains.{links_before, link_goes_on, link_ends, link_stops, operand_alone, operand_stops, pair_done, chain_done, links_stop, none_found}
 use Rattle.parser.proofs.Shorter.{operand_shortens, one_turn_less}
 use Rattle.parser.proofs.Closed.{element_done, element_unopened, element_stops, parens_done, parens_stop, path_stops, path_done}
 use Rattle.parser.proofs.Ended.{ended_gives}
+use Rattle.source.specs.declared.token.Keyword.TheVariants.{Null}
+use Rattle.source.specs.declared.token.Number.{Number}
+use Rattle.source.specs.declared.token.Token.TheVariants as token
+use Rattle.std.specs.Rc.{rc_str_bytes}
+use Rattle.syntax.specs.Trees.{Ident, Expr, int, place, prefix}
+use Rattle.parser.proofs.Readers.{fails_on}
+use Rattle.parser.specs.Bodies.{place_at, unary_with, compared_with, prim_at, prim_with, prim_from, parens_at}
+use Rattle.parser.specs.Reading.{◌>>=◌, refused, choose}
+use Rattle.parser.proofs.First.{word_first, at_first, refused_first, named_is, behind_first}
 use Rattle.parser.proofs.expr.+expr.Goals as goal
 
 pub links-returns-in_err-right : goal.links-returns-in_err-right
@@ -101,3 +111,77 @@ place-returns-then-is_sign_next-2 t c =
 
 pub closed-returns : goal.closed-returns
 closed-returns t c = ended_gives c.args.sign (expr_at c.args.room) (seen c.args.tokens.now) c.chain.result expr_of (λ r. seen r.now) c.ended_by.result c.chain.ensures c.ended_by.ensures
+
+pub prim-returns-in-Word-default-Null : goal.prim-returns-in-Word-default-Null
+unfolding prim_with
+prim-returns-in-Word-default-Null t c = word_first c.args.tokens.now c.first-item.result c.in-len1-up.len_at_least c.first-item.is c.in-Word-default-Null.span c.in-Word-default-Null.field-1 Null c.in-Word-default-Null.is (rw c.in-Word-default-Null.is at c.in-Word-default-Null.field-1-is) (prim_at c.args.room)
+
+pub prim-returns-in-Int : goal.prim-returns-in-Int
+unfolding prim_with
+prim-returns-in-Int t c =
+    at_first c.args.tokens.now c.first-item.result (token.Int c.in-Int.span c.in-Int.value) c.in-len1-up.len_at_least c.first-item.is c.in-Int.is (prim_at c.args.room)
+    ∙ ap (λ (n : Number). Ok (int n, seen (behind_first c.args.tokens.now))) (sym c.small.ensures)
+
+pub prim-returns-in-Large : goal.prim-returns-in-Large
+unfolding prim_with
+prim-returns-in-Large t c =
+    at_first c.args.tokens.now c.first-item.result (token.Large c.in-Large.number) c.in-len1-up.len_at_least c.first-item.is c.in-Large.is (prim_at c.args.room)
+    ∙ ap (λ (n : Number). Ok (int n, seen (behind_first c.args.tokens.now))) (sym c.deref.ensures)
+
+pub prim-returns-then-not-is_same : goal.prim-returns-then-not-is_same
+unfolding prim_with
+prim-returns-then-not-is_same t c =
+    refused_first c.args.tokens.now c.first-item.result (token.Mark c.in-Mark.span c.in-Mark.mark) c.in-len1-up.len_at_least c.first-item.is c.in-Mark.is (prim_from c.args.room (inside_at c.args.room))
+    (λ ts. ap (λ (b : Bool). if b then parens_at c.args.room (inside_at c.args.room) c.in-Mark.span ts else refused ts) (sym c.is_same.ensures ∙ c.if-not-is_same.true))
+
+pub prim-returns-else-not-is_same : goal.prim-returns-else-not-is_same
+unfolding prim_with
+prim-returns-else-not-is_same t c =
+    rw (at_first c.args.tokens.now c.first-item.result (token.Mark c.in-Mark.span c.in-Mark.mark) c.in-len1-up.len_at_least c.first-item.is c.in-Mark.is (prim_at c.args.room)
+    ∙ ap (λ (b : Bool). if b then parens_at c.args.room (inside_at c.args.room) c.in-Mark.span (seen (behind_first c.args.tokens.now)) else refused (seen (behind_first c.args.tokens.now))) (sym c.is_same.ensures ∙ c.if-not-is_same.false)) c.parens.ensures
+
+pub prim-returns-in_ok-place-in-Name : goal.prim-returns-in_ok-place-in-Name
+unfolding prim_with
+prim-returns-in_ok-place-in-Name t c =
+    let n = c.in_ok-named-in-Name in
+    let k = c.in-Name in
+    let read = at_first c.args.tokens.now c.first-item.result (token.Name k.start k.text) c.in-len1-up.len_at_least c.first-item.is k.is (prim_at c.args.room)
+    ∙ ap (λ (x : Ident). place_at c.args.room (inside_at c.args.room) x (seen (behind_first c.args.tokens.now)) >>= λ p. Ok (place p.0, p.1)) (sym (named_is n.field-0 (rc_str_bytes k.text) k.start n.ensures.0 n.ensures.1)) in
+    read
+    ∙ ap (λ (r : Result (Place × List Tok) Stop). r >>= λ p. Ok (place p.0, p.1)) c.in_ok-place-in-Name.ensures
+    ∙ ap (λ (e : Expr). Ok (e, seen c.in_ok-place-in-Name.rest.now)) (sym c.value_of.ensures)
+
+pub prim-returns-in_err-place-in-Name : goal.prim-returns-in_err-place-in-Name
+unfolding prim_with
+prim-returns-in_err-place-in-Name t c =
+    let n = c.in_ok-named-in-Name in
+    let k = c.in-Name in
+    let read = at_first c.args.tokens.now c.first-item.result (token.Name k.start k.text) c.in-len1-up.len_at_least c.first-item.is k.is (prim_at c.args.room)
+    ∙ ap (λ (x : Ident). place_at c.args.room (inside_at c.args.room) x (seen (behind_first c.args.tokens.now)) >>= λ p. Ok (place p.0, p.1)) (sym (named_is n.field-0 (rc_str_bytes k.text) k.start n.ensures.0 n.ensures.1)) in
+    let p = err_from_is_err_and c.from_residual-in_err-place-in-Name.result c.from_residual-in_err-place-in-Name.ensures.1 in
+    rw (p.1, p.2, read) (fails_on c.in_err-place-in-Name.field-0.0 _ _ c.in_err-place-in-Name.ensures)
+
+pub unary-returns-in_ok-new-in-Some : goal.unary-returns-in_ok-new-in-Some
+unfolding unary_with
+unary-returns-in_ok-new-in-Some t c =
+    rw (sym c.in-Some.ensures, c.in_ok-operand-in-Some.ensures)
+    (ap (λ (e : the_expr.Expr). Ok (prefix c.in-Some.op c.in-Some.at (expr_of e), seen c.in_ok-operand-in-Some.rest.now)) (sym c.in_ok-new-in-Some.ensures.ok))
+
+pub place-returns : goal.place-returns
+unfolding choose
+place-returns t c = rw (sym c.is_sign_next.ensures ∙ c.if-is_sign_next.false, sym c.is_sign_next-2.ensures ∙ c.if-is_sign_next-2.false) refl
+
+pub compared-returns-in-None : goal.compared-returns-in-None
+unfolding compared_with
+compared-returns-in-None t c = rw (c.in_ok-left.ensures, sym c.in-None.ensures) refl
+
+pub compared-returns-in_ok-right-in-Some : goal.compared-returns-in_ok-right-in-Some
+unfolding compared_with
+compared-returns-in_ok-right-in-Some t c = rw (c.in_ok-left.ensures, sym c.in-Some.ensures, c.in_ok-right-in-Some.ensures) c.joined.ensures
+
+pub links-loop-op-init : goal.links-loop-op-init
+links-loop-op-init t c = rw (c.in_ok-push.ensures.items, c.new-links.ensures.items) refl
+
+pub place-returns-then-is_sign_next : goal.place-returns-then-is_sign_next
+unfolding choose
+place-returns-then-is_sign_next t c = rw (sym c.is_sign_next.ensures ∙ c.if-is_sign_next.true) c.element.ensures

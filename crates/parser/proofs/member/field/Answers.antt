@@ -1,4 +1,3 @@
-use Rattle.std.proofs.Common.{refl}
 use Rattle.std.proofs.lemmas.Result.{err_from_is_err_and}
 use Rattle.source.specs.declared.token.Sign.TheVariants.{Semicolon}
 use Rattle.source.specs.Tokens.{seen}
@@ -6,13 +5,13 @@ use Rattle.syntax.specs.Views.{option_of, protection_of}
 use Rattle.parser.specs.Declarations.{field_at, maybe_protection}
 use Rattle.parser.proofs.Readers.{fails_on}
 use Rattle.parser.proofs.Ended.{ended, unended}
+use Rattle.parser.proofs.Done.{field_done}
 use Rattle.parser.proofs.member.field.Goals as goal
 
 pub returns : goal.returns
-unfolding field_at
 returns c =
     let x2 = ended Semicolon (maybe_protection c.args.room) (seen c.in_ok-name.rest.now) c.protection.result (option_of protection_of) (λ r. seen r.now) c.in_ok-protection.protection _ c.protection.ensures c.in_ok-protection.ensures in
-    rw (c.in_ok-value_type.ensures, c.in_ok-name.ensures, x2.read, x2.sign) refl
+    field_done (seen c.args.tokens.now) c.in_ok-value_type.ensures c.args.room c.in_ok-name.ensures x2.read x2.sign
 
 pub returns-in_err-value_type : goal.returns-in_err-value_type
 unfolding field_at

@@ -1,4 +1,3 @@
-use Rattle.std.proofs.Common.{refl}
 use Rattle.std.proofs.lemmas.Result.{err_from_is_err_and}
 use Rattle.source.specs.declared.token.Sign.TheVariants.{Semicolon}
 use Rattle.source.specs.Tokens.{seen}
@@ -7,13 +6,13 @@ use Rattle.parser.specs.Reading.{name_at}
 use Rattle.parser.specs.Declarations.{final_at}
 use Rattle.parser.proofs.Readers.{fails_on}
 use Rattle.parser.proofs.Ended.{ended, unended}
+use Rattle.parser.proofs.Done.{final_done}
 use Rattle.parser.proofs.member.final_member.Goals as goal
 
 pub returns : goal.returns
-unfolding final_at
 returns c =
     let x3 = ended Semicolon name_at (seen c.in_ok-target.rest.now) c.take_name-2.result ident (λ r. seen r.now) c.in_ok-name.name _ c.take_name-2.ensures c.in_ok-name.ensures in
-    rw (c.in_ok-rest.ensures, c.in_ok-rest-2.ensures, c.in_ok-target.ensures, x3.read, x3.sign) refl
+    final_done (seen c.args.tokens.now) c.in_ok-rest.ensures c.in_ok-rest-2.ensures c.in_ok-target.ensures x3.read x3.sign
 
 pub returns-in_err-rest : goal.returns-in_err-rest
 unfolding final_at

@@ -1,16 +1,23 @@
-use Rattle.std.proofs.Common.{refl, sym, ◌∙◌}
+use Rattle.parser.specs.declared.stop.Stop.{Stop}
+use Rattle.std.proofs.Common.{refl, ap, sym, ◌∙◌, List, Result, Ok}
 use Rattle.parser.proofs.Behind.{while_done, if_done}
 use Rattle.std.proofs.lemmas.Result.{err_from_is_err_and}
 use Rattle.syntax.specs.Rows.{stmt_of-made_While, stmt_of-made_If}
-use Rattle.source.specs.Tokens.{seen}
+use Rattle.source.specs.Tokens.{seen, Tok}
 use Rattle.syntax.specs.Views.{stmt_of}
 use Rattle.parser.specs.Bodies.{stmt_at, braced_with, while_with, if_with}
-use Rattle.parser.specs.Reading.{choose}
+use Rattle.parser.specs.Reading.{choose, ◌>>=◌}
 use Rattle.parser.proofs.Readers.{fails_on}
 use Rattle.parser.proofs.Loops.{fewer}
 use Rattle.parser.proofs.Shorter.{stmt_shortens}
 use Rattle.parser.proofs.Turns.{stmts_go_on, stmts_end, stmts_stop}
 use Rattle.parser.proofs.Rooms.{stmts_in_some}
+use Rattle.source.specs.declared.token.Keyword.TheVariants.{Let, Var, If, While, Print, Return}
+use Rattle.source.specs.declared.token.Token.TheVariants as token
+use Rattle.std.specs.Rc.{rc_str_bytes}
+use Rattle.syntax.specs.Trees.{Ident, Local, Expr, let_local, var_local, print, return_value}
+use Rattle.parser.specs.Bodies.{stmt_with, assign_at}
+use Rattle.parser.proofs.First.{word_first, at_first, named_is, behind_first}
 use Rattle.parser.proofs.stmt.+stmt.Goals as goal
 
 pub stmts-returns-in_err-next : goal.stmts-returns-in_err-next
@@ -101,3 +108,75 @@ unfolding choose
 otherwise-returns-in_err-body t c =
     let p = err_from_is_err_and c.from_residual-in_err-body.result c.from_residual-in_err-body.ensures.1 in
     rw (p.1, p.2, sym c.is_word_next.ensures ∙ c.if-not-is_word_next.false, c.in_ok-rest.ensures) (fails_on c.in_err-body.field-0.0 _ _ c.in_err-body.ensures)
+
+pub stmt-returns-in_ok-local-in-Word-default-Let : goal.stmt-returns-in_ok-local-in-Word-default-Let
+unfolding stmt_with
+stmt-returns-in_ok-local-in-Word-default-Let t c =
+    word_first c.args.tokens.now c.first-item.result c.in-len1-up.len_at_least c.first-item.is c.in-Word-default-Let.span c.in-Word-default-Let.field-1 Let c.in-Word-default-Let.is (rw c.in-Word-default-Let.is at c.in-Word-default-Let.field-1-is) (stmt_at c.args.room)
+    ∙ ap (λ (r : Result (Local × List Tok) Stop). r >>= λ l. Ok (let_local l.0, l.1)) c.in_ok-local-in-Word-default-Let.ensures
+
+pub stmt-returns-in_err-local-in-Word-default-Let : goal.stmt-returns-in_err-local-in-Word-default-Let
+unfolding stmt_with
+stmt-returns-in_err-local-in-Word-default-Let t c =
+    let p = err_from_is_err_and c.from_residual-in_err-local-in-Word-default-Let.result c.from_residual-in_err-local-in-Word-default-Let.ensures.1 in
+    rw (p.1, p.2, word_first c.args.tokens.now c.first-item.result c.in-len1-up.len_at_least c.first-item.is c.in-Word-default-Let.span c.in-Word-default-Let.field-1 Let c.in-Word-default-Let.is (rw c.in-Word-default-Let.is at c.in-Word-default-Let.field-1-is) (stmt_at c.args.room)) (fails_on c.in_err-local-in-Word-default-Let.field-0.0 _ _ c.in_err-local-in-Word-default-Let.ensures)
+
+pub stmt-returns-in_ok-local-in-Word-default-Var : goal.stmt-returns-in_ok-local-in-Word-default-Var
+unfolding stmt_with
+stmt-returns-in_ok-local-in-Word-default-Var t c =
+    word_first c.args.tokens.now c.first-item.result c.in-len1-up.len_at_least c.first-item.is c.in-Word-default-Var.span c.in-Word-default-Var.field-1 Var c.in-Word-default-Var.is (rw c.in-Word-default-Var.is at c.in-Word-default-Var.field-1-is) (stmt_at c.args.room)
+    ∙ ap (λ (r : Result (Local × List Tok) Stop). r >>= λ l. Ok (var_local l.0, l.1)) c.in_ok-local-in-Word-default-Var.ensures
+
+pub stmt-returns-in_err-local-in-Word-default-Var : goal.stmt-returns-in_err-local-in-Word-default-Var
+unfolding stmt_with
+stmt-returns-in_err-local-in-Word-default-Var t c =
+    let p = err_from_is_err_and c.from_residual-in_err-local-in-Word-default-Var.result c.from_residual-in_err-local-in-Word-default-Var.ensures.1 in
+    rw (p.1, p.2, word_first c.args.tokens.now c.first-item.result c.in-len1-up.len_at_least c.first-item.is c.in-Word-default-Var.span c.in-Word-default-Var.field-1 Var c.in-Word-default-Var.is (rw c.in-Word-default-Var.is at c.in-Word-default-Var.field-1-is) (stmt_at c.args.room)) (fails_on c.in_err-local-in-Word-default-Var.field-0.0 _ _ c.in_err-local-in-Word-default-Var.ensures)
+
+pub stmt-returns-in_ok-value-in-Word-default-Print : goal.stmt-returns-in_ok-value-in-Word-default-Print
+unfolding stmt_with
+stmt-returns-in_ok-value-in-Word-default-Print t c =
+    word_first c.args.tokens.now c.first-item.result c.in-len1-up.len_at_least c.first-item.is c.in-Word-default-Print.span c.in-Word-default-Print.field-1 Print c.in-Word-default-Print.is (rw c.in-Word-default-Print.is at c.in-Word-default-Print.field-1-is) (stmt_at c.args.room)
+    ∙ ap (λ (r : Result (Expr × List Tok) Stop). r >>= λ l. Ok (print c.in-Word-default-Print.span l.0, l.1)) c.in_ok-value-in-Word-default-Print.ensures
+
+pub stmt-returns-in_err-value-in-Word-default-Print : goal.stmt-returns-in_err-value-in-Word-default-Print
+unfolding stmt_with
+stmt-returns-in_err-value-in-Word-default-Print t c =
+    let p = err_from_is_err_and c.from_residual-in_err-value-in-Word-default-Print.result c.from_residual-in_err-value-in-Word-default-Print.ensures.1 in
+    rw (p.1, p.2, word_first c.args.tokens.now c.first-item.result c.in-len1-up.len_at_least c.first-item.is c.in-Word-default-Print.span c.in-Word-default-Print.field-1 Print c.in-Word-default-Print.is (rw c.in-Word-default-Print.is at c.in-Word-default-Print.field-1-is) (stmt_at c.args.room)) (fails_on c.in_err-value-in-Word-default-Print.field-0.0 _ _ c.in_err-value-in-Word-default-Print.ensures)
+
+pub stmt-returns-in_ok-value-in-Word-default-Return : goal.stmt-returns-in_ok-value-in-Word-default-Return
+unfolding stmt_with
+stmt-returns-in_ok-value-in-Word-default-Return t c =
+    word_first c.args.tokens.now c.first-item.result c.in-len1-up.len_at_least c.first-item.is c.in-Word-default-Return.span c.in-Word-default-Return.field-1 Return c.in-Word-default-Return.is (rw c.in-Word-default-Return.is at c.in-Word-default-Return.field-1-is) (stmt_at c.args.room)
+    ∙ ap (λ (r : Result (Expr × List Tok) Stop). r >>= λ l. Ok (return_value c.in-Word-default-Return.span l.0, l.1)) c.in_ok-value-in-Word-default-Return.ensures
+
+pub stmt-returns-in_err-value-in-Word-default-Return : goal.stmt-returns-in_err-value-in-Word-default-Return
+unfolding stmt_with
+stmt-returns-in_err-value-in-Word-default-Return t c =
+    let p = err_from_is_err_and c.from_residual-in_err-value-in-Word-default-Return.result c.from_residual-in_err-value-in-Word-default-Return.ensures.1 in
+    rw (p.1, p.2, word_first c.args.tokens.now c.first-item.result c.in-len1-up.len_at_least c.first-item.is c.in-Word-default-Return.span c.in-Word-default-Return.field-1 Return c.in-Word-default-Return.is (rw c.in-Word-default-Return.is at c.in-Word-default-Return.field-1-is) (stmt_at c.args.room)) (fails_on c.in_err-value-in-Word-default-Return.field-0.0 _ _ c.in_err-value-in-Word-default-Return.ensures)
+
+pub stmt-returns-in-Word-default-If : goal.stmt-returns-in-Word-default-If
+unfolding stmt_with
+stmt-returns-in-Word-default-If t c = rw (word_first c.args.tokens.now c.first-item.result c.in-len1-up.len_at_least c.first-item.is c.in-Word-default-If.span c.in-Word-default-If.field-1 If c.in-Word-default-If.is (rw c.in-Word-default-If.is at c.in-Word-default-If.field-1-is) (stmt_at c.args.room)) c.if_rest.ensures
+
+pub stmt-returns-in-Word-default-While : goal.stmt-returns-in-Word-default-While
+unfolding stmt_with
+stmt-returns-in-Word-default-While t c = rw (word_first c.args.tokens.now c.first-item.result c.in-len1-up.len_at_least c.first-item.is c.in-Word-default-While.span c.in-Word-default-While.field-1 While c.in-Word-default-While.is (rw c.in-Word-default-While.is at c.in-Word-default-While.field-1-is) (stmt_at c.args.room)) c.while_rest.ensures
+
+pub stmt-returns-in_ok-named-in-Name : goal.stmt-returns-in_ok-named-in-Name
+unfolding stmt_with
+stmt-returns-in_ok-named-in-Name t c =
+    let n = c.in_ok-named-in-Name in
+    let k = c.in-Name in
+    rw (at_first c.args.tokens.now c.first-item.result (token.Name k.start k.text) c.in-len1-up.len_at_least c.first-item.is k.is (stmt_at c.args.room)
+    ∙ ap (λ (x : Ident). assign_at c.args.room x (seen (behind_first c.args.tokens.now))) (sym (named_is n.field-0 (rc_str_bytes k.text) k.start n.ensures.0 n.ensures.1))) c.assignment.ensures
+
+pub otherwise-returns : goal.otherwise-returns
+unfolding choose
+otherwise-returns t c = rw (sym c.is_word_next.ensures ∙ c.if-not-is_word_next.false, c.in_ok-rest.ensures, c.in_ok-body.ensures) refl
+
+pub otherwise-returns-then-not-is_word_next : goal.otherwise-returns-then-not-is_word_next
+unfolding choose
+otherwise-returns-then-not-is_word_next t c = rw (sym c.is_word_next.ensures ∙ c.if-not-is_word_next.true) refl

@@ -1,4 +1,4 @@
-use Rattle.std.proofs.Common.{Ok, ap, sym}
+use Rattle.std.proofs.Common.{Ok, ap, sym, ◌∙◌}
 use Rattle.std.proofs.lemmas.Result.{err_from_is_err_and}
 use Rattle.source.specs.declared.token.Sign.TheVariants.{Colon, Equals}
 use Rattle.source.specs.Tokens.{seen}
@@ -8,14 +8,14 @@ use Rattle.parser.specs.Reading.{name_at, type_at}
 use Rattle.parser.specs.Bodies.{local_at}
 use Rattle.parser.proofs.Readers.{fails_on}
 use Rattle.parser.proofs.Ended.{ended, unended}
+use Rattle.parser.proofs.Done.{local_done}
 use Rattle.parser.proofs.stmt.local.Goals as goal
 
 pub returns : goal.returns
-unfolding local_at
 returns c =
     let x0 = ended Colon name_at (seen c.args.tokens.now) c.take_name.result ident (λ r. seen r.now) c.in_ok-name.name _ c.take_name.ensures c.in_ok-name.ensures in
     let x1 = ended Equals type_at (seen c.in_ok-name.rest.now) c.value_type.result type_of (λ r. seen r.now) c.in_ok-value_type.value_type _ c.value_type.ensures c.in_ok-value_type.ensures in
-    rw (x0.read, x0.sign, x1.read, x1.sign, c.in_ok-value.ensures) (ap (λ (l : the_local.Local). Ok (local_of l, seen c.in_ok-value.rest.now)) (sym c.in_ok-new.ensures.ok))
+    local_done (seen c.args.tokens.now) x0.read c.args.room c.args.start x0.sign x1.read x1.sign c.in_ok-value.ensures ∙ ap (λ (l : the_local.Local). Ok (local_of l, seen c.in_ok-value.rest.now)) (sym c.in_ok-new.ensures.ok)
 
 pub returns-in_err-name : goal.returns-in_err-name
 unfolding local_at

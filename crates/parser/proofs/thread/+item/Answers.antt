@@ -1,4 +1,5 @@
-use Rattle.std.proofs.Common.{◌-◌, sym, ◌∙◌}
+use Rattle.std.proofs.Common.{◌-◌, sym, ◌∙◌, refl}
+use Rattle.parser.specs.Reading.{choose}
 use Rattle.source.specs.declared.token.Sign.TheVariants.{CloseBrace}
 use Rattle.parser.proofs.Readers.{fails_on}
 use Rattle.parser.proofs.Ended.{ended, unended}
@@ -7,7 +8,7 @@ use Rattle.syntax.specs.Rows.{item_of_Repeat}
 use Rattle.std.proofs.lemmas.Result.{err_from_is_err_and}
 use Rattle.source.specs.Tokens.{seen}
 use Rattle.syntax.specs.Views.{item_of, items_of}
-use Rattle.parser.specs.Declarations.{item_at, items_with, repeat_with}
+use Rattle.parser.specs.Declarations.{item_at, item_with, items_with, repeat_with}
 use Rattle.parser.proofs.Loops.{fewer}
 use Rattle.parser.proofs.Shorter.{item_shortens}
 use Rattle.parser.proofs.Turns.{items_go_on, items_end, items_stop}
@@ -57,3 +58,7 @@ unfolding repeat_with
 repeat-returns-in_err-items t c =
     let p = err_from_is_err_and c.from_residual-in_err-items.result c.from_residual-in_err-items.ensures.1 in
     rw (p.1, p.2, c.in_ok-rest.ensures, c.in_ok-count.ensures, c.in_ok-rest-2.ensures.gives, items_in_some c.args.room c.in_ok-rest-2.ensures.room) (unended CloseBrace (items_with (item_at (c.args.room - 1))) (seen c.in_ok-rest-2.rest.now) c.items.result (λ xs. items_of xs.items) (λ r. seen r.now) c.in_err-items.field-0.0 _ c.items.ensures c.in_err-items.ensures)
+
+pub item-returns : goal.item-returns
+unfolding item_with choose
+item-returns t c = rw (sym c.is_word_next.ensures ∙ c.if-is_word_next.false, c.in_ok-call.ensures) refl

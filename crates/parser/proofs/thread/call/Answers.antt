@@ -1,4 +1,4 @@
-use Rattle.std.proofs.Common.{map, refl, ◌-◌}
+use Rattle.std.proofs.Common.{map, ◌-◌}
 use Rattle.std.proofs.lemmas.Result.{err_from_is_err_and}
 use Rattle.source.specs.declared.token.Sign.TheVariants.{CloseParen}
 use Rattle.source.specs.Tokens.{seen}
@@ -8,13 +8,13 @@ use Rattle.parser.specs.Declarations.{call_at}
 use Rattle.parser.proofs.Readers.{fails_on}
 use Rattle.parser.proofs.Rooms.{consts_in_some}
 use Rattle.parser.proofs.Ended.{ended, unended}
+use Rattle.parser.proofs.Done.{call_done}
 use Rattle.parser.proofs.thread.call.Goals as goal
 
 pub returns : goal.returns
-unfolding call_at
 returns c =
     let x2 = ended CloseParen (listed_at (const_at (c.args.room - 1))) (seen c.in_ok-rest.rest.now) c.constants.result (λ xs. map const_of xs.items) (λ r. seen r.now) c.in_ok-arguments.arguments _ c.constants.ensures c.in_ok-arguments.ensures in
-    rw (c.in_ok-section.ensures, c.in_ok-rest.ensures.gives, consts_in_some c.args.room c.in_ok-rest.ensures.room, x2.read, x2.sign, c.in_ok-rest-2.ensures) refl
+    call_done (seen c.args.tokens.now) c.in_ok-section.ensures c.args.room c.in_ok-rest.ensures.gives c.in_ok-rest.ensures.room x2.read x2.sign c.in_ok-rest-2.ensures
 
 pub returns-in_err-section : goal.returns-in_err-section
 unfolding call_at

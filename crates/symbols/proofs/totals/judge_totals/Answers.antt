@@ -15,6 +15,7 @@ use Rattle.symbols.proofs.Ahead.{ahead_none, ahead_more}
 use Rattle.symbols.proofs.Declared.{take-here, taken_length, take_map}
 use Rattle.symbols.proofs.Sums.{totals_push, faults_are}
 use Rattle.symbols.specs.Steps.{step, noted_one}
+use Rattle.symbols.proofs.Counting.{totals_capped, added_capped}
 use Rattle.symbols.proofs.totals.judge_totals.Goals as goal
 
 pub loop-place-preserved : goal.loop-place-preserved
@@ -69,3 +70,15 @@ returns c =
       totals = subst (λ (xs : List rust.Decl). AreAhead (totals_of all) (decls_of xs) c.loop-place.ahead.items c.loop-place.totals) taken c.loop-place.invariant.counts;
       faults = ap (λ (xs : List rust.Decl). least_of c.loop-place.least (total_faults all (decls_of (take i items)) (decls_of xs))) (sym none) ∙ c.loop-place.invariant.faults;
     }
+
+pub note_decl-requires-clause-ahead : goal.note_decl-requires-clause-ahead
+note_decl-requires-clause-ahead c = totals_capped c.loop-place.totals (decls_of c.args.decls.now) (decls_of (take c.loop-place.place c.items-items.result.now)) c.loop-place.invariant.so_far
+
+pub note_decl-requires-clause-own : goal.note_decl-requires-clause-own
+note_decl-requires-clause-own c = added_capped c.of-own.result (decls_of c.args.decls.now) (decl_of c.index-items-place.result) c.of-own.ensures
+
+pub with-totals-requires-clause-first : goal.with-totals-requires-clause-first
+with-totals-requires-clause-first c = totals_capped c.loop-place.totals (decls_of c.args.decls.now) (decls_of (take c.loop-place.place c.items-items.result.now)) c.loop-place.invariant.so_far
+
+pub with-totals-requires-clause-second : goal.with-totals-requires-clause-second
+with-totals-requires-clause-second c = added_capped c.of-own.result (decls_of c.args.decls.now) (decl_of c.index-items-place.result) c.of-own.ensures

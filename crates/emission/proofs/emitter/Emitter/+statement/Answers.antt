@@ -1,7 +1,12 @@
-use Rattle.std.proofs.Common.{◌∙◌, refl, ap, arith, length, length-append}
+use Rattle.core_lang.specs.declared.tree.Action.{Bind, Print, SetElement, SetField, SetGlobal, SetLocal}
+use Rattle.std.proofs.Common.{◌∙◌, List, refl, ap, subst, arith, length, length-append}
 use Rattle.std.proofs.lemmas.Result.{on_ok_weaker}
+use Rattle.std.proofs.lemmas.List.{take_all}
+use Rattle.core_lang.specs.declared.tree.Stmt.{Stmt}
+use Rattle.emission.specs.CodeLists.{points_of_all}
+use Rattle.emission.specs.Emission.{Emits, statements_code}
 use Rattle.emission.proofs.Steps.{block_turn}
-use Rattle.emission.proofs.Statements.{open_within, open_grows, choice_emitted, loop_emitted, either_emitted, skip_within, if_is, if_else_is, while_is}
+use Rattle.emission.proofs.Statements.{emits_as, open_within, open_grows, choice_emitted, loop_emitted, either_emitted, skip_within, if_is, if_else_is, while_is}
 use Rattle.emission.proofs.emitter.Emitter.+statement.Goals as goal
 
 pub block-loop-statement-preserved : goal.block-loop-statement-preserved
@@ -65,3 +70,32 @@ statement-returns-in-While t c =
     on_ok_weaker c.repeat.result
     (λ e. while_is c.args.action.now c.in-While.condition c.in-While.body c.deref-in-While.result.now c.args.self.now c.repeat.new.self c.in-While.is c.deref-in-While.ensures.value e)
     c.repeat.ensures
+
+pub block-returns : goal.block-returns
+block-returns t c =
+    subst (λ (ss : List Stmt). Emits c.args.self.now c.loop-statement.self (points_of_all ss) (statements_code ss))
+    (take_all c.loop-statement.statement-index c.args.statements.now c.loop-statement-test.false) c.loop-statement.invariant
+
+pub statement-returns-in-SetField : goal.statement-returns-in-SetField
+statement-returns-in-SetField t c =
+    on_ok_weaker c.set_field.result (λ e. emits_as c.args.action.now (SetField c.in-SetField.base c.in-SetField.structure c.in-SetField.field c.in-SetField.value) c.args.self.now c.set_field.new.self c.in-SetField.is e) c.set_field.ensures
+
+pub statement-returns-in-SetGlobal : goal.statement-returns-in-SetGlobal
+statement-returns-in-SetGlobal t c =
+    on_ok_weaker c.evaluate-in-SetGlobal.result (λ e. emits_as c.args.action.now (SetGlobal c.in-SetGlobal.cell c.in-SetGlobal.value) c.args.self.now c.evaluate-in-SetGlobal.new.self c.in-SetGlobal.is e) c.evaluate-in-SetGlobal.ensures
+
+pub statement-returns-in-SetLocal : goal.statement-returns-in-SetLocal
+statement-returns-in-SetLocal t c =
+    on_ok_weaker c.evaluate-in-SetLocal.result (λ e. emits_as c.args.action.now (SetLocal c.in-SetLocal.local c.in-SetLocal.value) c.args.self.now c.evaluate-in-SetLocal.new.self c.in-SetLocal.is e) c.evaluate-in-SetLocal.ensures
+
+pub statement-returns-in-Bind : goal.statement-returns-in-Bind
+statement-returns-in-Bind t c =
+    on_ok_weaker c.evaluate.result (λ e. emits_as c.args.action.now (Bind c.in-Bind.local c.in-Bind.value) c.args.self.now c.evaluate.new.self c.in-Bind.is e) c.evaluate.ensures
+
+pub statement-returns-in-Print : goal.statement-returns-in-Print
+statement-returns-in-Print t c =
+    on_ok_weaker c.evaluate-in-Print.result (λ e. emits_as c.args.action.now (Print c.in-Print.value) c.args.self.now c.evaluate-in-Print.new.self c.in-Print.is e) c.evaluate-in-Print.ensures
+
+pub statement-returns-in-SetElement : goal.statement-returns-in-SetElement
+statement-returns-in-SetElement t c =
+    on_ok_weaker c.set_element.result (λ e. emits_as c.args.action.now (SetElement c.in-SetElement.array c.in-SetElement.index c.in-SetElement.value) c.args.self.now c.set_element.new.self c.in-SetElement.is e) c.set_element.ensures

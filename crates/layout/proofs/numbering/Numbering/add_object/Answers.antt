@@ -1,12 +1,13 @@
-use Rattle.std.proofs.Common.{◌≡◌, ◌+◌, ◌++◌, ◌∷◌, [], length, take, Some, is_ok, sym, ap, ◌∙◌, subst, arith, length-append}
+use Rattle.std.proofs.Common.{◌≡◌, ℕ, List, ◌+◌, ◌++◌, ◌∷◌, [], length, take, Some, is_ok, sym, ap, ◌∙◌, subst, arith, length-append}
 use Rattle.std.specs.Prelude.{slice_get}
-use Rattle.std.proofs.lemmas.List.{length-map, length-take-le}
+use Rattle.std.proofs.lemmas.List.{length-map, length-take-le, map_push}
 use Rattle.core_lang.specs.declared.typed.LockField.{LockField}
 use Rattle.locks.specs.declared.lock.Lock.{Lock}
 use Rattle.layout.specs.declared.places.ClassPlace.TheVariants as place
 use Rattle.layout.specs.declared.places.ObjectPlace.{ObjectPlace}
-use Rattle.layout.specs.Numbers.{locks_at}
-use Rattle.layout.proofs.Lists.{read_at, last_at}
+use Rattle.layout.specs.Numbers.{first_finals, locks_at}
+use Rattle.layout.proofs.Lists.{read_at, last_at, taken_whole}
+use Rattle.layout.proofs.Listed.{one_more_lock}
 use Rattle.layout.proofs.Numbered.{object_added, field_added}
 use Rattle.layout.proofs.numbering.Numbering.add_object.Goals as goal
 
@@ -46,4 +47,25 @@ invariant_of-self-in-loop-field c =
     record {
       numbered = field_added (is_ok c.push-in-loop-field.result) x.classes.items x.objects.items x.locks.items c.push-in-loop-field.new.self.items c.field-item.result.class l
           c.len-object.result own x.numbered class_at object_at long c.push-in-loop-field.ensures.items;
+    }
+
+pub loop-field-preserved : goal.loop-field-preserved
+loop-field-preserved c =
+    let i = c.loop-field.invariant in
+    record {
+      locks = one_more_lock c.len-object.result c.loop-field.field-index c.args.fields.now c.field-item.result c.args.self.now.locks.items c.loop-field.self.locks.items c.push-in-loop-field.new.self.items
+          c.loop-field-test.true c.field-item.is i.locks c.in_ok-push-2.ensures.items;
+      classes = i.classes;
+      objects = i.objects;
+    }
+
+pub returns : goal.returns
+returns c =
+    let old = c.args.self.now in
+    let i = c.loop-field.invariant in
+    record {
+      locks = i.locks ∙ ap (λ (fs : List LockField). old.locks.items ++ locks_at c.len-object.result fs) (taken_whole c.args.fields.now c.loop-field.field-index c.loop-field-test.false)
+          ∙ ap (λ (n : ℕ). old.locks.items ++ locks_at n c.args.fields.now) (c.len-object.ensures ∙ old.objects.ok.0);
+      classes = i.classes;
+      finals = ap first_finals i.objects ∙ map_push (λ (x : ObjectPlace). x.first_final) old.objects.items (record { first_lock = c.len-first_lock.result; first_final = c.args.first_final });
     }

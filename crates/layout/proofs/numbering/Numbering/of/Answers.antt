@@ -1,11 +1,12 @@
-use Rattle.std.proofs.Common.{◌≡◌, ◌+◌, ◌++◌, ◌∷◌, [], length, take, Some, sym, ap, ◌∙◌, subst, arith, add-one, length-append}
+use Rattle.std.proofs.Common.{◌≡◌, ℕ, ◌+◌, ◌++◌, ◌∷◌, [], length, take, Some, sym, ap, ◌∙◌, subst, arith, add-one, length-append}
 use Rattle.std.specs.Prelude.{slice_get}
-use Rattle.std.proofs.lemmas.List.{length-map}
+use Rattle.std.proofs.lemmas.List.{append-nil, length-map}
 use Rattle.core_lang.specs.declared.shape.Object.{Object}
 use Rattle.layout.specs.declared.places.ObjectPlace.{ObjectPlace}
 use Rattle.layout.specs.Layouts.{global_locks, object_locks, lock_fields, object_struct, if_global_lock}
 use Rattle.layout.specs.Numbers.{KnowFields, AreFields, first_finals, program_finals, locks_at}
-use Rattle.layout.proofs.Lists.{read_at, map_at, take_one_more}
+use Rattle.layout.proofs.Lists.{read_at, map_at, take_one_more, taken_whole}
+use Rattle.layout.proofs.Found.{below_end, at_end, all_taken, few_objects}
 use Rattle.layout.proofs.Numbered.{distinct}
 use Rattle.layout.proofs.Listed.{knows_more, fields_known, one_class, one_object}
 use Rattle.layout.proofs.numbering.Numbering.of.Goals as goal
@@ -63,3 +64,44 @@ pub returns-clause-distinct : goal.returns-clause-distinct
 returns-clause-distinct c =
     let x = c.loop-object.numbering in
     distinct x.classes.items x.objects.items x.locks.items x.numbered
+
+pub returns-clause-finals : goal.returns-clause-finals
+returns-clause-finals c =
+    let objects = c.args.program.now.shape.objects in
+    let n = c.loop-object.object in
+    c.loop-object.invariant.finals
+    ∙ taken_whole (program_finals objects.items) n
+    (all_taken (length (program_finals objects.items)) (length objects.items) _ c.len-object-end.result n (length-map objects.items (λ (x : Object). x.finals)) objects.ok.0 c.len-object-end.ensures
+    c.loop-object-test.false)
+
+pub returns-clause-locks : goal.returns-clause-locks
+returns-clause-locks c =
+    let program = c.args.program.now in
+    let objects = program.shape.objects in
+    c.loop-object.invariant.locks
+    ∙ ap (λ (n : ℕ). global_locks program (length program.classes.items) ++ object_locks program n)
+    (at_end c.loop-object.object c.len-object-end.result (length objects.items) c.loop-object.auto.object-end (c.len-object-end.ensures ∙ objects.ok.0) c.loop-object-test.false)
+
+pub lock_fields-requires-clause-object : goal.lock_fields-requires-clause-object
+lock_fields-requires-clause-object c =
+    let objects = c.args.program.now.shape.objects in
+    below_end c.loop-object.object c.len-object-end.result _ (length objects.items) c.loop-object-test.true c.len-object-end.ensures objects.ok.0
+
+pub loop-object-init : goal.loop-object-init
+loop-object-init c =
+    let program = c.args.program.now in
+    let i = c.loop-class.invariant in
+    let through = at_end c.loop-class.class-index (length c.deref-class-items.result.now) (length program.classes.items) c.loop-class.auto.class-index-end
+    (ap length c.deref-class-items.ensures.value) c.loop-class-test.false in
+    record {
+      fields = subst (λ (n : ℕ). KnowFields program n c.loop-class.numbering.classes.items) through i.fields;
+      locks = i.locks ∙ ap (global_locks program) through ∙ sym (append-nil (global_locks program (length program.classes.items)));
+      finals = ap first_finals i.objects;
+      objects = ap length i.objects;
+    }
+
+pub add_object-requires-clause-few : goal.add_object-requires-clause-few
+add_object-requires-clause-few c =
+    let objects = c.args.program.now.shape.objects in
+    few_objects (length c.loop-object.numbering.objects.items) c.loop-object.object (length objects.items) c.loop-object.invariant.objects
+    (below_end c.loop-object.object c.len-object-end.result _ (length objects.items) c.loop-object-test.true c.len-object-end.ensures objects.ok.0) c.requires.within.objects

@@ -1,6 +1,8 @@
-use Rattle.std.proofs.Common.{refl, ap, ◌∙◌}
+use Rattle.std.proofs.Common.{length, refl, ap, ◌∙◌}
 use Rattle.lockorder.specs.Faults.{cycle_text, classes_of}
-use Rattle.lockorder.proofs.Blame.{first_makes, is_fault, starts_at}
+use Rattle.lockorder.proofs.Blame.{first_makes, is_fault, starts_at, used_within}
+use Rattle.lockorder.proofs.Added.{below_same}
+use Rattle.std.proofs.lemmas.Option.{slice_get_within}
 use Rattle.lockorder.proofs.ranks.Cycle.fault.Goals as goal
 
 pub returns : goal.returns
@@ -12,3 +14,19 @@ returns c =
     is_fault program edges first _ c.requires c.index-first.ensures
     (starts_at program first.section first.used first.bound first.class m.0 c.index.result.now c.in_ok-points.points.items c.index-2.result.now c.start-start.result m.1
     c.index.ensures c.in_ok-points.ensures c.index-2.ensures c.start-start.ensures) refl (c.in_ok-detail.ensures ∙ ap (λ l. cycle_text program (classes_of l)) c.deref.ensures.value)
+
+pub index-requires-2 : goal.index-requires-2
+index-requires-2 c =
+    let program = c.args.program.now in
+    let first = c.index-first.result.now in
+    let m = first_makes program c.args.self.now.edges.items first c.requires c.index-first.ensures in
+    below_same first.used (length c.in_ok-points.points.items) _
+    (used_within program first.section first.used first.bound first.class m.0 c.index.result.now c.in_ok-points.points.items m.1 c.index.ensures c.in_ok-points.ensures)
+    c.in_ok-points.points.ok.0
+
+pub index-requires : goal.index-requires
+index-requires c =
+    let program = c.args.program.now in
+    let first = c.index-first.result.now in
+    let m = first_makes program c.args.self.now.edges.items first c.requires c.index-first.ensures in
+    below_same first.section (length program.sections.items) _ (slice_get_within program.sections.items first.section m.1.section m.1.here) program.sections.ok.0

@@ -1,4 +1,4 @@
-use Rattle.std.proofs.Common.{◌<◌, ◌&&◌, length, inl, inr, sym, ap, ◌∙◌, arith}
+use Rattle.std.proofs.Common.{ℕ, ◌<◌, ◌&&◌, length, inl, inr, sym, ap, subst, ◌∙◌, arith}
 use Rattle.std.specs.Prelude.{◌==◌}
 use Rattle.std.proofs.lemmas.Bool.{both_ways, and_parts, and_from}
 use Rattle.std.proofs.lemmas.Option.{slice_get_within}
@@ -6,6 +6,7 @@ use Rattle.locks.specs.Sets.{has}
 use Rattle.lockorder.specs.declared.table.Table.{Table}
 use Rattle.lockorder.specs.Tables.{has_class, has_edge, InSet, InTable}
 use Rattle.lockorder.specs.Sections.{IsIn, IsOfClass}
+use Rattle.lockorder.proofs.Added.{below_end}
 use Rattle.lockorder.proofs.InSection.{joined, not_joined, class_read, class_decides}
 use Rattle.lockorder.proofs.section_edges.SectionEdges.add_roots.Goals as goal
 use Rattle.lockorder.proofs.section_edges.SectionEdges.add_roots.Goals.{then-contains, else-contains}
@@ -50,3 +51,15 @@ returns-clause-edges c b d =
         )
       ]),
     )
+
+pub add-requires-clause-from : goal.add-requires-clause-from
+add-requires-clause-from c = λ b h. subst (λ (n : ℕ). b < n) (sym c.loop-path.invariant.classes) (c.requires.used b h)
+
+pub add-requires-clause-to : goal.add-requires-clause-to
+add-requires-clause-to c =
+    let classes = c.args.self.now.points.now.classes in
+    let n = c.loop-path.path in
+    let here = c.index.result.now in
+    let lt = below_end n c.len-path-end.result _ (length classes.items) c.loop-path-test.true c.len-path-end.ensures classes.ok.0 in
+    subst (λ (k : ℕ). here < k) (sym c.loop-path.invariant.classes)
+    (subst (λ (b : ℕ). b < length c.args.table.now.before.items) (sym c.index.ensures) (c.requires.classes n here lt))

@@ -1,4 +1,4 @@
-use Rattle.std.proofs.Common.{ℕ, ◌<◌, length, inl, inr, sym, ap, ◌∙◌, subst, arith}
+use Rattle.std.proofs.Common.{ℕ, ◌<◌, get_or, length, inl, inr, sym, ap, ◌∙◌, subst, arith}
 use Rattle.std.specs.List.{All}
 use Rattle.std.proofs.lemmas.Option.{get_or_from_slice_get, slice_get_within}
 use Rattle.locks.specs.declared.path_set.PathSet.{PathSet}
@@ -9,6 +9,7 @@ use Rattle.std.specs.Prelude.{◌==◌}
 use Rattle.lockorder.specs.declared.table.Table.{Table}
 use Rattle.lockorder.specs.Tables.{has_edge, InSet, InTable}
 use Rattle.lockorder.specs.Sections.{UsesSoFar, BindsAt, HasClass, set_at}
+use Rattle.lockorder.proofs.Added.{below_few}
 use Rattle.lockorder.proofs.InSection.{joined_by, not_joined, used_in_union, union_has, set_read, same_set, set_within, same_bits}
 use Rattle.lockorder.proofs.section_edges.SectionEdges.add_to.Goals as goal
 use Rattle.lockorder.proofs.section_edges.SectionEdges.add_to.Goals.{then-ne, else-ne}
@@ -69,3 +70,8 @@ pub add_roots-requires-clause-used : goal.add_roots-requires-clause-used
 add_roots-requires-clause-used c d h =
     subst (λ n. d < n) (sym c.loop-point.invariant.classes)
     (class_below c.args.self.now.points.now (length c.args.table.now.before.items) c.requires c.used_so_far.result d ((c.classes_of-used.ensures d).0 h))
+
+pub classes_of-used-requires : goal.classes_of-used-requires
+classes_of-used-requires c = λ k d lt.
+    below_few (get_or c.args.self.now.points.now.classes.items k d) (length c.loop-point.table.before.items) (length c.args.table.now.before.items) (c.requires k d lt)
+    c.loop-point.invariant.classes c.loop-point.table.few

@@ -1,8 +1,10 @@
-use Rattle.std.proofs.Common.{◌<◌, length, inl, inr, sym, ◌∙◌, arith}
+use Rattle.std.proofs.Common.{◌<◌, Option, length, inl, inr, sym, subst, ◌∙◌, arith}
 use Rattle.std.proofs.lemmas.Bool.{both_ways}
 use Rattle.lockorder.proofs.InSection.{set_read, set_within, same_set, shared_class, class_shared}
 use Rattle.std.proofs.lemmas.Option.{MatchOption-at_some}
-use Rattle.lockorder.specs.Sections.{IsUseFor}
+use Rattle.lockorder.specs.Sections.{IsUseFor, MakesAt}
+use Rattle.std.specs.Option.{IfSome}
+use Rattle.lockorder.specs.declared.section_edges.Made.{Made}
 use Rattle.lockorder.proofs.Making.{making_skip, making_take, made_at, match_none}
 use Rattle.lockorder.proofs.section_edges.SectionEdges.first_made.Goals as goal
 use Rattle.lockorder.proofs.section_edges.SectionEdges.first_made.Goals.{then-share+in_ok-used+in-Some, then-share+in_ok-used+in_default, else-share}
@@ -35,3 +37,11 @@ unreachable-requires c =
     let m = c.requires.made in
     c.loop-bound.invariant.none c.in-None.is m.0 m.1
     (omega (arith, set_within x.bound.items m.1 m.2.1.0 m.2.1.1, c.loop-bound-test.false, c.len-bound-end.ensures, x.bound.ok.0)) m.2
+
+pub returns : goal.returns
+returns c =
+    let x = c.args.self.now.points.now in
+    subst (λ (o : Option Made). IfSome o (λ m. MakesAt x c.args.from c.args.to m.used m.bound)) c.in-Some-least.is c.loop-bound.invariant.made
+
+pub first_use-requires : goal.first_use-requires
+first_use-requires c = c.requires.pairs

@@ -2,6 +2,7 @@ use Rattle.std.proofs.Common.{◌<◌, List, Bool, length, inl, inr, sym, subst,
 use Rattle.std.proofs.lemmas.Bool.{both_ways}
 use Rattle.locks.specs.declared.path_set.PathSet.{PathSet}
 use Rattle.lockorder.specs.Sections.{IsUseFor, LeadsOn, Share, ComesBefore}
+use Rattle.lockorder.proofs.Added.{below_end}
 use Rattle.lockorder.proofs.InSection.{none_next, set_read, set_within}
 use Rattle.lockorder.proofs.section_edges.SectionEdges.first_use.Goals as goal
 use Rattle.lockorder.proofs.section_edges.SectionEdges.first_use.Goals.{else-leads_on-via-then-leads_on+else-share, else-leads_on-via-else-leads_on}
@@ -27,3 +28,15 @@ pub returns : goal.returns
 returns c u h =
     let x = c.args.self.now.points.now in
     c.loop-used.invariant u (omega (arith, set_within x.used.items u h.0.0 h.0.1, c.loop-used-test.false, c.len-used-end.ensures, x.used.ok.0)) h
+
+pub returns-then-share : goal.returns-then-share
+returns-then-share c =
+    let x = c.args.self.now.points.now in
+    let u = c.loop-used.used in
+    let lt : u < length x.used.items = below_end u c.len-used-end.result _ (length x.used.items) c.loop-used-test.true c.len-used-end.ensures x.used.ok.0 in (
+      subst (λ (s : PathSet). Share s c.args.users) (set_read x.used.items u c.index.result.now lt c.index.ensures) (c.share.ensures.0 c.if-share.true),
+      elim (subst (λ (l : List Bool). LeadsOn c.args.bound l u) c.deref-in-loop-used.ensures.value (c.leads_on.ensures.0 c.if-leads_on.true)) [
+        | inl at ↦ inl at
+        | inr found ↦ inr (subst (λ l. ComesBefore l u c.args.bound) c.deref.ensures.value ((c.in_ok-before.ensures.found u).0 found))
+      ],
+    )

@@ -1,6 +1,7 @@
 use Rattle.std.proofs.Common.{◌<◌, length, inl, inr, refl, sym, arith}
 use Rattle.std.proofs.lemmas.Bool.{both_ways}
 use Rattle.lockorder.specs.Sections.{UsesSoFar, BindsAt, set_at}
+use Rattle.lockorder.proofs.Added.{end_passed, none_makes}
 use Rattle.lockorder.proofs.InSection.{below_cases, shared_class, class_shared, used_in_union, union_has, set_read, same_set}
 use Rattle.lockorder.proofs.section_edges.SectionEdges.makes.Goals as goal
 use Rattle.lockorder.proofs.section_edges.SectionEdges.makes.Goals.{else-share-via-then-share+else-share-2, else-share-via-else-share}
@@ -38,3 +39,9 @@ loop-point-preserved c =
             (same_set x (set_at x.bound.items p) c.index.result.now c.args.to (sym (set_read x.bound.items p c.index.result.now lt c.index.ensures)) at.1)))
       ]
     ]
+
+pub returns : goal.returns
+returns c =
+    let x = c.args.self.now.points.now in
+    none_makes x c.args.from c.args.to c.loop-point.point
+    (end_passed c.loop-point.point c.len-point-end.result _ (length x.bound.items) c.loop-point-test.false c.len-point-end.ensures x.bound.ok.0) c.loop-point.invariant

@@ -47,3 +47,10 @@ loop-place-preserved c =
         ];
       }
     ]
+
+pub first_made-requires-clause-pairs : goal.first_made-requires-clause-pairs
+first_made-requires-clause-pairs c = c.requires.pairs
+
+pub first_made-requires-clause-made : goal.first_made-requires-clause-made
+first_made-requires-clause-made c =
+    c.requires.made (slice_index c.loop-place.self.cycle.now c.loop-place.place) c.follower-next.result (c.makes.ensures.0 c.if-makes.true)

@@ -1,7 +1,9 @@
-use Rattle.std.proofs.Common.{◌∙◌, subst}
+use Rattle.core_lang.specs.Cells.{not_null}
+use Rattle.tree_walk.proofs.Leads.{value_there, place_there, truth_there, with_both, with_there, stops, global_value, print_value, element_at, element_value, element_found, field_base, field_value, field_at, if_fails, if_else_fails, turns_fail, sequence_goes, sequence_ends, sequence_stops}
+use Rattle.std.proofs.Common.{◌∙◌, refl, sym, subst}
 use Rattle.tree_walk.specs.Stops.{Follows}
 use Rattle.tree_walk.specs.Execution.{state_of}
-use Rattle.tree_walk.proofs.Blocks.{if_true, if_else_true, if_else_false, while_is, while_turns}
+use Rattle.tree_walk.proofs.Blocks.{if_true, if_false, if_else_true, if_else_false, while_is, while_turns}
 use Rattle.tree_walk.proofs.execution.Execution.+run.Goals as goal
 
 pub repeat-loop-left-preserved : goal.repeat-loop-left-preserved
@@ -36,3 +38,134 @@ run-returns-else-branch-2-clause-follows t c =
     subst (Follows c.run_all-else-branch-2.result (state_of c.run_all-else-branch-2.new.self))
     (if_else_false _ _ _ _ _ _ _ _ _ _ _ c.in-IfElse.is c.deref-in-IfElse.ensures.value c.cells-in-IfElse.ensures c.in_ok-is_true-in-IfElse.ensures c.if-branch-2.false c.deref-else-branch-2.ensures.value)
     c.run_all-else-branch-2.ensures.follows
+
+pub run-returns-in_err-cell-in-SetField-clause-follows : goal.run-returns-in_err-cell-in-SetField-clause-follows
+run-returns-in_err-cell-in-SetField-clause-follows t c =
+    stops _ _ _ _ _ c.from_residual-in_err-cell-in-SetField.ensures.1
+    (field_at c.args.action.now c.args.shape.now c.args.turns (state_of c.args.self.now) _ _ _ _ c.in-SetField.is _ _ _ (with_both _ _ not_null _ (place_there c.in-SetField.base c.args.shape.now (state_of c.args.self.now) _ _ _ c.deref-in-SetField.ensures.value c.cells-in-SetField.ensures c.in_ok-follow-in-SetField.ensures) c.in_ok-base-in-SetField.ensures)
+    (value_there c.in-SetField.value c.args.shape.now (state_of c.args.self.now) _ _ _ c.deref-in-SetField-2.ensures.value c.cells-in-SetField-2.ensures c.in_ok-v-in-SetField.ensures) (sym c.in_err-cell-in-SetField.ensures))
+
+pub run-returns-in_ok-cell-in-SetField-clause-follows : goal.run-returns-in_ok-cell-in-SetField-clause-follows
+run-returns-in_ok-cell-in-SetField-clause-follows t c =
+    subst (Follows c.write-in-SetField.result (state_of c.write-in-SetField.new.self))
+    (sym (field_at c.args.action.now c.args.shape.now c.args.turns (state_of c.args.self.now) _ _ _ _ c.in-SetField.is _ _ _ (with_both _ _ not_null _ (place_there c.in-SetField.base c.args.shape.now (state_of c.args.self.now) _ _ _ c.deref-in-SetField.ensures.value c.cells-in-SetField.ensures c.in_ok-follow-in-SetField.ensures) c.in_ok-base-in-SetField.ensures)
+    (value_there c.in-SetField.value c.args.shape.now (state_of c.args.self.now) _ _ _ c.deref-in-SetField-2.ensures.value c.cells-in-SetField-2.ensures c.in_ok-v-in-SetField.ensures) (sym c.in_ok-cell-in-SetField.ensures)))
+    c.write-in-SetField.ensures.follows
+
+pub run-returns-in_err-v-in-SetField-clause-follows : goal.run-returns-in_err-v-in-SetField-clause-follows
+run-returns-in_err-v-in-SetField-clause-follows t c =
+    stops _ _ _ _ _ c.from_residual-in_err-v-in-SetField.ensures.1
+    (field_value c.args.action.now c.args.shape.now c.args.turns (state_of c.args.self.now) _ _ _ _ c.in-SetField.is _ _ (with_both _ _ not_null _ (place_there c.in-SetField.base c.args.shape.now (state_of c.args.self.now) _ _ _ c.deref-in-SetField.ensures.value c.cells-in-SetField.ensures c.in_ok-follow-in-SetField.ensures) c.in_ok-base-in-SetField.ensures)
+    (value_there c.in-SetField.value c.args.shape.now (state_of c.args.self.now) _ _ _ c.deref-in-SetField-2.ensures.value c.cells-in-SetField-2.ensures c.in_err-v-in-SetField.ensures))
+
+pub run-returns-in_err-base-in-SetField-clause-follows : goal.run-returns-in_err-base-in-SetField-clause-follows
+run-returns-in_err-base-in-SetField-clause-follows t c =
+    stops _ _ _ _ _ c.from_residual-in_err-base-in-SetField.ensures.1
+    (field_base c.args.action.now c.args.shape.now c.args.turns (state_of c.args.self.now) _ _ _ _ c.in-SetField.is _ (with_both _ _ not_null _ (place_there c.in-SetField.base c.args.shape.now (state_of c.args.self.now) _ _ _ c.deref-in-SetField.ensures.value c.cells-in-SetField.ensures c.in_ok-follow-in-SetField.ensures) c.in_err-base-in-SetField.ensures))
+
+pub run-returns-in_ok-v-in-SetElement-clause-follows : goal.run-returns-in_ok-v-in-SetElement-clause-follows
+run-returns-in_ok-v-in-SetElement-clause-follows t c =
+    subst (Follows c.write-in-SetElement.result (state_of c.write-in-SetElement.new.self))
+    (sym (element_value c.args.action.now c.args.shape.now c.args.turns (state_of c.args.self.now) _ _ _ c.in-SetElement.is _ _ _ (value_there c.in-SetElement.index c.args.shape.now (state_of c.args.self.now) _ _ _ c.deref-in-SetElement.ensures.value c.cells-in-SetElement.ensures c.in_ok-index-in-SetElement.ensures)
+    (sym c.in_ok-cell-in-SetElement.ensures) (value_there c.in-SetElement.value c.args.shape.now (state_of c.args.self.now) _ _ _ c.deref-in-SetElement-2.ensures.value c.cells-in-SetElement-2.ensures c.in_ok-v-in-SetElement.ensures)))
+    c.write-in-SetElement.ensures.follows
+
+pub run-returns-in_err-v-in-SetElement-clause-follows : goal.run-returns-in_err-v-in-SetElement-clause-follows
+run-returns-in_err-v-in-SetElement-clause-follows t c =
+    stops _ _ _ _ _ c.from_residual-in_err-v-in-SetElement.ensures.1
+    (element_value c.args.action.now c.args.shape.now c.args.turns (state_of c.args.self.now) _ _ _ c.in-SetElement.is _ _ _ (value_there c.in-SetElement.index c.args.shape.now (state_of c.args.self.now) _ _ _ c.deref-in-SetElement.ensures.value c.cells-in-SetElement.ensures c.in_ok-index-in-SetElement.ensures)
+    (sym c.in_ok-cell-in-SetElement.ensures) (value_there c.in-SetElement.value c.args.shape.now (state_of c.args.self.now) _ _ _ c.deref-in-SetElement-2.ensures.value c.cells-in-SetElement-2.ensures c.in_err-v-in-SetElement.ensures))
+
+pub run-returns-in_err-cell-in-SetElement-clause-follows : goal.run-returns-in_err-cell-in-SetElement-clause-follows
+run-returns-in_err-cell-in-SetElement-clause-follows t c =
+    stops _ _ _ _ _ c.from_residual-in_err-cell-in-SetElement.ensures.1
+    (element_at c.args.action.now c.args.shape.now c.args.turns (state_of c.args.self.now) _ _ _ c.in-SetElement.is _ _ (value_there c.in-SetElement.index c.args.shape.now (state_of c.args.self.now) _ _ _ c.deref-in-SetElement.ensures.value c.cells-in-SetElement.ensures c.in_ok-index-in-SetElement.ensures)
+    (sym c.in_err-cell-in-SetElement.ensures))
+
+pub run-returns-in_ok-v-in-Print-clause-follows : goal.run-returns-in_ok-v-in-Print-clause-follows
+run-returns-in_ok-v-in-Print-clause-follows t c =
+    subst (Follows c.print.result (state_of c.print.new.self))
+    (sym (print_value c.args.action.now c.args.shape.now c.args.turns (state_of c.args.self.now) _ c.in-Print.is _ (value_there c.in-Print.e c.args.shape.now (state_of c.args.self.now) _ _ _ c.deref-in-Print.ensures.value c.cells-in-Print.ensures c.in_ok-v-in-Print.ensures)))
+    c.print.ensures.follows
+
+pub run-returns-in_err-v-in-Print-clause-follows : goal.run-returns-in_err-v-in-Print-clause-follows
+run-returns-in_err-v-in-Print-clause-follows t c =
+    stops _ _ _ _ _ c.from_residual-in_err-v-in-Print.ensures.1
+    (print_value c.args.action.now c.args.shape.now c.args.turns (state_of c.args.self.now) _ c.in-Print.is _ (value_there c.in-Print.e c.args.shape.now (state_of c.args.self.now) _ _ _ c.deref-in-Print.ensures.value c.cells-in-Print.ensures c.in_err-v-in-Print.ensures))
+
+pub run-returns-in_ok-v-in-SetGlobal-clause-follows : goal.run-returns-in_ok-v-in-SetGlobal-clause-follows
+run-returns-in_ok-v-in-SetGlobal-clause-follows t c =
+    subst (Follows c.write.result (state_of c.write.new.self))
+    (sym (global_value c.args.action.now c.args.shape.now c.args.turns (state_of c.args.self.now) _ _ c.in-SetGlobal.is _ (value_there c.in-SetGlobal.value c.args.shape.now (state_of c.args.self.now) _ _ _ c.deref.ensures.value c.cells.ensures c.in_ok-v-in-SetGlobal.ensures)))
+    c.write.ensures.follows
+
+pub run-returns-in_err-is_true-in-If-clause-follows : goal.run-returns-in_err-is_true-in-If-clause-follows
+run-returns-in_err-is_true-in-If-clause-follows t c =
+    stops _ _ _ _ _ c.from_residual-in_err-is_true-in-If.ensures.1
+    (if_fails c.args.action.now c.args.shape.now c.args.turns (state_of c.args.self.now) _ _ _ c.in-If.is (truth_there c.in-If.condition c.args.shape.now (state_of c.args.self.now) _ _ _ c.deref-in-If.ensures.value c.cells-in-If.ensures c.in_err-is_true-in-If.ensures))
+
+pub run-returns-in_err-is_true-in-IfElse-clause-follows : goal.run-returns-in_err-is_true-in-IfElse-clause-follows
+run-returns-in_err-is_true-in-IfElse-clause-follows t c =
+    stops _ _ _ _ _ c.from_residual-in_err-is_true-in-IfElse.ensures.1
+    (if_else_fails c.args.action.now c.args.shape.now c.args.turns (state_of c.args.self.now) _ _ _ _ c.in-IfElse.is (truth_there c.in-IfElse.condition c.args.shape.now (state_of c.args.self.now) _ _ _ c.deref-in-IfElse.ensures.value c.cells-in-IfElse.ensures c.in_err-is_true-in-IfElse.ensures))
+
+pub run-returns-else-branch-clause-follows : goal.run-returns-else-branch-clause-follows
+run-returns-else-branch-clause-follows t c =
+    if_false _ _ _ _ _ _ _ _ _ c.in-If.is c.deref-in-If.ensures.value c.cells-in-If.ensures c.in_ok-is_true-in-If.ensures c.if-branch.false
+
+pub repeat-returns-in_err-is_true-clause-follows : goal.repeat-returns-in_err-is_true-clause-follows
+repeat-returns-in_err-is_true-clause-follows t c =
+    stops _ _ _ _ _ c.from_residual.ensures.1
+    (turns_fail c.loop-left.left _ _ (state_of c.loop-left.self) _ _ (truth_there c.args.condition.now c.args.shape.now (state_of c.loop-left.self) _ _ _ c.deref.ensures.value c.cells.ensures c.in_err-is_true.ensures) c.loop-left.invariant.same)
+
+pub steps-loop-s-preserved : goal.steps-loop-s-preserved
+steps-loop-s-preserved t c = record {
+  same = sequence_goes c.args.block.now c.loop-s.s-index c.s-item.result c.args.shape.now c.args.turns (state_of c.loop-s.self) _ c.loop-s-test.true c.s-item.is c.loop-s.invariant.same
+      (state_of c.step.new.self) c.in_ok-step.ensures.follows;
+  keeps = c.in_ok-step.ensures.keeps ∙ c.loop-s.invariant.keeps;
+}
+
+pub steps-returns-clause-follows : goal.steps-returns-clause-follows
+steps-returns-clause-follows t c =
+    sequence_ends c.args.block.now c.loop-s.s-index c.args.shape.now c.args.turns (state_of c.loop-s.self) _ c.loop-s-test.false c.loop-s.invariant.same
+
+pub steps-returns-in_err-step-clause-follows : goal.steps-returns-in_err-step-clause-follows
+steps-returns-in_err-step-clause-follows t c =
+    sequence_stops c.args.block.now c.loop-s.s-index c.s-item.result c.args.shape.now c.args.turns (state_of c.loop-s.self) _ c.loop-s-test.true c.s-item.is c.loop-s.invariant.same
+    _ _ _ c.from_residual.ensures.1 c.in_err-step.ensures.follows
+
+pub run-returns-in_ok-cell-in-SetField-clause-keeps : goal.run-returns-in_ok-cell-in-SetField-clause-keeps
+run-returns-in_ok-cell-in-SetField-clause-keeps t c = c.write-in-SetField.ensures.keeps
+
+pub run-returns-in_ok-v-in-SetElement-clause-keeps : goal.run-returns-in_ok-v-in-SetElement-clause-keeps
+run-returns-in_ok-v-in-SetElement-clause-keeps t c = c.write-in-SetElement.ensures.keeps
+
+pub run-returns-else-branch-2-clause-keeps : goal.run-returns-else-branch-2-clause-keeps
+run-returns-else-branch-2-clause-keeps t c = c.run_all-else-branch-2.ensures.keeps
+
+pub run-returns-then-branch-2-clause-keeps : goal.run-returns-then-branch-2-clause-keeps
+run-returns-then-branch-2-clause-keeps t c = c.run_all-then-branch-2.ensures.keeps
+
+pub run-returns-then-branch-clause-keeps : goal.run-returns-then-branch-clause-keeps
+run-returns-then-branch-clause-keeps t c = c.run_all.ensures.keeps
+
+pub run-returns-in_err-cell-in-SetField-clause-keeps : goal.run-returns-in_err-cell-in-SetField-clause-keeps
+run-returns-in_err-cell-in-SetField-clause-keeps t c = refl
+
+pub run-returns-in_err-v-in-SetField-clause-keeps : goal.run-returns-in_err-v-in-SetField-clause-keeps
+run-returns-in_err-v-in-SetField-clause-keeps t c = refl
+
+pub assign-returns-in-Ok-clause-follows : goal.assign-returns-in-Ok-clause-follows
+assign-returns-in-Ok-clause-follows t c =
+    subst (Follows c.write-in-Ok.result (state_of c.write-in-Ok.new.self))
+    (sym (field_at c.args.action.now c.args.shape.now c.args.turns (state_of c.args.self.now) _ _ _ _ c.in-SetField.is _ _ _
+    (with_there c.in-SetField.base c.args.shape.now (state_of c.args.self.now) _ _ _ c.deref-in-SetField.ensures.value c.cells-in-SetField.ensures c.in-Some-base.ensures)
+    (value_there c.in-SetField.value c.args.shape.now (state_of c.args.self.now) _ _ _ c.deref-in-Some-base.ensures.value c.cells-in-Some-base.ensures (sym c.in-Some-value-2.ensures)) (sym c.in-Ok.ensures)))
+    c.write-in-Ok.ensures.follows
+
+pub assign-returns-in-Some-value-clause-follows : goal.assign-returns-in-Some-value-clause-follows
+assign-returns-in-Some-value-clause-follows t c =
+    subst (Follows c.write-in-Some-value.result (state_of c.write-in-Some-value.new.self))
+    (sym (element_found c.args.action.now c.args.shape.now c.args.turns (state_of c.args.self.now) _ _ _ c.in-SetElement.is c.in-Some-element.cell _ c.in-Some-element.ensures
+    (value_there c.in-SetElement.value c.args.shape.now (state_of c.args.self.now) _ _ _ c.deref-in-Some-element.ensures.value c.cells-in-Some-element.ensures (sym c.in-Some-value.ensures))))
+    c.write-in-Some-value.ensures.follows

@@ -1,0 +1,240 @@
+-- What is read at places of lists, and the lock paths that it gives.
+use Rattle.std.proofs.Common.{◌≡◌, ◌∙◌, ◌⊎◌, inl, inr, ℕ, suc, ◌+◌, ◌<◌, ◌≤◌, ◌||◌, Bool, true, false, List, [], ◌∷◌, ◌++◌, length, map, drop, get_or, Option, Some, None, add-one, refl, sym, ap, subst, arith}
+use Rattle.std.proofs.Math.Seq.{drop-cons}
+use Rattle.std.proofs.Math.Bool.{or_assoc}
+use Rattle.std.specs.Prelude.{slice_get, if◌then◌else◌, nat_lt, ◌==◌}
+use Rattle.std.specs.Borrow.{Bor}
+use Rattle.std.specs.Slice.{IsItemAt}
+use Rattle.std.specs.Option.{option_map}
+use Rattle.std.proofs.lemmas.Bool.{eq-eqb}
+use Rattle.std.proofs.lemmas.Bool.Decides.{nat_tests}
+use Rattle.std.proofs.lemmas.List.{length-append, length-map, map_push}
+use Rattle.std.proofs.lemmas.Option.{slice_get_past, slice_get_read}
+use Rattle.source.specs.declared.fault.Code.TheVariants.{LimitExceeded}
+use Rattle.source.specs.declared.mistake.Mistake.{Mistake}
+use Rattle.source.specs.Mistakes.{lesser}
+use Rattle.core_lang.specs.declared.shape.Array.{Array}
+use Rattle.core_lang.specs.declared.typed.Cell.{Cell}
+use Rattle.core_lang.specs.declared.typed.Field.{Field}
+use Rattle.core_lang.specs.declared.typed.GlobalVariable.{GlobalVariable}
+use Rattle.core_lang.specs.declared.typed.LockClass.{LockClass}
+use Rattle.core_lang.specs.declared.typed.LockClass.TheVariants as class
+use Rattle.core_lang.specs.declared.typed.Owner.{Owner}
+use Rattle.core_lang.specs.declared.typed.Owner.TheVariants as owner
+use Rattle.core_lang.specs.declared.typed.Protection.{Protection}
+use Rattle.core_lang.specs.declared.typed.Struct.{Struct}
+use Rattle.core_lang.specs.declared.typed.Typed.{Typed}
+use Rattle.core_lang.specs.Typing.{lookup}
+use Rattle.locks.specs.Locks.{protection_of}
+use Rattle.locks.specs.declared.path.LockPath as written
+use Rattle.locks.specs.declared.path.Root.TheVariants.{Local}
+use Rattle.locks.specs.LockPaths.{StablePath, LockPath, lock_path_of, global_path, protected_path, under, class_if_global, same_path}
+use Rattle.normal_forms.specs.declared.forms.Form.{Form}
+use Rattle.normal_forms.specs.Forms.{stable_path_of}
+use Rattle.core_lang.specs.declared.tree.Section.{Section}
+use Rattle.flow.specs.Points.{Point, points}
+use Rattle.normal_forms.specs.Forms.{forms_behind}
+use Rattle.lockpaths.specs.Gathering.{gathered_at, gathered_in, Gathered, place_from, with_path, with_new, field_path}
+use Rattle.lockpaths.specs.Numbers.{is_number}
+
+-- ---- of a list that a slice lends
+
+module _ {A : Type 0} (xs lent : List A) (i : ℕ) (same : lent ≡ xs) where
+  pub item_here : (b : Bor A) → IsItemAt lent i (Some b) → slice_get xs i ≡ Some b.now
+  item_here b h = subst (λ (ys : List A). slice_get ys i ≡ Some b.now) same (slice_get_read lent (length lent) i b.now refl h.3.0 h.1)
+
+  pub item_past : IsItemAt lent i None → slice_get xs i ≡ None
+  item_past h = subst (λ (ys : List A). slice_get ys i ≡ None) same (slice_get_past lent i h.3)
+
+pub lookup_none : {A B : Type 0} (r : Option A) (go : A → Option B) → r ≡ None → lookup r go ≡ None
+lookup_none r go e = ap (λ o. lookup o go) e
+
+pub lookup_at : {A B : Type 0} (r : Option A) (a : A) (go : A → Option B) → r ≡ Some a → lookup r go ≡ go a
+lookup_at r a go e = ap (λ o. lookup o go) e
+
+pub first_of_rest : {A : Type 0} (xs : List A) (i : ℕ) (x : A) → i < length xs → x ≡ get_or xs i x → drop i xs ≡ x ∷ drop (i + 1) xs
+first_of_rest {A = A} xs i x lt is = drop-cons xs i x lt ∙ ap (λ (y : A). y ∷ drop (suc i) xs) (sym is) ∙ ap (λ (k : ℕ). x ∷ drop k xs) (sym (add-one i))
+
+-- ---- the protection of a struct's field
+
+module _ (program : Typed) (s f : ℕ) where
+  pub no_struct : slice_get program.structs.items s ≡ None → protection_of program s f ≡ None
+  no_struct e = lookup_none (slice_get program.structs.items s) (λ (x : Struct). lookup (slice_get x.fields.items f) (λ (field : Field). Some field.protection)) e
+
+  of_struct : (x : Struct) → slice_get program.structs.items s ≡ Some x → protection_of program s f ≡ lookup (slice_get x.fields.items f) (λ (field : Field). Some field.protection)
+  of_struct x at = lookup_at (slice_get program.structs.items s) x (λ (y : Struct). lookup (slice_get y.fields.items f) (λ (field : Field). Some field.protection)) at
+
+  pub no_field : (x : Struct) → slice_get program.structs.items s ≡ Some x → slice_get x.fields.items f ≡ None → protection_of program s f ≡ None
+  no_field x at e = of_struct x at ∙ lookup_none (slice_get x.fields.items f) (λ (field : Field). Some field.protection) e
+
+  pub protection_here : (x : Struct) (field : Field) → slice_get program.structs.items s ≡ Some x → slice_get x.fields.items f ≡ Some field → protection_of program s f ≡ Some field.protection
+  protection_here x field at there = of_struct x at ∙ lookup_at (slice_get x.fields.items f) field (λ (y : Field). Some y.protection) there
+
+-- ---- the path of a field of a base
+
+module _ (program : Typed) (s f : ℕ) (base : Option StablePath) (p : Protection) (annotated : Some p ≡ protection_of program s f) where
+  at_class : field_path program s f base ≡ lookup (slice_get program.classes.items p.class) (λ (c : LockClass). under c p base)
+  at_class = lookup_at (protection_of program s f) p (λ (q : Protection). lookup (slice_get program.classes.items q.class) (λ (c : LockClass). under c q base)) (sym annotated)
+
+  pub no_class : slice_get program.classes.items p.class ≡ None → field_path program s f base ≡ None
+  no_class e = at_class ∙ lookup_none (slice_get program.classes.items p.class) (λ (c : LockClass). under c p base) e
+
+  of_class : (c x : LockClass) → slice_get program.classes.items p.class ≡ Some c → c ≡ x → field_path program s f base ≡ under x p base
+  of_class c x at is = at_class ∙ lookup_at (slice_get program.classes.items p.class) c (λ (y : LockClass). under y p base) at ∙ ap (λ (y : LockClass). under y p base) is
+
+  pub global_class : (c : LockClass) (name : _) (path : LockPath) → slice_get program.classes.items p.class ≡ Some c → c ≡ class.Global name → path ≡ global_path p.class →
+      Some path ≡ field_path program s f base
+  global_class c name path at is made = ap Some made ∙ sym (of_class c (class.Global name) at is)
+
+  pub field_class : (c : LockClass) (k l : ℕ) → slice_get program.classes.items p.class ≡ Some c → c ≡ class.Field k l → field_path program s f base ≡ option_map (protected_path p) base
+  field_class c k l at is = of_class c (class.Field k l) at is
+
+pub base_none : (p : Protection) (base : Option Form) → base ≡ None → option_map (protected_path p) (option_map stable_path_of base) ≡ None
+base_none p base e = ap (λ (b : Option Form). option_map (protected_path p) (option_map stable_path_of b)) e
+
+pub base_extended : (p : Protection) (base : Option Form) (b : Form) (finals through : List ℕ) → base ≡ Some b → finals ≡ b.finals.items ++ through → through ≡ p.through.items →
+    ◌≡◌ {A = Option LockPath} (Some (record { root = Local b.root; finals = finals; class = p.class })) (option_map (protected_path p) (option_map stable_path_of base))
+base_extended p base b finals through e more is =
+    ap (λ (fs : List ℕ). Some (record { root = Local b.root; finals = fs; class = p.class })) (more ∙ ap (λ (t : List ℕ). b.finals.items ++ t) is)
+    ∙ sym (ap (λ (x : Option Form). option_map (protected_path p) (option_map stable_path_of x)) e)
+
+-- ---- the path of an element and of a global
+
+abbrev pub of_array : Option Array → Option LockPath
+of_array found = lookup found (λ (x : Array). Some (global_path x.class))
+
+abbrev pub of_cell : Typed → Option Cell → Option LockPath
+of_cell program found = lookup found (λ (x : Cell). option_map global_path (class_if_global program x.owner))
+
+pub not_global : (program : Typed) (o : Owner) → ((a : ℕ) × (b : ℕ) × (o ≡ owner.Element a b)) ⊎ ((a : ℕ) × (b : ℕ) × (o ≡ owner.Field a b)) → class_if_global program o ≡ None
+not_global program o (inl e) = ap (class_if_global program) e.2
+not_global program o (inr e) = ap (class_if_global program) e.2
+
+module _ (program : Typed) (path : Option written.LockPath) where
+  pub element_here : (array : ℕ) (x : Array) (made : written.LockPath) → slice_get program.shape.arrays.items array ≡ Some x → path ≡ Some made → lock_path_of made ≡ global_path x.class →
+      option_map lock_path_of path ≡ of_array (slice_get program.shape.arrays.items array)
+  element_here array x made at is e = ap (option_map lock_path_of) is ∙ ap Some e ∙ sym (ap of_array at)
+
+  pub element_past : (array : ℕ) → slice_get program.shape.arrays.items array ≡ None → path ≡ None →
+      option_map lock_path_of path ≡ of_array (slice_get program.shape.arrays.items array)
+  element_past array at is = ap (option_map lock_path_of) is ∙ sym (ap of_array at)
+
+  pub cell_past : (cell : ℕ) → slice_get program.cells.items cell ≡ None → path ≡ None → option_map lock_path_of path ≡ of_cell program (slice_get program.cells.items cell)
+  cell_past cell at is = ap (option_map lock_path_of) is ∙ sym (ap (of_cell program) at)
+
+  of_owner : (cell : ℕ) (x : Cell) (o : Owner) → slice_get program.cells.items cell ≡ Some x → x.owner ≡ o →
+      of_cell program (slice_get program.cells.items cell) ≡ option_map global_path (class_if_global program o)
+  of_owner cell x o at is = ap (of_cell program) at ∙ ap (λ (y : Owner). option_map global_path (class_if_global program y)) is
+
+  pub global_here : (cell : ℕ) (x : Cell) (g : ℕ) (y : GlobalVariable) (made : written.LockPath) → slice_get program.cells.items cell ≡ Some x → x.owner ≡ owner.Global g →
+      slice_get program.globals.items g ≡ Some y → path ≡ Some made → lock_path_of made ≡ global_path y.class → option_map lock_path_of path ≡ of_cell program (slice_get program.cells.items cell)
+  global_here cell x g y made at is there e m =
+      ap (option_map lock_path_of) e ∙ ap Some m
+      ∙ sym (of_owner cell x (owner.Global g) at is ∙ ap (λ (r : Option GlobalVariable). option_map global_path (lookup r (λ (z : GlobalVariable). Some z.class))) there)
+
+  pub global_past : (cell : ℕ) (x : Cell) (g : ℕ) → slice_get program.cells.items cell ≡ Some x → x.owner ≡ owner.Global g → slice_get program.globals.items g ≡ None → path ≡ None →
+      option_map lock_path_of path ≡ of_cell program (slice_get program.cells.items cell)
+  global_past cell x g at is there e =
+      ap (option_map lock_path_of) e
+      ∙ sym (of_owner cell x (owner.Global g) at is ∙ ap (λ (r : Option GlobalVariable). option_map global_path (lookup r (λ (z : GlobalVariable). Some z.class))) there)
+
+  pub no_global : (cell : ℕ) (x : Cell) (o : Owner) → slice_get program.cells.items cell ≡ Some x → x.owner ≡ o → class_if_global program o ≡ None → path ≡ None →
+      option_map lock_path_of path ≡ of_cell program (slice_get program.cells.items cell)
+  no_global cell x o at is none e = ap (option_map lock_path_of) e ∙ sym (of_owner cell x o at is ∙ ap (option_map global_path) none)
+
+-- ---- the number of a path
+
+pub place_next : (path : LockPath) (k : ℕ) (items : List written.LockPath) (x : written.LockPath) → k < length items → x ≡ get_or items k x → false ≡ same_path path (lock_path_of x) →
+    place_from path (k + 1) (map lock_path_of (drop (k + 1) items)) ≡ place_from path k (map lock_path_of (drop k items))
+place_next path k items x lt is other =
+    ap (λ (b : Bool). if b then Some k else place_from path (k + 1) (map lock_path_of (drop (k + 1) items))) other
+    ∙ ap (λ (ys : List written.LockPath). place_from path k (map lock_path_of ys)) (sym (first_of_rest items k x lt is))
+
+pub below_end : (k e v : ℕ) (items : List written.LockPath) → k < e → e ≡ v → v ≡ length items → k < length items
+below_end k e v items lt is at = omega arith
+
+pub below_all : (k e v : ℕ) (items : List written.LockPath) (paths : List LockPath) → k < e → e ≡ v → v ≡ length items → map lock_path_of items ≡ paths → k < length paths
+below_all k e v items paths lt is at same = let long = length-map items lock_path_of in let all = ap length same in omega arith
+
+pub set_next : (i k : ℕ) (numbers : List ℕ) (a b : Bool) (all : Bool) → k < length numbers → a ≡ (b || (i == get_or numbers k 0)) → (b || is_number i (drop k numbers)) ≡ all →
+    (a || is_number i (drop (k + 1) numbers)) ≡ all
+set_next i k numbers a b all lt is before =
+    let rest = is_number i (drop (k + 1) numbers) in
+    ap (λ (x : Bool). x || rest) is
+    ∙ or_assoc b (i == get_or numbers k 0) rest
+    ∙ ap (λ (ns : List ℕ). b || is_number i ns) (sym (drop-cons numbers k 0 lt ∙ ap (λ (j : ℕ). get_or numbers k 0 ∷ drop j numbers) (sym (add-one k))))
+    ∙ before
+
+-- ---- what is found, with a path more
+
+abbrev pub seen : List written.LockPath → List ℕ → List ℕ → Option Mistake → Gathered
+seen paths numbers ends least = record { paths = map lock_path_of paths; numbers = numbers; ends = ends; least = least }
+
+module _ (g : Gathered) (start : ℕ) (path : LockPath) where
+  abbrev by_count : Bool → Bool → Gathered
+  by_count below at =
+      if below then with_path g path else if at then record (with_path g path) { least = lesser g.least (record { code = LimitExceeded; start = start }) } else g
+
+  new_below : length g.paths < 64 → with_new g start path ≡ with_path g path
+  new_below lt = let e : nat_lt (length g.paths) 64 ≡ true = grind (arith, nat_tests) in ap (λ (b : Bool). by_count b (length g.paths == 64)) e
+
+  new_last : length g.paths ≡ 64 → with_new g start path ≡ record (with_path g path) { least = lesser g.least (record { code = LimitExceeded; start = start }) }
+  new_last is =
+      let e : nat_lt (length g.paths) 64 ≡ false = grind (arith, nat_tests) in
+      ap (λ (b : Bool). by_count b (length g.paths == 64)) e ∙ ap (by_count false) (eq-eqb (length g.paths) 64 is)
+
+  new_full : 64 < length g.paths → with_new g start path ≡ g
+  new_full lt =
+      let e : nat_lt (length g.paths) 64 ≡ false = grind (arith, nat_tests) in
+      let d : (length g.paths == 64) ≡ false = grind (arith, nat_tests) in
+      ap (λ (b : Bool). by_count b (length g.paths == 64)) e ∙ ap (by_count false) d
+
+pub past_all : (g : Gathered) (start number v : ℕ) (path : LockPath) (items : List written.LockPath) → 64 < number → number ≡ v → v ≡ length items → map lock_path_of items ≡ g.paths →
+    g ≡ with_new g start path
+past_all g start number v path items lt count at same =
+    let long = length-map items lock_path_of in let all = ap length same in let more : 64 < length g.paths = omega arith in
+    sym (new_full g start path more)
+
+module _ (path : written.LockPath) (start number : ℕ) (paths more : List written.LockPath) (numbers pushed ends : List ℕ) (least : Option Mistake) (g : Gathered)
+    (is : seen paths numbers ends least ≡ g) (count : number ≡ length paths) (grown : more ≡ paths ++ path ∷ []) (counted : pushed ≡ numbers ++ number ∷ []) where
+  with_it : (last : Option Mistake) → seen more pushed ends last ≡ record (with_path (seen paths numbers ends least) (lock_path_of path)) { least = last }
+  with_it last =
+      ap (λ (ps : List LockPath). record { paths = ps; numbers = pushed; ends = ends; least = last }) (ap (map lock_path_of) grown ∙ map_push lock_path_of paths path)
+      ∙ ap (λ (ns : List ℕ). record { paths = map lock_path_of paths ++ lock_path_of path ∷ []; numbers = ns; ends = ends; least = last })
+      (counted ∙ ap (λ (n : ℕ). numbers ++ n ∷ []) (count ∙ sym (length-map paths lock_path_of)))
+
+  pub added_below : number ≤ 64 → (number ≡ 64 → ⊥) → seen more pushed ends least ≡ with_new g start (lock_path_of path)
+  added_below le other =
+      let long = length-map paths lock_path_of in
+      let lt : length (map lock_path_of paths) < 64 = omega arith in
+      with_it least ∙ sym (new_below (seen paths numbers ends least) start (lock_path_of path) lt) ∙ ap (λ (h : Gathered). with_new h start (lock_path_of path)) is
+
+  pub added_last : number ≡ 64 → (last : Option Mistake) → last ≡ lesser least (record { code = LimitExceeded; start = start }) → seen more pushed ends last ≡ with_new g start (lock_path_of path)
+  added_last at last noted =
+      let long = length-map paths lock_path_of in
+      let full : length (map lock_path_of paths) ≡ 64 = omega arith in
+      with_it last ∙ ap (λ (m : Option Mistake). record (with_path (seen paths numbers ends least) (lock_path_of path)) { least = m }) noted
+      ∙ sym (new_last (seen paths numbers ends least) start (lock_path_of path) full) ∙ ap (λ (h : Gathered). with_new h start (lock_path_of path)) is
+
+pub still_few : (paths same more : List written.LockPath) → length paths ≤ 65 → same ≡ paths → more ≡ same → length more ≤ 65
+still_few paths same more le e d = subst (λ (ps : List written.LockPath). length ps ≤ 65) (sym (d ∙ e)) le
+
+pub one_more_few : (number v : ℕ) (paths same more : List written.LockPath) (path : written.LockPath) → number ≤ 64 → number ≡ v → v ≡ length paths → same ≡ paths → more ≡ same ++ path ∷ [] →
+    length more ≤ 65
+one_more_few number v paths same more path le count at e grown = let a = ap length e in let b = ap length grown ∙ length-append same (path ∷ []) in omega arith
+
+pub number_small : (k : ℕ) (items : List written.LockPath) (paths : List LockPath) → k < length paths → map lock_path_of items ≡ paths → length items ≤ 65 → k < 256
+number_small k items paths lt same le = let long = length-map items lock_path_of in let all = ap length same in omega arith
+
+-- ---- a whole section
+
+pub gathered_there : (program : Typed) (section s : Section) (least : Option Mistake) (table : List StablePath) (paths : List LockPath) (numbers ends : List ℕ) (given seen : List Point) (new : Gathered) →
+    new ≡ gathered_at program s table (record { paths = paths; numbers = numbers; ends = ends; least = least }) seen → s ≡ section → table ≡ forms_behind section given → paths ≡ [] →
+    numbers ≡ [] → ends ≡ [] → given ≡ points section → seen ≡ points section → new ≡ gathered_in program section least
+gathered_there program section s least table paths numbers ends given seen new all same made no_paths no_numbers no_ends each every =
+    all ∙ ap (λ (x : Section). gathered_at program x table (record { paths = paths; numbers = numbers; ends = ends; least = least }) seen) same
+    ∙ ap (λ (t : List StablePath). gathered_at program section t (record { paths = paths; numbers = numbers; ends = ends; least = least }) seen) (made ∙ ap (forms_behind section) each)
+    ∙ ap (λ (p : List LockPath). gathered_at program section (forms_behind section (points section)) (record { paths = p; numbers = numbers; ends = ends; least = least }) seen) no_paths
+    ∙ ap (λ (n : List ℕ). gathered_at program section (forms_behind section (points section)) (record { paths = []; numbers = n; ends = ends; least = least }) seen) no_numbers
+    ∙ ap (λ (n : List ℕ). gathered_at program section (forms_behind section (points section)) (record { paths = []; numbers = []; ends = n; least = least }) seen) no_ends
+    ∙ ap (gathered_at program section (forms_behind section (points section)) (record { paths = []; numbers = []; ends = []; least = least })) every

@@ -1,0 +1,59 @@
+-- Parts that were read one after another, put together.
+use Rattle.std.proofs.Common.{◌≡◌, ◌-◌, ◌<◌, ℕ, List, Option, Ok, refl}
+use Rattle.source.specs.declared.span.Span.{Span}
+use Rattle.source.specs.declared.token.Keyword.TheVariants as keyword
+use Rattle.source.specs.declared.token.Number.{Number}
+use Rattle.source.specs.declared.token.Sign.TheVariants.{Colon, Dot, Equals, Semicolon, OpenParen, CloseParen}
+use Rattle.source.specs.Tokens.{Tok, mark}
+use Rattle.syntax.specs.Trees.{Ident, ValueType, Const, Protection, Param, Expr, Stmts, pool, init, atomic, array, global, field_member, final_member}
+use Rattle.parser.specs.Reading.{sign_at, open_at, word_at, name_at, type_at, index_at, const_at, listed_at, maybe_at, after_at}
+use Rattle.parser.specs.Bodies.{ended_at, local_at, braced_at}
+use Rattle.parser.specs.Declarations.{maybe_protection, params_at, pool_at, init_at, section_at, array_at, variable_at, field_at, final_at, call_at}
+use Rattle.parser.specs.Rests.{pool_decl, init_decl, section_decl}
+use Rattle.parser.proofs.Rooms.{consts_in_some}
+
+module _ (ts : List Tok) where
+  module _ {t1 : List Tok} {x : Ident} (first : name_at ts ≡ Ok (x, t1)) where
+    pub pool_done : {t2 t3 t4 : List Tok} {y : Ident} {n : Number} {s : Span} (room : ℕ) → name_at t1 ≡ Ok (y, t2) → index_at room t2 ≡ Ok (n, t3) → sign_at Semicolon t3 ≡ Ok (s, t4) → pool_decl room ts ≡ Ok (pool (record { name = y; target = x; length = n }), t4)
+    unfolding pool_at
+    pool_done room h2 h3 h4 = rw (first, h2, h3, h4) refl
+
+    pub init_done : {t2 t3 t4 t5 t6 t7 : List Tok} {y : Ident} {n : Number} {v : Const} {s2 s4 s6 : Span} (room : ℕ) (start : Span) → index_at room t1 ≡ Ok (n, t2) → sign_at Dot t2 ≡ Ok (s2, t3) → name_at t3 ≡ Ok (y, t4) → sign_at Equals t4 ≡ Ok (s4, t5) → const_at room t5 ≡ Ok (v, t6) →
+        sign_at Semicolon t6 ≡ Ok (s6, t7) → init_decl room start ts ≡ Ok (init (record { start = start; pool = x; index = n; field = y; value = v }), t7)
+    unfolding init_at
+    init_done room start h2 h3 h4 h5 h6 h7 = rw (first, h2, h3, h4, h5, h6, h7) refl
+
+    pub section_done : {t2 t3 t4 : List Tok} {ps : List Param} {r : Option ValueType} {b : Stmts × Span} (room : ℕ) → params_at room t1 ≡ Ok (ps, t2) → maybe_at (mark Colon) (after_at Colon type_at) t2 ≡ Ok (r, t3) → braced_at room t3 ≡ Ok (b, t4) →
+        section_decl room ts ≡ Ok (atomic (record { name = x; params = ps; result = r; body = record { stmts = b.0; close = b.1 } }), t4)
+    unfolding section_at
+    section_done room h2 h3 h4 = rw (first, h2, h3, h4) refl
+
+    pub local_done : {t2 t3 t4 t5 : List Tok} {t : ValueType} {e : Expr} {s1 s3 : Span} (room : ℕ) (start : Span) → sign_at Colon t1 ≡ Ok (s1, t2) → type_at t2 ≡ Ok (t, t3) → sign_at Equals t3 ≡ Ok (s3, t4) → ended_at room t4 ≡ Ok (e, t5) →
+        local_at room start ts ≡ Ok (record { start = start; name = x; value_type = t; value = e }, t5)
+    unfolding local_at
+    local_done room start h2 h3 h4 h5 = rw (first, h2, h3, h4, h5) refl
+
+    pub call_done : {t2 t3 t4 t5 : List Tok} {cs : List Const} {s1 s3 s4 : Span} (room : ℕ) → open_at OpenParen room t1 ≡ Ok (s1, t2) → 0 < room → listed_at (const_at (room - 1)) t2 ≡ Ok (cs, t3) → sign_at CloseParen t3 ≡ Ok (s3, t4) → sign_at Semicolon t4 ≡ Ok (s4, t5) →
+        call_at room ts ≡ Ok (record { section = x; arguments = cs }, t5)
+    unfolding call_at
+    call_done room h2 some h3 h4 h5 = rw (first, h2, consts_in_some room some, h3, h4, h5) refl
+
+  module _ {t1 : List Tok} {t : ValueType} (first : type_at ts ≡ Ok (t, t1)) where
+    pub field_done : {t2 t3 t4 : List Tok} {x : Ident} {p : Option Protection} {s : Span} (room : ℕ) → name_at t1 ≡ Ok (x, t2) → maybe_protection room t2 ≡ Ok (p, t3) → sign_at Semicolon t3 ≡ Ok (s, t4) → field_at room ts ≡ Ok (field_member (record { name = x; value_type = t; protection = p }), t4)
+    unfolding field_at
+    field_done room h2 h3 h4 = rw (first, h2, h3, h4) refl
+
+  pub array_done : {t1 t2 t3 : List Tok} {n : Number} {p : Option Protection} {s : Span} (room : ℕ) (t : ValueType) (x : Ident) → index_at room ts ≡ Ok (n, t1) → maybe_protection room t1 ≡ Ok (p, t2) → sign_at Semicolon t2 ≡ Ok (s, t3) →
+      array_at room t x ts ≡ Ok (array (record { name = x; value_type = t; length = n; protection = p }), t3)
+  unfolding array_at
+  array_done room t x h1 h2 h3 = rw (h1, h2, h3) refl
+
+  pub variable_done : {t1 t2 t3 : List Tok} {v : Option Const} {p : Option Protection} {s : Span} (room : ℕ) (t : ValueType) (x : Ident) → maybe_protection room ts ≡ Ok (p, t1) → maybe_at (mark Equals) (after_at Equals (const_at room)) t1 ≡ Ok (v, t2) → sign_at Semicolon t2 ≡ Ok (s, t3) →
+      variable_at room t x ts ≡ Ok (global (record { name = x; value_type = t; protection = p; value = v }), t3)
+  unfolding variable_at
+  variable_done room t x h1 h2 h3 = rw (h1, h2, h3) refl
+
+  pub final_done : {t1 t2 t3 t4 t5 : List Tok} {x y : Ident} {s1 s2 s5 : Span} → word_at keyword.Final ts ≡ Ok (s1, t1) → word_at keyword.Ref t1 ≡ Ok (s2, t2) → name_at t2 ≡ Ok (x, t3) → name_at t3 ≡ Ok (y, t4) → sign_at Semicolon t4 ≡ Ok (s5, t5) →
+      final_at ts ≡ Ok (final_member (record { name = y; target = x }), t5)
+  unfolding final_at
+  final_done h1 h2 h3 h4 h5 = rw (h1, h2, h3, h4, h5) refl
