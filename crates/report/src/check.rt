@@ -4,7 +4,6 @@ ghost use Rattle.std.specs.Prelude.{◌≡◌, ◌++◌, ◌==◌, OnOk, IfOk, p
 ghost use Rattle.lockpaths.specs.Paths.{ArePaths};
 ghost use Rattle.report.specs.Check.{ranked_class, rank_text, rank_texts};
 
-use crate::pieces::push_number;
 use crate::places::Cursor;
 use crate::section_text::SectionText;
 use core_lang::typed::Typed;
@@ -45,9 +44,7 @@ fn push_rank(
 ) -> Result<(), AllocError>
     ensures { OnOk result (string_bytes out.new ≡ string_bytes out.old ++ rank_text program.now ranks.now rank) }
 {
-    out.push_str("rank ")?;
-    push_number(out, rank)?;
-    out.push_str(" ")?;
+    write!(out, "rank {rank} ")?;
     push_ranked(out, program, ranks, rank)?;
     out.push_str("\n")
 }

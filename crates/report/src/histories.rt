@@ -5,9 +5,7 @@ ghost use Rattle.std.specs.List.{flat_map};
 ghost use Rattle.report.specs.History.{call_text, entry_text, print_texts, cell_texts, calls_of, history_of, unsettled_of};
 ghost use Rattle.report.specs.Entry.{entry_of, entry_said};
 
-use crate::pieces::{
-    push_invocation, push_outcome, push_owner, push_place, push_signed, push_value,
-};
+use crate::pieces::{push_invocation, push_outcome, push_owner, push_value};
 use crate::record::{Record, Said};
 use core_lang::typed::{Cell, Typed};
 use core_lang::value::Value;
@@ -19,9 +17,7 @@ fn push_prints(out: &mut String, prints: &[i64]) -> Result<(), AllocError>
     ensures { OnOk result (string_bytes out.new ≡ string_bytes out.old ++ print_texts prints.now) }
 {
     for number in prints {
-        out.push_str("print ")?;
-        push_signed(out, *number)?;
-        out.push_str("\n")?;
+        write!(out, "print {number}\n")?;
     }
     Ok(())
 }
@@ -30,9 +26,7 @@ fn push_prints(out: &mut String, prints: &[i64]) -> Result<(), AllocError>
 fn push_call(out: &mut String, typed: &Typed, call: &Said<'_>) -> Result<(), AllocError>
     ensures { OnOk result (string_bytes out.new ≡ string_bytes out.old ++ call_text typed.now (entry_said call.now)) }
 {
-    out.push_str("call ")?;
-    push_place(out, call.thread, call.step)?;
-    out.push_str(" ")?;
+    write!(out, "call {} {} ", call.thread, call.step)?;
     push_invocation(out, typed, call.section, call.arguments)?;
     out.push_str(" ")?;
     push_outcome(out, &typed.shape, call.outcome)?;
@@ -116,8 +110,6 @@ pub fn unsettled_text(
     ensures { IfOk result (λ text. string_bytes text ≡ unsettled_of typed.now (map entry_of calls.now) thread step) }
 {
     let mut out = calls_text(alloc, typed, calls)?;
-    out.push_str("unsettled ")?;
-    push_place(&mut out, thread, step)?;
-    out.push_str("\n")?;
+    write!(&mut out, "unsettled {thread} {step}\n")?;
     Ok(out)
 }

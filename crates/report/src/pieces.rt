@@ -2,7 +2,6 @@
 
 ghost use Rattle.std.specs.Prelude.{◌≡◌, ◌++◌, OnOk, string_bytes};
 ghost use Rattle.std.specs.Option.{option_copied};
-ghost use Rattle.std.specs.Fmt.{decimal, signed_decimal};
 ghost use Rattle.report.specs.Pieces as text;
 
 use core_lang::shape::{Pool, Shape};
@@ -11,29 +10,6 @@ use core_lang::value::{Outcome, Value};
 use locks::lock::Lock;
 use locks::text::push_last;
 use std::alloc::AllocError;
-
-/// A number without a sign.
-pub fn push_number(out: &mut String, number: usize) -> Result<(), AllocError>
-    ensures { OnOk result (string_bytes out.new ≡ string_bytes out.old ++ decimal number) }
-{
-    write!(out, "{number}")
-}
-
-/// A number with a sign, which is written where it is negative.
-pub fn push_signed(out: &mut String, number: i64) -> Result<(), AllocError>
-    ensures { OnOk result (string_bytes out.new ≡ string_bytes out.old ++ signed_decimal number) }
-{
-    write!(out, "{number}")
-}
-
-/// `[3]`
-fn push_index(out: &mut String, index: usize) -> Result<(), AllocError>
-    ensures { OnOk result (string_bytes out.new ≡ string_bytes out.old ++ text.index_text index) }
-{
-    out.push_str("[")?;
-    push_number(out, index)?;
-    out.push_str("]")
-}
 
 /// The name of a section.
 fn push_section(out: &mut String, typed: &Typed, section: usize) -> Result<(), AllocError>
@@ -61,8 +37,8 @@ fn push_object(out: &mut String, shape: &Shape, object: usize) -> Result<(), All
 {
     match pool_of(shape, object) {
         Some(pool) => {
-            out.push_str(pool.name.as_str())?;
-            push_index(out, object.saturating_sub(pool.first as usize))
+            let member = object.saturating_sub(pool.first as usize);
+            write!(out, "{}[{member}]", pool.name)
         }
         None => Ok(()),
     }
@@ -73,7 +49,7 @@ pub fn push_value(out: &mut String, shape: &Shape, value: Value) -> Result<(), A
     ensures { OnOk result (string_bytes out.new ≡ string_bytes out.old ++ text.value_text shape.now value) }
 {
     match value {
-        Value::Int(number) => push_signed(out, number),
+        Value::Int(number) => write!(out, "{number}"),
         Value::Ref(None) => out.push_str("null"),
         Value::Ref(Some(object)) => push_object(out, shape, object as usize),
     }
@@ -116,15 +92,6 @@ fn push_values(out: &mut String, shape: &Shape, values: &[Value]) -> Result<(), 
     Ok(())
 }
 
-/// A call's thread and its number there, as `1 0`.
-pub fn push_place(out: &mut String, thread: usize, step: usize) -> Result<(), AllocError>
-    ensures { OnOk result (string_bytes out.new ≡ string_bytes out.old ++ text.place_text thread step) }
-{
-    push_number(out, thread)?;
-    out.push_str(" ")?;
-    push_number(out, step)
-}
-
 /// What is called, as `inc(1, p[0])`.
 pub fn push_invocation(
     out: &mut String,
@@ -151,8 +118,8 @@ pub fn push_outcome(out: &mut String, shape: &Shape, outcome: Outcome) -> Result
             push_value(out, shape, value)
         }
         Outcome::Traps(trap) => {
-            out.push_str("traps ")?;
-            push_number(out, trap.number() as usize)
+            let number = trap.number();
+            write!(out, "traps {number}")
         }
     }
 }
@@ -206,7 +173,7 @@ pub fn push_owner(out: &mut String, typed: &Typed, owner: Owner) -> Result<(), A
         Owner::Global(global) => push_global(out, typed, global),
         Owner::Element { array, index } => {
             push_array(out, &typed.shape, array)?;
-            push_index(out, index)
+            write!(out, "[{index}]")
         }
         Owner::Field { object, field } => {
             push_object(out, &typed.shape, object)?;

@@ -3,9 +3,7 @@
 ghost use Rattle.std.specs.Prelude.{◌≡◌, ◌++◌, OnOk, map, string_bytes};
 ghost use Rattle.std.proofs.Props.{props};
 ghost use Rattle.locks.specs.LockPaths.{lock_path_of, lock_paths};
-ghost use Rattle.report.specs.Check.{position_text};
 
-use crate::pieces::push_number;
 use crate::places::Cursor;
 use core_lang::tree::Section;
 use core_lang::typed::Typed;
@@ -15,15 +13,6 @@ use locks::path::LockPath;
 use locks::text::push_path;
 use source::memory::NoMemory;
 use std::alloc::{AllocError, Global};
-
-/// `LINE:COL`
-fn push_position(out: &mut String, line: usize, column: usize) -> Result<(), AllocError>
-    ensures { OnOk result (string_bytes out.new ≡ string_bytes out.old ++ position_text line column) }
-{
-    push_number(out, line)?;
-    out.push_str(":")?;
-    push_number(out, column)
-}
 
 /// What the lines of a section are made from.
 #[derive(Drop)]
@@ -78,9 +67,7 @@ impl SectionText<'_> {
             return Ok(());
         }
         cursor.go_to(start);
-        out.push_str("at ")?;
-        push_position(out, cursor.line, cursor.column)?;
-        out.push_str(" take")?;
+        write!(out, "at {}:{} take", cursor.line, cursor.column)?;
         self.push_taken(out, list)?;
         out.push_str("\n")
     }
@@ -114,9 +101,7 @@ impl SectionText<'_> {
         ensures same { cursor.new.text.now ≡ cursor.old.text.now }
         ensures lines { OnOk result (string_bytes out.new ≡ string_bytes out.old ++ section_text_of cursor.old.text.now self.now) }
     {
-        out.push_str("section ")?;
-        out.push_str(self.section.name.as_str())?;
-        out.push_str("\n")?;
+        write!(out, "section {}\n", self.section.name)?;
         let points = points_of(alloc, self.section)?;
         self.push_takes(out, cursor, &points)?;
         Ok(())

@@ -4,7 +4,7 @@ ghost use Rattle.std.specs.Prelude.{◌≡◌, ◌++◌, ◌<◌, ◌^◌, OnOk,
 ghost use Rattle.report.specs.Simulation.{present_text, present_texts, status_text, thread_text, thread_texts, commit_texts, simulation_of};
 
 use crate::histories::push_entry;
-use crate::pieces::{push_lock, push_number, push_owner, push_value};
+use crate::pieces::{push_lock, push_owner, push_value};
 use crate::record::said_of;
 use core_lang::shape::Shape;
 use core_lang::typed::Typed;
@@ -60,8 +60,7 @@ fn push_status(out: &mut String, typed: &Typed, status: Status) -> Result<(), Al
         Status::Waits(lock, holder) => {
             out.push_str("waits ")?;
             push_lock(out, typed, lock)?;
-            out.push_str(" for ")?;
-            push_number(out, holder as usize)
+            write!(out, " for {holder}")
         }
         Status::Running => out.push_str("running"),
     }
@@ -71,8 +70,7 @@ fn push_status(out: &mut String, typed: &Typed, status: Status) -> Result<(), Al
 fn push_thread(out: &mut String, world: &World<'_>, thread: u32) -> Result<(), AllocError>
     ensures { OnOk result (string_bytes out.new ≡ string_bytes out.old ++ thread_text world.now.plan world.now.world thread) }
 {
-    push_number(out, thread as usize)?;
-    out.push_str(" ")?;
+    write!(out, "{thread} ")?;
     push_status(out, world.program().typed(), world.state(thread))?;
     out.push_str("\n")
 }
