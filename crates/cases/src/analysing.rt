@@ -2,16 +2,18 @@
 
 ghost use Rattle.lockpaths.specs.Paths.{ArePaths};
 
+use crate::told::Told;
 use core_lang::tree::Section;
 use core_lang::typed::Typed;
 use flow::points::{PointRef, points_of};
 use lockpaths::table::{Paths, SectionPaths};
+use locks::path::LockPath;
 use locks::path_set::PathSet;
 use locks::text::{push_class, push_path};
 use points::points;
 use points::table::Points;
 use source::memory::NoMemory;
-use std::alloc::{AllocError, Global};
+use std::alloc::Global;
 
 /// A text and the program that it means.
 #[derive(Drop)]
@@ -24,7 +26,7 @@ pub struct Analysed<'a> {
 
 impl Analysed<'_> {
     /// The line and the column of a byte of the text, as `4:16`.
-    fn push_place(&self, out: &mut String, start: usize) -> Result<(), AllocError> {
+    fn push_place(&self, out: &mut Told, start: usize) {
         let mut line = 1u32;
         let mut column = 1u32;
         for byte in self.text.as_bytes().iter().take(start) {
@@ -35,66 +37,71 @@ impl Analysed<'_> {
                 column = column.saturating_add(1);
             }
         }
-        write!(out, "{line}:{column}")
+        let grown = write!(&mut out.text, "{line}:{column}");
+        out.note(grown);
+    }
+
+    /// A lock path of the section, with a space ahead of it.
+    fn push_path(&self, out: &mut Told, section: &Section, path: &LockPath) {
+        out.push_str(" ");
+        let grown = push_path(&mut out.text, self.program, section, path);
+        out.note(grown);
     }
 
     /// Some lock paths of the section, each with a space ahead of it.
-    fn push_set(
-        &self,
-        out: &mut String,
-        section: &Section,
-        found: &SectionPaths,
-        set: PathSet,
-    ) -> Result<(), AllocError> {
+    fn push_set(&self, out: &mut Told, section: &Section, found: &SectionPaths, set: PathSet) {
         for (number, path) in found.paths.iter().enumerate() {
             if number < 64 && set.contains(number) {
-                out.push_str(" ")?;
-                push_path(out, self.program, section, path)?;
+                self.push_path(out, section, path);
             }
         }
-        Ok(())
     }
 
     /// A line for a section with its lock paths, and one for each of its points with its place and those that it uses.
     fn push_section(
         &self,
         alloc: Global,
-        out: &mut String,
+        out: &mut Told,
         section: &Section,
         found: &SectionPaths,
     ) -> Result<(), NoMemory> {
-        out.push_str(section.name.as_str())?;
-        out.push_str(":")?;
+        out.push_str(section.name.as_str());
+        out.push_str(":");
         for path in &found.paths {
-            out.push_str(" ")?;
-            push_path(out, self.program, section, path)?;
+            self.push_path(out, section, path);
         }
         let points = points_of(alloc, section)?;
         for (point, used) in points.iter().zip(found.used.iter()) {
-            out.push_str("\n")?;
-            self.push_place(out, point.start())?;
-            self.push_set(out, section, found, *used)?;
+            out.push_str("\n");
+            self.push_place(out, point.start());
+            self.push_set(out, section, found, *used);
         }
         Ok(())
     }
 
     /// What is said of its lock paths, section after section.
     pub fn paths_said(&self, alloc: Global, paths: &Paths) -> Result<String, NoMemory> {
-        let mut out = String::new(alloc);
-        for (section, found) in self.program.sections.iter().zip(paths.sections.iter()) {
-            if !out.is_empty() {
-                out.push_str("\n")?;
+        let mut out = Told::new(alloc);
+        for (number, (section, found)) in self
+            .program
+            .sections
+            .iter()
+            .zip(paths.sections.iter())
+            .enumerate()
+        {
+            if number > 0 {
+                out.push_str("\n");
             }
             self.push_section(alloc, &mut out, section, found)?;
         }
-        Ok(out)
+        out.finish()
     }
 
     /// A line for each point of the section: its place, and the lock paths in scope there, used before it and used later.
     fn push_points(
         &self,
         alloc: Global,
-        out: &mut String,
+        out: &mut Told,
         section: &Section,
         found: &SectionPaths,
         points: &Points,
@@ -102,73 +109,78 @@ impl Analysed<'_> {
         let sets = points.in_scope.iter().zip(points.used_before.iter());
         let sets = sets.zip(points.used_later.iter());
         for (point, ((in_scope, before), later)) in points_of(alloc, section)?.iter().zip(sets) {
-            out.push_str("\n")?;
-            self.push_place(out, point.start())?;
-            out.push_str(" in")?;
-            self.push_set(out, section, found, *in_scope)?;
-            out.push_str(", before")?;
-            self.push_set(out, section, found, *before)?;
-            out.push_str(", later")?;
-            self.push_set(out, section, found, *later)?;
+            out.push_str("\n");
+            self.push_place(out, point.start());
+            out.push_str(" in");
+            self.push_set(out, section, found, *in_scope);
+            out.push_str(", before");
+            self.push_set(out, section, found, *before);
+            out.push_str(", later");
+            self.push_set(out, section, found, *later);
         }
         Ok(())
+    }
+
+    /// The section's name, and which of its points is followed by which.
+    fn push_pairs(&self, out: &mut Told, section: &Section, points: &Points) {
+        out.push_str(section.name.as_str());
+        out.push_str(":");
+        for (from, to) in &points.pairs {
+            let grown = write!(&mut out.text, " {from}-{to}");
+            out.note(grown);
+        }
     }
 
     /// What is said of its points, section after section: which is followed by which, and what lock paths are to each.
     pub fn points_said(&self, alloc: Global, paths: &Paths) -> Result<String, NoMemory>
         requires { ArePaths self.now.program.now paths.now }
     {
-        let mut out = String::new(alloc);
+        let mut out = Told::new(alloc);
         for number in 0..self.program.sections.len() {
             if number > 0 {
-                out.push_str("\n")?;
+                out.push_str("\n");
             }
             let section = &self.program.sections[number];
             let points = points(alloc, self.program, number, paths)?;
-            out.push_str(section.name.as_str())?;
-            out.push_str(":")?;
-            for (from, to) in &points.pairs {
-                write!(&mut out, " {from}-{to}")?;
-            }
+            self.push_pairs(&mut out, section, &points);
             if let Some(found) = paths.sections.get(number) {
                 self.push_points(alloc, &mut out, section, found, &points)?;
             }
         }
-        Ok(out)
+        out.finish()
     }
 
     /// A line with the classes by rising rank.
-    fn push_classes(&self, out: &mut String, ranks: &[u32]) -> Result<(), AllocError> {
-        out.push_str("order:")?;
+    fn push_classes(&self, out: &mut Told, ranks: &[u32]) {
+        out.push_str("order:");
         for rank in 0..ranks.len() {
             for (class, other) in ranks.iter().enumerate() {
                 if *other as usize == rank {
-                    out.push_str(" ")?;
-                    push_class(out, self.program, class)?;
+                    out.push_str(" ");
+                    let grown = push_class(&mut out.text, self.program, class);
+                    out.note(grown);
                 }
             }
         }
-        Ok(())
     }
 
     /// A line for each point of the section: its place, and the lock paths that are wanted and surely held there.
     fn push_wanted(
         &self,
-        out: &mut String,
+        out: &mut Told,
         section: &Section,
         found: &SectionPaths,
         starts: &[PointRef],
         sets: (&[PathSet], &[PathSet]),
-    ) -> Result<(), AllocError> {
+    ) {
         for (point, (wanted, held)) in starts.iter().zip(sets.0.iter().zip(sets.1.iter())) {
-            out.push_str("\n")?;
-            self.push_place(out, point.start())?;
-            out.push_str(" wants")?;
-            self.push_set(out, section, found, *wanted)?;
-            out.push_str(", holds")?;
-            self.push_set(out, section, found, *held)?;
+            out.push_str("\n");
+            self.push_place(out, point.start());
+            out.push_str(" wants");
+            self.push_set(out, section, found, *wanted);
+            out.push_str(", holds");
+            self.push_set(out, section, found, *held);
         }
-        Ok(())
     }
 
     /// What is said of the order of its classes, and what these ranks make of its points.
@@ -180,21 +192,21 @@ impl Analysed<'_> {
     ) -> Result<String, NoMemory>
         requires { ArePaths self.now.program.now paths.now }
     {
-        let mut out = String::new(alloc);
-        self.push_classes(&mut out, ranks)?;
+        let mut out = Told::new(alloc);
+        self.push_classes(&mut out, ranks);
         for number in 0..self.program.sections.len() {
             let section = &self.program.sections[number];
             let points = points(alloc, self.program, number, paths)?;
             let wanted = points.wanted(alloc, ranks)?;
             let held = points.surely_held(alloc, ranks)?;
             let starts = points_of(alloc, section)?;
-            out.push_str("\n")?;
-            out.push_str(section.name.as_str())?;
-            out.push_str(":")?;
+            out.push_str("\n");
+            out.push_str(section.name.as_str());
+            out.push_str(":");
             if let Some(found) = paths.sections.get(number) {
-                self.push_wanted(&mut out, section, found, &starts, (&wanted, &held))?;
+                self.push_wanted(&mut out, section, found, &starts, (&wanted, &held));
             }
         }
-        Ok(out)
+        out.finish()
     }
 }

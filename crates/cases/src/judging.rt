@@ -1,6 +1,7 @@
 //! The cases of a file.
 
 use crate::saying::said_of;
+use crate::told::Told;
 use case_files::asked::{Asked, Engine};
 use case_files::paragraph::{Paragraph, read_paragraph};
 use case_files::repetition::written_out;
@@ -23,13 +24,13 @@ fn said_behind(
     head: Option<&str>,
     text: &str,
 ) -> Result<String, NoMemory> {
-    let mut whole = String::new(alloc);
+    let mut whole = Told::new(alloc);
     if let Some(head) = head {
-        whole.push_str(head)?;
-        whole.push_str("\n")?;
+        whole.push_str(head);
+        whole.push_str("\n");
     }
-    whole.push_str(text)?;
-    match written_out(alloc, whole.as_str())? {
+    whole.push_str(text);
+    match written_out(alloc, whole.finish()?.as_str())? {
         Some(whole) => said_of(alloc, asked, whole.as_str()),
         None => Ok(String::from_str(
             alloc,

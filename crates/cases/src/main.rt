@@ -52,6 +52,7 @@ mod judging;
 mod rereading;
 mod saying;
 mod telling_tokens;
+mod told;
 
 use crate::judging::judge_text;
 use case_files::ending::{Ending, Stop};

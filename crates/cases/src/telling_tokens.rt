@@ -1,21 +1,24 @@
 //! What is said of the tokens of a text.
 
 use crate::saying::line_of;
+use crate::told::Told;
 use lexer::lex;
 use source::memory::NoMemory;
 use source::token::Token;
-use std::alloc::{AllocError, Global};
+use std::alloc::Global;
 
 /// Which token it is.
-fn push_token(told: &mut String, token: &Token) -> Result<(), AllocError> {
-    match token {
-        Token::Name(_, name) => write!(told, "Name({name:?})"),
-        Token::Int(_, value) => write!(told, "Int({value})"),
-        Token::Large(number) => write!(told, "Int({})", number.value),
-        Token::Word(_, word) => write!(told, "Word({word:?})"),
-        Token::Mark(_, sign) => write!(told, "Mark({sign:?})"),
-        Token::End(_) => told.push_str("End"),
-    }
+fn push_token(out: &mut Told, token: &Token) {
+    let text = &mut out.text;
+    let grown = match token {
+        Token::Name(_, name) => write!(text, "Name({name:?})"),
+        Token::Int(_, value) => write!(text, "Int({value})"),
+        Token::Large(number) => write!(text, "Int({})", number.value),
+        Token::Word(_, word) => write!(text, "Word({word:?})"),
+        Token::Mark(_, sign) => write!(text, "Mark({sign:?})"),
+        Token::End(_) => text.push_str("End"),
+    };
+    out.note(grown);
 }
 
 /// The byte where the token ends.
@@ -35,13 +38,14 @@ pub fn tokens_said(alloc: Global, text: &str, has_places: bool) -> Result<String
         Ok(tokens) => tokens,
         Err(refusal) => return line_of(alloc, text, &refusal),
     };
-    let mut said = String::new(alloc);
+    let mut out = Told::new(alloc);
     for token in &tokens {
-        push_token(&mut said, token)?;
+        push_token(&mut out, token);
         if has_places {
-            write!(&mut said, " {} {}", token.start(), end_of(token))?;
+            let grown = write!(&mut out.text, " {} {}", token.start(), end_of(token));
+            out.note(grown);
         }
-        said.push_str(";")?;
+        out.push_str(";");
     }
-    Ok(said)
+    out.finish()
 }
