@@ -18,7 +18,7 @@ use core_lang::value::{Value, ValueType};
 use core_lang::{shape, typed};
 use std::alloc::{AllocError, Global};
 use std::mem;
-use symbols::annotation::class_of;
+use annotations::class_of;
 use symbols::members::Structure;
 use symbols::scope::type_outside;
 use symbols::table::SymbolTable;

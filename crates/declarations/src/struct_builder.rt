@@ -15,7 +15,7 @@ use core_lang::typed::{Field, FinalField, LockClass, LockField, Protection, Stru
 use core_lang::value::ValueType;
 use source::mistake::Mistake;
 use std::alloc::{AllocError, Global};
-use symbols::annotation::{note_protection, protection_of};
+use annotations::{note_protection, protection_of};
 use symbols::members::Structure;
 use symbols::scope::{note_target, note_type, struct_named, type_outside};
 use symbols::table::SymbolTable;

@@ -4,7 +4,6 @@ pub mod Views
 pub mod Capped
 pub mod Given
 pub mod Scoped
-pub mod AnnotationCursors
 pub mod Steps
 -- what the public clauses cite
 pub use Rattle.symbols.specs.Views.{decls_of, members_seen}

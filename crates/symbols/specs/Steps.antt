@@ -1,7 +1,7 @@
--- One turn of a loop over a list, and of one that keeps the least fault so far. Nobody has to believe these equations: they are
--- proved here, for proofs of this crate and of the crates above.
+-- One turn of a loop over a list, and of one that keeps the least fault so far; and what a look-up finds. Nobody has to believe
+-- these equations: they are proved here, for proofs of this crate and of the crates above.
 use Rattle.std.specs.Prelude.{OnOk}
-use Rattle.std.proofs.Common.{◌≡◌, ℕ, suc, ◌+◌, ◌<◌, List, ◌∷◌, ◌++◌, Option, Result, Ok, Err, length, drop, get_or, drop-cons, add-one, sym, ap, ◌∙◌}
+use Rattle.std.proofs.Common.{◌≡◌, ℕ, suc, ◌+◌, ◌<◌, List, ◌∷◌, ◌++◌, Option, Some, None, Result, Ok, Err, length, drop, get_or, drop-cons, add-one, sym, ap, ◌∙◌}
 use Rattle.source.specs.declared.mistake.Mistake.{Mistake}
 use Rattle.source.specs.Mistakes.{least_of}
 use Rattle.source.specs.Leasts.{least_append}
@@ -29,3 +29,11 @@ on_ok_by (Err e) f p = tt
 pub on_ok : {A E : Type 0} {P : Type 0} (r : Result A E) → P → OnOk r P
 on_ok (Ok x) p = p
 on_ok (Err e) p = tt
+
+-- what a look-up finds, at the name as it stands in the tree
+module _ {A B : Type 0} (view : A → B) (meant : List ℕ → Option (ℕ × B)) (q text : List ℕ) (same : q ≡ text) where
+  pub found_as : (place : ℕ) (a b : A) → Some (place, view a) ≡ meant q → a ≡ b → meant text ≡ Some (place, view b)
+  found_as place a b here is = sym (here ∙ ap meant same) ∙ ap (λ (x : A). Some (place, view x)) is
+
+  pub missed_as : None ≡ meant q → meant text ≡ None
+  missed_as none = sym (none ∙ ap meant same)

@@ -7,15 +7,12 @@
 //! - [`declarations::Declarations`], [`members::Structure`], [`first_inits::FirstInits`], [`totals::Totals`], [`names::Names`]:
 //!   the tables.
 //! - [`scope`]: what a name means, in a section or outside of sections, and the types that are written.
-//! - [`annotation`]: which lock protects a global, an array or a field.
 //! - [`note::note_if`]: notes a fault where there is one.
 //!
-//! Which data a value of the tables is stands in `specs/Views.antt`, `Found.antt`, `Scoped.antt` and
-//! `AnnotationCursors.antt`; how sums past a limit are capped in `Capped.antt`. What names mean and where faults stand is
-//! defined in `resolution`.
+//! Which data a value of the tables is stands in `specs/Views.antt`, `Found.antt` and `Scoped.antt`; how sums past a limit
+//! are capped in `Capped.antt`. What names mean and where faults stand is defined in `resolution`.
 #![tactic(auto)]
 
-pub mod annotation;
 pub mod declarations;
 pub mod first_inits;
 pub mod members;

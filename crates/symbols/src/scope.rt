@@ -279,7 +279,7 @@ fn member_has_type(symbols: &SymbolTable, m: &Member) -> bool
 }
 
 /// Notes at `start` the fault of a member that can't stand there, unless its type has a fault.
-pub(crate) fn note_unfit_member(
+pub fn note_unfit_member(
     symbols: &SymbolTable,
     code: Code,
     start: usize,

@@ -30,7 +30,7 @@ use sections::wanted::want;
 use source::fault::{Fault, Refusal};
 use source::mistake::Mistake;
 use std::alloc::{AllocError, Global};
-use symbols::annotation::note_lock;
+use annotations::note_lock;
 use symbols::members::Structure;
 use symbols::scope::{note_target, note_type, type_outside};
 use symbols::table::SymbolTable;

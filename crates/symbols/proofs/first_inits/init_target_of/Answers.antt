@@ -3,7 +3,8 @@ use Rattle.syntax.specs.Views.{member_of, struct_of, pool_of, ident}
 use Rattle.resolution.specs.Constants.{init_target_at}
 use Rattle.resolution.specs.Scopes.{the_decl, the_member}
 use Rattle.symbols.specs.Views.{decls_of, members_seen}
-use Rattle.symbols.proofs.Named.{found_as, missed_as, of_struct, of_no_struct}
+use Rattle.symbols.specs.Steps.{found_as, missed_as}
+use Rattle.symbols.proofs.Named.{of_struct, of_no_struct}
 use Rattle.symbols.proofs.first_inits.init_target_of.Goals as goal
 
 pub returns-in-Final : goal.returns-in-Final

@@ -2,7 +2,7 @@ use Rattle.std.proofs.Common.{ap, sym, refl}
 use Rattle.syntax.specs.Views.{decl_of}
 use Rattle.resolution.specs.Scopes.{the_decl, declared_as}
 use Rattle.symbols.specs.Views.{decls_of}
-use Rattle.symbols.proofs.Named.{found_as, missed_as}
+use Rattle.symbols.specs.Steps.{found_as, missed_as}
 use Rattle.symbols.proofs.scope.meaning_outside.Goals as goal
 
 pub returns-in-Some : goal.returns-in-Some

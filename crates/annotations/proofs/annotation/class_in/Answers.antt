@@ -2,8 +2,9 @@ use Rattle.std.proofs.Common.{◌∙◌, ap, sym, Some}
 use Rattle.syntax.specs.Views.{decl_of}
 use Rattle.resolution.specs.Scopes.{the_decl}
 use Rattle.symbols.specs.Views.{decls_of}
-use Rattle.symbols.proofs.Named.{found_as, class_alone, class_behind}
-use Rattle.symbols.proofs.annotation.class_in.Goals as goal
+use Rattle.symbols.specs.Steps.{found_as}
+use Rattle.annotations.proofs.Named.{class_alone, class_behind}
+use Rattle.annotations.proofs.annotation.class_in.Goals as goal
 
 pub returns-then-is_empty : goal.returns-then-is_empty
 returns-then-is_empty c =

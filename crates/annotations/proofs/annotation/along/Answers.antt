@@ -5,9 +5,9 @@ use Rattle.syntax.specs.declared.tree.Name.{Name}
 use Rattle.syntax.specs.Views.{ident}
 use Rattle.resolution.specs.Annotations.{along}
 use Rattle.symbols.specs.Views.{decls_of}
-use Rattle.symbols.specs.AnnotationCursors.{cursor_of}
+use Rattle.annotations.specs.AnnotationCursors.{cursor_of}
 use Rattle.symbols.specs.Steps.{step}
-use Rattle.symbols.proofs.annotation.along.Goals as goal
+use Rattle.annotations.proofs.annotation.along.Goals as goal
 
 pub loop-z-preserved : goal.loop-z-preserved
 loop-z-preserved c =

@@ -8,12 +8,12 @@ ghost use Rattle.resolution.specs.Annotations.{class_in, class_of, at_struct, st
 ghost use Rattle.source.specs.Mistakes.{least_of};
 ghost use Rattle.resolution.specs.FaultLists.{lock_faults, along_faults, protection_faults};
 ghost use Rattle.symbols.specs.Views.{decls_of, members_seen};
-ghost use Rattle.symbols.specs.AnnotationCursors.{cursor_of, lock_name_faults, passed_at, ended_at};
+ghost use Rattle.annotations.specs.AnnotationCursors.{cursor_of, lock_name_faults, passed_at, ended_at};
 
-use crate::members::Structure;
-use crate::note::note_if;
-use crate::scope::{Meaning, note_unfit, note_unfit_member};
-use crate::table::SymbolTable;
+use symbols::members::Structure;
+use symbols::note::note_if;
+use symbols::scope::{Meaning, note_unfit, note_unfit_member};
+use symbols::table::SymbolTable;
 use core_lang::typed::Protection;
 use source::fault::Code;
 use source::mistake::{Mistake, note};

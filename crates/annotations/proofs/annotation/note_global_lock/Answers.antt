@@ -3,8 +3,9 @@ use Rattle.syntax.specs.Views.{decl_of}
 use Rattle.source.specs.Mistakes.{least_of}
 use Rattle.resolution.specs.Scopes.{the_decl}
 use Rattle.symbols.specs.Views.{decls_of}
-use Rattle.symbols.proofs.Named.{found_as, lock_alone, lock_behind}
-use Rattle.symbols.proofs.annotation.note_global_lock.Goals as goal
+use Rattle.symbols.specs.Steps.{found_as}
+use Rattle.annotations.proofs.Named.{lock_alone, lock_behind}
+use Rattle.annotations.proofs.annotation.note_global_lock.Goals as goal
 
 pub returns-then-not-is_empty : goal.returns-then-not-is_empty
 returns-then-not-is_empty c =

@@ -3,8 +3,8 @@ use Rattle.std.specs.Prelude.{map, option_map}
 use Rattle.syntax.specs.Views.{ident}
 use Rattle.resolution.specs.Annotations.{along}
 use Rattle.symbols.specs.Views.{decls_of}
-use Rattle.symbols.specs.AnnotationCursors.{cursor_of}
-use Rattle.symbols.proofs.annotation.along.Given as goal
+use Rattle.annotations.specs.AnnotationCursors.{cursor_of}
+use Rattle.annotations.proofs.annotation.along.Given as goal
 
 abbrev pub invariant-loop-z : goal.invariant-loop-z
 invariant-loop-z l = record {

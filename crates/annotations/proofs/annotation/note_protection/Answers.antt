@@ -9,8 +9,8 @@ use Rattle.resolution.specs.FaultLists.{along_faults, protection_faults}
 use Rattle.resolution.specs.Scopes.{the_member}
 use Rattle.symbols.specs.Steps.{on_ok_by}
 use Rattle.symbols.specs.Views.{decls_of, members_seen}
-use Rattle.symbols.proofs.Named.{seen_some, faults_own}
-use Rattle.symbols.proofs.annotation.note_protection.Goals as goal
+use Rattle.annotations.proofs.Named.{seen_some, faults_own}
+use Rattle.annotations.proofs.annotation.note_protection.Goals as goal
 
 pub returns-then-is_some : goal.returns-then-is_some
 returns-then-is_some c =

@@ -4,8 +4,8 @@ use Rattle.syntax.specs.Views.{ident}
 use Rattle.source.specs.Mistakes.{least_of}
 use Rattle.resolution.specs.FaultLists.{along_faults}
 use Rattle.symbols.specs.Views.{decls_of}
-use Rattle.symbols.specs.AnnotationCursors.{cursor_of}
-use Rattle.symbols.proofs.annotation.note_along.Given as goal
+use Rattle.annotations.specs.AnnotationCursors.{cursor_of}
+use Rattle.annotations.proofs.annotation.note_along.Given as goal
 
 abbrev pub invariant-loop-z : goal.invariant-loop-z
 invariant-loop-z l = record {

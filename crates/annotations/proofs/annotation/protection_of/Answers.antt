@@ -8,8 +8,8 @@ use Rattle.resolution.specs.Annotations.{along, cursor_at, protection_of}
 use Rattle.resolution.specs.CoreViews.{core_protection}
 use Rattle.resolution.specs.Scopes.{the_member}
 use Rattle.symbols.specs.Views.{decls_of, members_seen}
-use Rattle.symbols.proofs.Named.{seen_some, along_own, if_ok_same}
-use Rattle.symbols.proofs.annotation.protection_of.Goals as goal
+use Rattle.annotations.proofs.Named.{seen_some, along_own, if_ok_same}
+use Rattle.annotations.proofs.annotation.protection_of.Goals as goal
 
 pub returns-then-is_some : goal.returns-then-is_some
 returns-then-is_some c =

@@ -7,9 +7,9 @@ use Rattle.source.specs.Mistakes.{least_of}
 use Rattle.resolution.specs.Annotations.{stepped_on}
 use Rattle.resolution.specs.FaultLists.{passed, along_faults}
 use Rattle.symbols.specs.Views.{decls_of}
-use Rattle.symbols.specs.AnnotationCursors.{cursor_of}
+use Rattle.annotations.specs.AnnotationCursors.{cursor_of}
 use Rattle.symbols.specs.Steps.{step, noted_one}
-use Rattle.symbols.proofs.annotation.note_along.Goals as goal
+use Rattle.annotations.proofs.annotation.note_along.Goals as goal
 
 pub loop-z-preserved : goal.loop-z-preserved
 loop-z-preserved c =

@@ -7,7 +7,7 @@ use Rattle.resolution.specs.Annotations.{AnnotationCursor}
 use Rattle.resolution.specs.FaultLists.{named_lock_faults, passed, ended}
 use Rattle.symbols.specs.declared.declarations.Declarations.{Declarations}
 use Rattle.symbols.specs.Views.{decls_of, members_seen}
-use Rattle.symbols.specs.declared.annotation.AnnotationCursor as s
+use Rattle.annotations.specs.declared.annotation.AnnotationCursor as s
 
 abbrev pub cursor_of : s.AnnotationCursor → AnnotationCursor
 cursor_of s = record { structure = s.place; members = members_seen s.structure.now; through = s.through.items }
