@@ -7,12 +7,12 @@ ghost use Rattle.resolution.specs.Constants.{const_sort, const_value, typed_cons
 ghost use Rattle.resolution.specs.Faults.{const_start};
 ghost use Rattle.source.specs.Mistakes.{least_of};
 ghost use Rattle.resolution.specs.FaultLists.{index_faults, own_faults, sort_misfit, const_faults, argument_faults, opening_faults};
-ghost use Rattle.sections.specs.Parts.{pushed};
 ghost use Rattle.symbols.specs.{decls_of};
+ghost use Rattle.resolved_expressions.specs.Parts.{pushed};
 
 use core_lang::value::{Value, ValueType};
 use resolution::wanted::{Sort, Want};
-use sections::wanted::{fits_sort, note_number, number, want};
+use resolved_expressions::wanted::{fits_sort, note_number, number, want};
 use source::fault::Code;
 use source::mistake::{Mistake, note};
 use source::token::Number;

@@ -10,7 +10,7 @@ ghost use Rattle.symbols.specs.{decls_of};
 use crate::constant::{note_const, note_index};
 use core_lang::value::ValueType;
 use resolution::wanted::Want;
-use sections::wanted::want;
+use resolved_expressions::wanted::want;
 use source::fault::Code;
 use source::mistake::{Mistake, note};
 use symbols::first_inits::{initialised, structure_given};

@@ -2,7 +2,6 @@
 use Rattle.std.proofs.Common.{◌≡◌, Global, ℕ, ◌+◌, ◌<◌, List, [], ◌∷◌, ◌++◌, Option, Some, None, length, drop, get_or, refl, sym, ap, ◌∙◌}
 use Rattle.std.specs.Prelude.{Box, option_map, map, nat_le}
 use Rattle.source.specs.declared.fault.Code.TheVariants.{LimitExceeded}
-use Rattle.source.specs.declared.span.Span.{Span}
 use Rattle.source.specs.declared.mistake.Mistake.{Mistake}
 use Rattle.syntax.specs.declared.tree.Stmt as tree_stmt
 use Rattle.syntax.specs.declared.tree.Stmt.{Let, Var, While, If}
@@ -13,9 +12,9 @@ use Rattle.syntax.specs.declared.tree.Block as tree_block
 use Rattle.syntax.specs.declared.tree.Local as tree_local
 use Rattle.syntax.specs.declared.tree.Param as tree_param
 use Rattle.syntax.specs.Views.{expr_of, stmt_of, if_of, local_of, stmts_of, else_of, param_of}
-use Rattle.syntax.specs.Trees.{Decl, Expr, Stmt, let_local, var_local, assign, if_then, while, print, return_value, Stmts, no_stmts, stmt, no_else, else_do, Param, Section}
+use Rattle.syntax.specs.Trees.{Decl, Stmt, let_local, var_local, assign, if_then, while, print, return_value, Stmts, no_stmts, stmt, no_else, else_do, Param, Section}
 use Rattle.core_lang.specs.declared.value.ValueType as core_type
-use Rattle.syntax.specs.Rows.{stmt_of-While, if_of-out}
+use Rattle.syntax.specs.Rows.{while_of, stmt_of-While, if_of-out}
 use Rattle.core_lang.specs.declared.tree.LocalKind.TheVariants.{Parameter}
 use Rattle.core_lang.specs.declared.tree.Stmt as r
 use Rattle.core_lang.specs.declared.tree.Return as r_return
@@ -207,10 +206,6 @@ module _ (ds : List Decl) (s : Section) (result : Option core_type.ValueType) (s
 
 -- ---- loops and choices
 
-while_is : (s : tree_stmt.Stmt) (b : Box tree_while.While Global) → s ≡ While b
-    → while b.value.start (expr_of b.value.condition) (stmts_of b.value.block.stmts.items) b.value.block.close ≡ stmt_of s
-while_is s b is = sym (ap stmt_of is ∙ stmt_of-While b)
-
 -- a local, read through the box
 pub let_seen : (s : tree_stmt.Stmt) (b : Box tree_local.Local Global) (x : tree_local.Local) → s ≡ Let b → x ≡ b.value → let_local (local_of x) ≡ stmt_of s
 let_seen s b x is hx = ap (λ (l : tree_local.Local). let_local (local_of l)) hx ∙ sym (ap stmt_of is)
@@ -222,18 +217,20 @@ var_seen s b x is hx = ap (λ (l : tree_local.Local). var_local (local_of l)) hx
 pub if_seen : (s : tree_stmt.Stmt) (b : Box tree_if.If Global) (x : tree_if.If) → s ≡ If b → x ≡ b.value → if_of x ≡ stmt_of s
 if_seen s b x is hx = ap if_of hx ∙ sym (ap stmt_of is)
 
--- the same, where each part was read through the box anew
-pub while_seen : (s : tree_stmt.Stmt) (b : Box tree_while.While Global) (x y z : tree_while.While) → s ≡ While b → x ≡ b.value → y ≡ b.value → z ≡ b.value
-    → while x.start (expr_of z.condition) (stmts_of y.block.stmts.items) y.block.close ≡ stmt_of s
-while_seen s b x y z is hx hy hz = rw (hx, hy, hz) (while_is s b is)
+-- a loop, read through the box
+pub while_seen : (s : tree_stmt.Stmt) (b : Box tree_while.While Global) (x : tree_while.While) → s ≡ While b → x ≡ b.value → while_of x ≡ stmt_of s
+while_seen s b x is hx = ap while_of hx ∙ sym (ap stmt_of is ∙ stmt_of-While b)
 
-module _ (sc : Scope) (at close : Span) (test : Expr) (body : Stmts) where
-  pub while_value : (p : Option Part) (cond : Option core.Condition) (block : Option core.Stmts) → p ≡ repeats at.start cond block → cond ≡ test_resolved (typed sc test) → block ≡ block_of (typed_body sc body) →
-      p ≡ typed_stmt sc (while at test body close)
-  while_value p cond block hp hc hb = hp ∙ ap (λ c. repeats at.start c block) hc ∙ ap (repeats at.start (test_resolved (typed sc test))) hb
+-- a loop by its parts
+module _ (sc : Scope) (loop : tree_while.While) where
+  pub while_value : (p : Option Part) (cond : Option core.Condition) (block : Option core.Stmts) → p ≡ repeats loop.start.start cond block →
+      cond ≡ test_resolved (typed sc (expr_of loop.condition)) → block ≡ block_of (typed_body sc (stmts_of loop.block.stmts.items)) → p ≡ typed_stmt sc (while_of loop)
+  while_value p cond block hp hc hb =
+      hp ∙ ap (λ c. repeats loop.start.start c block) hc ∙ ap (repeats loop.start.start (test_resolved (typed sc (expr_of loop.condition)))) hb
 
-  pub while_faults : (f g h : Option Mistake) → g ≡ least_of f (wanted_faults sc Condition test) → h ≡ least_of g (stmts_faults sc body) → h ≡ least_of f (stmt_faults sc (while at test body close))
-  while_faults f g h hg hh = hh ∙ noted_one f g (wanted_faults sc Condition test) (stmts_faults sc body) hg
+  pub while_faults : (f g h : Option Mistake) → g ≡ least_of f (wanted_faults sc Condition (expr_of loop.condition)) → h ≡ least_of g (stmts_faults sc (stmts_of loop.block.stmts.items)) →
+      h ≡ least_of f (stmt_faults sc (while_of loop))
+  while_faults f g h hg hh = hh ∙ noted_one f g (wanted_faults sc Condition (expr_of loop.condition)) (stmts_faults sc (stmts_of loop.block.stmts.items)) hg
 
 -- a choice by its parts, where the scope behind its block is sc2
 module _ (sc sc2 : Scope) (choice : tree_if.If) (behind : sc2 ≡ left sc (after_all sc (stmts_of (out-If choice).block.stmts.items))) where

@@ -1,6 +1,4 @@
 pub mod CoreRows
-pub mod Chains
 pub mod Blocks
-pub mod Indices
+pub mod Elements
 pub mod Lasts
-pub mod Zips

@@ -1,14 +1,25 @@
 -- What the checker's values of statements stand for.
-use Rattle.std.specs.Prelude.{List, [], ◌∷◌, ◌++◌, Option, Some, None, map, option_map}
+use Rattle.std.specs.Prelude.{ℕ, List, [], ◌∷◌, ◌++◌, Option, Some, None, map, option_map}
+use Rattle.std.proofs.Common.{Vec, Global}
+use Rattle.source.specs.declared.mistake.Mistake.{Mistake}
+use Rattle.syntax.specs.Trees as trees
+use Rattle.core_lang.specs.declared.tree.LocalKind.{LocalKind}
+use Rattle.core_lang.specs.declared.tree.Condition as the_condition
+use Rattle.core_lang.specs.declared.tree.Stmt as the_stmt
 use Rattle.resolution.specs.Core as core
-use Rattle.resolution.specs.CoreViews.{core_expr, core_path, core_stmt, core_stmts, core_return}
-use Rattle.resolution.specs.Statements.{Target, to_local, to_global, to_element, to_field, Assignee, Part, does, gives, Body}
+use Rattle.resolution.specs.CoreViews.{core_expr, core_condition, core_path, core_stmt, core_stmts, core_return}
+use Rattle.resolution.specs.Scopes.{Scope, Meaning, bound, left, type_of}
+use Rattle.resolution.specs.Statements.{Target, to_local, to_global, to_element, to_field, Assignee, Part, does, gives, Body, after_all, typed_if}
+use Rattle.resolution.specs.FaultLists.{no_array, no_elements}
+use Rattle.expressions.specs.declared.place.Indexed.{Indexed}
+use Rattle.expressions.specs.declared.place.Indexed.TheVariants.{Array, Pool}
 use Rattle.sections.specs.declared.target.Target as t
 use Rattle.sections.specs.declared.target.Target.TheVariants as v
 use Rattle.sections.specs.declared.target.Assignee as the_assignee
 use Rattle.sections.specs.declared.stmt.Part as the_part
 use Rattle.sections.specs.declared.stmt.Part.TheVariants as part
 use Rattle.sections.specs.declared.stmt.Body as the_body
+use Rattle.sections.specs.declared.stmt.Choice as the_choice
 
 abbrev pub target_seen : t.Target → Target
 target_seen (v.Local i) = to_local i
@@ -19,12 +30,44 @@ target_seen (v.Field base structure field) = to_field (core_path base) structure
 abbrev pub assignee_of : the_assignee.Assignee → Assignee
 assignee_of a = record { target = target_seen a.target; value_type = a.value_type }
 
+-- what stands at an index
+abbrev pub assigned_at : Option Indexed → Option core.Expr → Option Assignee
+assigned_at (Some (Array n t)) (Some index) = Some (record { target = to_element n index; value_type = t })
+assigned_at (Some (Pool n t)) (Some index) = None
+assigned_at (Some x) None = None
+assigned_at None index = None
+
+-- the faults of a name that takes an index there
+abbrev pub element_faults : List trees.Decl → ℕ → Meaning → List Mistake
+element_faults decls start m = no_elements decls start m ++ no_array decls start m
+
 abbrev pub part_of : the_part.Part → Part
 part_of (part.Does x) = does (core_stmt x)
 part_of (part.Gives r) = gives (core_return r)
 
 abbrev pub body_of : the_body.Body → Body
 body_of b = record { stmts = core_stmts b.stmts.items; result = option_map core_return b.result }
+
+-- a condition, and the statements of a block
+abbrev pub test_seen : Option the_condition.Condition → Option core.Condition
+test_seen c = option_map core_condition c
+
+abbrev pub block_seen : Option (Vec the_stmt.Stmt Global) → Option core.Stmts
+block_seen v = option_map (λ b. core_stmts b.items) v
+
+-- a choice, with what stands behind its `else`
+abbrev pub choice_with : Scope → the_choice.Choice → trees.Otherwise → Option Part
+choice_with sc c other = typed_if sc c.start (test_seen c.condition) (block_seen c.block) other
+
+-- ---- scopes
+
+-- behind a local
+abbrev pub behind_local : Scope → LocalKind → trees.Local → Scope
+behind_local sc kind l = bound sc kind l.name (type_of sc l.value_type)
+
+-- behind a block
+abbrev pub behind_block : Scope → trees.Stmts → Scope
+behind_block sc body = left sc (after_all sc body)
 
 -- ---- a body in parts
 

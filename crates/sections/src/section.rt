@@ -5,19 +5,20 @@ ghost use Rattle.syntax.specs.Views.{param_of, section_of as section_view};
 ghost use Rattle.resolution.specs.CoreViews as core;
 ghost use Rattle.resolution.specs.CoreViews.{core_section};
 ghost use Rattle.resolution.specs.Scopes.{entered};
-ghost use Rattle.resolution.specs.Resolution.{core_locals, core_local, result_of, section_with, section_of, typed_section};
+ghost use Rattle.resolution.specs.Resolution.{core_locals, core_local, result_of, typed_section};
 ghost use Rattle.source.specs.Mistakes.{least_of};
 ghost use Rattle.resolution.specs.FaultLists.{param_faults, result_faults, section_faults};
 ghost use Rattle.symbols.specs.{decls_of, local_seen};
-ghost use Rattle.sections.specs.Checkers.{scope};
-ghost use Rattle.sections.specs.Parts.{pushed};
-ghost use Rattle.sections.specs.Targets.{body_of};
+ghost use Rattle.expressions.specs.Checkers.{scope};
+ghost use Rattle.resolved_expressions.specs.Parts.{pushed};
+ghost use Rattle.sections.specs.Whole.{locals_of, section_from, section_if};
 
-use crate::checker::{Checker, Judged, Least};
-use crate::stmt::Body;
+use crate::stmt::{Body, judge_body};
 use core_lang::tree;
 use core_lang::tree::{LocalKind, Section};
 use core_lang::value::ValueType;
+use expressions::checker::Checker;
+use resolved_expressions::judged::{Judged, Least};
 use source::fault::Code;
 use source::mistake::Mistake;
 use std::alloc::{AllocError, Global};
@@ -49,7 +50,7 @@ fn with_local(
     locals: Option<Vec<tree::Local>>,
     local: Option<tree::Local>,
 ) -> Judged<Vec<tree::Local>>
-    ensures { IfOk result (λ r. option_map (λ ls. core.core_locals ls.items) r ≡ pushed (option_map (λ ls. core.core_locals ls.items) locals) (option_map core.core_local local)) }
+    ensures { IfOk result (λ r. locals_of r ≡ pushed (locals_of locals) (option_map core.core_local local)) }
 {
     let Some((mut locals, local)) = locals.zip(local) else {
         return Ok(None);
@@ -63,7 +64,7 @@ fn with_local(
 
 /// The locals, if the types of all have no fault.
 fn core_locals(alloc: Global, locals: &[Local]) -> Judged<Vec<tree::Local>>
-    ensures { IfOk result (λ r. option_map (λ ls. core.core_locals ls.items) r ≡ core_locals (map local_seen locals.now)) }
+    ensures { IfOk result (λ r. locals_of r ≡ core_locals (map local_seen locals.now)) }
 {
     let mut made = Some(Vec::new(alloc));
     for local in locals {
@@ -90,81 +91,83 @@ fn result_type(symbols: &SymbolTable, s: &written::Section, least: &mut Least) -
     }
 }
 
-impl<'a> Checker<'a> {
-    // Declares a section's parameters, and notes what is wrong with them.
-    #[tactic(auto, using(source::specs::Leasts::least_append))]
-    fn params(&mut self, params: &[Param], least: &mut Least) -> Result<(), AllocError>
-        ensures faults { OnOk result (least.new ≡ least_of least.old (param_faults (scope self.old) 0 (map param_of params.now))) }
-        ensures scope { OnOk result (scope self.new ≡ entered (scope self.old) (map param_of params.now)) }
-    {
-        for (place, param) in params.iter().enumerate() {
-            self.note_name(&param.name, least);
-            note_if(
-                PARAMETER_LIMIT <= place,
-                Code::LimitExceeded,
-                param.name.start as usize,
-                least,
-            );
-            let t = self.declared_type(&param.value_type, least);
-            self.bind(&param.name, LocalKind::Parameter, t)?;
-        }
-        Ok(())
+/// Declares a section's parameters, and notes what is wrong with them.
+#[tactic(auto, using(source::specs::Leasts::least_append))]
+fn judge_params(
+    checker: &mut Checker,
+    params: &[Param],
+    least: &mut Least,
+) -> Result<(), AllocError>
+    ensures faults { OnOk result (least.new ≡ least_of least.old (param_faults (scope checker.old) 0 (map param_of params.now))) }
+    ensures scope { OnOk result (scope checker.new ≡ entered (scope checker.old) (map param_of params.now)) }
+{
+    for (place, param) in params.iter().enumerate() {
+        checker.note_name(&param.name, least);
+        note_if(
+            PARAMETER_LIMIT <= place,
+            Code::LimitExceeded,
+            param.name.start as usize,
+            least,
+        );
+        let t = checker.declared_type(&param.value_type, least);
+        checker.bind(&param.name, LocalKind::Parameter, t)?;
     }
+    Ok(())
+}
 
-    // A section's parts put together, where its result and its `return` agree.
-    fn section_with(
-        &self,
-        s: &written::Section,
-        locals: Vec<tree::Local>,
-        body: Body,
-    ) -> Judged<Section>
-        ensures { IfOk result (λ r. option_map core_section r ≡ section_with (scope self.now).decls (section_view s.now) (core.core_locals locals.items) (core.core_stmts body.stmts.items) (section_view s.now).result (option_map core.core_return body.result)) }
-    {
-        let result_type = match (&s.result, &body.result) {
-            (None, None) => None,
-            (Some(t), Some(_)) => match self.type_outside(t) {
-                Some(t) => Some(t),
-                None => {
-                    drop(locals);
-                    drop(body);
-                    return Ok(None);
-                }
-            },
-            _ => {
+/// A section's parts put together, where its result and its `return` agree.
+fn section_with(
+    checker: &Checker,
+    s: &written::Section,
+    locals: Vec<tree::Local>,
+    body: Body,
+) -> Judged<Section>
+    ensures { IfOk result (λ r. option_map core_section r ≡ section_from (scope checker.now).decls (section_view s.now) locals body) }
+{
+    let result_type = match (&s.result, &body.result) {
+        (None, None) => None,
+        (Some(t), Some(_)) => match checker.type_outside(t) {
+            Some(t) => Some(t),
+            None => {
                 drop(locals);
                 drop(body);
                 return Ok(None);
             }
-        };
-        let Ok(name) = String::from_str(self.alloc(), s.name.text.as_str()) else {
+        },
+        _ => {
             drop(locals);
             drop(body);
-            return Err(AllocError);
-        };
-        Ok(Some(Section {
-            name,
-            parameters: s.params.len(),
-            locals,
-            result_type,
-            body: body.stmts,
-            result: body.result,
-        }))
-    }
-
-    // A section's parts put together, if none is missing.
-    fn section_of(
-        &self,
-        s: &written::Section,
-        locals: Option<Vec<tree::Local>>,
-        body: Option<Body>,
-    ) -> Judged<Section>
-        ensures { IfOk result (λ r. option_map core_section r ≡ section_of (scope self.now).decls (section_view s.now) (option_map (λ ls. core.core_locals ls.items) locals) (option_map body_of body)) }
-    {
-        let Some((locals, body)) = locals.zip(body) else {
             return Ok(None);
-        };
-        self.section_with(s, locals, body)
-    }
+        }
+    };
+    let Ok(name) = String::from_str(checker.alloc(), s.name.text.as_str()) else {
+        drop(locals);
+        drop(body);
+        return Err(AllocError);
+    };
+    Ok(Some(Section {
+        name,
+        parameters: s.params.len(),
+        locals,
+        result_type,
+        body: body.stmts,
+        result: body.result,
+    }))
+}
+
+/// A section's parts put together, if none is missing.
+fn section_of(
+    checker: &Checker,
+    s: &written::Section,
+    locals: Option<Vec<tree::Local>>,
+    body: Option<Body>,
+) -> Judged<Section>
+    ensures { IfOk result (λ r. option_map core_section r ≡ section_if (scope checker.now).decls (section_view s.now) locals body) }
+{
+    let Some((locals, body)) = locals.zip(body) else {
+        return Ok(None);
+    };
+    section_with(checker, s, locals, body)
 }
 
 /// The section that a tree stands for: each name replaced by the number of what it means, every expression typed.
@@ -182,11 +185,11 @@ pub fn judge_section(
 {
     let result = result_type(symbols, s, least);
     let mut checker = Checker::new(alloc, symbols, result);
-    let Ok(()) = checker.params(&s.params, least) else {
+    let Ok(()) = judge_params(&mut checker, &s.params, least) else {
         drop(checker);
         return Err(AllocError);
     };
-    let Ok(body) = checker.body(&s.body.stmts, least) else {
+    let Ok(body) = judge_body(&mut checker, &s.body.stmts, least) else {
         drop(checker);
         return Err(AllocError);
     };
@@ -195,7 +198,7 @@ pub fn judge_section(
         drop(body);
         return Err(AllocError);
     };
-    let section = checker.section_of(s, locals, body);
+    let section = section_of(&checker, s, locals, body);
     drop(checker);
     section
 }

@@ -1,23 +1,22 @@
 //! Statements.
 
 ghost use Rattle.std.specs.Prelude.{◌≡◌, OnOk, IfOk, Some, None, map, option_map};
-ghost use Rattle.syntax.specs.Trees.{assign, while};
+ghost use Rattle.syntax.specs.Trees.{assign};
+ghost use Rattle.syntax.specs.Rows.{while_of};
 ghost use Rattle.syntax.specs.Views.{expr_of, place_of, stmt_of, if_of, stmts_of, local_of, else_of};
-ghost use Rattle.resolution.specs.CoreViews.{core_expr, core_condition, core_stmt, core_stmts, core_action};
-ghost use Rattle.resolution.specs.Scopes.{bound, left, type_of};
-ghost use Rattle.resolution.specs.Statements.{does, acts, local_bound, binds, assigns, prints, returns, repeats, chooses, chooses_between, block_of, after, after_else, after_all, typed_stmt, typed_if, typed_body};
+ghost use Rattle.resolution.specs.CoreViews.{core_expr, core_stmt, core_action};
+ghost use Rattle.resolution.specs.Statements.{does, acts, local_bound, binds, assigns, prints, returns, repeats, chooses, chooses_between, block_of, after, after_else, after_all, typed_stmt, typed_body};
 ghost use Rattle.source.specs.Mistakes.{least_of};
 ghost use Rattle.resolution.specs.FaultLists.{binding_faults, stmt_faults, else_faults, stmts_faults};
-ghost use Rattle.sections.specs.Checkers.{scope};
-ghost use Rattle.sections.specs.Targets.{assignee_of, part_of, body_of, row_of, pushed_to, body_pushed};
+ghost use Rattle.expressions.specs.Checkers.{scope};
+ghost use Rattle.sections.specs.Targets.{assignee_of, part_of, body_of, test_seen, block_seen, choice_with, behind_local, behind_block, row_of, pushed_to, body_pushed};
 
-use crate::checker::{Checker, Judged, Least};
-use crate::expr::first_name;
-use crate::target::{Assignee, Target, wanted_by};
-use crate::wanted::want;
+use crate::target::{Assignee, Target, first_name, judge_target, wanted_by};
 use core_lang::tree::{Action, Condition, Expr, LocalKind, Return, Stmt};
 use core_lang::value::ValueType;
-use source::span::Span;
+use expressions::checker::Checker;
+use resolved_expressions::judged::{Judged, Least};
+use resolved_expressions::wanted::want;
 use std::alloc::AllocError;
 use syntax::tree;
 use syntax::tree::Place;
@@ -119,7 +118,7 @@ fn give(start: usize, value: Option<Expr>) -> Option<Part>
 
 /// A loop.
 fn repeat(start: usize, condition: Option<Condition>, body: Option<Vec<Stmt>>) -> Option<Part>
-    ensures { option_map part_of result ≡ repeats start (option_map core_condition condition) (option_map (λ b. core_stmts b.items) body) }
+    ensures { option_map part_of result ≡ repeats start (test_seen condition) (block_seen body) }
 {
     let Some((condition, body)) = condition.zip(body) else {
         return None;
@@ -129,7 +128,7 @@ fn repeat(start: usize, condition: Option<Condition>, body: Option<Vec<Stmt>>) -
 
 /// A choice without an `else`.
 fn choose(start: usize, condition: Option<Condition>, block: Option<Vec<Stmt>>) -> Option<Part>
-    ensures { option_map part_of result ≡ chooses start (option_map core_condition condition) (option_map (λ b. core_stmts b.items) block) }
+    ensures { option_map part_of result ≡ chooses start (test_seen condition) (block_seen block) }
 {
     let Some((condition, block)) = condition.zip(block) else {
         return None;
@@ -144,7 +143,7 @@ fn choose_between(
     block: Option<Vec<Stmt>>,
     otherwise: Option<Vec<Stmt>>,
 ) -> Option<Part>
-    ensures { option_map part_of result ≡ chooses_between start (option_map core_condition condition) (option_map (λ b. core_stmts b.items) block) (option_map (λ b. core_stmts b.items) otherwise) }
+    ensures { option_map part_of result ≡ chooses_between start (test_seen condition) (block_seen block) (block_seen otherwise) }
 {
     let Some((condition, (block, otherwise))) = condition.zip(block.zip(otherwise)) else {
         return None;
@@ -159,7 +158,7 @@ fn choose_between(
 
 /// The statements of a block, in which no `return` stands.
 fn block_of(body: Option<Body>) -> Option<Vec<Stmt>>
-    ensures { option_map (λ b. core_stmts b.items) result ≡ block_of (option_map body_of body) }
+    ensures { block_seen result ≡ block_of (option_map body_of body) }
 {
     match body {
         Some(
@@ -224,178 +223,169 @@ fn with_part(body: Option<Body>, part: Option<Part>) -> Judged<Body>
     followed_by(body, part)
 }
 
-impl<'a> Checker<'a> {
-    // A `let` or `var`.
-    fn let_or_var(
-        &mut self,
-        kind: LocalKind,
-        local: &tree::Local,
-        least: &mut Least,
-    ) -> Judged<Part>
-        ensures value { IfOk result (λ r. option_map part_of r ≡ local_bound (scope self.old) (local_of local.now)) }
-        ensures faults { OnOk result (least.new ≡ least_of least.old (binding_faults (scope self.old) (local_of local.now))) }
-        ensures scope { OnOk result (scope self.new ≡ bound (scope self.old) kind (local_of local.now).name (type_of (scope self.old) (local_of local.now).value_type)) }
-    {
-        self.note_name(&local.name, least);
-        let t = self.local_type(&local.value_type, least);
-        let value = self.value(want(t), &local.value, least)?;
-        let number = self.next();
-        let Ok(()) = self.bind(&local.name, kind, t) else {
-            drop(value);
-            return Err(AllocError);
-        };
-        Ok(bind(local.start.start as usize, number, t, value))
-    }
+/// A `let` or `var`.
+fn judge_local(
+    checker: &mut Checker,
+    kind: LocalKind,
+    local: &tree::Local,
+    least: &mut Least,
+) -> Judged<Part>
+    ensures value { IfOk result (λ r. option_map part_of r ≡ local_bound (scope checker.old) (local_of local.now)) }
+    ensures faults { OnOk result (least.new ≡ least_of least.old (binding_faults (scope checker.old) (local_of local.now))) }
+    ensures scope { OnOk result (scope checker.new ≡ behind_local (scope checker.old) kind (local_of local.now)) }
+{
+    checker.note_name(&local.name, least);
+    let t = checker.local_type(&local.value_type, least);
+    let value = checker.value(want(t), &local.value, least)?;
+    let number = checker.next();
+    let Ok(()) = checker.bind(&local.name, kind, t) else {
+        drop(value);
+        return Err(AllocError);
+    };
+    Ok(bind(local.start.start as usize, number, t, value))
+}
 
-    // An assignment, resolved, if its place and its value have types that fit.
-    fn assignment(&self, place: &Place, e: &tree::Expr, least: &mut Least) -> Judged<Part>
-        ensures value { IfOk result (λ r. option_map part_of r ≡ typed_stmt (scope self.now) (assign (place_of place.now) (expr_of e.now))) }
-        ensures faults { OnOk result (least.new ≡ least_of least.old (stmt_faults (scope self.now) (assign (place_of place.now) (expr_of e.now)))) }
-    {
-        let assignee = self.target(place, least)?;
-        let Ok(value) = self.value(wanted_by(&assignee), e, least) else {
-            drop(assignee);
-            return Err(AllocError);
-        };
-        Ok(assign(first_name(place).start as usize, assignee, value))
-    }
+/// An assignment, resolved, if its place and its value have types that fit.
+fn judge_assignment(checker: &Checker, p: &Place, e: &tree::Expr, least: &mut Least) -> Judged<Part>
+    ensures value { IfOk result (λ r. option_map part_of r ≡ typed_stmt (scope checker.now) (assign (place_of p.now) (expr_of e.now))) }
+    ensures faults { OnOk result (least.new ≡ least_of least.old (stmt_faults (scope checker.now) (assign (place_of p.now) (expr_of e.now)))) }
+{
+    let assignee = judge_target(checker, p, least)?;
+    let Ok(value) = checker.value(wanted_by(&assignee), e, least) else {
+        drop(assignee);
+        return Err(AllocError);
+    };
+    Ok(assign(first_name(p).start as usize, assignee, value))
+}
 
-    // A statement, resolved, if everything in it has a type.
-    #[cycle(stmts)]
-    fn stmt(&mut self, s: &tree::Stmt, least: &mut Least) -> Judged<Part>
-        ensures value { IfOk result (λ r. option_map part_of r ≡ typed_stmt (scope self.old) (stmt_of s.now)) }
-        ensures faults { OnOk result (least.new ≡ least_of least.old (stmt_faults (scope self.old) (stmt_of s.now))) }
-        ensures scope { OnOk result (scope self.new ≡ after (scope self.old) (stmt_of s.now)) }
-    {
-        match s {
-            tree::Stmt::Let(local) => self.let_or_var(LocalKind::Let, local, least),
-            tree::Stmt::Var(local) => self.let_or_var(LocalKind::Var, local, least),
-            tree::Stmt::Assign(place, e) => self.assignment(place, e, least),
-            tree::Stmt::If(choice) => self.choice(choice, least),
-            tree::Stmt::While(repetition) => self.repetition(
-                repetition.start,
-                &repetition.block,
-                &repetition.condition,
-                least,
-            ),
-            tree::Stmt::Print(start, e) => {
-                let value = self.number(e, least)?;
-                Ok(print(start.start as usize, value))
-            }
-            tree::Stmt::Return(start, e) => {
-                let value = self.value(want(self.result()), e, least)?;
-                Ok(give(start.start as usize, value))
-            }
+/// A statement, resolved, if everything in it has a type.
+#[cycle(stmts)]
+fn judge_stmt(checker: &mut Checker, s: &tree::Stmt, least: &mut Least) -> Judged<Part>
+    ensures value { IfOk result (λ r. option_map part_of r ≡ typed_stmt (scope checker.old) (stmt_of s.now)) }
+    ensures faults { OnOk result (least.new ≡ least_of least.old (stmt_faults (scope checker.old) (stmt_of s.now))) }
+    ensures scope { OnOk result (scope checker.new ≡ after (scope checker.old) (stmt_of s.now)) }
+{
+    match s {
+        tree::Stmt::Let(local) => judge_local(checker, LocalKind::Let, local, least),
+        tree::Stmt::Var(local) => judge_local(checker, LocalKind::Var, local, least),
+        tree::Stmt::Assign(place, e) => judge_assignment(checker, place, e, least),
+        tree::Stmt::If(choice) => judge_choice(checker, choice, least),
+        tree::Stmt::While(repetition) => judge_repetition(checker, repetition, least),
+        tree::Stmt::Print(start, e) => {
+            let value = checker.number(e, least)?;
+            Ok(print(start.start as usize, value))
+        }
+        tree::Stmt::Return(start, e) => {
+            let value = checker.value(want(checker.result()), e, least)?;
+            Ok(give(start.start as usize, value))
         }
     }
+}
 
-    // A loop, resolved, if its condition and everything in its block have types. The block comes ahead
-    // of the condition, since the recursion goes down the first tree that is passed.
-    #[cycle(stmts)]
-    fn repetition(
-        &mut self,
-        start: Span,
-        block: &tree::Block,
-        test: &tree::Expr,
-        least: &mut Least,
-    ) -> Judged<Part>
-        ensures value { IfOk result (λ r. option_map part_of r ≡ typed_stmt (scope self.old) (while start (expr_of test.now) (stmts_of block.now.stmts.items) block.now.close)) }
-        ensures faults { OnOk result (least.new ≡ least_of least.old (stmt_faults (scope self.old) (while start (expr_of test.now) (stmts_of block.now.stmts.items) block.now.close))) }
-        ensures scope { OnOk result (scope self.new ≡ after (scope self.old) (while start (expr_of test.now) (stmts_of block.now.stmts.items) block.now.close)) }
-    {
-        let condition = self.test(test, least)?;
-        let Ok(body) = self.block(block, least) else {
-            drop(condition);
-            return Err(AllocError);
-        };
-        Ok(repeat(start.start as usize, condition, body))
-    }
+/// A loop, resolved, if its condition and everything in its block have types.
+#[cycle(stmts)]
+fn judge_repetition(
+    checker: &mut Checker,
+    repetition: &tree::While,
+    least: &mut Least,
+) -> Judged<Part>
+    ensures value { IfOk result (λ r. option_map part_of r ≡ typed_stmt (scope checker.old) (while_of repetition.now)) }
+    ensures faults { OnOk result (least.new ≡ least_of least.old (stmt_faults (scope checker.old) (while_of repetition.now))) }
+    ensures scope { OnOk result (scope checker.new ≡ after (scope checker.old) (while_of repetition.now)) }
+{
+    let condition = checker.test(&repetition.condition, least)?;
+    let Ok(body) = judge_block(checker, &repetition.block, least) else {
+        drop(condition);
+        return Err(AllocError);
+    };
+    Ok(repeat(repetition.start.start as usize, condition, body))
+}
 
-    // A choice, resolved, if its condition and everything in its blocks have types.
-    #[cycle(stmts)]
-    fn choice(&mut self, choice: &tree::If, least: &mut Least) -> Judged<Part>
-        ensures value { IfOk result (λ r. option_map part_of r ≡ typed_stmt (scope self.old) (if_of choice.now)) }
-        ensures faults { OnOk result (least.new ≡ least_of least.old (stmt_faults (scope self.old) (if_of choice.now))) }
-        ensures scope { OnOk result (scope self.new ≡ after (scope self.old) (if_of choice.now)) }
-    {
-        let condition = self.test(&choice.condition, least)?;
-        let Ok(block) = self.block(&choice.block, least) else {
-            drop(condition);
-            return Err(AllocError);
-        };
-        let start = choice.start.start as usize;
-        self.otherwise(
-            &choice.otherwise,
-            Choice {
-                start,
-                condition,
-                block,
-            },
-            least,
-        )
-    }
-
-    // A choice with what stands behind `else`.
-    #[cycle(stmts)]
-    #[tactic(auto, using(source::specs::Leasts::least_append))]
-    fn otherwise(
-        &mut self,
-        other: &Option<tree::Block>,
-        choice: Choice,
-        least: &mut Least,
-    ) -> Judged<Part>
-        ensures value { IfOk result (λ r. option_map part_of r ≡ typed_if (scope self.old) choice.start (option_map core_condition choice.condition) (option_map (λ b. core_stmts b.items) choice.block) (else_of other.now)) }
-        ensures faults { OnOk result (least.new ≡ least_of least.old (else_faults (scope self.old) (else_of other.now))) }
-        ensures scope { OnOk result (scope self.new ≡ after_else (scope self.old) (else_of other.now)) }
-    {
-        let Choice {
+/// A choice, resolved, if its condition and everything in its blocks have types.
+#[cycle(stmts)]
+fn judge_choice(checker: &mut Checker, choice: &tree::If, least: &mut Least) -> Judged<Part>
+    ensures value { IfOk result (λ r. option_map part_of r ≡ typed_stmt (scope checker.old) (if_of choice.now)) }
+    ensures faults { OnOk result (least.new ≡ least_of least.old (stmt_faults (scope checker.old) (if_of choice.now))) }
+    ensures scope { OnOk result (scope checker.new ≡ after (scope checker.old) (if_of choice.now)) }
+{
+    let condition = checker.test(&choice.condition, least)?;
+    let Ok(block) = judge_block(checker, &choice.block, least) else {
+        drop(condition);
+        return Err(AllocError);
+    };
+    let start = choice.start.start as usize;
+    judge_otherwise(
+        checker,
+        &choice.otherwise,
+        Choice {
             start,
             condition,
             block,
-        } = choice;
-        let Some(other) = other else {
-            return Ok(choose(start, condition, block));
-        };
-        let Ok(otherwise) = self.block(other, least) else {
-            drop(condition);
-            drop(block);
+        },
+        least,
+    )
+}
+
+/// A choice with what stands behind `else`.
+#[cycle(stmts)]
+#[tactic(auto, using(source::specs::Leasts::least_append))]
+fn judge_otherwise(
+    checker: &mut Checker,
+    other: &Option<tree::Block>,
+    choice: Choice,
+    least: &mut Least,
+) -> Judged<Part>
+    ensures value { IfOk result (λ r. option_map part_of r ≡ choice_with (scope checker.old) choice (else_of other.now)) }
+    ensures faults { OnOk result (least.new ≡ least_of least.old (else_faults (scope checker.old) (else_of other.now))) }
+    ensures scope { OnOk result (scope checker.new ≡ after_else (scope checker.old) (else_of other.now)) }
+{
+    let Choice {
+        start,
+        condition,
+        block,
+    } = choice;
+    let Some(other) = other else {
+        return Ok(choose(start, condition, block));
+    };
+    let Ok(otherwise) = judge_block(checker, other, least) else {
+        drop(condition);
+        drop(block);
+        return Err(AllocError);
+    };
+    Ok(choose_between(start, condition, block, otherwise))
+}
+
+/// A block, resolved, if everything in it has a type and no `return` stands in it. Its locals are
+/// out of scope behind it.
+#[cycle(stmts)]
+fn judge_block(checker: &mut Checker, block: &tree::Block, least: &mut Least) -> Judged<Vec<Stmt>>
+    ensures value { IfOk result (λ r. block_seen r ≡ block_of (typed_body (scope checker.old) (stmts_of block.now.stmts.items))) }
+    ensures faults { OnOk result (least.new ≡ least_of least.old (stmts_faults (scope checker.old) (stmts_of block.now.stmts.items))) }
+    ensures scope { OnOk result (scope checker.new ≡ behind_block (scope checker.old) (stmts_of block.now.stmts.items)) }
+{
+    let ahead = checker.next();
+    let body = judge_body(checker, &block.stmts, least)?;
+    checker.hide_from(ahead);
+    Ok(block_of(body))
+}
+
+/// Statements, one after another.
+#[cycle(stmts)]
+pub fn judge_body(checker: &mut Checker, stmts: &[tree::Stmt], least: &mut Least) -> Judged<Body>
+    ensures value { IfOk result (λ r. option_map body_of r ≡ typed_body (scope checker.old) (stmts_of stmts.now)) }
+    ensures faults { OnOk result (least.new ≡ least_of least.old (stmts_faults (scope checker.old) (stmts_of stmts.now))) }
+    ensures scope { OnOk result (scope checker.new ≡ after_all (scope checker.old) (stmts_of stmts.now)) }
+{
+    let mut body = Some(Body {
+        stmts: Vec::with_capacity(checker.alloc(), stmts.len())?,
+        result: None,
+    });
+    for s in stmts {
+        let Ok(part) = judge_stmt(checker, s, least) else {
+            drop(body);
             return Err(AllocError);
         };
-        Ok(choose_between(start, condition, block, otherwise))
+        body = with_part(body, part)?;
     }
-
-    // A block, resolved, if everything in it has a type and no `return` stands in it. Its locals are
-    // out of scope behind it.
-    #[cycle(stmts)]
-    fn block(&mut self, block: &tree::Block, least: &mut Least) -> Judged<Vec<Stmt>>
-        ensures value { IfOk result (λ r. option_map (λ b. core_stmts b.items) r ≡ block_of (typed_body (scope self.old) (stmts_of block.now.stmts.items))) }
-        ensures faults { OnOk result (least.new ≡ least_of least.old (stmts_faults (scope self.old) (stmts_of block.now.stmts.items))) }
-        ensures scope { OnOk result (scope self.new ≡ left (scope self.old) (after_all (scope self.old) (stmts_of block.now.stmts.items))) }
-    {
-        let ahead = self.next();
-        let body = self.body(&block.stmts, least)?;
-        self.hide_from(ahead);
-        Ok(block_of(body))
-    }
-
-    /// Statements, one after another.
-    #[cycle(stmts)]
-    pub fn body(&mut self, stmts: &[tree::Stmt], least: &mut Least) -> Judged<Body>
-        ensures value { IfOk result (λ r. option_map body_of r ≡ typed_body (scope self.old) (stmts_of stmts.now)) }
-        ensures faults { OnOk result (least.new ≡ least_of least.old (stmts_faults (scope self.old) (stmts_of stmts.now))) }
-        ensures scope { OnOk result (scope self.new ≡ after_all (scope self.old) (stmts_of stmts.now)) }
-    {
-        let mut body = Some(Body {
-            stmts: Vec::with_capacity(self.alloc(), stmts.len())?,
-            result: None,
-        });
-        for s in stmts {
-            let Ok(part) = self.stmt(s, least) else {
-                drop(body);
-                return Err(AllocError);
-            };
-            body = with_part(body, part)?;
-        }
-        Ok(body)
-    }
+    Ok(body)
 }

@@ -1,28 +1,28 @@
 //! The left sides of assignments.
 
-ghost use Rattle.std.specs.Prelude.{◌≡◌, ◌++◌, OnOk, IfOk, option_map, Some};
-ghost use Rattle.syntax.specs.Views.{element_of, path_of, place_of};
+ghost use Rattle.std.specs.Prelude.{◌≡◌, OnOk, IfOk, option_map, Some};
+ghost use Rattle.syntax.specs.Views.{ident, element_of, path_of, place_of};
 ghost use Rattle.resolution.specs.CoreViews.{core_expr};
-ghost use Rattle.resolution.specs.Statements.{assignee, assignee_at, assignee_along, target_of, wanted_by};
+ghost use Rattle.resolution.specs.Statements.{first_name, assignee, assignee_at, assignee_along, target_of, wanted_by};
 ghost use Rattle.source.specs.Mistakes.{least_of};
-ghost use Rattle.resolution.specs.FaultLists.{no_target, no_elements, no_array, final_faults, target_faults};
+ghost use Rattle.resolution.specs.FaultLists.{no_target, final_faults, target_faults};
 ghost use Rattle.symbols.specs.{meaning_of};
-ghost use Rattle.sections.specs.Checkers.{scope};
-ghost use Rattle.sections.specs.Indexing.{indexed_by, assigned_at};
-ghost use Rattle.sections.specs.ResolvedExprs.{walk_of};
-ghost use Rattle.sections.specs.Targets.{target_seen, assignee_of};
+ghost use Rattle.expressions.specs.Checkers.{scope};
+ghost use Rattle.expressions.specs.Indexing.{indexed_by};
+ghost use Rattle.expressions.specs.Walks.{walk_of};
+ghost use Rattle.sections.specs.Targets.{target_seen, assignee_of, assigned_at, element_faults};
 
-use crate::checker::{Checker, Judged, Least, faulty};
-use crate::place::{Indexed, Walk, local_path};
 use core_lang::tree::{Expr, FieldStep, LocalKind, Path};
 use core_lang::value::ValueType;
+use expressions::checker::Checker;
+use expressions::place::{Indexed, Walk, local_path};
 use resolution::wanted::Want;
+use resolved_expressions::judged::{Judged, Least, faulty};
 use source::fault::Code;
 use source::mistake::note;
-use std::alloc::AllocError;
 use symbols::scope::Meaning;
 use syntax::tree;
-use syntax::tree::{Decl, Element, Place};
+use syntax::tree::{Decl, Element, Name, Place};
 
 /// What is assigned to.
 #[derive(Drop)]
@@ -44,6 +44,17 @@ pub struct Assignee {
     pub target: Target,
     /// Which values it takes.
     pub value_type: ValueType,
+}
+
+/// The name with which a place begins.
+pub fn first_name(p: &Place) -> &Name
+    ensures { ident result.now ≡ first_name (place_of p.now) }
+{
+    match p {
+        Place::Name(name) => name,
+        Place::Element(element) => &element.name,
+        Place::Path(path) => &path.first,
+    }
 }
 
 /// What is assigned to, if its type has no fault.
@@ -107,74 +118,72 @@ pub fn wanted_by(a: &Option<Assignee>) -> Want
     }
 }
 
-impl<'a> Checker<'a> {
-    // A name on the left.
-    fn assignee_at(&self, start: usize, m: Meaning, least: &mut Least) -> Option<Assignee>
-        ensures value { option_map assignee_of result ≡ assignee_at (scope self.now).decls (meaning_of m.entry) }
-        ensures faults { least.new ≡ least_of least.old (no_target (scope self.now).decls start (meaning_of m.entry)) }
-    {
-        match m {
-            Meaning::Local(i, local) => match local.kind {
-                LocalKind::Var => assignee_of_type(Target::Local(i), local.value_type),
-                LocalKind::Let | LocalKind::Parameter => {
-                    self.misplaced(Code::NotAssignable, start, m, least)
-                }
-            },
-            Meaning::Decl(place, Decl::Global(v)) => assignee_of_type(
-                Target::Global(self.cell(place)),
-                self.type_outside(&v.value_type),
-            ),
-            Meaning::Decl(_, Decl::Lock(_)) => faulty(Code::LockAsValue, start, least),
-            _ => self.misplaced(Code::NotAssignable, start, m, least),
-        }
-    }
-
-    // What takes an index on the left: no member of a pool can be assigned to.
-    #[tactic(auto, using(source::specs::Leasts::least_append))]
-    fn array_at(&self, start: usize, m: Meaning, least: &mut Least) -> Option<Indexed>
-        ensures value { result ≡ indexed_by (scope self.now).decls (meaning_of m.entry) }
-        ensures faults { least.new ≡ least_of least.old (no_elements (scope self.now).decls start (meaning_of m.entry) ++ no_array (scope self.now).decls start (meaning_of m.entry)) }
-    {
-        let indexed = self.indexed(start, m, least);
-        if let Some(Indexed::Pool(_, _)) = indexed {
-            note(least, Code::NotAssignable, start);
-        }
-        indexed
-    }
-
-    // An element on the left, with the faults of its index.
-    fn element_target(&self, element: &Element, least: &mut Least) -> Judged<Assignee>
-        ensures value { IfOk result (λ r. option_map assignee_of r ≡ target_of (scope self.now) (element_of element.now)) }
-        ensures faults { OnOk result (least.new ≡ least_of least.old (target_faults (scope self.now) (element_of element.now))) }
-    {
-        let start = element.name.start as usize;
-        let array = self.array_at(start, self.meaning(&element.name), least);
-        let index = self.number(&element.index, least)?;
-        Ok(assigned_at(array, index))
-    }
-
-    // A path on the left.
-    fn path_target(&self, path: &tree::Path, least: &mut Least) -> Judged<Assignee>
-        ensures value { IfOk result (λ r. option_map assignee_of r ≡ target_of (scope self.now) (path_of path.now)) }
-        ensures faults { OnOk result (least.new ≡ least_of least.old (target_faults (scope self.now) (path_of path.now))) }
-    {
-        let start = path.first.start as usize;
-        let m = self.meaning(&path.first);
-        let w = self.walk(start, m, &path.fields, least)?;
-        Ok(assignee_along(start, m, w, least))
-    }
-
-    /// The left side of an assignment, if it is one.
-    pub fn target(&self, p: &Place, least: &mut Least) -> Judged<Assignee>
-        ensures value { IfOk result (λ r. option_map assignee_of r ≡ target_of (scope self.now) (place_of p.now)) }
-        ensures faults { OnOk result (least.new ≡ least_of least.old (target_faults (scope self.now) (place_of p.now))) }
-    {
-        match p {
-            Place::Name(name) => {
-                Ok(self.assignee_at(name.start as usize, self.meaning(name), least))
+/// A name on the left.
+fn assignee_at(checker: &Checker, start: usize, m: Meaning, least: &mut Least) -> Option<Assignee>
+    ensures value { option_map assignee_of result ≡ assignee_at (scope checker.now).decls (meaning_of m.entry) }
+    ensures faults { least.new ≡ least_of least.old (no_target (scope checker.now).decls start (meaning_of m.entry)) }
+{
+    match m {
+        Meaning::Local(i, local) => match local.kind {
+            LocalKind::Var => assignee_of_type(Target::Local(i), local.value_type),
+            LocalKind::Let | LocalKind::Parameter => {
+                checker.misplaced(Code::NotAssignable, start, m, least)
             }
-            Place::Element(element) => self.element_target(element, least),
-            Place::Path(path) => self.path_target(path, least),
+        },
+        Meaning::Decl(place, Decl::Global(v)) => assignee_of_type(
+            Target::Global(checker.cell(place)),
+            checker.type_outside(&v.value_type),
+        ),
+        Meaning::Decl(_, Decl::Lock(_)) => faulty(Code::LockAsValue, start, least),
+        _ => checker.misplaced(Code::NotAssignable, start, m, least),
+    }
+}
+
+/// What takes an index on the left: no member of a pool can be assigned to.
+#[tactic(auto, using(source::specs::Leasts::least_append))]
+fn array_at(checker: &Checker, start: usize, m: Meaning, least: &mut Least) -> Option<Indexed>
+    ensures value { result ≡ indexed_by (scope checker.now).decls (meaning_of m.entry) }
+    ensures faults { least.new ≡ least_of least.old (element_faults (scope checker.now).decls start (meaning_of m.entry)) }
+{
+    let indexed = checker.indexed(start, m, least);
+    if let Some(Indexed::Pool(_, _)) = indexed {
+        note(least, Code::NotAssignable, start);
+    }
+    indexed
+}
+
+/// An element on the left, with the faults of its index.
+fn element_target(checker: &Checker, element: &Element, least: &mut Least) -> Judged<Assignee>
+    ensures value { IfOk result (λ r. option_map assignee_of r ≡ target_of (scope checker.now) (element_of element.now)) }
+    ensures faults { OnOk result (least.new ≡ least_of least.old (target_faults (scope checker.now) (element_of element.now))) }
+{
+    let start = element.name.start as usize;
+    let array = array_at(checker, start, checker.meaning(&element.name), least);
+    let index = checker.number(&element.index, least)?;
+    Ok(assigned_at(array, index))
+}
+
+/// A path on the left.
+fn path_target(checker: &Checker, path: &tree::Path, least: &mut Least) -> Judged<Assignee>
+    ensures value { IfOk result (λ r. option_map assignee_of r ≡ target_of (scope checker.now) (path_of path.now)) }
+    ensures faults { OnOk result (least.new ≡ least_of least.old (target_faults (scope checker.now) (path_of path.now))) }
+{
+    let start = path.first.start as usize;
+    let m = checker.meaning(&path.first);
+    let w = checker.walk(start, m, &path.fields, least)?;
+    Ok(assignee_along(start, m, w, least))
+}
+
+/// The left side of an assignment, if it is one.
+pub fn judge_target(checker: &Checker, p: &Place, least: &mut Least) -> Judged<Assignee>
+    ensures value { IfOk result (λ r. option_map assignee_of r ≡ target_of (scope checker.now) (place_of p.now)) }
+    ensures faults { OnOk result (least.new ≡ least_of least.old (target_faults (scope checker.now) (place_of p.now))) }
+{
+    match p {
+        Place::Name(name) => {
+            Ok(assignee_at(checker, name.start as usize, checker.meaning(name), least))
         }
+        Place::Element(element) => element_target(checker, element, least),
+        Place::Path(path) => path_target(checker, path, least),
     }
 }

@@ -1,0 +1,11 @@
+pub mod Checkers
+pub mod Misplaced
+pub mod Indexing
+pub mod Walks
+pub mod Operands
+-- what the public clauses cite
+pub use Rattle.resolution.specs.CoreViews.{core_expr, core_condition, core_path}
+pub use Rattle.resolution.specs.Scopes.{meaning, outside, bound, hidden_from, number_at, the_struct, type_of}
+pub use Rattle.resolution.specs.Expressions.{cell_of, typed, fitting, as_value, number_resolved, test_resolved, named_value, local_path, path_value, walk_from}
+pub use Rattle.resolution.specs.FaultLists.{local_faults, type_faults, wanted_faults, no_value, no_elements}
+pub use Rattle.resolved_expressions.specs.ResolvedExprs.{resolved_expr_of}

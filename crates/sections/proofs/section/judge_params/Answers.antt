@@ -1,0 +1,17 @@
+use Rattle.std.proofs.Common.{◌∙◌, ap}
+use Rattle.core_lang.specs.declared.tree.LocalKind.TheVariants.{Parameter}
+use Rattle.syntax.specs.Views.{ident}
+use Rattle.resolution.specs.Scopes.{bound}
+use Rattle.expressions.specs.Checkers.{scope}
+use Rattle.sections.proofs.Blocks.{param_fault_step, param_scope_step}
+use Rattle.sections.proofs.section.judge_params.Goals as goal
+
+pub loop-place-preserved : goal.loop-place-preserved
+loop-place-preserved c =
+    let sc = scope c.loop-place.checker in
+    let sc' = scope c.bind.new.self in
+    let behind = c.in_ok-bind.ensures ∙ ap (bound sc Parameter (ident c.index-params-place.result.name)) c.declared_type-t.ensures.value in
+    record {
+      faults = param_fault_step sc sc' c.args.params.now c.loop-place.place c.index-params-place.result _ _ _ _ _ c.loop-place-test.true c.index-params-place.is c.note_name.ensures c.note_if.ensures c.declared_type-t.ensures.faults behind c.loop-place.invariant.faults;
+      scope = param_scope_step sc sc' _ c.args.params.now c.loop-place.place c.index-params-place.result c.loop-place-test.true c.index-params-place.is behind c.loop-place.invariant.scope;
+    }
