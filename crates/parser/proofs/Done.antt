@@ -1,16 +1,36 @@
--- Parts that were read one after another, put together.
-use Rattle.std.proofs.Common.{◌≡◌, ◌-◌, ◌<◌, ℕ, List, Option, Ok, refl}
+-- Parts of declarations that were read one after another, put together.
+use Rattle.std.proofs.Common.{◌≡◌, ℕ, zero, suc, ◌-◌, ◌<◌, List, refl, arith, sub-one, Option, Ok}
 use Rattle.source.specs.declared.span.Span.{Span}
+use Rattle.source.specs.Tokens.{Tok, mark}
+use Rattle.token_parts.specs.Reading.{listed_at, sign_at, open_at, word_at, name_at, maybe_at, after_at, int_at}
+use Rattle.token_parts.specs.Parts.{const_at, type_at, index_at, maybe_protection, params_at}
+use Rattle.parser.specs.Declarations.{consts_in, items_with, item_at, items_in, members_with, member_at, members_in, pool_at, init_at, section_at, array_at, variable_at, field_at, final_at, call_at, repeat_with}
 use Rattle.source.specs.declared.token.Keyword.TheVariants as keyword
 use Rattle.source.specs.declared.token.Number.{Number}
-use Rattle.source.specs.declared.token.Sign.TheVariants.{Colon, Dot, Equals, Semicolon, OpenParen, CloseParen}
-use Rattle.source.specs.Tokens.{Tok, mark}
-use Rattle.syntax.specs.Trees.{Ident, ValueType, Const, Protection, Param, Expr, Stmts, pool, init, atomic, array, global, field_member, final_member}
-use Rattle.parser.specs.Reading.{sign_at, open_at, word_at, name_at, type_at, index_at, const_at, listed_at, maybe_at, after_at}
-use Rattle.parser.specs.Bodies.{ended_at, local_at, braced_at}
-use Rattle.parser.specs.Declarations.{maybe_protection, params_at, pool_at, init_at, section_at, array_at, variable_at, field_at, final_at, call_at}
+use Rattle.source.specs.declared.token.Sign.TheVariants.{Colon, Dot, Equals, Semicolon, OpenParen, CloseParen, OpenBrace, CloseBrace}
+use Rattle.syntax.specs.Trees.{Ident, ValueType, Const, Protection, Param, Stmts, pool, init, atomic, array, global, field_member, final_member, Items}
+use Rattle.statement_parser.specs.Statements.{braced_at}
 use Rattle.parser.specs.Rests.{pool_decl, init_decl, section_decl}
-use Rattle.parser.proofs.Rooms.{consts_in_some}
+use Rattle.syntax.specs.Trees as tree
+
+-- ---- behind an opening sign, where one may be opened
+
+pub consts_in_some : (room : ℕ) → 0 < room → consts_in room ≡ listed_at (const_at (room - 1))
+unfolding consts_in
+consts_in_some zero h = absurd (omega arith)
+consts_in_some (suc room) h = rw sub-one refl
+
+pub items_in_some : (room : ℕ) → 0 < room → items_in room ≡ items_with (item_at (room - 1))
+unfolding items_in
+items_in_some zero h = absurd (omega arith)
+items_in_some (suc room) h = rw sub-one refl
+
+pub members_in_some : (room : ℕ) → 0 < room → members_in room ≡ members_with (member_at (room - 1))
+unfolding members_in
+members_in_some zero h = absurd (omega arith)
+members_in_some (suc room) h = rw sub-one refl
+
+-- ---- part by part
 
 module _ (ts : List Tok) where
   module _ {t1 : List Tok} {x : Ident} (first : name_at ts ≡ Ok (x, t1)) where
@@ -27,11 +47,6 @@ module _ (ts : List Tok) where
         section_decl room ts ≡ Ok (atomic (record { name = x; params = ps; result = r; body = record { stmts = b.0; close = b.1 } }), t4)
     unfolding section_at
     section_done room h2 h3 h4 = rw (first, h2, h3, h4) refl
-
-    pub local_done : {t2 t3 t4 t5 : List Tok} {t : ValueType} {e : Expr} {s1 s3 : Span} (room : ℕ) (start : Span) → sign_at Colon t1 ≡ Ok (s1, t2) → type_at t2 ≡ Ok (t, t3) → sign_at Equals t3 ≡ Ok (s3, t4) → ended_at room t4 ≡ Ok (e, t5) →
-        local_at room start ts ≡ Ok (record { start = start; name = x; value_type = t; value = e }, t5)
-    unfolding local_at
-    local_done room start h2 h3 h4 h5 = rw (first, h2, h3, h4, h5) refl
 
     pub call_done : {t2 t3 t4 t5 : List Tok} {cs : List Const} {s1 s3 s4 : Span} (room : ℕ) → open_at OpenParen room t1 ≡ Ok (s1, t2) → 0 < room → listed_at (const_at (room - 1)) t2 ≡ Ok (cs, t3) → sign_at CloseParen t3 ≡ Ok (s3, t4) → sign_at Semicolon t4 ≡ Ok (s4, t5) →
         call_at room ts ≡ Ok (record { section = x; arguments = cs }, t5)
@@ -57,3 +72,7 @@ module _ (ts : List Tok) where
       final_at ts ≡ Ok (final_member (record { name = y; target = x }), t5)
   unfolding final_at
   final_done h1 h2 h3 h4 h5 = rw (h1, h2, h3, h4, h5) refl
+
+pub repeat_done : (room : ℕ) (ts t1 t2 t3 t4 t5 : List Tok) (w o c : Span) (n : Number) (is : Items) → word_at keyword.Repeat ts ≡ Ok (w, t1) → int_at t1 ≡ Ok (n, t2) → open_at OpenBrace room t2 ≡ Ok (o, t3) → 0 < room → items_with (item_at (room - 1)) t3 ≡ Ok (is, t4) → sign_at CloseBrace t4 ≡ Ok (c, t5) → repeat_with room (items_in room) ts ≡ Ok (tree.repeat n is, t5)
+unfolding repeat_with
+repeat_done room ts t1 t2 t3 t4 t5 w o c n is h1 h2 h3 some h4 h5 = rw (h1, h2, h3, items_in_some room some, h4, h5) refl

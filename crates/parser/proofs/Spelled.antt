@@ -1,224 +1,30 @@
--- What has a tree is read, unless a sign is too deep: statements, declarations and programs.
-use Rattle.std.proofs.Common.{◌≡◌, ℕ, zero, suc, true, false, List, [], ◌∷◌, length, Option, Ok, refl, sym, subst}
+-- What has a tree is read, unless a sign is too deep: declarations and programs.
+use Rattle.std.proofs.Common.{◌≡◌, ℕ, zero, suc, List, [], ◌∷◌, length, Option, Ok, refl, sym, subst}
 use Rattle.source.specs.declared.span.Span.{Span}
 use Rattle.source.specs.declared.token.Keyword.TheVariants as keyword
-use Rattle.source.specs.declared.token.Sign.{Sign}
-use Rattle.source.specs.declared.token.Sign.TheVariants.{OpenBrace, CloseBrace, OpenParen, CloseParen, OpenBracket, CloseBracket, Semicolon, Colon, Dot, Equals}
-use Rattle.source.specs.Tokens.{Lexeme, name, word, mark, end, Tok}
-use Rattle.source.specs.Tokens as lexeme
+use Rattle.source.specs.declared.token.Sign.TheVariants.{OpenBrace, CloseBrace, OpenParen, CloseParen, OpenBracket, Semicolon, Colon, Dot, Equals}
+use Rattle.source.specs.Tokens.{word, mark, end, Tok}
 use Rattle.source.specs.declared.token.Number.{Number}
 use Rattle.syntax.specs.Trees as tree
-use Rattle.syntax.specs.Trees.{Ident, ValueType, Const, member_const, Place, lone, Expr, Local, Stmt, let_local, var_local, assign, if_then, while, print, return_value, Stmts, no_stmts, stmt, Otherwise, no_else, else_do, Protection, Member, lock_member, final_member, field_member, Param, Section, Items, no_items, Decl, lock, struct, global, array, pool, init, atomic, thread}
-use Rattle.syntax.specs.Grammar.{tok, name_tok, int_tok, ANY, IsOptional, left_out, given, AreMany, no_more, one_more, IsAfter, after, AreListed, IsName, is_name, IsType, is_int_type, is_ref_type, IsConst, is_int_const, is_negative, is_null_const, is_member_const, IsPlace, is_lone, is_element, is_path, IsExpr, IsLocal, is_local, IsStmt, is_let, is_var, is_assign, is_if, is_while, is_print, is_return, IsStmts, are_no_stmts, are_stmts, IsBraced, is_braced, IsElse, is_no_else, is_else, is_block, IsIndex, is_index, IsProtection, is_protection, is_variable, is_array, is_final, is_field, IsMember, is_lock_member, is_final_member, is_field_member, IsStruct, is_struct, IsPool, is_pool, IsInit, is_init, IsParam, is_param, IsSection, is_section, IsCall, is_call, IsItem, is_call_item, is_repeat, IsItems, are_no_items, are_items, IsThread, is_thread, IsDecl, is_lock, is_struct_decl, is_global, is_array_decl, is_pool_decl, is_init_decl, is_atomic, is_thread_decl, Spells, spells}
-use Rattle.parser.specs.Reading.{◌>>=◌, Reader, same_kind, sign_at, open_at, word_at, name_at, int_at, skip_at, after_at, choose, type_at, index_at, const_at}
-use Rattle.parser.specs.Bodies.{expr_at, inside_at, place_at, ended_at, local_at, assign_at, condition_at, braced_with, some_else, nothing_else, else_with, if_with, while_with, stmt_with, stmt_at, stmts_with, stmts_in, braced_at}
-use Rattle.parser.specs.Declarations.{protection_at, maybe_protection, array_at, variable_at, global_at, param_at, params_at, section_at, consts_in, call_at, call_item, repeat_with, item_with, item_at, items_with, items_in, thread_at, lock_at, field_at, final_at, lock_member_at, member_at, members_with, members_in, struct_at, pool_at, init_at, decl_at, decls_at, end_from, program_at}
-use Rattle.parser.proofs.Law.{IsTok, is_tok, IsInt, is_int_tok}
-use Rattle.parser.proofs.Joined.{Done, done, Both, both}
-use Rattle.parser.proofs.Productions.{IsEnded, ended}
-use Rattle.parser.proofs.Statements.{IsParams, is_params, IsLock, is_lock_name, IsLocalFrom, from_there, IsBracedPair}
-use Rattle.parser.proofs.Shorter.{next_name_shortens, next_const_shortens, next_param_shortens, next_stmt_shortens, next_item_shortens, next_decl_shortens, next_member_shortens}
-use Rattle.parser.proofs.Complete.{NoOps, no_ops_semicolon, no_ops_close, no_place_equals, PlaceFound, place_found, any_found}
-use Rattle.parser.proofs.Finding.{Finds, found, deep, finds_then, FindsPart, Anything, ends_found, then_found, and_found, production_found, sign_found, word_found, open_then, name_found, int_found, NotNext, IsNext, maybe_found, NoSign, each_found, Closes, listed_found, until_none, until_found, choose_left, choose_right}
-
--- ---- types and constants
-
-type_found : FindsPart Anything IsType type_at
-unfolding type_at name_at
-type_found x ts mid is_int_type follow = found refl
-type_found x ts mid is_ref_type follow = found refl
-
-index_back : {y : Number} {ts rest : List Tok} → IsIndex y ts rest → Both (IsTok (mark OpenBracket)) (λ b. Both IsInt (λ n. Both (IsTok (mark CloseBracket)) (λ c. Done n))) y ts rest
-index_back is_index = both is_tok (both is_int_tok (both is_tok done))
-
-index_found : (room : ℕ) → FindsPart Anything IsIndex (index_at room)
-unfolding index_at
-index_found room = production_found IsIndex (open_then OpenBracket room (λ r e. and_found int_found (and_found (sign_found CloseBracket) (ends_found (λ x. x.0.1))))) (λ y ts rest h. index_back h)
-
-const_found : (room : ℕ) → FindsPart Anything IsConst (const_at room)
-unfolding const_at int_at
-const_found room x ts mid is_int_const follow = found refl
-const_found room x ts mid is_negative follow = found refl
-const_found room x ts mid is_null_const follow = found refl
-const_found room _ ts mid (is_member_const {x = x} {n = n} {begin = begin} {close = close}) follow =
-    let us = tok (mark OpenBracket) begin ∷ int_tok n ∷ tok (mark CloseBracket) close ∷ mid in
-    finds_then (index_at room us) (λ n. Ok (member_const x n.0, n.1)) (n, mid) (member_const x n, mid) (index_found room n us mid is_index tt) (found refl)
-
--- ---- statements
-
--- no operator stands before a semicolon
-semicolon_stops : {A : Type 0} {R : Span → A → List Tok → List Tok → Type 0} {y : A} {ts rest : List Tok} → Both (IsTok (mark Semicolon)) R y ts rest → NoOps ANY ts
-semicolon_stops (both {x = at} {mid = ts} is_tok r) = no_ops_semicolon at ts
-
-ended_back : {y : Expr} {ts rest : List Tok} → IsEnded y ts rest → Both (IsExpr ANY) (λ e. Both (IsTok (mark Semicolon)) (λ s. Done e)) y ts rest
-ended_back (ended h) = both h (both is_tok done)
-
-ended_found : (room : ℕ) → FindsPart Anything IsEnded (ended_at room)
-unfolding ended_at
-ended_found room =
-    production_found IsEnded
-    (then_found {F = NoOps ANY} (λ e ts mid h f. any_found h room f) (λ x a y ts rest r f. semicolon_stops r) (and_found (sign_found Semicolon) (ends_found (λ x. x.0.1))))
-    (λ y ts rest h. ended_back h)
-
-local_back : {start : Span} {y : Local} {ts rest : List Tok} → IsLocalFrom start y ts rest → Both IsName (λ x. Both (IsTok (mark Colon)) (λ c. Both IsType (λ t. Both (IsTok (mark Equals)) (λ q. Both IsEnded (λ e. Done (record { start = start; name = x; value_type = t; value = e })))))) y ts rest
-local_back (from_there {l = l} {rest = rest} same (is_local t e)) = both is_name (both is_tok (both t (both is_tok (both (ended e) (subst (λ (s : Span). Done (record { start = s; name = l.name; value_type = l.value_type; value = l.value }) l rest rest) same done)))))
-
-local_found : (room : ℕ) (start : Span) → FindsPart Anything (IsLocalFrom start) (local_at room start)
-unfolding local_at
-local_found room start =
-    production_found (IsLocalFrom start)
-    (and_found name_found (and_found (sign_found Colon) (and_found type_found (and_found (sign_found Equals) (and_found (ended_found room)
-    (ends_found (λ x. record { start = start; name = x.0.0.0.0.1; value_type = x.0.0.1; value = x.1 })))))))
-    (λ y ts rest h. local_back h)
-
-assign_found : (room : ℕ) (x : Ident) (p : Place) (e : Expr) (equals : Span) (ts us rest : List Tok) → Finds (place_at room (inside_at room) x ts) (p, tok (mark Equals) equals ∷ us) → IsEnded e us rest → Finds (assign_at room x ts) (assign p e, rest)
-unfolding assign_at sign_at
-assign_found room x p e equals ts us rest h i =
-    finds_then (place_at room (inside_at room) x ts) (λ p. sign_at Equals p.1 >>= λ q. ended_at room q.1 >>= λ e. Ok (assign p.0 e.0, e.1)) (p, tok (mark Equals) equals ∷ us) (assign p e, rest) h (finds_then (ended_at room us) (λ e. Ok (assign p e.0, e.1)) (e, rest) (assign p e, rest) (ended_found room e us rest i tt) (found refl))
-
-named_found : (room : ℕ) (x : Ident) (s : Stmt) (ts rest : List Tok) → Finds (assign_at room x ts) (s, rest) → Finds (stmt_at room (name_tok x ∷ ts)) (s, rest)
-unfolding stmt_with
-named_found room x s ts rest h = h
-
-place_assign : (room : ℕ) (p : Place) (e : Expr) (equals : Span) (ts us rest : List Tok) → PlaceFound room p ts (tok (mark Equals) equals ∷ us) → IsEnded e us rest → Finds (stmt_at room ts) (assign p e, rest)
-place_assign room p e equals ts us rest h i = subst (λ (vs : List Tok). Finds (stmt_at room vs) (assign p e, rest)) (sym h.parts) (named_found room h.first (assign p e) h.behind rest (assign_found room h.first p e equals h.behind us rest h.finds i))
-
-condition_found : (room : ℕ) (e : Expr) (before behind : Span) (ts rest : List Tok) → IsExpr ANY e ts (tok (mark CloseParen) behind ∷ rest) → Finds (condition_at room (tok (mark OpenParen) before ∷ ts)) (e, rest)
-unfolding condition_at open_at inside_at sign_at
-condition_found zero e before behind ts rest h = deep (suc (length ts)) refl
-condition_found (suc room) e before behind ts rest h = finds_then (expr_at room ts) (λ e. sign_at CloseParen e.1 >>= λ c. Ok (e.0, c.1)) (e, tok (mark CloseParen) behind ∷ rest) (e, rest) (any_found h room (no_ops_close behind rest)) (found refl)
-
-while_found : (room : ℕ) (start before : Span) (e : Expr) (body : Stmts) (close : Span) (ts mid rest : List Tok) → Finds (condition_at room (tok (mark OpenParen) before ∷ ts)) (e, mid) → Finds (braced_at room mid) ((body, close), rest) → Finds (stmt_at room (tok (word keyword.While) start ∷ tok (mark OpenParen) before ∷ ts)) (while start e body close, rest)
-unfolding stmt_with while_with
-while_found room start before e body close ts mid rest h g =
-    finds_then (condition_at room (tok (mark OpenParen) before ∷ ts)) (λ e. braced_at room e.1 >>= λ b. Ok (while start e.0 b.0.0 b.0.1, b.1)) (e, mid) (while start e body close, rest) h (finds_then (braced_at room mid) (λ b. Ok (while start e b.0.0 b.0.1, b.1)) ((body, close), rest) (while start e body close, rest) g (found refl))
-
-if_found : (room : ℕ) (start before : Span) (e : Expr) (body : Stmts) (close : Span) (other : Otherwise) (ts mid next rest : List Tok) → Finds (condition_at room (tok (mark OpenParen) before ∷ ts)) (e, mid) → Finds (braced_at room mid) ((body, close), next) → Finds (else_with room (stmts_in room) next) (other, rest) → Finds (stmt_at room (tok (word keyword.If) start ∷ tok (mark OpenParen) before ∷ ts)) (if_then start e body close other, rest)
-unfolding stmt_with if_with
-if_found room start before e body close other ts mid next rest h g k =
-    finds_then (condition_at room (tok (mark OpenParen) before ∷ ts)) (λ e. braced_at room e.1 >>= λ b. else_with room (stmts_in room) b.1 >>= λ o. Ok (if_then start e.0 b.0.0 b.0.1 o.0, o.1)) (e, mid) (if_then start e body close other, rest) h
-    (finds_then (braced_at room mid) (λ b. else_with room (stmts_in room) b.1 >>= λ o. Ok (if_then start e b.0.0 b.0.1 o.0, o.1)) ((body, close), next) (if_then start e body close other, rest) g
-    (finds_then (else_with room (stmts_in room) next) (λ o. Ok (if_then start e body close o.0, o.1)) (other, rest) (if_then start e body close other, rest) k (found refl)))
-
-else_found_at : (room : ℕ) (at : Span) (ss : Stmts) (close : Span) (ts rest : List Tok) → Finds (braced_at room ts) ((ss, close), rest) → Finds (else_with room (stmts_in room) (tok (word keyword.Else) at ∷ ts)) (else_do ss close, rest)
-unfolding choose word_at
-else_found_at room at ss close ts rest h = finds_then (braced_at room ts) (λ b. Ok (else_do b.0.0 b.0.1, b.1)) ((ss, close), rest) (else_do ss close, rest) h (found refl)
-
-braces_found : (room : ℕ) (ss : Stmts) (begin close : Span) (ts rest : List Tok) → ((r : ℕ) → Finds (stmts_with (stmt_at r) ts) (ss, tok (mark CloseBrace) close ∷ rest)) → Finds (braced_at room (tok (mark OpenBrace) begin ∷ ts)) ((ss, close), rest)
-unfolding braced_with open_at stmts_in sign_at
-braces_found zero ss begin close ts rest h = deep (suc (length ts)) refl
-braces_found (suc room) ss begin close ts rest h = finds_then (stmts_with (stmt_at room) ts) (λ ss. sign_at CloseBrace ss.1 >>= λ c. Ok ((ss.0, c.0), c.1)) (ss, tok (mark CloseBrace) close ∷ rest) ((ss, close), rest) (h room) (found refl)
-
-let_found : (room : ℕ) (l : Local) (ts rest : List Tok) → IsLocal l ts rest → Finds (stmt_at room (tok (word keyword.Let) l.start ∷ ts)) (let_local l, rest)
-unfolding stmt_with
-let_found room l ts rest h = finds_then (local_at room l.start ts) (λ l. Ok (let_local l.0, l.1)) (l, rest) (let_local l, rest) (local_found room l.start l ts rest (from_there refl h) tt) (found refl)
-
-var_found : (room : ℕ) (l : Local) (ts rest : List Tok) → IsLocal l ts rest → Finds (stmt_at room (tok (word keyword.Var) l.start ∷ ts)) (var_local l, rest)
-unfolding stmt_with
-var_found room l ts rest h = finds_then (local_at room l.start ts) (λ l. Ok (var_local l.0, l.1)) (l, rest) (var_local l, rest) (local_found room l.start l ts rest (from_there refl h) tt) (found refl)
-
-print_found : (room : ℕ) (start : Span) (e : Expr) (ts rest : List Tok) → IsEnded e ts rest → Finds (stmt_at room (tok (word keyword.Print) start ∷ ts)) (print start e, rest)
-unfolding stmt_with
-print_found room start e ts rest h = finds_then (ended_at room ts) (λ e. Ok (print start e.0, e.1)) (e, rest) (print start e, rest) (ended_found room e ts rest h tt) (found refl)
-
-return_found : (room : ℕ) (start : Span) (e : Expr) (ts rest : List Tok) → IsEnded e ts rest → Finds (stmt_at room (tok (word keyword.Return) start ∷ ts)) (return_value start e, rest)
-unfolding stmt_with
-return_found room start e ts rest h = finds_then (ended_at room ts) (λ e. Ok (return_value start e.0, e.1)) (e, rest) (return_value start e, rest) (ended_found room e ts rest h tt) (found refl)
-
-place_begins : {p : Place} {ts rest : List Tok} → IsPlace p ts rest → NotNext (mark CloseBrace) ts × NotNext (word keyword.Else) ts
-place_begins is_lone = (refl, refl)
-place_begins (is_element h) = (refl, refl)
-place_begins (is_path h) = (refl, refl)
-
-stmt_begins : {s : Stmt} {ts rest : List Tok} → IsStmt s ts rest → NotNext (mark CloseBrace) ts × NotNext (word keyword.Else) ts
-stmt_begins (is_let h) = (refl, refl)
-stmt_begins (is_var h) = (refl, refl)
-stmt_begins (is_assign p h) = place_begins p
-stmt_begins (is_if e b o) = (refl, refl)
-stmt_begins (is_while e b) = (refl, refl)
-stmt_begins (is_print h) = (refl, refl)
-stmt_begins (is_return h) = (refl, refl)
-
-kind_no_else : (k : Lexeme) → same_kind k (mark CloseBrace) ≡ true → same_kind k (word keyword.Else) ≡ false
-kind_no_else (mark m) e = refl
-kind_no_else (name x) e = refl
-kind_no_else (lexeme.int n) e = refl
-kind_no_else (word w) e = absurd cc
-kind_no_else end e = refl
-
-close_no_else : (ts : List Tok) → IsNext (mark CloseBrace) ts → NotNext (word keyword.Else) ts
-close_no_else [] e = refl
-close_no_else (t ∷ ts) e = kind_no_else t.kind e
-
-stmts_begin : {ss : Stmts} {ts rest : List Tok} → IsStmts ss ts rest → IsNext (mark CloseBrace) rest → NotNext (word keyword.Else) ts
-stmts_begin (are_no_stmts {ts = ts}) e = close_no_else ts e
-stmts_begin (are_stmts h g) e = (stmt_begins h).1
-
-no_stmts_found : (room : ℕ) (ts : List Tok) → IsNext (mark CloseBrace) ts → Finds (stmts_with (stmt_at room) ts) (no_stmts, ts)
-unfolding stmts_with
-no_stmts_found room ts e = until_none no_stmts stmt (mark CloseBrace) (stmt_at room) (next_stmt_shortens room) ts e
-
-more_stmts_found : (room : ℕ) (s : Stmt) (more : Stmts) (ts mid rest : List Tok) → NotNext (mark CloseBrace) ts → Finds (stmt_at room ts) (s, mid) → Finds (stmts_with (stmt_at room) mid) (more, rest) → Finds (stmts_with (stmt_at room) ts) (stmt s more, rest)
-unfolding stmts_with
-more_stmts_found room s more ts mid rest e h g = until_found no_stmts stmt (mark CloseBrace) (stmt_at room) (next_stmt_shortens room) s more ts mid rest e h g
-
-mutual
-  stmt_found : {s : Stmt} {ts rest : List Tok} → IsStmt s ts rest → (room : ℕ) → NotNext (word keyword.Else) rest → Finds (stmt_at room ts) (s, rest)
-  stmt_found (is_let {l = l} {ts = ts} {rest = rest} h) room follow = let_found room l ts rest h
-  stmt_found (is_var {l = l} {ts = ts} {rest = rest} h) room follow = var_found room l ts rest h
-  stmt_found (is_assign {p = p} {e = e} {equals = equals} {ts = ts} {mid = mid} {rest = rest} i h) room follow = place_assign room p e equals ts mid rest (place_found i room (no_place_equals equals mid)) (ended h)
-  stmt_found (is_if {e = e} {body = body} {other = other} {start = start} {before = before} {after = behind} {close = close} {ts = ts} {mid = mid} {next = next} {rest = rest} h b o) room follow = if_found room start before e body close other ts mid next rest (condition_found room e before behind ts mid h) (braced_found b room) (else_found o room follow)
-  stmt_found (is_while {e = e} {body = body} {start = start} {before = before} {after = behind} {close = close} {ts = ts} {mid = mid} {rest = rest} h b) room follow = while_found room start before e body close ts mid rest (condition_found room e before behind ts mid h) (braced_found b room)
-  stmt_found (is_print {e = e} {start = start} {ts = ts} {rest = rest} h) room follow = print_found room start e ts rest (ended h)
-  stmt_found (is_return {e = e} {start = start} {ts = ts} {rest = rest} h) room follow = return_found room start e ts rest (ended h)
-
-  stmts_found : {ss : Stmts} {ts rest : List Tok} → IsStmts ss ts rest → (room : ℕ) → IsNext (mark CloseBrace) rest → Finds (stmts_with (stmt_at room) ts) (ss, rest)
-  stmts_found (are_no_stmts {ts = ts}) room follow = no_stmts_found room ts follow
-  stmts_found (are_stmts {s = s} {more = more} {ts = ts} {mid = mid} {rest = rest} h g) room follow = more_stmts_found room s more ts mid rest (stmt_begins h).0 (stmt_found h room (stmts_begin g follow)) (stmts_found g room follow)
-
-  braced_found : {ss : Stmts} {close : Span} {ts rest : List Tok} → IsBraced ss close ts rest → (room : ℕ) → Finds (braced_at room ts) ((ss, close), rest)
-  braced_found (is_braced {ss = ss} {begin = begin} {close = close} {ts = ts} {rest = rest} h) room = braces_found room ss begin close ts rest (λ r. stmts_found h r refl)
-
-  else_found : {o : Otherwise} {ts rest : List Tok} → IsElse o ts rest → (room : ℕ) → NotNext (word keyword.Else) rest → Finds (else_with room (stmts_in room) ts) (o, rest)
-  else_found (is_no_else {ts = ts}) room follow = choose_right (word keyword.Else) (some_else room (stmts_in room)) nothing_else ts (no_else, ts) follow (found refl)
-  else_found (is_else {ss = ss} {at = at} {close = close} {ts = ts} {rest = rest} b) room follow = else_found_at room at ss close ts rest (braced_found b room)
+use Rattle.syntax.specs.Trees.{Ident, ValueType, Const, Stmts, Member, lock_member, final_member, field_member, Section, Items, no_items, Decl, lock, struct, global, array, pool, init, atomic, thread}
+use Rattle.syntax.specs.Grammar.{tok, name_tok, int_tok, IsOptional, left_out, given, AreMany, no_more, one_more, IsAfter, after, AreListed, IsName, is_name, IsType, is_int_type, is_ref_type, IsConst, is_braced, is_block, IsIndex, is_index, IsProtection, is_protection, is_variable, is_array, is_final, is_field, IsMember, is_lock_member, is_final_member, is_field_member, IsStruct, is_struct, IsPool, is_pool, IsInit, is_init, IsSection, is_section, IsCall, is_call, IsItem, is_call_item, is_repeat, IsItems, are_no_items, are_items, IsThread, is_thread, IsDecl, is_lock, is_struct_decl, is_global, is_array_decl, is_pool_decl, is_init_decl, is_atomic, is_thread_decl, Spells, spells}
+use Rattle.token_parts.specs.Reading.{◌>>=◌, sign_at, open_at, word_at, name_at, int_at, choose}
+use Rattle.token_parts.specs.Parts.{type_at, const_at}
+use Rattle.parser.specs.Declarations.{array_at, variable_at, global_at, section_at, consts_in, call_at, call_item, repeat_with, item_with, item_at, items_with, items_in, thread_at, lock_at, field_at, final_at, lock_member_at, member_at, members_with, members_in, struct_at, pool_at, init_at, decl_at, decls_at, end_from, program_at}
+use Rattle.token_parts.specs.Theory.Law.{IsTok, is_tok}
+use Rattle.token_parts.specs.Theory.Joined.{Done, done, Both, both}
+use Rattle.token_parts.specs.Theory.PartLaws.{IsParams, is_params}
+use Rattle.parser.proofs.DeclarationLaws.{IsLock, is_lock_name}
+use Rattle.statement_parser.specs.Theory.StatementLaws.{IsBracedPair}
+use Rattle.token_parts.specs.Theory.Shorter.{next_const_shortens}
+use Rattle.parser.proofs.Turns.{next_item_shortens, next_decl_shortens, next_member_shortens}
+use Rattle.token_parts.specs.Theory.Finding.{Finds, found, deep, finds_then, FindsPart, Anything, ends_found, then_found, and_found, production_found, sign_found, open_then, name_found, NotNext, IsNext, maybe_found, Closes, listed_found, until_none, until_found, choose_left, choose_right}
+use Rattle.token_parts.specs.Theory.PartsFound.{type_found, index_found, const_found, close_closes, after_found, maybe_protection_found, const_begins, params_found}
+use Rattle.statement_parser.specs.Theory.StatementsFound.{block_found}
 
 -- a closing brace comes next
 brace_next : {A : Type 0} {R : Span → A → List Tok → List Tok → Type 0} {y : A} {ts rest : List Tok} → Both (IsTok (mark CloseBrace)) R y ts rest → IsNext (mark CloseBrace) ts
 brace_next (both is_tok r) = refl
-
-block_found : (room : ℕ) → FindsPart Anything IsBracedPair (braced_at room)
-block_found room b ts rest h follow = braced_found h room
-
--- ---- declarations
-
-close_no_dot : {A : Type 0} {R : Span → A → List Tok → List Tok → Type 0} {y : A} {ts rest : List Tok} → Both (IsTok (mark CloseParen)) R y ts rest → NoSign Dot ts
-unfolding skip_at
-close_no_dot (both is_tok r) = refl
-
-close_closes : {A : Type 0} {R : Span → A → List Tok → List Tok → Type 0} {y : A} {ts rest : List Tok} → Both (IsTok (mark CloseParen)) R y ts rest → Closes ts
-unfolding skip_at
-close_closes (both is_tok r) = record { closing = refl; no_comma = refl }
-
-protection_back : {y : Protection} {ts rest : List Tok} → IsProtection y ts rest → Both (IsTok (word keyword.ProtectedBy)) (λ w. Both (IsTok (mark OpenParen)) (λ b. Both IsName (λ x. Both (AreMany (IsAfter Dot IsName)) (λ more. Both (IsTok (mark CloseParen)) (λ c. Done (record { first = x; rest = more })))))) y ts rest
-protection_back (is_protection h) = both is_tok (both is_tok (both is_name (both h (both is_tok done))))
-
-protection_found : (room : ℕ) → FindsPart Anything IsProtection (protection_at room)
-unfolding protection_at
-protection_found room =
-    production_found IsProtection
-    (and_found (word_found keyword.ProtectedBy) (open_then OpenParen room (λ r e. and_found name_found (then_found {F = NoSign Dot} (each_found IsName name_at name_found Dot next_name_shortens) (λ x a y ts rest r f. close_no_dot r) (and_found (sign_found CloseParen) (ends_found (λ x. record { first = x.0.0.1; rest = x.0.1 })))))))
-    (λ y ts rest h. protection_back h)
-
-protection_begins : (y : Protection) (ts rest : List Tok) → IsProtection y ts rest → IsNext (word keyword.ProtectedBy) ts
-protection_begins y ts rest (is_protection h) = refl
-
-after_back : {A : Type 0} {s : Sign} {R : A → List Tok → List Tok → Type 0} {y : A} {ts rest : List Tok} → IsAfter s R y ts rest → Both (IsTok (mark s)) (λ at. Both R (λ x. Done x)) y ts rest
-after_back (after r) = both is_tok (both r done)
-
-after_found : {A : Type 0} {R : A → List Tok → List Tok → Type 0} {f : Reader A} (s : Sign) → FindsPart Anything R f → FindsPart Anything (IsAfter s R) (after_at s f)
-unfolding after_at
-after_found {A = A} {R = R} s part = production_found (IsAfter s R) (and_found (sign_found s) (and_found part (ends_found (λ (x : (Unit {0} × Span) × A). x.1)))) (λ y ts rest h. after_back h)
 
 value_begins : (y : Const) (ts rest : List Tok) → IsAfter Equals IsConst y ts rest → IsNext (mark Equals) ts
 value_begins y ts rest (after h) = refl
@@ -235,9 +41,6 @@ value_no_protection (both (given (after c)) r) = refl
 
 semicolon_no_protection : {A : Type 0} {R : Span → A → List Tok → List Tok → Type 0} {y : A} {ts rest : List Tok} → Both (IsTok (mark Semicolon)) R y ts rest → NotNext (word keyword.ProtectedBy) ts
 semicolon_no_protection (both is_tok r) = refl
-
-maybe_protection_found : (room : ℕ) → FindsPart (NotNext (word keyword.ProtectedBy)) (IsOptional IsProtection) (maybe_protection room)
-maybe_protection_found room = maybe_found (word keyword.ProtectedBy) (protection_found room) protection_begins
 
 abbrev IsVariableRest : ValueType → Ident → Decl → List Tok → List Tok → Type 0
 IsVariableRest t x = Both (IsOptional IsProtection) (λ p. Both (IsOptional (IsAfter Equals IsConst)) (λ v. Both (IsTok (mark Semicolon)) (λ s. Done (global (record { name = x; value_type = t; protection = p; value = v })))))
@@ -353,33 +156,6 @@ init_found room start =
 
 init_back : {i : tree.Init} {ts rest : List Tok} → IsInit i ts rest → IsInitParts i.start i ts rest
 init_back (is_init n c) = both is_name (both n (both is_tok (both is_name (both is_tok (both c (both is_tok done))))))
-
-param_back : {y : Param} {ts rest : List Tok} → IsParam y ts rest → Both IsType (λ t. Both IsName (λ x. Done (record { name = x; value_type = t }))) y ts rest
-param_back (is_param t) = both t (both is_name done)
-
-param_found : FindsPart Anything IsParam param_at
-unfolding param_at
-param_found = production_found IsParam (and_found type_found (and_found name_found (ends_found (λ x. record { name = x.1; value_type = x.0.1 })))) (λ y ts rest h. param_back h)
-
-param_begins : (y : Param) (ts rest : List Tok) → IsParam y ts rest → NotNext (mark CloseParen) ts
-param_begins y ts rest (is_param is_int_type) = refl
-param_begins y ts rest (is_param is_ref_type) = refl
-
-const_begins : (y : Const) (ts rest : List Tok) → IsConst y ts rest → NotNext (mark CloseParen) ts
-const_begins y ts rest is_int_const = refl
-const_begins y ts rest is_negative = refl
-const_begins y ts rest is_null_const = refl
-const_begins y ts rest is_member_const = refl
-
-params_back : {y : List Param} {ts rest : List Tok} → IsParams y ts rest → Both (IsTok (mark OpenParen)) (λ b. Both (AreListed IsParam) (λ ps. Both (IsTok (mark CloseParen)) (λ c. Done ps))) y ts rest
-params_back (is_params h) = both is_tok (both h (both is_tok done))
-
-params_found : (room : ℕ) → FindsPart Anything IsParams (params_at room)
-unfolding params_at
-params_found room =
-    production_found IsParams
-    (open_then OpenParen room (λ r e. then_found {F = Closes} (listed_found IsParam param_at param_found next_param_shortens param_begins) (λ x a y ts rest r f. close_closes r) (and_found (sign_found CloseParen) (ends_found (λ x. x.0.1)))))
-    (λ y ts rest h. params_back h)
 
 section_back : {y : Section} {ts rest : List Tok} → IsSection y ts rest → Both IsName (λ x. Both IsParams (λ ps. Both (IsOptional (IsAfter Colon IsType)) (λ r. Both IsBracedPair (λ b. Done (record { name = x; params = ps; result = r; body = record { stmts = b.0; close = b.1 } }))))) y ts rest
 section_back (is_section ps r (is_block b)) = both is_name (both (is_params ps) (both r (both b done)))

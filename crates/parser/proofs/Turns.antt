@@ -1,33 +1,44 @@
--- The loops over statements, items and declarations.
-use Rattle.std.proofs.Common.{◌≡◌, ℕ, true, false, List, [], ◌∷◌, ◌++◌, map, Result, Ok, ap, ◌∙◌}
+-- Members, items and declarations, a turn at a time.
+use Rattle.std.proofs.Common.{◌≡◌, ℕ, Ok, Result, ◌∷◌, List, [], true, false, refl, arith, ◌++◌, map, ap, ◌∙◌}
 use Rattle.source.specs.declared.token.Sign.TheVariants.{CloseBrace}
-use Rattle.source.specs.Tokens.{mark, end, Tok}
-use Rattle.syntax.specs.declared.tree.Stmt as the_stmt
+use Rattle.source.specs.Tokens.{Tok, mark, end}
+use Rattle.syntax.specs.Grammar.{IsMember, IsItem, IsDecl}
+use Rattle.token_parts.specs.declared.stop.Stop.{Stop}
+use Rattle.token_parts.specs.Reading.{next_until, Fails, is_next}
+use Rattle.parser.specs.Declarations.{member_at, item_at, decl_at, items_with, decls_at, members_with}
+use Rattle.token_parts.specs.Theory.Readers.{Shortens}
+use Rattle.token_parts.specs.Theory.Many.{NextShortens, with_front}
+use Rattle.token_parts.specs.Theory.Laws.{law_shortens, next_shortens}
+use Rattle.token_parts.specs.Theory.Joined.{until_law}
+use Rattle.parser.proofs.DeclarationLaws.{member_law, item_law, decl_law}
 use Rattle.syntax.specs.declared.tree.Item as the_item
+use Rattle.syntax.specs.Trees.{item, no_items, Items, Decl, Member}
+use Rattle.syntax.specs.Views.{item_of, items_of, decl_of, member_of}
+use Rattle.token_parts.specs.Theory.Loops.{before, before-map, until_goes_on, until_ends, until_stops}
 use Rattle.syntax.specs.declared.tree.Decl as the_decl
 use Rattle.syntax.specs.declared.tree.Member as the_member
-use Rattle.syntax.specs.Trees.{Stmts, no_stmts, stmt, Items, no_items, item, Decl, Member}
-use Rattle.syntax.specs.Views.{stmt_of, stmts_of, item_of, items_of, decl_of, member_of}
-use Rattle.parser.specs.declared.stop.Stop.{Stop}
-use Rattle.parser.specs.Reading.{Fails, is_next}
-use Rattle.parser.specs.Bodies.{stmt_at, stmts_with}
-use Rattle.parser.specs.Declarations.{item_at, items_with, decl_at, decls_at, member_at, members_with}
-use Rattle.parser.proofs.Many.{with_front}
-use Rattle.parser.proofs.Loops.{before, before-map, until_goes_on, until_ends, until_stops, before-stmts, before-items}
-use Rattle.parser.proofs.Shorter.{next_stmt_shortens, next_item_shortens, next_decl_shortens, next_member_shortens}
 
-module _ (room : ℕ) (xs : List the_stmt.Stmt) (ts : List Tok) (total : Result (Stmts × List Tok) Stop) where
-  pub stmts_go_on : (x : the_stmt.Stmt) (rest : List Tok) → is_next (mark CloseBrace) ts ≡ false → stmt_at room ts ≡ Ok (stmt_of x, rest) → with_front (before stmt stmt_of xs) (stmts_with (stmt_at room) ts) ≡ total → with_front (before stmt stmt_of (xs ++ x ∷ [])) (stmts_with (stmt_at room) rest) ≡ total
-  unfolding stmts_with
-  stmts_go_on x rest more read so_far = until_goes_on no_stmts stmt stmt_of (mark CloseBrace) (stmt_at room) (next_stmt_shortens room) xs ts total x rest more read so_far
+pub member_shortens : (room : ℕ) → Shortens (member_at room)
+member_shortens room = law_shortens room IsMember (member_at room) 0 0 (member_law room room 0 (omega arith))
 
-  pub stmts_end : is_next (mark CloseBrace) ts ≡ true → with_front (before stmt stmt_of xs) (stmts_with (stmt_at room) ts) ≡ total → total ≡ Ok (stmts_of xs, ts)
-  unfolding stmts_with
-  stmts_end over so_far = until_ends no_stmts stmt stmt_of (mark CloseBrace) (stmt_at room) (next_stmt_shortens room) xs ts total over so_far ∙ ap (λ (l : Stmts). Ok (l, ts)) (before-stmts xs)
+pub item_shortens : (room : ℕ) → Shortens (item_at room)
+item_shortens room = law_shortens room IsItem (item_at room) 0 0 (item_law room room 0 (omega arith))
 
-  pub stmts_stop : (e : Stop) → is_next (mark CloseBrace) ts ≡ false → Fails e (stmt_at room ts) → with_front (before stmt stmt_of xs) (stmts_with (stmt_at room) ts) ≡ total → Fails e total
-  unfolding stmts_with
-  stmts_stop e more fails so_far = until_stops no_stmts stmt stmt_of (mark CloseBrace) (stmt_at room) (next_stmt_shortens room) xs ts total e more fails so_far
+pub decl_shortens : (room : ℕ) → Shortens (decl_at room)
+decl_shortens room = law_shortens room IsDecl (decl_at room) 0 0 (decl_law room room 0 (omega arith))
+
+pub next_member_shortens : (room : ℕ) → NextShortens (next_until (mark CloseBrace) (member_at room))
+next_member_shortens room = next_shortens room IsMember (next_until (mark CloseBrace) (member_at room)) 0 (until_law room IsMember (mark CloseBrace) (member_at room) 0 (member_law room room 0 (omega arith)))
+
+pub next_item_shortens : (room : ℕ) → NextShortens (next_until (mark CloseBrace) (item_at room))
+next_item_shortens room = next_shortens room IsItem (next_until (mark CloseBrace) (item_at room)) 0 (until_law room IsItem (mark CloseBrace) (item_at room) 0 (item_law room room 0 (omega arith)))
+
+pub next_decl_shortens : (room : ℕ) → NextShortens (next_until end (decl_at room))
+next_decl_shortens room = next_shortens room IsDecl (next_until end (decl_at room)) 0 (until_law room IsDecl end (decl_at room) 0 (decl_law room room 0 (omega arith)))
+
+pub before-items : (xs : List the_item.Item) → before item item_of xs no_items ≡ items_of xs
+before-items [] = refl
+before-items (x ∷ xs) = ap (item (item_of x)) (before-items xs)
 
 module _ (room : ℕ) (xs : List the_item.Item) (ts : List Tok) (total : Result (Items × List Tok) Stop) where
   pub items_go_on : (x : the_item.Item) (rest : List Tok) → is_next (mark CloseBrace) ts ≡ false → item_at room ts ≡ Ok (item_of x, rest) → with_front (before item item_of xs) (items_with (item_at room) ts) ≡ total → with_front (before item item_of (xs ++ x ∷ [])) (items_with (item_at room) rest) ≡ total

@@ -1,30 +1,16 @@
 -- Reading declarations and programs.
-use Rattle.std.specs.Prelude.{ℕ, zero, suc, List, [], ◌∷◌, length, Option, Result, Ok, Err}
+use Rattle.std.specs.Prelude.{ℕ, zero, suc, List, [], ◌∷◌, length, Result, Ok, Err}
 use Rattle.source.specs.declared.span.Span.{Span}
-use Rattle.source.specs.declared.token.Keyword.TheVariants.{Lock, Struct, Final, Ref, Global, ProtectedBy, Pool, Init, Atomic, Thread, Repeat}
+use Rattle.source.specs.declared.token.Keyword.TheVariants.{Lock, Struct, Final, Ref, Global, Pool, Init, Atomic, Thread, Repeat}
 use Rattle.source.specs.declared.token.Sign.TheVariants.{OpenBrace, CloseBrace, OpenParen, CloseParen, OpenBracket, Semicolon, Colon, Dot, Equals}
 use Rattle.source.specs.Tokens.{Lexeme, word, mark, end, Tok}
 use Rattle.syntax.specs.Trees as tree
-use Rattle.syntax.specs.Trees.{Ident, ValueType, int_type, ref_type, Const, int_const, negative, null_const, member_const, Place, lone, element, path, Expr, int, null, place, paren, prefix, chain, compare, Links, no_links, link, Local, Stmt, let_local, var_local, assign, if_then, while, print, return_value, Stmts, no_stmts, stmt, Otherwise, no_else, else_do, Block, Protection, Member, lock_member, final_member, field_member, Param, Section, Items, no_items, Decl, lock, struct, global, array, pool, init, atomic, thread}
-use Rattle.parser.specs.declared.stop.Stop.{Stop}
-use Rattle.parser.specs.declared.stop.Stop.TheVariants.{Unexpected}
-use Rattle.parser.specs.Reading.{◌>>=◌, Reader, many_at, first_at, refused, sign_at, open_at, word_at, name_at, int_at, next_until, after_each, listed_at, maybe_at, after_at, choose, type_at, index_at, const_at}
-use Rattle.parser.specs.Bodies.{braced_at}
-
--- ---- declarations
-
-unfoldable pub protection_at : ℕ → Reader Protection
-protection_at room ts = do
-  start ← word_at ProtectedBy ts
-  begin ← open_at OpenParen room start.1
-  first ← name_at begin.1
-  more ← after_each Dot name_at first.1
-  close ← sign_at CloseParen more.1
-  Ok (record { first = first.0; rest = more.0 }, close.1)
-
--- an annotation, or nothing
-abbrev pub maybe_protection : ℕ → Reader (Option Protection)
-maybe_protection room = maybe_at (word ProtectedBy) (protection_at room)
+use Rattle.syntax.specs.Trees.{Ident, ValueType, Const, Member, lock_member, final_member, field_member, Section, Items, no_items, Decl, lock, struct, global, array, pool, init, atomic, thread}
+use Rattle.token_parts.specs.declared.stop.Stop.{Stop}
+use Rattle.token_parts.specs.declared.stop.Stop.TheVariants.{Unexpected}
+use Rattle.token_parts.specs.Reading.{◌>>=◌, Reader, many_at, first_at, refused, sign_at, open_at, word_at, name_at, int_at, next_until, listed_at, maybe_at, after_at, choose}
+use Rattle.token_parts.specs.Parts.{type_at, index_at, const_at, maybe_protection, params_at}
+use Rattle.statement_parser.specs.Statements.{braced_at}
 
 -- a global that is an array, and one that is none, behind its type and name
 unfoldable pub array_at : ℕ → ValueType → Ident → Reader Decl
@@ -47,20 +33,6 @@ global_at room ts = do
   t ← type_at ts
   x ← name_at t.1
   choose (mark OpenBracket) (array_at room t.0 x.0) (variable_at room t.0 x.0) x.1
-
-unfoldable pub param_at : Reader Param
-param_at ts = do
-  t ← type_at ts
-  x ← name_at t.1
-  Ok (record { name = x.0; value_type = t.0 }, x.1)
-
--- parameters in parentheses
-unfoldable pub params_at : ℕ → Reader (List Param)
-params_at room ts = do
-  before ← open_at OpenParen room ts
-  ps ← listed_at param_at before.1
-  after ← sign_at CloseParen ps.1
-  Ok (ps.0, after.1)
 
 -- behind the word `atomic`
 unfoldable pub section_at : ℕ → Reader Section

@@ -1,6 +1,4 @@
-pub mod Reading
 pub mod Returning
-pub mod Bodies
 pub mod Declarations
 pub mod Rests
 -- what public clauses cite

@@ -6,18 +6,13 @@
 //!   `E18` at most, and never an `E03` and an `E04`.
 //!
 //! Which tokens spell which tree is the grammar of `syntax/specs/Grammar.antt`; what each fault
-//! means, `syntax/specs/Faults.antt`.
+//! means, `syntax/specs/Faults.antt`. Single tokens and small parts are read by `token_parts`, the blocks of
+//! sections by `statement_parser`.
 #![tactic(auto)]
 
 mod decl;
-mod expr;
-mod growth;
 mod member;
-mod parts;
 mod returns;
-mod stmt;
-mod stop;
-mod take;
 mod thread;
 mod whole;
 

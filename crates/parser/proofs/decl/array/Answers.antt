@@ -2,9 +2,10 @@ use Rattle.std.proofs.lemmas.Result.{err_from_is_err_and}
 use Rattle.source.specs.declared.token.Sign.TheVariants.{Semicolon}
 use Rattle.source.specs.Tokens.{seen}
 use Rattle.syntax.specs.Views.{option_of, protection_of, type_of, ident}
-use Rattle.parser.specs.Declarations.{array_at, maybe_protection}
-use Rattle.parser.proofs.Readers.{fails_on}
-use Rattle.parser.proofs.Ended.{ended, unended}
+use Rattle.parser.specs.Declarations.{array_at}
+use Rattle.token_parts.specs.Parts.{maybe_protection}
+use Rattle.token_parts.specs.Theory.Readers.{fails_on}
+use Rattle.token_parts.specs.Theory.Ended.{ended, unended}
 use Rattle.parser.proofs.Done.{array_done}
 use Rattle.parser.proofs.decl.array.Goals as goal
 

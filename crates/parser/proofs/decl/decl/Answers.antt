@@ -1,9 +1,9 @@
-use Rattle.parser.proofs.Readers.{fails_on}
+use Rattle.token_parts.specs.Theory.Readers.{fails_on}
 use Rattle.std.proofs.lemmas.Result.{err_from_is_err_and}
 use Rattle.std.proofs.Common.{refl}
 use Rattle.source.specs.declared.token.Keyword.TheVariants.{Lock, Struct, Global, Pool, Init, Atomic, Thread}
 use Rattle.parser.specs.Declarations.{decl_at}
-use Rattle.parser.proofs.First.{word_first}
+use Rattle.token_parts.specs.Theory.First.{word_first}
 use Rattle.parser.proofs.decl.decl.Goals as goal
 
 pub returns-in_ok-name-in-Word-default-Lock : goal.returns-in_ok-name-in-Word-default-Lock

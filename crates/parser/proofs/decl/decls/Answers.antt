@@ -3,9 +3,8 @@ use Rattle.std.proofs.lemmas.Result.{err_from_is_err_and}
 use Rattle.source.specs.Tokens.{seen}
 use Rattle.syntax.specs.Views.{decl_of}
 use Rattle.parser.specs.Declarations.{decl_at}
-use Rattle.parser.proofs.Loops.{fewer}
-use Rattle.parser.proofs.Shorter.{decl_shortens}
-use Rattle.parser.proofs.Turns.{decls_go_on, decls_end, decls_stop}
+use Rattle.token_parts.specs.Theory.Loops.{fewer}
+use Rattle.parser.proofs.Turns.{decl_shortens, decls_go_on, decls_end, decls_stop}
 use Rattle.parser.proofs.decl.decls.Goals as goal
 
 pub returns-in_err-next : goal.returns-in_err-next

@@ -2,10 +2,11 @@ use Rattle.std.proofs.lemmas.Result.{err_from_is_err_and}
 use Rattle.source.specs.declared.token.Sign.TheVariants.{Equals, Semicolon}
 use Rattle.source.specs.Tokens.{mark, seen}
 use Rattle.syntax.specs.Views.{const_of, option_of, type_of, ident}
-use Rattle.parser.specs.Reading.{after_at, const_at, maybe_at}
+use Rattle.token_parts.specs.Reading.{after_at, maybe_at}
+use Rattle.token_parts.specs.Parts.{const_at}
 use Rattle.parser.specs.Declarations.{variable_at}
-use Rattle.parser.proofs.Readers.{fails_on}
-use Rattle.parser.proofs.Ended.{ended, unended}
+use Rattle.token_parts.specs.Theory.Readers.{fails_on}
+use Rattle.token_parts.specs.Theory.Ended.{ended, unended}
 use Rattle.parser.proofs.Done.{variable_done}
 use Rattle.parser.proofs.decl.variable.Goals as goal
 

@@ -3,9 +3,8 @@ use Rattle.std.proofs.lemmas.Result.{err_from_is_err_and}
 use Rattle.source.specs.Tokens.{seen}
 use Rattle.syntax.specs.Views.{member_of}
 use Rattle.parser.specs.Declarations.{member_at}
-use Rattle.parser.proofs.Loops.{fewer}
-use Rattle.parser.proofs.Shorter.{member_shortens}
-use Rattle.parser.proofs.Turns.{members_go_on, members_end, members_stop}
+use Rattle.token_parts.specs.Theory.Loops.{fewer}
+use Rattle.parser.proofs.Turns.{member_shortens, members_go_on, members_end, members_stop}
 use Rattle.parser.proofs.member.members.Goals as goal
 
 pub returns-in_err-next : goal.returns-in_err-next

@@ -1,0 +1,3 @@
+pub mod Rooms
+pub mod Closed
+pub mod StatementsDone

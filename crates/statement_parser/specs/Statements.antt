@@ -1,0 +1,98 @@
+-- Reading statements.
+use Rattle.std.specs.Prelude.{ℕ, zero, suc, Ok}
+use Rattle.source.specs.declared.span.Span.{Span}
+use Rattle.source.specs.declared.token.Keyword.TheVariants.{Let, Var, If, Else, While, Print, Return}
+use Rattle.source.specs.declared.token.Sign.TheVariants.{OpenBrace, CloseBrace, Colon, Equals}
+use Rattle.source.specs.Tokens.{Lexeme, name, word, mark}
+use Rattle.syntax.specs.Trees.{Ident, Local, Stmt, let_local, var_local, assign, if_then, while, print, return_value, Stmts, no_stmts, stmt, Otherwise, no_else, else_do}
+use Rattle.token_parts.specs.Reading.{◌>>=◌, Reader, many_at, first_at, refused, sign_at, open_at, word_at, name_at, next_until, choose}
+use Rattle.token_parts.specs.Parts.{type_at}
+use Rattle.statement_parser.specs.Expressions.{place_at, inside_at, ended_at, condition_at}
+
+-- behind the word `let` or `var`
+unfoldable pub local_at : ℕ → Span → Reader Local
+local_at room start ts = do
+  x ← name_at ts
+  colon ← sign_at Colon x.1
+  t ← type_at colon.1
+  equals ← sign_at Equals t.1
+  e ← ended_at room equals.1
+  Ok (record { start = start; name = x.0; value_type = t.0; value = e.0 }, e.1)
+
+-- behind the first name of what is assigned to
+unfoldable pub assign_at : ℕ → Ident → Reader Stmt
+assign_at room x ts = do
+  p ← place_at room (inside_at room) x ts
+  equals ← sign_at Equals p.1
+  e ← ended_at room equals.1
+  Ok (assign p.0 e.0, e.1)
+
+-- statements in braces, read by body behind the opening one
+unfoldable pub braced_with : ℕ → Reader Stmts → Reader (Stmts × Span)
+braced_with room body ts = do
+  begin ← open_at OpenBrace room ts
+  ss ← body begin.1
+  close ← sign_at CloseBrace ss.1
+  Ok ((ss.0, close.0), close.1)
+
+abbrev pub some_else : ℕ → Reader Stmts → Reader Otherwise
+some_else room body ts = do
+  start ← word_at Else ts
+  b ← braced_with room body start.1
+  Ok (else_do b.0.0 b.0.1, b.1)
+
+abbrev pub nothing_else : Reader Otherwise
+nothing_else ts = Ok (no_else, ts)
+
+abbrev pub else_with : ℕ → Reader Stmts → Reader Otherwise
+else_with room body = choose (word Else) (some_else room body) nothing_else
+
+-- behind the word `if`
+unfoldable pub if_with : ℕ → Reader Stmts → Span → Reader Stmt
+if_with room body start ts = do
+  e ← condition_at room ts
+  b ← braced_with room body e.1
+  o ← else_with room body b.1
+  Ok (if_then start e.0 b.0.0 b.0.1 o.0, o.1)
+
+-- behind the word `while`
+unfoldable pub while_with : ℕ → Reader Stmts → Span → Reader Stmt
+while_with room body start ts = do
+  e ← condition_at room ts
+  b ← braced_with room body e.1
+  Ok (while start e.0 b.0.0 b.0.1, b.1)
+
+abbrev pub stmt_from : ℕ → Reader Stmts → Lexeme → Span → Reader Stmt
+stmt_from room body (name x) at ts = assign_at room (record { text = x; span = at }) ts
+stmt_from room body (word Let) at ts = do
+  l ← local_at room at ts
+  Ok (let_local l.0, l.1)
+stmt_from room body (word Var) at ts = do
+  l ← local_at room at ts
+  Ok (var_local l.0, l.1)
+stmt_from room body (word If) at ts = if_with room body at ts
+stmt_from room body (word While) at ts = while_with room body at ts
+stmt_from room body (word Print) at ts = do
+  e ← ended_at room ts
+  Ok (print at e.0, e.1)
+stmt_from room body (word Return) at ts = do
+  e ← ended_at room ts
+  Ok (return_value at e.0, e.1)
+stmt_from room body _ at ts = refused ts
+
+unfoldable pub stmt_with : ℕ → Reader Stmts → Reader Stmt
+stmt_with room body = first_at (stmt_from room body)
+
+unfoldable pub stmts_with : Reader Stmt → Reader Stmts
+stmts_with stmt_reader = many_at no_stmts stmt (next_until (mark CloseBrace) stmt_reader)
+
+-- statements behind an opening brace, where room signs could be opened before it
+unfoldable pub stmts_in : ℕ → Reader Stmts
+stmts_in zero = refused
+stmts_in (suc room) = stmts_with (stmt_with room (stmts_in room))
+
+abbrev pub stmt_at : ℕ → Reader Stmt
+stmt_at room = stmt_with room (stmts_in room)
+
+abbrev pub braced_at : ℕ → Reader (Stmts × Span)
+braced_at room = braced_with room (stmts_in room)

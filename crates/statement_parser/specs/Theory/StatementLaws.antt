@@ -1,0 +1,150 @@
+-- The law of statements.
+use Rattle.std.proofs.Common.{◌≡◌, ℕ, zero, suc, ◌+◌, ◌<◌, List, ◌∷◌, refl, subst, arith}
+use Rattle.source.specs.declared.span.Span.{Span}
+use Rattle.source.specs.declared.token.Keyword.TheVariants as keyword
+use Rattle.source.specs.declared.token.Sign.TheVariants.{OpenBrace, CloseBrace, Semicolon, Colon, Equals}
+use Rattle.source.specs.Tokens.{Lexeme, name, word, mark, Tok}
+use Rattle.syntax.specs.Trees.{Ident, int_type, Expr, Local, Stmt, let_local, var_local, assign, if_then, while, print, return_value, Stmts, no_stmts, stmt, Otherwise, no_else, else_do}
+use Rattle.syntax.specs.Grammar.{tok, name_tok, IsName, is_name, IsType, is_int_type, IsPlace, is_int, IsLocal, is_local, IsStmt, is_let, is_var, is_assign, is_if, is_while, is_print, is_return, IsStmts, are_no_stmts, are_stmts, IsBraced, is_braced, IsElse, is_no_else, is_else}
+use Rattle.token_parts.specs.Reading.{Reader, next_until}
+use Rattle.statement_parser.specs.Expressions.{inside_at}
+use Rattle.statement_parser.specs.Statements.{local_at, assign_at, braced_with, some_else, nothing_else, else_with, if_with, while_with, stmt_from, stmt_with, stmt_at, stmts_with, stmts_in, braced_at}
+use Rattle.token_parts.specs.Theory.Law.{Law, give_law, at_rest, Head, refuses, takes, first_law, IsTok, is_tok}
+use Rattle.token_parts.specs.Theory.Laws.{many_law}
+use Rattle.token_parts.specs.Theory.Joined.{Done, done, Both, both, nowhere, Part, ends_with, then_part, then_open, production, sign_part, word_part, name_part, until_law, choose_law, weaken_law}
+use Rattle.statement_parser.specs.Theory.Productions.{zero_expr, IsEnded, ended, ended_part, inside_law, place_part, IsCondition, is_condition, condition_part}
+use Rattle.token_parts.specs.Theory.PartLaws.{one_is, no_name, zero_tok, type_part}
+
+-- ---- what the parts of each production make
+
+local_is : {start : Span} {y : Local} {ts rest : List Tok} → Both IsName (λ x. Both (IsTok (mark Colon)) (λ c. Both IsType (λ t. Both (IsTok (mark Equals)) (λ q. Both IsEnded (λ e. Done (record { start = start; name = x; value_type = t; value = e })))))) y ts rest → (y.start ≡ start) × IsLocal y ts rest
+local_is (both is_name (both is_tok (both t (both is_tok (both (ended e) done))))) = (refl, is_local t e)
+
+assign_is : {x : Ident} {y : Stmt} {ts rest : List Tok} → Both (at_rest IsPlace (name_tok x)) (λ p. Both (IsTok (mark Equals)) (λ q. Both IsEnded (λ e. Done (assign p e)))) y ts rest → IsStmt y (name_tok x ∷ ts) rest
+assign_is (both p (both is_tok (both (ended e) done))) = is_assign p e
+
+-- statements in braces, with where the closing one stands
+abbrev pub IsBracedPair : Stmts × Span → List Tok → List Tok → Type 0
+IsBracedPair b = IsBraced b.0 b.1
+
+braced_is : {y : Stmts × Span} {ts rest : List Tok} → Both (IsTok (mark OpenBrace)) (λ b. Both IsStmts (λ ss. Both (IsTok (mark CloseBrace)) (λ c. Done (ss, c)))) y ts rest → IsBracedPair y ts rest
+braced_is (both is_tok (both ss (both is_tok done))) = is_braced ss
+
+else_is : {y : Otherwise} {ts rest : List Tok} → Both (IsTok (word keyword.Else)) (λ w. Both IsBracedPair (λ b. Done (else_do b.0 b.1))) y ts rest → IsElse y ts rest
+else_is (both is_tok (both b done)) = is_else b
+
+if_is : {start : Span} {y : Stmt} {ts rest : List Tok} → Both IsCondition (λ e. Both IsBracedPair (λ b. Both IsElse (λ o. Done (if_then start e b.0 b.1 o)))) y ts rest → IsStmt y (tok (word keyword.If) start ∷ ts) rest
+if_is (both (is_condition e) (both b (both o done))) = is_if e b o
+
+while_is : {start : Span} {y : Stmt} {ts rest : List Tok} → Both IsCondition (λ e. Both IsBracedPair (λ b. Done (while start e b.0 b.1))) y ts rest → IsStmt y (tok (word keyword.While) start ∷ ts) rest
+while_is (both (is_condition e) (both b done)) = is_while e b
+
+-- a local whose first word stands there
+pub data IsLocalFrom (start : Span) : Local → List Tok → List Tok → Type 0 where
+  from_there : {l : Local} {ts rest : List Tok} → l.start ≡ start → IsLocal l ts rest → IsLocalFrom start l ts rest
+
+local_from_is : {start : Span} {y : Local} {ts rest : List Tok} → (y.start ≡ start) × IsLocal y ts rest → IsLocalFrom start y ts rest
+local_from_is h = from_there h.0 h.1
+
+let_is : {start : Span} {l : Local} {ts rest : List Tok} → IsLocalFrom start l ts rest → IsStmt (let_local l) (tok (word keyword.Let) start ∷ ts) rest
+let_is {l = l} {ts = ts} {rest = rest} (from_there e h) = subst (λ (s : Span). IsStmt (let_local l) (tok (word keyword.Let) s ∷ ts) rest) e (is_let h)
+
+var_is : {start : Span} {l : Local} {ts rest : List Tok} → IsLocalFrom start l ts rest → IsStmt (var_local l) (tok (word keyword.Var) start ∷ ts) rest
+var_is {l = l} {ts = ts} {rest = rest} (from_there e h) = subst (λ (s : Span). IsStmt (var_local l) (tok (word keyword.Var) s ∷ ts) rest) e (is_var h)
+
+print_is : {start : Span} {e : Expr} {ts rest : List Tok} → IsEnded e ts rest → IsStmt (print start e) (tok (word keyword.Print) start ∷ ts) rest
+print_is (ended h) = is_print h
+
+return_is : {start : Span} {e : Expr} {ts rest : List Tok} → IsEnded e ts rest → IsStmt (return_value start e) (tok (word keyword.Return) start ∷ ts) rest
+return_is (ended h) = is_return h
+
+module _ (limit : ℕ) where
+  module _ (room d : ℕ) (sum : d + room ≡ limit) where
+    local_law : (start : Span) → Law limit (IsLocalFrom start) (local_at room start) 1 d d
+    unfolding local_at
+    local_law start =
+        production limit (IsLocalFrom start)
+        (then_part limit (name_part limit d) (then_part limit (sign_part limit Colon d (λ o. o)) (then_part limit (type_part limit d) (then_part limit (sign_part limit Equals d (λ o. o)) (then_part limit (ended_part limit room d sum)
+        (ends_with limit (λ x. record { start = start; name = x.0.0.0.0.1; value_type = x.0.0.1; value = x.1 })))))))
+        (λ y ts rest r. local_from_is (local_is r))
+
+    local_part : {P : Type 0} (start : Span) → Part limit P (IsLocalFrom start) (local_at room start) 1 d d
+    local_part start = record {
+      law = λ p. local_law start;
+      can = λ rest. (record { start = start; name = no_name; value_type = int_type; value = zero_expr }, name_tok no_name ∷ tok (mark Colon) nowhere ∷ tok (word keyword.Int) nowhere ∷ tok (mark Equals) nowhere ∷ zero_tok ∷ tok (mark Semicolon) nowhere ∷ rest, from_there refl (is_local is_int_type is_int));
+    }
+
+    assign_law : (x : Ident) → Law limit (at_rest IsStmt (name_tok x)) (assign_at room x) 0 d d
+    unfolding assign_at
+    assign_law x =
+        production limit (at_rest IsStmt (name_tok x))
+        (then_part limit (place_part limit room d sum (inside_at room) (inside_law limit room d sum) x) (then_part limit (sign_part limit Equals d (λ o. o)) (then_part limit (ended_part limit room d sum) (ends_with limit (λ y. assign y.0.0.1 y.1)))))
+        (λ y ts rest r. assign_is r)
+
+    module _ (body : Reader Stmts) (law : 0 < room → Law limit IsStmts body 0 (suc d) (suc d)) where
+      body_part : Part limit (0 < room) IsStmts body 0 (suc d) (suc d)
+      body_part = record { law = law; can = λ rest. (no_stmts, rest, are_no_stmts) }
+
+      braced_law : Law limit IsBracedPair (braced_with room body) 1 d d
+      unfolding braced_with
+      braced_law =
+          production limit IsBracedPair
+          (then_open limit OpenBrace room sum tt (then_part limit body_part (then_part limit (sign_part limit CloseBrace (suc d) (λ o. o)) (ends_with limit (λ x. (x.0.1, x.1))))))
+          (λ y ts rest r. braced_is r)
+
+      braced_part : {P : Type 0} → Part limit P IsBracedPair (braced_with room body) 1 d d
+      braced_part = record { law = λ p. braced_law; can = λ rest. ((no_stmts, nowhere), tok (mark OpenBrace) nowhere ∷ tok (mark CloseBrace) nowhere ∷ rest, is_braced are_no_stmts) }
+
+      some_else_law : Law limit IsElse (some_else room body) 1 d d
+      some_else_law = production limit IsElse (then_part limit (word_part limit keyword.Else d) (then_part limit braced_part (ends_with limit (λ x. else_do x.1.0 x.1.1)))) (λ y ts rest r. else_is r)
+
+      else_law : Law limit IsElse (else_with room body) 0 d d
+      else_law = choose_law limit IsElse (word keyword.Else) (some_else room body) nothing_else 0 d d (weaken_law limit IsElse (some_else room body) d d some_else_law) (give_law limit IsElse no_else d (λ ts. is_no_else))
+
+      else_part : {P : Type 0} → Part limit P IsElse (else_with room body) 0 d d
+      else_part = record { law = λ p. else_law; can = λ rest. (no_else, rest, is_no_else) }
+
+      if_law : (start : Span) → Law limit (at_rest IsStmt (tok (word keyword.If) start)) (if_with room body start) 1 d d
+      unfolding if_with
+      if_law start =
+          production limit (at_rest IsStmt (tok (word keyword.If) start))
+          (then_part limit (condition_part limit room d sum) (then_part limit braced_part (then_part limit else_part (ends_with limit (λ x. if_then start x.0.0.1 x.0.1.0 x.0.1.1 x.1)))))
+          (λ y ts rest r. if_is r)
+
+      while_law : (start : Span) → Law limit (at_rest IsStmt (tok (word keyword.While) start)) (while_with room body start) 1 d d
+      unfolding while_with
+      while_law start =
+          production limit (at_rest IsStmt (tok (word keyword.While) start))
+          (then_part limit (condition_part limit room d sum) (then_part limit braced_part (ends_with limit (λ x. while start x.0.1 x.1.0 x.1.1))))
+          (λ y ts rest r. while_is r)
+
+      stmt_head : (k : Lexeme) (at : Span) → Head limit IsStmt d d k at (stmt_from room body k at)
+      stmt_head (name x) at = takes 0 (λ e. cc) (λ o. absurd o) (assign_law (record { text = x; span = at }))
+      stmt_head (word keyword.Let) at = takes 1 (λ e. cc) (λ o. absurd o) (production limit (at_rest IsStmt (tok (word keyword.Let) at)) (then_part limit (local_part at) (ends_with limit (λ x. let_local x.1))) (one_is _ (λ x ts rest h. let_is h)))
+      stmt_head (word keyword.Var) at = takes 1 (λ e. cc) (λ o. absurd o) (production limit (at_rest IsStmt (tok (word keyword.Var) at)) (then_part limit (local_part at) (ends_with limit (λ x. var_local x.1))) (one_is _ (λ x ts rest h. var_is h)))
+      stmt_head (word keyword.If) at = takes 1 (λ e. cc) (λ o. absurd o) (if_law at)
+      stmt_head (word keyword.While) at = takes 1 (λ e. cc) (λ o. absurd o) (while_law at)
+      stmt_head (word keyword.Print) at = takes 1 (λ e. cc) (λ o. absurd o) (production limit (at_rest IsStmt (tok (word keyword.Print) at)) (then_part limit (ended_part limit room d sum) (ends_with limit (λ x. print at x.1))) (one_is _ (λ x ts rest h. print_is h)))
+      stmt_head (word keyword.Return) at = takes 1 (λ e. cc) (λ o. absurd o) (production limit (at_rest IsStmt (tok (word keyword.Return) at)) (then_part limit (ended_part limit room d sum) (ends_with limit (λ x. return_value at x.1))) (one_is _ (λ x ts rest h. return_is h)))
+      stmt_head _ at = refuses (λ ts. refl)
+
+      stmt_with_law : Law limit IsStmt (stmt_with room body) 1 d d
+      unfolding stmt_with
+      stmt_with_law = first_law limit IsStmt (stmt_from room body) d d (λ rest. (print nowhere zero_expr, tok (word keyword.Print) nowhere ∷ zero_tok ∷ tok (mark Semicolon) nowhere ∷ rest, print_is (ended is_int))) stmt_head
+
+  stmts_law : (f : Reader Stmt) (d : ℕ) → Law limit IsStmt f 1 d d → Law limit IsStmts (stmts_with f) 0 d d
+  unfolding stmts_with
+  stmts_law f d law = many_law limit IsStmt IsStmts no_stmts stmt (next_until (mark CloseBrace) f) d (until_law limit IsStmt (mark CloseBrace) f d law) (λ ts. are_no_stmts) (λ x l ts mid rest a b. are_stmts a b)
+
+  -- behind an opening brace, where one could be opened
+  stmts_in_law : (room d : ℕ) → d + room ≡ limit → 0 < room → Law limit IsStmts (stmts_in room) 0 (suc d) (suc d)
+  unfolding stmts_in
+  stmts_in_law zero d sum some = absurd (omega arith)
+  stmts_in_law (suc room) d sum some = stmts_law (stmt_with room (stmts_in room)) (suc d) (stmt_with_law room (suc d) (omega arith) (stmts_in room) (stmts_in_law room (suc d) (omega arith)))
+
+  pub stmt_law : (room d : ℕ) → d + room ≡ limit → Law limit IsStmt (stmt_at room) 1 d d
+  stmt_law room d sum = stmt_with_law room d sum (stmts_in room) (stmts_in_law room d sum)
+
+  module _ (room d : ℕ) (sum : d + room ≡ limit) where
+    pub block_part : {P : Type 0} → Part limit P IsBracedPair (braced_at room) 1 d d
+    block_part = braced_part room d sum (stmts_in room) (stmts_in_law room d sum)
