@@ -10,14 +10,14 @@ ghost use Rattle.resolution.specs.FaultLists.{lock_faults, along_faults, protect
 ghost use Rattle.symbols.specs.Views.{decls_of, members_seen};
 ghost use Rattle.annotations.specs.AnnotationCursors.{cursor_of, lock_name_faults, passed_at, ended_at};
 
-use symbols::members::Structure;
-use symbols::note::note_if;
-use symbols::scope::{Meaning, note_unfit, note_unfit_member};
-use symbols::table::SymbolTable;
 use core_lang::typed::Protection;
 use source::fault::Code;
 use source::mistake::{Mistake, note};
 use std::alloc::{AllocError, Global};
+use symbols::members::Structure;
+use symbols::note::note_if;
+use symbols::scope::{Meaning, note_unfit, note_unfit_member};
+use symbols::table::SymbolTable;
 use syntax::tree;
 use syntax::tree::{Decl, Member, Name};
 

@@ -7,7 +7,7 @@ use crate::ending::Ending;
 use std::alloc::{AllocError, Global};
 
 /// Whether what is said is what is wanted.
-fn is_wanted(said: &str, want: &str) -> bool
+pub fn is_wanted(said: &str, want: &str) -> bool
     ensures { (result ≡ true) ↔ (said.now ≡ want.now) }
 {
     said == want

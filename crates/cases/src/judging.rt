@@ -1,7 +1,7 @@
 //! The cases of a file.
 
-use crate::saying::said_of;
-use crate::told::Told;
+use case_answers::saying::said_of;
+use case_answers::told::Told;
 use case_files::asked::{Asked, Engine};
 use case_files::paragraph::{Paragraph, read_paragraph};
 use case_files::repetition::written_out;

@@ -46,13 +46,7 @@
 //! It exits with 0 where all are as wanted, 1 where some are not, 3 where reading or writing failed, 4 where memory ran
 //! out.
 
-mod analysing;
-mod engines;
 mod judging;
-mod rereading;
-mod saying;
-mod telling_tokens;
-mod told;
 
 use crate::judging::judge_text;
 use case_files::ending::{Ending, Stop};

@@ -11,6 +11,7 @@ ghost use Rattle.declarations.specs.Grown.{if_right};
 
 use crate::pool::cell_at;
 use crate::struct_builder::{StructBuilder, StructPlace};
+use annotations::class_of;
 use constants::constant::{default_of, opened};
 use core_lang::tree::Section;
 use core_lang::typed::{Call, Cell, GlobalVariable, LockClass, Owner, Thread, Typed};
@@ -18,7 +19,6 @@ use core_lang::value::{Value, ValueType};
 use core_lang::{shape, typed};
 use std::alloc::{AllocError, Global};
 use std::mem;
-use annotations::class_of;
 use symbols::members::Structure;
 use symbols::scope::type_outside;
 use symbols::table::SymbolTable;

@@ -11,11 +11,11 @@ ghost use Rattle.declarations.specs.Grown.{shaped};
 ghost use Rattle.declarations.specs.StructBuilders.{builder_of};
 
 use crate::grown::Builder;
+use annotations::{note_protection, protection_of};
 use core_lang::typed::{Field, FinalField, LockClass, LockField, Protection, Struct};
 use core_lang::value::ValueType;
 use source::mistake::Mistake;
 use std::alloc::{AllocError, Global};
-use annotations::{note_protection, protection_of};
 use symbols::members::Structure;
 use symbols::scope::{note_target, note_type, struct_named, type_outside};
 use symbols::table::SymbolTable;

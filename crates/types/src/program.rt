@@ -15,6 +15,7 @@ ghost use Rattle.symbols.specs.{decls_of};
 ghost use Rattle.declarations.specs.Grown.{built};
 ghost use Rattle.types.specs.Whole.{extended_if, global_if, array_if, section_if, thread_if};
 
+use annotations::note_lock;
 use constants::constant::note_opening;
 use constants::initial::note_init;
 use constants::thread::{note_items, typed_calls};
@@ -30,7 +31,6 @@ use sections::section::judge_section;
 use source::fault::{Fault, Refusal};
 use source::mistake::Mistake;
 use std::alloc::{AllocError, Global};
-use annotations::note_lock;
 use symbols::members::Structure;
 use symbols::scope::{note_target, note_type, type_outside};
 use symbols::table::SymbolTable;

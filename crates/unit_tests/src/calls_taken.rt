@@ -1,10 +1,10 @@
 //! A test of the crate `core_lang`: which calls a program takes.
 
-use crate::judging::compare;
 use compiler::compile;
 use core_lang::calls::can_call;
 use core_lang::value::Value;
 use std::test::Fail;
+use unit_cases::judging::compare;
 
 /// A section with a parameter of each kind, and an object of another struct.
 const TWO_STRUCTS: &str = "struct S { lock l; } struct T { lock l; }

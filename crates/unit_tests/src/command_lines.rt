@@ -1,9 +1,9 @@
 //! Tests of the crate `words`: of what `clap` refuses, which no clause says, and of a line of each form.
 
-use crate::judging::compare;
 use source::memory::NoMemory;
 use std::alloc::{AllocError, Global};
 use std::test::Fail;
+use unit_cases::judging::compare;
 use words::words;
 
 /// The words of the line.

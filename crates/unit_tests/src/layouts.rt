@@ -1,8 +1,8 @@
 //! Tests of the crate `layout`: a program is laid out.
 
-use crate::judging::compare;
 use compiler::compile;
 use std::test::Fail;
+use unit_cases::judging::compare;
 
 /// Two objects whose field is under the lock of a third one.
 const SHARED_OWNER: &str = "struct B { lock l; int n protected_by(l); }

@@ -4,21 +4,16 @@
 #![tactic(auto)]
 
 #[cfg(test)]
-mod calls;
-#[cfg(test)]
 mod calls_taken;
 #[cfg(test)]
 mod command_lines;
 #[cfg(test)]
 mod engine;
 #[cfg(test)]
-mod judging;
-#[cfg(test)]
 mod layouts;
 #[cfg(test)]
 mod managers;
 #[cfg(test)]
 mod refusals;
-pub mod verdict;
 #[cfg(test)]
 mod world_steps;

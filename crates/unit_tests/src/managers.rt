@@ -1,7 +1,5 @@
 //! Tests of the crate `lock_manager`: who is granted which lock with which cells, who waits, and what is kept.
 
-use crate::calls::Calls;
-use crate::judging::compare;
 use compiler::compile;
 use core_lang::value::Value;
 use lock_manager::manager::Manager;
@@ -10,6 +8,8 @@ use lowering::compiled::Program;
 use source::memory::NoMemory;
 use std::alloc::Global;
 use std::test::Fail;
+use unit_cases::judging::compare;
+use unit_cases::manager_calls::Calls;
 
 /// Two cells, each under a lock of its own.
 const DISJOINT_LOCKS: &str = "lock G; lock H;

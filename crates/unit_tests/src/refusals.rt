@@ -1,9 +1,9 @@
 //! Tests of the crate `source`, of what no clause says: how refusals are shown.
 
-use crate::judging::compare;
 use source::fault::{Code, Fault, Refusal};
 use std::alloc::Global;
 use std::test::Fail;
+use unit_cases::judging::compare;
 
 fn judge_shown(alloc: Global, refusal: &Refusal, want: &str) -> Result<(), Fail> {
     let shown = format!(in alloc; "{refusal}")?;

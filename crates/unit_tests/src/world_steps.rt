@@ -1,11 +1,11 @@
 //! Tests of the crate `interleavings`: what the steps of a thread are, one by one.
 
-use crate::judging::compare;
 use compiler::compile;
 use interleavings::world::World;
 use source::memory::NoMemory;
 use std::alloc::Global;
 use std::test::Fail;
+use unit_cases::judging::compare;
 use worlds::event::Event;
 
 const LOST_UPDATE: &str = "lock G;

@@ -1,7 +1,6 @@
 //! What is said of a text.
 
-ghost use Rattle.std.specs.Prelude.{◌≡◌, IfOk, codes, string_bytes};
-ghost use Rattle.source.specs.Faults.{fault_text};
+ghost use Rattle.std.specs.Prelude.{IfOk};
 ghost use Rattle.core_lang.specs.WellFormed.{IsWellFormed};
 ghost use Rattle.lockpaths.specs.Paths.{ArePaths};
 ghost use Rattle.syntax.specs.Returns.{ReturnsRight};
@@ -9,45 +8,19 @@ ghost use Rattle.syntax.specs.Views.{tree_of};
 
 use crate::analysing::Analysed;
 use crate::engines::{said_by, without_line_feed};
+use crate::reading::{line_of, read};
 use crate::rereading::difference;
 use crate::telling_tokens::tokens_said;
 use case_files::asked::Asked;
 use compiler::compile;
 use core_lang::typed::Typed;
-use lexer::lex;
 use lockpaths::paths;
 use lockpaths::table::Paths;
-use parser::parse;
-use source::fault::{Fault, Refusal};
-use source::line::fault_line;
 use source::memory::NoMemory;
 use std::alloc::Global;
 use syntax::print_tree;
 use syntax::tree::Tree;
 use types::program::check;
-
-/// The line of the fault for which a pass refuses the text, in a file called `F`.
-pub fn line_of(alloc: Global, text: &str, refusal: &Refusal) -> Result<String, NoMemory>
-    ensures { (fault : Fault) → refusal.now ≡ Refusal.Fault fault → IfOk result (λ line. string_bytes line ≡ fault_text (codes "F") text.now fault) }
-{
-    match refusal {
-        Refusal::Fault(fault) => fault_line(alloc, "F", text.as_bytes(), fault),
-        Refusal::NoMemory => Err(NoMemory),
-    }
-}
-
-/// The tree of the text, or its fault's line.
-pub fn read(alloc: Global, text: &str) -> Result<Result<Tree, String>, NoMemory>
-    ensures { IfOk result (λ read. IfOk read (λ tree. ReturnsRight (tree_of tree))) }
-{
-    match lex(alloc, text.as_bytes()) {
-        Ok(tokens) => match parse(alloc, &tokens) {
-            Ok(tree) => Ok(Ok(tree)),
-            Err(refusal) => Ok(Err(line_of(alloc, text, &refusal)?)),
-        },
-        Err(refusal) => Ok(Err(line_of(alloc, text, &refusal)?)),
-    }
-}
 
 /// The program that the tree of the text means, with its lock paths, or the line of the fault that it has.
 fn analysed(

@@ -1,6 +1,6 @@
 //! What is said of the tokens of a text.
 
-use crate::saying::line_of;
+use crate::reading::line_of;
 use crate::told::Told;
 use lexer::lex;
 use source::memory::NoMemory;

@@ -1,6 +1,6 @@
 //! Trees printed and read again.
 
-use crate::saying::read;
+use crate::reading::read;
 use crate::telling_tokens::tokens_said;
 use source::memory::NoMemory;
 use std::alloc::Global;

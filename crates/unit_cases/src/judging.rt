@@ -1,6 +1,6 @@
 //! What is said of a case against what is wanted of it.
 
-use crate::verdict::is_wanted;
+use case_files::tally::is_wanted;
 use std::alloc::Global;
 use std::test::Fail;
 
