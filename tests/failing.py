@@ -9,7 +9,7 @@
 --turns N       of serial, by default 1000
 --every N       only every N-th growth
 --cases         the program `cases` over each of its files, and of its calls the growths alone
---unit-tests    the program of the tests of `unit_tests`, and of its calls the growths alone
+--unit-tests    the programs of the tests of `unit_tests` and `command_tests`, and of their calls the growths alone
 FILE..          programs, by default those of examples/; of `cases` files of crates/cases/data, by default all.
                 Where a file of steps lies beside a program, simulate takes it, else some steps of its threads in turn
 
@@ -124,10 +124,12 @@ def of_cases(a):
 
 
 def of_unit_tests(a):
-    program = str((a.program or TOP / "crates/unit_tests/out/unit_tests_tests").resolve())
-    listed = subprocess.run([program, "--list"], capture_output=True, check=True, text=True)
-    for name in re.findall(r"^(\S+): test$", listed.stdout + listed.stderr, re.M):
-        yield Subject([program, name], [], {"growth": wrong_test}, a.every)
+    crates = [TOP / f"crates/{crate}/out/{crate}_tests" for crate in ("unit_tests", "command_tests")]
+    for program in [a.program] if a.program else crates:
+        program = str(program.resolve())
+        listed = subprocess.run([program, "--list"], capture_output=True, check=True, text=True)
+        for name in re.findall(r"^(\S+): test$", listed.stdout + listed.stderr, re.M):
+            yield Subject([program, name], [], {"growth": wrong_test}, a.every)
 
 
 def main():

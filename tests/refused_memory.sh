@@ -1,7 +1,7 @@
 #!/usr/bin/env bash
 # Refuses each growth of memory in turn to `autolock` (every command, the programs of examples/), to the tests of
-# `unit_tests`, and, each N-th one, to `cases` over its files; then limits the address space of `autolock`. The
-# programs are those that `rt ci` leaves in crates/NAME/out.
+# `unit_tests` and `command_tests`, and, each N-th one, to `cases` over its files; then limits the address space of
+# `autolock`. The programs are those that `rt ci` leaves in crates/NAME/out.
 #
 #     tests/refused_memory.sh [N]      by default every 500th growth of `cases`
 set -euo pipefail

@@ -3,12 +3,12 @@
 ghost use Rattle.std.specs.Prelude.{◌≡◌, OnOk, IfOk, option_map, map, Some};
 ghost use Rattle.syntax.specs.Views.{ident, protection_of as protection_view, option_of};
 ghost use Rattle.resolution.specs.CoreViews.{core_protection};
-ghost use Rattle.resolution.specs.Scopes.{the_decl, the_member};
-ghost use Rattle.resolution.specs.Annotations.{class_in, class_of, at_struct, stepped_on, ended, along, protection_of};
+ghost use Rattle.resolution.specs.Scopes.{the_member};
+ghost use Rattle.resolution.specs.Annotations.{class_in, class_of, at_struct, stepped_on, ended};
 ghost use Rattle.source.specs.Mistakes.{least_of};
-ghost use Rattle.resolution.specs.FaultLists.{lock_faults, along_faults, protection_faults};
-ghost use Rattle.symbols.specs.Views.{decls_of, members_seen};
-ghost use Rattle.annotations.specs.AnnotationCursors.{cursor_of, lock_name_faults, passed_at, ended_at};
+ghost use Rattle.resolution.specs.FaultLists.{lock_faults};
+ghost use Rattle.symbols.specs.Views.{decls_of, decl_named};
+ghost use Rattle.annotations.specs.AnnotationCursors.{cursor_seen, lock_name_faults, passed_at, ended_at, protection_along, faults_along, field_protection, field_protection_faults};
 
 use core_lang::typed::Protection;
 use source::fault::Code;
@@ -37,7 +37,7 @@ pub(crate) struct AnnotationCursor<'a, 't> {
 
 /// The class of a global lock that is named alone.
 fn class_in(symbols: &SymbolTable, first: &Name, rest: &[Name]) -> Option<usize>
-    ensures { result ≡ class_in (decls_of symbols.now) (the_decl (decls_of symbols.now) (ident first.now).text) (map ident rest.now) }
+    ensures { result ≡ class_in (decls_of symbols.now) (decl_named symbols.now first.now) (map ident rest.now) }
 {
     match symbols.find(first.text.as_str()) {
         Some((place, Decl::Lock(_))) => {
@@ -89,7 +89,7 @@ pub fn note_lock(
     p: &Option<tree::Protection>,
     least: &mut Option<Mistake>,
 )
-    ensures { least.new ≡ least_of least.old (lock_faults (decls_of symbols.now) (ident name.now).span.start (option_of protection_view p.now)) }
+    ensures { least.new ≡ least_of least.old (lock_faults (decls_of symbols.now) name.now.start (option_of protection_view p.now)) }
 {
     match p {
         Some(p) => note_global_lock(symbols, &p.first, &p.rest, least),
@@ -104,7 +104,7 @@ fn at_struct<'a, 't>(
     number: u32,
     target: &Name,
 ) -> Result<Option<AnnotationCursor<'a, 't>>, AllocError>
-    ensures { IfOk result (λ r. option_map cursor_of r ≡ at_struct through.items number (the_decl (decls_of symbols.now) (ident target.now).text)) }
+    ensures { IfOk result (λ r. cursor_seen r ≡ at_struct through.items number (decl_named symbols.now target.now)) }
 {
     let Some((place, structure)) = symbols.struct_of(target) else {
         drop(through);
@@ -128,7 +128,7 @@ fn stepped_on<'a, 't>(
     cursor: Option<AnnotationCursor<'a, 't>>,
     y: &Name,
 ) -> Result<Option<AnnotationCursor<'a, 't>>, AllocError>
-    ensures { IfOk result (λ r. option_map cursor_of r ≡ stepped_on (decls_of symbols.now) (option_map cursor_of cursor.entry) (ident y.now)) }
+    ensures { IfOk result (λ r. cursor_seen r ≡ stepped_on (decls_of symbols.now) (cursor_seen cursor.entry) (ident y.now)) }
 {
     let Some(cursor) = cursor else {
         return Ok(None);
@@ -151,7 +151,7 @@ fn stepped_on<'a, 't>(
 
 /// The walk's end: a lock field.
 fn ended(symbols: &SymbolTable, cursor: Option<AnnotationCursor>, y: &Name) -> Option<Protection>
-    ensures { option_map core_protection result ≡ ended (decls_of symbols.now) (option_map cursor_of cursor.entry) (ident y.now) }
+    ensures { option_map core_protection result ≡ ended (decls_of symbols.now) (cursor_seen cursor.entry) (ident y.now) }
 {
     let cursor = cursor?;
     let Some((place, m)) = cursor.structure.find(y.text.as_str()) else {
@@ -180,7 +180,7 @@ fn along<'a, 't>(
     first: &Name,
     rest: &[Name],
 ) -> Result<Option<Protection>, AllocError>
-    ensures { IfOk result (λ r. option_map core_protection r ≡ along (decls_of symbols.now) (option_map cursor_of cursor.entry) (ident first.now) (map ident rest.now)) }
+    ensures { IfOk result (λ r. option_map core_protection r ≡ protection_along symbols.now cursor.entry first.now rest.now) }
 {
     let mut cursor = cursor;
     let mut y = first;
@@ -201,7 +201,7 @@ pub fn protection_of<'a, 't>(
     structure: &'a Structure<'t>,
     p: &Option<tree::Protection>,
 ) -> Result<Option<Protection>, AllocError>
-    ensures { IfOk result (λ r. option_map core_protection r ≡ protection_of (decls_of symbols.now) place (members_seen structure.now) (option_of protection_view p.now)) }
+    ensures { IfOk result (λ r. option_map core_protection r ≡ field_protection symbols.now place structure.now p.now) }
 {
     let Some(p) = p else {
         return Ok(None);
@@ -278,7 +278,7 @@ fn note_along<'a, 't>(
     rest: &[Name],
     least: &mut Option<Mistake>,
 ) -> Result<(), AllocError>
-    ensures { OnOk result (least.new ≡ least_of least.old (along_faults (decls_of symbols.now) start (option_map cursor_of cursor.entry) (ident first.now) (map ident rest.now))) }
+    ensures { OnOk result (least.new ≡ least_of least.old (faults_along symbols.now start cursor.entry first.now rest.now)) }
 {
     let mut cursor = cursor;
     let mut y = first;
@@ -303,7 +303,7 @@ pub fn note_protection<'a, 't>(
     p: &Option<tree::Protection>,
     least: &mut Option<Mistake>,
 ) -> Result<(), AllocError>
-    ensures { OnOk result (least.new ≡ least_of least.old (protection_faults (decls_of symbols.now) place (members_seen structure.now) (ident name.now).span.start (option_of protection_view p.now))) }
+    ensures { OnOk result (least.new ≡ least_of least.old (field_protection_faults symbols.now place structure.now name.now p.now)) }
 {
     let Some(p) = p else {
         note(least, Code::NeitherFinalNorProtected, name.start as usize);

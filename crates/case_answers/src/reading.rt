@@ -1,9 +1,9 @@
 //! A text read by the lexer and the parser, and the line of the fault that it has.
 
-ghost use Rattle.std.specs.Prelude.{◌≡◌, IfOk, codes, string_bytes};
-ghost use Rattle.source.specs.Faults.{fault_text};
+ghost use Rattle.std.specs.Prelude.{◌≡◌, IfOk};
 ghost use Rattle.syntax.specs.Returns.{ReturnsRight};
 ghost use Rattle.syntax.specs.Views.{tree_of};
+ghost use Rattle.case_answers.specs.Lines.{IsLineOf};
 
 use lexer::lex;
 use parser::parse;
@@ -15,7 +15,7 @@ use syntax::tree::Tree;
 
 /// The line of the fault for which a pass refuses the text, in a file called `F`.
 pub fn line_of(alloc: Global, text: &str, refusal: &Refusal) -> Result<String, NoMemory>
-    ensures { (fault : Fault) → refusal.now ≡ Refusal.Fault fault → IfOk result (λ line. string_bytes line ≡ fault_text (codes "F") text.now fault) }
+    ensures { (fault : Fault) → refusal.now ≡ Refusal.Fault fault → IfOk result (IsLineOf text.now fault) }
 {
     match refusal {
         Refusal::Fault(fault) => fault_line(alloc, "F", text.as_bytes(), fault),

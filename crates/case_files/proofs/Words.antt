@@ -1,10 +1,11 @@
 -- What each word asks, and what each paragraph is that begins with words of its kind.
 use Rattle.std.proofs.Common.{◌≡◌, ◌++◌, ℕ, List, Option, Some, None, true, [], ◌∷◌, rules}
-use Rattle.std.specs.Prelude.{◌↔◌, ◌≢◌, ◌⊎◌, codes}
+use Rattle.std.specs.Prelude.{◌↔◌, ◌⊎◌, codes}
 use Rattle.std.specs.Borrow.{Bor}
 use lib.Pointwise.{pointwise}
 use lib.Dec.{eqb}
-use Rattle.case_files.specs.Asking.{IsSerial}
+use Rattle.case_files.specs.Asking.{IsSerial, IsSimulate}
+use Rattle.case_files.specs.Paragraphs.{IsCase, HasNoWant}
 use Rattle.case_files.specs.declared.asked.Asked.{Asked}
 use Rattle.case_files.specs.declared.asked.Asked.TheVariants.{Engine, Tokens, Tree, Print, Again, Paths, Points, Order}
 use Rattle.case_files.specs.declared.paragraph.Paragraph.{Paragraph}
@@ -18,8 +19,8 @@ Named word result = record {
   lists : (result ≡ Some (Engine Lists)) ↔ (word ≡ codes "lists");
   listing : (result ≡ Some (Engine Listing)) ↔ (word ≡ codes "listing");
   serial : (turns : ℕ) → (result ≡ Some (Engine (Serial turns))) ↔ IsSerial word turns;
-  simulate : (steps : Bor (List ℕ)) → result ≡ Some (Engine (Simulate steps)) → word ≡ codes "simulate " ++ steps.now;
-  steps : (rest : List ℕ) → word ≡ codes "simulate " ++ rest → (steps : Bor (List ℕ)) × (result ≡ Some (Engine (Simulate steps)));
+  simulate : (steps : Bor (List ℕ)) → result ≡ Some (Engine (Simulate steps)) → IsSimulate word steps.now;
+  steps : (s : List ℕ) → IsSimulate word s → (steps : Bor (List ℕ)) × (result ≡ Some (Engine (Simulate steps)));
   tokens : (result ≡ Some Tokens) ↔ (word ≡ codes "tokens");
   tree : (result ≡ Some Tree) ↔ (word ≡ codes "tree");
   print : (result ≡ Some Print) ↔ (word ≡ codes "print");
@@ -71,10 +72,10 @@ IsRead paragraph result = record {
   print : (result ≡ Ask Print) ↔ (paragraph ≡ codes "@ask print");
   again : (result ≡ Ask Again) ↔ (paragraph ≡ codes "@ask again");
   head : (text : Bor (List ℕ)) → result ≡ Head (Some text) → paragraph ≡ codes "@head\n" ++ text.now;
-  headed : (rest : List ℕ) → paragraph ≡ codes "@head\n" ++ rest → (text : Bor (List ℕ)) × (result ≡ Head (Some text));
-  case : (text want : Bor (List ℕ)) → result ≡ Case text want → (paragraph ≡ text.now ++ codes "\n=> " ++ want.now) ⊎ ((text.now ≡ []) × (paragraph ≡ codes "=> " ++ want.now));
+  headed : (s : List ℕ) → paragraph ≡ codes "@head\n" ++ s → (text : Bor (List ℕ)) × (result ≡ Head (Some text));
+  case : (text want : Bor (List ℕ)) → result ≡ Case text want → IsCase paragraph text.now want.now;
   headless : (result ≡ Head None) ↔ (paragraph ≡ codes "@head");
-  unreadable : result ≡ Unreadable → ((text want : List ℕ) → paragraph ≢ text ++ (codes "\n=> " ++ want)) ⊎ ((word : List ℕ) × (paragraph ≡ codes "@ask " ++ word));
+  unreadable : result ≡ Unreadable → HasNoWant paragraph ⊎ ((word : List ℕ) × (paragraph ≡ codes "@ask " ++ word));
 }
 
 pub asked_read : (word : List ℕ) (asked : Asked) → Named word (Some asked) → IsRead (codes "@ask " ++ word) (Ask asked)

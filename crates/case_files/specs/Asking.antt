@@ -1,4 +1,4 @@
--- Which words ask for how many turns.
+-- Which words ask for how many turns, and for which steps.
 use Rattle.std.specs.Prelude.{◌≡◌, ◌++◌, ◌<◌, ◌^◌, ℕ, List, codes}
 use Rattle.std.specs.Str.Parse.{IsNumeral, digits_value, without_leading_plus}
 
@@ -7,3 +7,7 @@ abbrev pub IsSerial : List ℕ → ℕ → Type 0
 IsSerial word turns =
     (digits : List ℕ) × (word ≡ codes "serial " ++ digits) × (IsNumeral 10 (without_leading_plus digits)) ×
     (digits_value 10 (without_leading_plus digits) ≡ turns) × (turns < 2 ^ 64)
+
+-- The word is `simulate`, a blank and these steps.
+abbrev pub IsSimulate : List ℕ → List ℕ → Type 0
+IsSimulate word steps = word ≡ codes "simulate " ++ steps

@@ -1,8 +1,8 @@
 //! What is asked of a text.
 
-ghost use Rattle.std.specs.Prelude.{◌≡◌, ◌↔◌, ◌++◌, List, Some, ℕ, codes};
+ghost use Rattle.std.specs.Prelude.{◌≡◌, ◌↔◌, List, Some, ℕ, codes};
 ghost use Rattle.std.specs.Borrow.{Bor};
-ghost use Rattle.case_files.specs.Asking.{IsSerial};
+ghost use Rattle.case_files.specs.Asking.{IsSerial, IsSimulate};
 
 /// An engine of the crate `driver` that is run on the text, and what is asked of its answer.
 #[derive(Clone, Copy)]
@@ -47,8 +47,8 @@ impl Asked<'_> {
         ensures lists { (result ≡ Some (Asked.Engine Engine.Lists)) ↔ (word.now ≡ codes "lists") }
         ensures listing { (result ≡ Some (Asked.Engine Engine.Listing)) ↔ (word.now ≡ codes "listing") }
         ensures serial { (turns : ℕ) → (result ≡ Some (Asked.Engine (Engine.Serial turns))) ↔ IsSerial word.now turns }
-        ensures simulate { (steps : Bor (List ℕ)) → result ≡ Some (Asked.Engine (Engine.Simulate steps)) → word.now ≡ codes "simulate " ++ steps.now }
-        ensures steps { (rest : List ℕ) → word.now ≡ codes "simulate " ++ rest → (steps : Bor (List ℕ)) × (result ≡ Some (Asked.Engine (Engine.Simulate steps))) }
+        ensures simulate { (steps : Bor (List ℕ)) → result ≡ Some (Asked.Engine (Engine.Simulate steps)) → IsSimulate word.now steps.now }
+        ensures steps { (s : List ℕ) → IsSimulate word.now s → (steps : Bor (List ℕ)) × (result ≡ Some (Asked.Engine (Engine.Simulate steps))) }
         ensures tokens { (result ≡ Some Asked.Tokens) ↔ (word.now ≡ codes "tokens") }
         ensures tree { (result ≡ Some Asked.Tree) ↔ (word.now ≡ codes "tree") }
         ensures print { (result ≡ Some Asked.Print) ↔ (word.now ≡ codes "print") }

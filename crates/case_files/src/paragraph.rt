@@ -1,7 +1,8 @@
 //! The paragraphs of a file of cases.
 
-ghost use Rattle.std.specs.Prelude.{◌≡◌, ◌≢◌, ◌∷◌, ◌++◌, ◌↔◌, ◌⊎◌, List, ℕ, None, Some, [], codes};
+ghost use Rattle.std.specs.Prelude.{◌≡◌, ◌∷◌, ◌++◌, ◌↔◌, ◌⊎◌, List, ℕ, None, Some, codes};
 ghost use Rattle.std.specs.Borrow.{Bor};
+ghost use Rattle.case_files.specs.Paragraphs.{IsCase, HasNoWant};
 
 use crate::asked::{Asked, Engine};
 
@@ -28,10 +29,10 @@ pub fn read_paragraph(paragraph: &str) -> Paragraph<'_>
     ensures print { (result ≡ Paragraph.Ask Asked.Print) ↔ (paragraph.now ≡ codes "@ask print") }
     ensures again { (result ≡ Paragraph.Ask Asked.Again) ↔ (paragraph.now ≡ codes "@ask again") }
     ensures head { (text : Bor (List ℕ)) → result ≡ Paragraph.Head (Some text) → paragraph.now ≡ codes "@head\n" ++ text.now }
-    ensures headed { (rest : List ℕ) → paragraph.now ≡ codes "@head\n" ++ rest → (text : Bor (List ℕ)) × (result ≡ Paragraph.Head (Some text)) }
-    ensures case { (text want : Bor (List ℕ)) → result ≡ Paragraph.Case text want → (paragraph.now ≡ text.now ++ codes "\n=> " ++ want.now) ⊎ ((text.now ≡ []) × (paragraph.now ≡ codes "=> " ++ want.now)) }
+    ensures headed { (s : List ℕ) → paragraph.now ≡ codes "@head\n" ++ s → (text : Bor (List ℕ)) × (result ≡ Paragraph.Head (Some text)) }
+    ensures case { (text want : Bor (List ℕ)) → result ≡ Paragraph.Case text want → IsCase paragraph.now text.now want.now }
     ensures headless { (result ≡ Paragraph.Head None) ↔ (paragraph.now ≡ codes "@head") }
-    ensures unreadable { result ≡ Paragraph.Unreadable → ((text want : List ℕ) → paragraph.now ≢ text ++ (codes "\n=> " ++ want)) ⊎ ((word : List ℕ) × (paragraph.now ≡ codes "@ask " ++ word)) }
+    ensures unreadable { result ≡ Paragraph.Unreadable → HasNoWant paragraph.now ⊎ ((word : List ℕ) × (paragraph.now ≡ codes "@ask " ++ word)) }
 {
     if paragraph.starts_with('#') {
         return Paragraph::Note;

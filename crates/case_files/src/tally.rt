@@ -1,7 +1,7 @@
 //! How many cases there are, and how many are not as wanted.
 
-ghost use Rattle.std.specs.Prelude.{◌≡◌, ◌≢◌, ◌↔◌, ◌+◌, ◌-◌, ◌^◌, ◌++◌, OnOk, min, true, [], string_bytes};
-ghost use Rattle.case_files.specs.Telling.{case_text, totals_text};
+ghost use Rattle.std.specs.Prelude.{◌≡◌, ◌≢◌, ◌↔◌, ◌+◌, ◌-◌, ◌^◌, OnOk, min, true, [], string_bytes};
+ghost use Rattle.case_files.specs.Telling.{IsTold, case_text, totals_text};
 
 use crate::ending::Ending;
 use std::alloc::{AllocError, Global};
@@ -51,7 +51,7 @@ impl Tally {
         ensures wanted { said.now ≡ want.now → self.new.wrong ≡ self.old.wrong }
         ensures wrong { said.now ≢ want.now → self.new.wrong ≡ min (self.old.wrong + 1) (2 ^ 64 - 1) }
         ensures silent { said.now ≡ want.now → string_bytes self.new.report ≡ string_bytes self.old.report }
-        ensures told { said.now ≢ want.now → OnOk result (string_bytes self.new.report ≡ string_bytes self.old.report ++ case_text file.now text.now said.now want.now) }
+        ensures told { said.now ≢ want.now → OnOk result (IsTold self.old self.new (case_text file.now text.now said.now want.now)) }
     {
         self.cases = self.cases.saturating_add(1);
         if is_wanted(said, want) {
@@ -69,7 +69,7 @@ impl Tally {
     pub fn close(&mut self, file: &str) -> Result<(), AllocError>
         ensures cases { self.new.cases ≡ self.old.cases }
         ensures wrong { self.new.wrong ≡ self.old.wrong }
-        ensures told { OnOk result (string_bytes self.new.report ≡ string_bytes self.old.report ++ totals_text file.now self.old.cases self.old.wrong) }
+        ensures told { OnOk result (IsTold self.old self.new (totals_text file.now self.old.cases self.old.wrong)) }
     {
         writeln!(
             self.report,

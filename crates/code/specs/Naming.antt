@@ -1,5 +1,5 @@
 -- What the code of the listing computes: an index of the globals, and an instruction as a word and its operand.
-use Rattle.std.specs.Prelude.{◌≡◌, ℕ, ◌+◌, ◌-◌, ◌==◌, List, [], ◌++◌, String, string_bytes, nat_eq}
+use Rattle.std.specs.Prelude.{◌≡◌, ℕ, ◌+◌, ◌-◌, ◌==◌, List, [], ◌++◌, nat_eq}
 use Rattle.std.specs.Fmt.{decimal, signed_decimal}
 use Rattle.std.specs.List.{find}
 use Rattle.std.specs.Option.{option_copied}
@@ -11,10 +11,6 @@ use Rattle.code.specs.declared.names.GlobalName.{GlobalName}
 use Rattle.code.specs.declared.names.Names.{Names}
 use Rattle.code.specs.declared.section_code.SectionCode.{SectionCode}
 use Rattle.code.specs.Listing.{named, global_text, final_text, field_text, acquired_text, instr_text}
-
--- the text comes behind what was written
-abbrev pub AddsText : {Z : Type 0} → List ℕ → String Z → String Z → Type 0
-AddsText text old new = string_bytes new ≡ string_bytes old ++ text
 
 -- the index has for each cell the first global that has it
 abbrev pub IsIndexOf : {S : Type 0} → List GlobalName → IndexMap ℕ (Bor GlobalName) S → Type 0

@@ -1,14 +1,16 @@
 //! Constants.
 
-ghost use Rattle.std.specs.Prelude.{◌≡◌, IfOk, option_map, map, is_some};
+ghost use Rattle.std.specs.Prelude.{◌≡◌, IfOk, option_map, is_some};
+ghost use Rattle.syntax.specs.Trees.{member_const};
 ghost use Rattle.syntax.specs.Views.{ident, const_of, option_of, param_of};
 ghost use Rattle.resolution.specs.Scopes.{the_decl};
-ghost use Rattle.resolution.specs.Constants.{const_sort, const_value, typed_const, want_of, typed_arguments, opened, default_of, member_sort, member_of};
+ghost use Rattle.resolution.specs.Constants.{const_sort, const_value, typed_const, want_of, opened, default_of, member_sort, member_of};
 ghost use Rattle.resolution.specs.Faults.{const_start};
 ghost use Rattle.source.specs.Mistakes.{least_of};
-ghost use Rattle.resolution.specs.FaultLists.{index_faults, own_faults, sort_misfit, const_faults, argument_faults, opening_faults};
+ghost use Rattle.resolution.specs.FaultLists.{own_faults, sort_misfit, const_faults, opening_faults};
 ghost use Rattle.symbols.specs.{decls_of};
 ghost use Rattle.resolved_expressions.specs.Parts.{pushed};
+ghost use Rattle.constants.specs.Values.{arguments_of, argument_faults_of};
 
 use core_lang::value::{Value, ValueType};
 use resolution::wanted::{Sort, Want};
@@ -121,7 +123,7 @@ pub fn default_of(t: ValueType) -> Value
 
 /// Notes what is wrong with a pool's name and an index behind it.
 pub fn note_index(symbols: &SymbolTable, name: &Name, n: Number, least: &mut Option<Mistake>)
-    ensures { least.new ≡ least_of least.old (index_faults (decls_of symbols.now) (ident name.now).span.start (the_decl (decls_of symbols.now) (ident name.now).text) n) }
+    ensures { least.new ≡ least_of least.old (own_faults (decls_of symbols.now) (member_const (ident name.now) n)) }
 {
     let start = name.start as usize;
     match symbols.find(name.text.as_str()) {
@@ -215,7 +217,7 @@ pub fn note_arguments(
     constants: &[Const],
     least: &mut Option<Mistake>,
 )
-    ensures { least.new ≡ least_of least.old (argument_faults (decls_of symbols.now) (map param_of params.now) (map const_of constants.now)) }
+    ensures { least.new ≡ least_of least.old (argument_faults_of symbols.now params.now constants.now) }
 {
     for i in 0..params.len().min(constants.len()) {
         note_const(symbols, want_of(symbols, &params[i]), &constants[i], least);
@@ -245,7 +247,7 @@ pub fn typed_arguments(
     params: &[Param],
     constants: &[Const],
 ) -> Result<Option<Vec<Value>>, AllocError>
-    ensures { IfOk result (λ r. option_map (λ vs. vs.items) r ≡ typed_arguments (decls_of symbols.now) (map param_of params.now) (map const_of constants.now)) }
+    ensures { IfOk result (λ r. option_map (λ vs. vs.items) r ≡ arguments_of symbols.now params.now constants.now) }
 {
     if params.len() != constants.len() {
         return Ok(None);
@@ -260,7 +262,7 @@ pub fn typed_arguments(
 
 /// Whether arguments are right: one for each parameter, each of the parameter's type.
 pub fn are_typed(symbols: &SymbolTable, params: &[Param], constants: &[Const]) -> bool
-    ensures { result ≡ is_some (typed_arguments (decls_of symbols.now) (map param_of params.now) (map const_of constants.now)) }
+    ensures { result ≡ is_some (arguments_of symbols.now params.now constants.now) }
 {
     if params.len() != constants.len() {
         return false;

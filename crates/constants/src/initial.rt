@@ -1,11 +1,12 @@
 //! The opening values that `init` declarations give.
 
-ghost use Rattle.std.specs.Prelude.{◌≡◌, option_map};
-ghost use Rattle.syntax.specs.Views.{init_of, const_of, member_of};
+ghost use Rattle.std.specs.Prelude.{◌≡◌};
+ghost use Rattle.syntax.specs.Views.{init_of, const_of};
 ghost use Rattle.resolution.specs.Constants.{member_want};
 ghost use Rattle.source.specs.Mistakes.{least_of};
 ghost use Rattle.resolution.specs.FaultLists.{init_field_faults, null_faults, init_faults};
 ghost use Rattle.symbols.specs.{decls_of};
+ghost use Rattle.constants.specs.Values.{member_found};
 
 use crate::constant::{note_const, note_index};
 use core_lang::value::ValueType;
@@ -35,7 +36,7 @@ fn note_field(symbols: &SymbolTable, i: &Init, least: &mut Option<Mistake>)
 
 /// What is wanted of the constant of an `init`.
 fn member_want(symbols: &SymbolTable, m: Option<(usize, &Member)>) -> Want
-    ensures { result ≡ member_want (decls_of symbols.now) (option_map (λ f. (f.0, member_of f.1.now)) m.entry) }
+    ensures { result ≡ member_want (decls_of symbols.now) (member_found m.entry) }
 {
     match m {
         Some((_, Member::Final(f))) => match struct_named(symbols, &f.target) {
@@ -54,7 +55,7 @@ fn note_null(
     c: &Const,
     least: &mut Option<Mistake>,
 )
-    ensures { least.new ≡ least_of least.old (null_faults (decls_of symbols.now) (option_map (λ f. (f.0, member_of f.1.now)) m.entry) (const_of c.now)) }
+    ensures { least.new ≡ least_of least.old (null_faults (decls_of symbols.now) (member_found m.entry) (const_of c.now)) }
 {
     if let (Some((_, Member::Final(f))), Const::Null(at)) = (m, c) {
         let is_known = struct_named(symbols, &f.target).is_some();

@@ -1,14 +1,14 @@
 //! Threads and their calls.
 
 ghost use Rattle.std.specs.Prelude.{◌≡◌, ◌++◌, OnOk, IfOk, option_map, map, is_some};
-ghost use Rattle.syntax.specs.Views.{const_of, call_of as call_view, item_of, items_of, ident};
+ghost use Rattle.syntax.specs.Views.{call_of as call_view, item_of, items_of};
 ghost use Rattle.syntax.specs.Trees.{call};
 ghost use Rattle.resolution.specs.CoreViews.{core_call};
-ghost use Rattle.resolution.specs.Scopes.{the_decl};
-ghost use Rattle.resolution.specs.Resolution.{call_of, one_call, copies, joined, typed_item, typed_items, typed_calls};
+ghost use Rattle.resolution.specs.Resolution.{one_call, copies, joined, typed_item, typed_items, typed_calls};
 ghost use Rattle.source.specs.Mistakes.{least_of};
 ghost use Rattle.resolution.specs.FaultLists.{item_faults, items_faults};
-ghost use Rattle.constants.specs.Calls.{repeated_calls};
+ghost use Rattle.constants.specs.Calls.{resolved_call, repeated_calls};
+ghost use Rattle.constants.specs.Values.{calls_in};
 ghost use Rattle.symbols.specs.{decls_of};
 
 use crate::constant::{are_typed, note_arguments, typed_arguments};
@@ -104,7 +104,7 @@ fn typed_call(
     symbols: &SymbolTable,
     c: &tree::Call,
 ) -> Result<Option<Call>, AllocError>
-    ensures { IfOk result (λ r. option_map core_call r ≡ call_of (decls_of symbols.now) (the_decl (decls_of symbols.now) (ident c.now.section).text) (map const_of c.now.arguments.items)) }
+    ensures { IfOk result (λ r. option_map core_call r ≡ resolved_call (decls_of symbols.now) (call_view c.now)) }
 {
     let Some((place, d)) = symbols.find(c.section.text.as_str()) else {
         return Ok(None);
@@ -121,7 +121,7 @@ fn typed_call(
 
 /// A single call, if it is right.
 fn one_call(alloc: Global, c: Option<Call>) -> Result<Option<Vec<Call>>, AllocError>
-    ensures { IfOk result (λ r. option_map (λ cs. map core_call cs.items) r ≡ one_call (option_map core_call c)) }
+    ensures { IfOk result (λ r. calls_in r ≡ one_call (option_map core_call c)) }
 {
     match c {
         Some(c) => {
@@ -173,7 +173,7 @@ fn repeated(
     n: u64,
     calls: Option<Vec<Call>>,
 ) -> Result<Option<Vec<Call>>, AllocError>
-    ensures { IfOk result (λ r. option_map (λ cs. map core_call cs.items) r ≡ repeated_calls n (option_map (λ cs. map core_call cs.items) calls)) }
+    ensures { IfOk result (λ r. calls_in r ≡ repeated_calls n (calls_in calls)) }
 {
     match calls {
         Some(calls) => Ok(Some(copies(alloc, n, &calls)?)),
@@ -186,7 +186,7 @@ fn with_calls(
     calls: Option<Vec<Call>>,
     more: Option<Vec<Call>>,
 ) -> Result<Option<Vec<Call>>, AllocError>
-    ensures { IfOk result (λ r. option_map (λ cs. map core_call cs.items) r ≡ joined (option_map (λ cs. map core_call cs.items) calls) (option_map (λ cs. map core_call cs.items) more)) }
+    ensures { IfOk result (λ r. calls_in r ≡ joined (calls_in calls) (calls_in more)) }
 {
     match (calls, more) {
         (Some(mut calls), Some(more)) => {
@@ -204,7 +204,7 @@ fn typed_item(
     symbols: &SymbolTable,
     item: &Item,
 ) -> Result<Option<Vec<Call>>, AllocError>
-    ensures { IfOk result (λ r. option_map (λ cs. map core_call cs.items) r ≡ typed_item (decls_of symbols.now) (item_of item.now)) }
+    ensures { IfOk result (λ r. calls_in r ≡ typed_item (decls_of symbols.now) (item_of item.now)) }
 {
     match item {
         Item::Call(c) => {
@@ -231,7 +231,7 @@ fn typed_items(
     symbols: &SymbolTable,
     items: &[Item],
 ) -> Result<Option<Vec<Call>>, AllocError>
-    ensures { IfOk result (λ r. option_map (λ cs. map core_call cs.items) r ≡ typed_items (decls_of symbols.now) (items_of items.now)) }
+    ensures { IfOk result (λ r. calls_in r ≡ typed_items (decls_of symbols.now) (items_of items.now)) }
 {
     let mut calls = Some(Vec::new(alloc));
     for item in items {
@@ -247,7 +247,7 @@ pub fn typed_calls(
     symbols: &SymbolTable,
     items: &[Item],
 ) -> Result<Option<Vec<Call>>, AllocError>
-    ensures { IfOk result (λ r. option_map (λ cs. map core_call cs.items) r ≡ typed_calls (decls_of symbols.now) (items_of items.now)) }
+    ensures { IfOk result (λ r. calls_in r ≡ typed_calls (decls_of symbols.now) (items_of items.now)) }
 {
     if symbols.has_few_calls() {
         typed_items(alloc, symbols, items)

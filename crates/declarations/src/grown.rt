@@ -1,13 +1,14 @@
 //! The program as it grows, one declaration after another.
 
-ghost use Rattle.std.specs.Prelude.{◌≡◌, IfOk, OnOk, option_map, map};
+ghost use Rattle.std.specs.Prelude.{◌≡◌, IfOk, OnOk, option_map};
 ghost use Rattle.syntax.specs.Trees.{struct};
 ghost use Rattle.syntax.specs.Views.{ident, array_of, struct_of, variable_of};
-ghost use Rattle.resolution.specs.CoreViews.{core_of, core_struct, core_section, core_call};
+ghost use Rattle.resolution.specs.CoreViews.{core_of, core_struct, core_section};
 ghost use Rattle.resolution.specs.Core.{global_lock};
-ghost use Rattle.resolution.specs.Resolution.{with_class, with_cell, empty_struct, global_with, array_with, with_section, with_thread, extended, with_elements};
-ghost use Rattle.symbols.specs.{decls_of};
+ghost use Rattle.resolution.specs.Resolution.{with_class, with_cell, empty_struct, global_with, array_with, with_section, with_thread, with_elements};
+ghost use Rattle.constants.specs.{calls_in};
 ghost use Rattle.declarations.specs.Grown.{if_right};
+ghost use Rattle.declarations.specs.Values.{known, extended_of};
 
 use crate::pool::cell_at;
 use crate::struct_builder::{StructBuilder, StructPlace};
@@ -109,7 +110,7 @@ impl<'a> Builder<'a> {
         table: &'a Structure<'a>,
         typed: &mut Typed,
     ) -> Result<bool, AllocError>
-        ensures { IfOk result (λ right. if_right right typed.new ≡ extended (decls_of self.now.symbols.now) place (core_of typed.old) (struct (struct_of table.now))) }
+        ensures { IfOk result (λ right. if_right right typed.new ≡ extended_of self.now place typed.old (struct (struct_of table.now))) }
     {
         let here = StructPlace {
             number: typed.structs.len(),
@@ -132,7 +133,7 @@ impl<'a> Builder<'a> {
 
     /// Adds a global, if it is right.
     pub fn add_global(&self, v: &Variable, typed: &mut Typed) -> Result<bool, AllocError>
-        ensures { IfOk result (λ right. if_right right typed.new ≡ global_with (decls_of self.now.symbols.now) (core_of typed.old) (variable_of v.now)) }
+        ensures { IfOk result (λ right. if_right right typed.new ≡ global_with (known self.now) (core_of typed.old) (variable_of v.now)) }
     {
         let Some(class) = class_of(self.symbols, &v.protection) else {
             return Ok(false);
@@ -158,7 +159,7 @@ impl<'a> Builder<'a> {
 
     /// Adds an array, if it is right.
     pub fn add_array(&self, a: &Array, typed: &mut Typed) -> Result<bool, AllocError>
-        ensures { IfOk result (λ right. if_right right typed.new ≡ array_with (decls_of self.now.symbols.now) (core_of typed.old) (array_of a.now)) }
+        ensures { IfOk result (λ right. if_right right typed.new ≡ array_with (known self.now) (core_of typed.old) (array_of a.now)) }
     {
         let Some(class) = class_of(self.symbols, &a.protection) else {
             return Ok(false);
@@ -191,7 +192,7 @@ impl<'a> Builder<'a> {
         calls: Option<Vec<Call>>,
         typed: &mut Typed,
     ) -> Result<bool, AllocError>
-        ensures { IfOk result (λ right. if_right right typed.new ≡ with_thread (core_of typed.old) (ident name.now).text (option_map (λ cs. map core_call cs.items) calls)) }
+        ensures { IfOk result (λ right. if_right right typed.new ≡ with_thread (core_of typed.old) (ident name.now).text (calls_in calls)) }
     {
         let Some(calls) = calls else {
             return Ok(false);

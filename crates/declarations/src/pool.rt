@@ -1,18 +1,19 @@
 //! Pools, their objects and what these open with.
 
-ghost use Rattle.std.specs.Prelude.{◌≡◌, ◌<◌, ◌^◌, IfOk, option_map, map, true, Some};
+ghost use Rattle.std.specs.Prelude.{◌≡◌, ◌<◌, ◌^◌, IfOk, option_map, true};
+ghost use Rattle.syntax.specs.Trees.{pool};
 ghost use Rattle.syntax.specs.Views.{member_of, const_of, pool_of};
 ghost use Rattle.resolution.specs.CoreViews.{core_of};
-ghost use Rattle.resolution.specs.Scopes.{struct_named};
-ghost use Rattle.resolution.specs.Constants.{members_of, referred};
-ghost use Rattle.resolution.specs.Resolution.{slot_given, opening_of, final_cell, field_cell, with_members, with_object, with_objects, with_pool};
+ghost use Rattle.resolution.specs.Constants.{referred};
+ghost use Rattle.resolution.specs.Resolution.{slot_given, opening_of, final_cell, field_cell};
 ghost use Rattle.resolution.specs.Limits.{up_to, object_at, cell_at, final_at};
 ghost use Rattle.source.specs.Mistakes.{least_of};
-ghost use Rattle.resolution.specs.FaultLists.{some_lacks, is_at, is_due, lacks, missing_faults};
+ghost use Rattle.resolution.specs.FaultLists.{some_lacks, is_at, is_due, lacks};
 ghost use Rattle.symbols.specs.{members_seen, decls_of};
 ghost use Rattle.symbols.specs.Counted.{field_if};
 ghost use Rattle.declarations.specs.Grown.{if_right};
-ghost use Rattle.declarations.specs.Slots.{slot_of, member_with};
+ghost use Rattle.declarations.specs.Slots.{slot_of};
+ghost use Rattle.declarations.specs.Values.{extended_of, with_member_of, with_members_of, with_object_of, with_objects_of, missing_faults_of};
 
 use crate::grown::{Builder, add_cell};
 use constants::constant::{opened, typed_const};
@@ -170,7 +171,7 @@ impl<'a> Builder<'a> {
         m: &Member,
         typed: &mut Typed,
     ) -> Result<bool, AllocError>
-        ensures { IfOk result (λ right. if_right right typed.new ≡ member_with (decls_of self.now.symbols.now) (slot_of slot) at.place at.fields (Some (core_of typed.old)) (member_of m.now)) }
+        ensures { IfOk result (λ right. if_right right typed.new ≡ with_member_of self.now slot at typed.old m.now) }
     {
         let symbols = self.symbols;
         match m {
@@ -201,7 +202,7 @@ impl<'a> Builder<'a> {
         members: &[Member],
         typed: &mut Typed,
     ) -> Result<bool, AllocError>
-        ensures { IfOk result (λ right. if_right right typed.new ≡ with_members (decls_of self.now.symbols.now) (slot_of slot) 0 0 (Some (core_of typed.old)) (map member_of members.now)) }
+        ensures { IfOk result (λ right. if_right right typed.new ≡ with_members_of self.now slot typed.old members.now) }
     {
         let mut fields = 0;
         for (place, m) in members.iter().enumerate() {
@@ -220,7 +221,7 @@ impl<'a> Builder<'a> {
         index: usize,
         typed: &mut Typed,
     ) -> Result<bool, AllocError>
-        ensures { IfOk result (λ right. if_right right typed.new ≡ with_object (decls_of self.now.symbols.now) pool.now.place pool.now.number (map member_of pool.now.members.now) index (core_of typed.old)) }
+        ensures { IfOk result (λ right. if_right right typed.new ≡ with_object_of self.now pool.now typed.old index) }
     {
         let Some(cells) = cell_at(typed.cells.len()) else {
             return Ok(false);
@@ -248,7 +249,7 @@ impl<'a> Builder<'a> {
         count: u32,
         typed: &mut Typed,
     ) -> Result<bool, AllocError>
-        ensures { IfOk result (λ right. if_right right typed.new ≡ with_objects (decls_of self.now.symbols.now) pool.now.place pool.now.number (map member_of pool.now.members.now) (Some (core_of typed.old)) count) }
+        ensures { IfOk result (λ right. if_right right typed.new ≡ with_objects_of self.now pool.now typed.old count) }
     {
         for index in 0..count {
             if !self.add_object(pool, index as usize, typed)? {
@@ -260,7 +261,7 @@ impl<'a> Builder<'a> {
 
     /// Adds a pool, which has this place, if it is right.
     pub fn add_pool(&self, place: usize, p: &Pool, typed: &mut Typed) -> Result<bool, AllocError>
-        ensures { IfOk result (λ right. if_right right typed.new ≡ with_pool (decls_of self.now.symbols.now) place (core_of typed.old) (pool_of p.now).name.text (struct_named (decls_of self.now.symbols.now) (pool_of p.now).target) (members_of (decls_of self.now.symbols.now) (pool_of p.now).target) (pool_of p.now).length.value) }
+        ensures { IfOk result (λ right. if_right right typed.new ≡ extended_of self.now place typed.old (pool (pool_of p.now))) }
     {
         let symbols = self.symbols;
         let Some(structure) = struct_named(symbols, &p.target) else {
@@ -345,7 +346,7 @@ fn lacks(symbols: &SymbolTable, pool: usize, count: u64, structure: &Structure) 
 
 /// Notes a pool with a final reference that isn't given.
 pub fn note_missing(symbols: &SymbolTable, place: usize, p: &Pool, least: &mut Option<Mistake>)
-    ensures { least.new ≡ least_of least.old (missing_faults (decls_of symbols.now) place (pool_of p.now) (members_of (decls_of symbols.now) (pool_of p.now).target)) }
+    ensures { least.new ≡ least_of least.old (missing_faults_of symbols.now place p.now) }
 {
     if let Some((_, structure)) = symbols.struct_of(&p.target) {
         let is_missing = lacks(symbols, place, p.length.value, structure);

@@ -1,14 +1,12 @@
 //! Structs.
 
-ghost use Rattle.std.specs.Prelude.{◌≡◌, ◌++◌, OnOk, IfOk, option_map, map, Some};
-ghost use Rattle.syntax.specs.Views.{ident, member_of};
-ghost use Rattle.resolution.specs.CoreViews.{core_protection};
-ghost use Rattle.resolution.specs.Resolution.{lock_added, final_added, field_added, member_added, members_added};
+ghost use Rattle.std.specs.Prelude.{◌≡◌, ◌++◌, OnOk, IfOk};
+ghost use Rattle.syntax.specs.Views.{ident};
+ghost use Rattle.resolution.specs.Resolution.{lock_added, final_added};
 ghost use Rattle.source.specs.Mistakes.{least_of};
-ghost use Rattle.resolution.specs.FaultLists.{member_faults, members_faults};
-ghost use Rattle.symbols.specs.{decls_of, members_seen, decls_of};
 ghost use Rattle.declarations.specs.Grown.{shaped};
 ghost use Rattle.declarations.specs.StructBuilders.{builder_of};
+ghost use Rattle.declarations.specs.Values.{field_added_of, member_added_of, members_added_of, member_faults_of, members_faults_of};
 
 use crate::grown::Builder;
 use annotations::{note_protection, protection_of};
@@ -83,7 +81,7 @@ impl StructBuilder {
         t: Option<ValueType>,
         protection: Option<Protection>,
     ) -> Result<bool, AllocError>
-        ensures { IfOk result (λ right. shaped right self.new ≡ field_added (builder_of self.old) (ident name.now).text t (option_map core_protection protection)) }
+        ensures { IfOk result (λ right. shaped right self.new ≡ field_added_of self.old name.now t protection) }
     {
         let (Some(value_type), Some(protection)) = (t, protection) else {
             return Ok(false);
@@ -105,7 +103,7 @@ impl<'a> Builder<'a> {
         m: &Member,
         builder: &mut StructBuilder,
     ) -> Result<bool, AllocError>
-        ensures { IfOk result (λ right. shaped right builder.new ≡ member_added (decls_of self.now.symbols.now) here.now.number here.now.place (members_seen here.now.table.now) (Some (builder_of builder.old)) (member_of m.now)) }
+        ensures { IfOk result (λ right. shaped right builder.new ≡ member_added_of self.now here.now builder.old m.now) }
     {
         match m {
             Member::Lock(name) => {
@@ -137,7 +135,7 @@ impl<'a> Builder<'a> {
         members: &[Member],
         builder: &mut StructBuilder,
     ) -> Result<bool, AllocError>
-        ensures { IfOk result (λ right. shaped right builder.new ≡ members_added (decls_of self.now.symbols.now) here.now.number here.now.place (members_seen here.now.table.now) (Some (builder_of builder.old)) (map member_of members.now)) }
+        ensures { IfOk result (λ right. shaped right builder.new ≡ members_added_of self.now here.now builder.old members.now) }
     {
         for m in members {
             if !self.add_member(here, m, builder)? {
@@ -158,7 +156,7 @@ fn note_member<'a, 't>(
     m: &Member,
     least: &mut Option<Mistake>,
 ) -> Result<(), AllocError>
-    ensures { OnOk result (least.new ≡ least_of least.old (member_faults (decls_of symbols.now) place (members_seen structure.now) (member_of m.now))) }
+    ensures { OnOk result (least.new ≡ least_of least.old (member_faults_of symbols.now place structure.now m.now)) }
 {
     match m {
         Member::Lock(_) => Ok(()),
@@ -191,7 +189,7 @@ pub fn note_members<'a, 't>(
     members: &[Member],
     least: &mut Option<Mistake>,
 ) -> Result<(), AllocError>
-    ensures { OnOk result (least.new ≡ least_of least.old (members_faults (decls_of symbols.now) place (members_seen structure.now) (map member_of members.now))) }
+    ensures { OnOk result (least.new ≡ least_of least.old (members_faults_of symbols.now place structure.now members.now)) }
 {
     for m in members {
         note_member(alloc, symbols, place, structure, m, least)?;

@@ -2,7 +2,7 @@
 use Rattle.std.specs.Prelude.{◌≡◌, ℕ, Bool, true, false, List, [], string_bytes}
 use Rattle.core_lang.specs.declared.typed.Typed.{Typed}
 use Rattle.lowering.specs.Plans.{Plan}
-use Rattle.report.specs.History.{line}
+use Rattle.code.specs.Listing.{line}
 use Rattle.source.specs.declared.fault.Fault.{Fault}
 use Rattle.source.specs.Faults.{fault_text}
 use Rattle.driver.specs.declared.answer.Answer.{Answer}
@@ -19,9 +19,13 @@ use Rattle.driver.specs.declared.simulating.Texts.{Texts}
 use Rattle.steps.specs.declared.refusal.StepsFault.{StepsFault}
 use Rattle.steps.specs.Steps.{steps_fault_text}
 
+-- the answer's status and outputs are what is wanted of them
+abbrev pub Meets : (Status → List ℕ → List ℕ → Type 0) → Answer → Type 0
+Meets Wanted answer = Wanted answer.status (string_bytes answer.out) (string_bytes answer.err)
+
 -- the answer to a program's run
 abbrev pub IsRunAnswer : ℕ → Typed → Answer → Type 0
-IsRunAnswer turns program answer = RunAnswers turns program answer.status (string_bytes answer.out) (string_bytes answer.err)
+IsRunAnswer turns program = Meets (RunAnswers turns program)
 
 -- the answer to a program that is checked, and to one whose code is listed
 abbrev pub IsCheckAnswer : List ℕ → Plan → Answer → Type 0
@@ -32,8 +36,7 @@ IsListingAnswer plan answer = (answer.status ≡ Done) × IsListed plan (string_
 
 -- the answer to a program and a steps file
 abbrev pub IsPlanAnswer : Plan → List ℕ → List ℕ → Answer → Type 0
-IsPlanAnswer plan steps_file items answer =
-    PlanAnswers plan steps_file items answer.status (string_bytes answer.out) (string_bytes answer.err)
+IsPlanAnswer plan steps_file items = Meets (PlanAnswers plan steps_file items)
 
 abbrev pub IsBadStepsAnswer : List ℕ → List ℕ → StepsFault → Answer → Type 0
 IsBadStepsAnswer steps_file items fault answer =
@@ -41,9 +44,8 @@ IsBadStepsAnswer steps_file items fault answer =
 
 -- the answer to two texts
 abbrev pub IsSimulationAnswer : Texts → Answer → Type 0
-IsSimulationAnswer texts answer =
-    SimulationAnswers texts.file.now texts.steps_file.now texts.text.now texts.items.now
-    answer.status (string_bytes answer.out) (string_bytes answer.err)
+IsSimulationAnswer texts =
+    Meets (SimulationAnswers texts.file.now texts.steps_file.now texts.text.now texts.items.now)
 
 -- what is answered to a request
 abbrev pub RequestAnswers : Request → List ℕ → List ℕ → Status → List ℕ → List ℕ → Type 0

@@ -2,7 +2,7 @@
 use Rattle.std.specs.Prelude.{◌≡◌, ℕ, List, []}
 use Rattle.lowering.specs.Plans.{Plan, IsCompiled}
 use Rattle.compiler.specs.Programs.{Accepts}
-use Rattle.report.specs.Check.{check_text}
+use Rattle.check_report.specs.Check.{check_text}
 use Rattle.driver.specs.declared.status.Status.{Status}
 use Rattle.driver.specs.declared.status.Status.TheVariants.{Done, Refused}
 use Rattle.driver.specs.Serial.{IsRefused}

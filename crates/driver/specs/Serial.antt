@@ -4,7 +4,8 @@ use Rattle.core_lang.specs.declared.typed.Typed.{Typed}
 use Rattle.core_lang.specs.Serial.{Scheduled, Invocation, Ended, all_calls, run_call, serial_run, SerialFromOpening}
 use Rattle.core_lang.specs.Whole.{Beyond_turns}
 use Rattle.report.specs.Entry.{Entry}
-use Rattle.report.specs.History.{line, history_of, unsettled_of}
+use Rattle.code.specs.Listing.{line}
+use Rattle.report.specs.History.{history_of, unsettled_of}
 use Rattle.source.specs.declared.fault.Fault.{Fault}
 use Rattle.source.specs.Faults.{fault_text}
 use Rattle.driver.specs.declared.status.Status.{Status}

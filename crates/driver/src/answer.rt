@@ -1,20 +1,21 @@
 //! What an engine answers, as a function of the bytes that it read.
 
-ghost use Rattle.std.specs.Prelude.{◌≡◌, IfOk, string_bytes};
+ghost use Rattle.std.specs.Prelude.{IfOk};
 ghost use Rattle.core_lang.specs.WellFormed.{IsWellFormed};
-ghost use Rattle.driver.specs.Answers.{IsCheckAnswer, IsListingAnswer, IsRunAnswer, IsFaultAnswer, RequestAnswers};
+ghost use Rattle.driver.specs.Answers.{IsCheckAnswer, IsListingAnswer, IsRunAnswer, IsFaultAnswer, Meets, RequestAnswers};
 ghost use Rattle.driver.specs.Checks.{CheckAnswers};
 ghost use Rattle.driver.specs.Listings.{ListingAnswers};
 ghost use Rattle.driver.specs.Serial.{SerialAnswers};
 
 use crate::running::run_scripts;
 use crate::status::Status;
+use check_report::Check;
 use code::listing;
 use compiler::compile;
 use core_lang::laws;
 use core_lang::typed::Typed;
 use lowering::compiled::Program;
-use report::{Check, history_text, unsettled_text};
+use report::{history_text, unsettled_text};
 use source::fault::{Fault, Refusal};
 use source::line::fault_line;
 use source::memory::NoMemory;
@@ -78,7 +79,7 @@ fn checked(alloc: Global, text: &[u8], program: &Program) -> Result<Answer, NoMe
 
 /// What `check` answers for the text of the file of this name.
 fn check_answer(alloc: Global, file: &str, text: &[u8]) -> Result<Answer, NoMemory>
-    ensures { IfOk result (λ answer. CheckAnswers file.now text.now answer.status (string_bytes answer.out) (string_bytes answer.err)) }
+    ensures { IfOk result (Meets (CheckAnswers file.now text.now)) }
 {
     match compile(alloc, text) {
         Ok(program) => checked(alloc, text, &program),
@@ -100,7 +101,7 @@ fn listed(alloc: Global, program: &Program) -> Result<Answer, NoMemory>
 
 /// What `listing` answers for the text of the file of this name.
 fn listing_answer(alloc: Global, file: &str, text: &[u8]) -> Result<Answer, NoMemory>
-    ensures { IfOk result (λ answer. ListingAnswers file.now text.now answer.status (string_bytes answer.out) (string_bytes answer.err)) }
+    ensures { IfOk result (Meets (ListingAnswers file.now text.now)) }
 {
     match compile(alloc, text) {
         Ok(program) => listed(alloc, &program),
@@ -133,7 +134,7 @@ fn ran(alloc: Global, program: &Typed, turns: u64) -> Result<Answer, NoMemory>
 
 /// What `serial` answers for the text of the file of this name.
 fn serial_answer(alloc: Global, file: &str, text: &[u8], turns: u64) -> Result<Answer, NoMemory>
-    ensures { IfOk result (λ answer. SerialAnswers turns file.now text.now answer.status (string_bytes answer.out) (string_bytes answer.err)) }
+    ensures { IfOk result (Meets (SerialAnswers turns file.now text.now)) }
 {
     match compile(alloc, text) {
         Ok(program) => ran(alloc, program.typed(), turns),
@@ -149,7 +150,7 @@ pub fn answer_to(
     file: &str,
     text: &[u8],
 ) -> Result<Answer, NoMemory>
-    ensures { IfOk result (λ answer. RequestAnswers request file.now text.now answer.status (string_bytes answer.out) (string_bytes answer.err)) }
+    ensures { IfOk result (Meets (RequestAnswers request file.now text.now)) }
 {
     match request {
         Request::Check => check_answer(alloc, file, text),

@@ -3,7 +3,7 @@ use Rattle.std.specs.Prelude.{◌≡◌, ◌<◌, ◌≤◌, ℕ, ◌+◌, Bool,
 use Rattle.std.specs.List.{Contains}
 use Rattle.core_lang.specs.declared.value.Value.{Value}
 use Rattle.locks.specs.declared.lock.Lock.{Lock}
-use Rattle.code.specs.Memory.{HeldCells, load_held, store_held}
+use Rattle.code.specs.Memory.{HeldCells, none_held, load_held, store_held}
 use Rattle.layout.specs.Layouts.{LayoutOf}
 use Rattle.moved_cells.specs.Grants.{GrantOf, cells_in, IsWhole}
 
@@ -27,6 +27,16 @@ pub record CanHold (h : HoldingOf) (g : GrantOf) : Type 0 where
   pub whole : IsWhole h.layout.cell_locks g
   pub lock_fits : length h.locks < h.lock_room
   pub cells_fit : length h.memory.cells + length g.values ≤ h.cell_room
+
+-- no grants yet, and room for so many locks and cells
+abbrev pub no_grants : LayoutOf → ℕ → ℕ → HoldingOf
+no_grants layout locks cells = record {
+  layout = layout;
+  locks = [];
+  memory = none_held;
+  lock_room = locks;
+  cell_room = cells;
+}
 
 -- with a grant more
 abbrev pub with_grant : HoldingOf → GrantOf → HoldingOf

@@ -2,10 +2,9 @@
 
 ghost use Rattle.std.specs.Prelude.{◌≡◌, ◌≤◌, [], length, map, IfOk};
 ghost use Rattle.std.specs.List.{All};
-ghost use Rattle.code.specs.Memory.{none_held};
 ghost use Rattle.layout.specs.Layouts.{AreDistinct};
 ghost use Rattle.moved_cells.specs.Grants.{IsWhole, locks_of};
-ghost use Rattle.held_cells.specs.Held.{cells_granted, CanHold, with_grant, IsLoad, IsStore};
+ghost use Rattle.held_cells.specs.Held.{cells_granted, CanHold, no_grants, with_grant, IsLoad, IsStore};
 
 use crate::finding::spot_of;
 use crate::notes::Notes;
@@ -57,13 +56,7 @@ impl<'p> Holding<'p> {
         locks: usize,
         cells: usize,
     ) -> Result<Holding<'p>, NoMemory>
-        ensures { IfOk result (λ h. h ≡ record {
-          layout = layout.now;
-          locks = [];
-          memory = none_held;
-          lock_room = locks;
-          cell_room = cells;
-        }) }
+        ensures { IfOk result (λ h. h ≡ no_grants layout.now locks cells) }
     {
         let reads = Notes::none(alloc, cells)?;
         let writes = Notes::none(alloc, cells)?;

@@ -2,7 +2,7 @@
 
 ghost use Rattle.std.specs.Prelude.{◌≡◌, ◌<◌, ◌≤◌, ◌^◌, ℕ, List, IfOk, IfErr, MatchResult, length};
 ghost use Rattle.source.specs.declared.fault.Code.{Code};
-ghost use Rattle.source.specs.Faults.{IsFaultAt};
+ghost use Rattle.source.specs.Faults.{IsFaultAt, IsGiven};
 ghost use Rattle.source.specs.Tokens.{Tok, seen, seen_token};
 ghost use Rattle.lexer.specs.Reading.{seen_kind, CanStand};
 ghost use Rattle.source.specs.Texts.{HasTokens, DoRise, AreSlices, IsFault, IsRefusal, SOURCE_LIMIT};
@@ -64,7 +64,7 @@ pub fn lex(alloc: Global, text: &[u8]) -> Result<Vec<Token>, Refusal>
     ensures slices { IfOk result (λ tokens. AreSlices text.now (seen tokens.items)) }
     ensures rise { IfOk result (λ tokens. DoRise 0 (seen tokens.items)) }
     // A text within the limit that has tokens gets them, unless memory runs out.
-    ensures only { (ts : List Tok) → length text.now ≤ SOURCE_LIMIT → HasTokens text.now ts → MatchResult result (λ tokens. seen tokens.items ≡ ts) (λ e. e ≡ Refusal.NoMemory) }
+    ensures only { (ts : List Tok) → length text.now ≤ SOURCE_LIMIT → HasTokens text.now ts → IsGiven (λ t. seen t.items) ts result }
     // A fault is a fault of the text.
     ensures fault { IfErr result (IsRefusal text.now) }
     // A text that has a fault is refused with that one, unless memory runs out.

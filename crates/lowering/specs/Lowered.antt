@@ -9,7 +9,8 @@ use Rattle.core_lang.specs.declared.typed.FinalField.{FinalField}
 use Rattle.core_lang.specs.declared.typed.Field.{Field}
 use Rattle.core_lang.specs.declared.typed.Struct.{Struct}
 use Rattle.core_lang.specs.declared.typed.Typed.{Typed}
-use Rattle.locks.specs.LockPaths.{lock_paths}
+use Rattle.locks.specs.declared.path.LockPath as written
+use Rattle.locks.specs.LockPaths.{lock_path_of, lock_paths}
 use Rattle.locks.specs.Texts.{path_text}
 use Rattle.code.specs.declared.names.GlobalName.{GlobalName}
 use Rattle.code.specs.declared.names.StructNames.{StructNames}
@@ -65,6 +66,10 @@ pub record AreNames (program : Typed) (names : Names) : Type 0 where
   pub structs : map struct_texts names.structs.items ≡ map declared_struct program.structs.items
 
 -- ---- code
+
+-- the texts of lock paths of a section, in order
+abbrev pub path_texts : Typed → Section → List written.LockPath → List (List ℕ)
+path_texts program section paths = map (path_text program section) (map lock_path_of paths)
 
 -- the code of a section that has these lists before its points
 pub record IsLowered (program : Typed) (section : Section) (lists : List (List ℕ)) (made : SectionCode) : Type 0 where

@@ -2,9 +2,8 @@
 
 ghost use Rattle.std.specs.Prelude.{◌≡◌, map, IfOk};
 ghost use Rattle.locks.specs.LockPaths.{lock_path_of, lock_paths};
-ghost use Rattle.locks.specs.Texts.{path_text};
 ghost use Rattle.emission.specs.NumberLists.{number_lists};
-ghost use Rattle.lowering.specs.Lowered.{IsLowered, texts};
+ghost use Rattle.lowering.specs.Lowered.{IsLowered, texts, path_texts};
 
 use code::section_code::SectionCode;
 use core_lang::tree::Section;
@@ -44,8 +43,7 @@ impl Lowering<'_> {
     }
 
     fn texts(&self, alloc: Global, paths: &[LockPath]) -> Result<Vec<String>, NoMemory>
-        ensures { IfOk result (λ made. texts made.items
-            ≡ map (path_text self.now.program.now self.now.section.now) (map lock_path_of paths.now)) }
+        ensures { IfOk result (λ made. texts made.items ≡ path_texts self.now.program.now self.now.section.now paths.now) }
     {
         let mut texts = Vec::with_capacity(alloc, paths.len())?;
         for path in paths {

@@ -2,17 +2,16 @@
 use Rattle.std.specs.Prelude.{ℕ, List, Option}
 use Rattle.core_lang.specs.declared.value.Value.{Value}
 use Rattle.core_lang.specs.declared.typed.Typed.{Typed}
-use Rattle.core_lang.specs.Serial.{run_call}
 use Rattle.core_lang.specs.Typing.{IsHeap}
 use Rattle.core_lang.specs.WellFormed.{CanCall, IsWellFormed}
 use Rattle.meaning.specs.declared.run.End.{End}
-use Rattle.meaning.specs.Answer.{Answers, NoneIsBeyond}
+use Rattle.meaning.specs.Answer.{run_at, Answers, NoneIsBeyond}
 
 -- a call of a well-formed program on a heap of it leaves a heap of it, and with no answer the turns were too few
 abbrev pub AnswersStayTyped : Type 0
 AnswersStayTyped =
     (program : Typed) (number n : ℕ) (arguments old new : List Value) (answer : Option End) →
     CanCall program number arguments →
-    Answers answer (run_call program n (record { section = number; arguments = arguments }) old) old new →
+    Answers answer (run_at program n number arguments old) old new →
     IsWellFormed program → IsHeap program old →
-    IsHeap program new × NoneIsBeyond answer (run_call program n (record { section = number; arguments = arguments }) old)
+    IsHeap program new × NoneIsBeyond answer (run_at program n number arguments old)

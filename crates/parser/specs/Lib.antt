@@ -2,7 +2,7 @@ pub mod Returning
 pub mod Declarations
 pub mod Rests
 -- what public clauses cite
-pub use Rattle.source.specs.Faults.{IsFaultAt}
+pub use Rattle.source.specs.Faults.{IsFaultAt, IsGiven}
 pub use Rattle.source.specs.Tokens.{Tok, seen}
 pub use Rattle.syntax.specs.Trees.{Decl}
 pub use Rattle.syntax.specs.Views.{tree_of}

@@ -2,8 +2,7 @@
 
 ghost use Rattle.std.specs.Prelude.{◌≡◌, ◌-◌, ℕ, List, IfOk, IfErr, MatchResult, drop, length};
 ghost use Rattle.source.specs.declared.fault.Code.TheVariants.{MisplacedReturn};
-ghost use Rattle.source.specs.declared.fault.Refusal.TheVariants.{NoMemory};
-ghost use Rattle.source.specs.{Tok, seen, IsFaultAt};
+ghost use Rattle.source.specs.{Tok, seen, IsFaultAt, IsGiven};
 ghost use Rattle.syntax.specs.{Decl, tree_of, HasTree, HasRightTree, IsMisplaced, IsRefusal, IsTooDeep, IsUnexpected};
 ghost use Rattle.parser.specs.Declarations.{first_start};
 
@@ -43,7 +42,7 @@ pub fn parse(alloc: Global, tokens: &[Token]) -> Result<Tree, Refusal>
     // What is answered is a tree of the tokens, with its returns in their places.
     ensures found { IfOk result (λ tree. HasRightTree (seen tokens.now) (tree_of tree)) }
     // What has such a tree gets it, unless memory runs out.
-    ensures only { (ds : List Decl) → HasRightTree (seen tokens.now) ds → MatchResult result (λ tree. tree_of tree ≡ ds) (λ e. e ≡ NoMemory) }
+    ensures only { (ds : List Decl) → HasRightTree (seen tokens.now) ds → IsGiven tree_of ds result }
     // A fault is a fault of the tokens.
     ensures fault { IfErr result (IsRefusal (seen tokens.now)) }
     // Tokens whose first misplaced or missing return is there are refused so, unless memory runs out.

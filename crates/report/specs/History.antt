@@ -6,12 +6,9 @@ use Rattle.std.specs.Fmt.{signed_decimal}
 use Rattle.core_lang.specs.declared.value.Value.{Value}
 use Rattle.core_lang.specs.declared.typed.Cell.{Cell}
 use Rattle.core_lang.specs.declared.typed.Typed.{Typed}
+use Rattle.code.specs.Listing.{line}
 use Rattle.report.specs.Pieces.{place_text, invocation_text, value_text, outcome_text, owner_text}
 use Rattle.report.specs.Entry.{Entry}
-
--- a text as a line
-abbrev pub line : List ℕ → List ℕ
-line text = text ++ 10 ∷ []
 
 -- print N, for each print
 abbrev pub print_texts : List ℤ → List ℕ

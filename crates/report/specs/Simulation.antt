@@ -15,7 +15,8 @@ use Rattle.interleavings.specs.Statuses.{status_of}
 use Rattle.lowering.specs.Plans.{Plan}
 use Rattle.worlds.specs.Worlds.{World}
 use Rattle.report.specs.Entry.{entry_of_commit}
-use Rattle.report.specs.History.{line, entry_text}
+use Rattle.code.specs.Listing.{line}
+use Rattle.report.specs.History.{entry_text}
 use Rattle.report.specs.Pieces.{owner_text, value_text, lock_text}
 
 -- what a cell holds, or that a section holds it
@@ -29,6 +30,10 @@ present_texts typed w number [] = []
 present_texts typed w number (cell ∷ cells) =
     line (owner_text typed cell.owner ++ codes " " ++ present_text typed.shape (cell_in w number))
     ++ present_texts typed w (number + 1) cells
+
+-- for each cell of the program
+abbrev pub cells_text : Plan → World → List ℕ
+cells_text plan w = present_texts plan.program w 0 plan.program.cells.items
 
 -- how a thread stands
 abbrev pub status_text : Typed → Status → List ℕ
@@ -46,6 +51,10 @@ abbrev pub thread_texts : Plan → World → ℕ → List ℕ
 thread_texts plan w zero = []
 thread_texts plan w (suc n) = thread_texts plan w n ++ thread_text plan w n
 
+-- of all of them
+abbrev pub threads_text : Plan → World → List ℕ
+threads_text plan w = thread_texts plan w (length plan.program.threads.items)
+
 -- the line of each finished section, with its prints
 abbrev pub commit_texts : Typed → List Commit → List ℕ
 commit_texts typed commits = flat_map (entry_text typed) (map entry_of_commit commits)
@@ -53,7 +62,5 @@ commit_texts typed commits = flat_map (entry_text typed) (map entry_of_commit co
 -- the whole text
 abbrev pub simulation_of : Plan → World → List ℕ
 simulation_of plan w =
-    let typed = plan.program in
-    line (codes "simulation 1") ++ commit_texts typed w.history ++ line (codes "cells")
-    ++ present_texts typed w 0 typed.cells.items ++ line (codes "threads")
-    ++ thread_texts plan w (length typed.threads.items) ++ line (codes "end")
+    line (codes "simulation 1") ++ commit_texts plan.program w.history ++ line (codes "cells") ++ cells_text plan w
+    ++ line (codes "threads") ++ threads_text plan w ++ line (codes "end")

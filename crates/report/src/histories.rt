@@ -1,7 +1,8 @@
 //! The history text.
 
-ghost use Rattle.std.specs.Prelude.{◌≡◌, ◌++◌, OnOk, IfOk, length, vec_len, string_bytes, map};
+ghost use Rattle.std.specs.Prelude.{◌≡◌, OnOk, IfOk, length, vec_len, string_bytes, map};
 ghost use Rattle.std.specs.List.{flat_map};
+ghost use Rattle.locks.specs.Texts.{AddsText};
 ghost use Rattle.report.specs.History.{call_text, entry_text, print_texts, cell_texts, calls_of, history_of, unsettled_of};
 ghost use Rattle.report.specs.Entry.{entry_of, entry_said};
 
@@ -14,7 +15,7 @@ use std::alloc::{AllocError, Global};
 
 /// A line for each print.
 fn push_prints(out: &mut String, prints: &[i64]) -> Result<(), AllocError>
-    ensures { OnOk result (string_bytes out.new ≡ string_bytes out.old ++ print_texts prints.now) }
+    ensures { OnOk result (AddsText (print_texts prints.now) out.old out.new) }
 {
     for number in prints {
         write!(out, "print {number}\n")?;
@@ -24,7 +25,7 @@ fn push_prints(out: &mut String, prints: &[i64]) -> Result<(), AllocError>
 
 /// The line of a call.
 fn push_call(out: &mut String, typed: &Typed, call: &Said<'_>) -> Result<(), AllocError>
-    ensures { OnOk result (string_bytes out.new ≡ string_bytes out.old ++ call_text typed.now (entry_said call.now)) }
+    ensures { OnOk result (AddsText (call_text typed.now (entry_said call.now)) out.old out.new) }
 {
     write!(out, "call {} {} ", call.thread, call.step)?;
     push_invocation(out, typed, call.section, call.arguments)?;
@@ -35,7 +36,7 @@ fn push_call(out: &mut String, typed: &Typed, call: &Said<'_>) -> Result<(), All
 
 /// The line of a call, with its prints.
 pub fn push_entry(out: &mut String, typed: &Typed, call: &Said<'_>) -> Result<(), AllocError>
-    ensures { OnOk result (string_bytes out.new ≡ string_bytes out.old ++ entry_text typed.now (entry_said call.now)) }
+    ensures { OnOk result (AddsText (entry_text typed.now (entry_said call.now)) out.old out.new) }
 {
     push_call(out, typed, call)?;
     push_prints(out, call.prints)
@@ -43,7 +44,7 @@ pub fn push_entry(out: &mut String, typed: &Typed, call: &Said<'_>) -> Result<()
 
 /// The line of each call, with its prints.
 fn push_records(out: &mut String, typed: &Typed, calls: &[Record]) -> Result<(), AllocError>
-    ensures { OnOk result (string_bytes out.new ≡ string_bytes out.old ++ flat_map (entry_text typed.now) (map entry_of calls.now)) }
+    ensures { OnOk result (AddsText (flat_map (entry_text typed.now) (map entry_of calls.now)) out.old out.new) }
 {
     for call in calls {
         push_entry(out, typed, &call.said())?;
@@ -59,7 +60,7 @@ fn push_cells(
     values: &[Value],
 ) -> Result<(), AllocError>
     requires { length cells.now ≡ length values.now }
-    ensures { OnOk result (string_bytes out.new ≡ string_bytes out.old ++ cell_texts typed.now cells.now values.now) }
+    ensures { OnOk result (AddsText (cell_texts typed.now cells.now values.now) out.old out.new) }
 {
     for (i, cell) in cells.iter().enumerate() {
         push_owner(out, typed, cell.owner)?;

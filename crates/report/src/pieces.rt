@@ -1,7 +1,8 @@
 //! Pieces of a text, each put at the end of what is there. The one error is a refused growth.
 
-ghost use Rattle.std.specs.Prelude.{◌≡◌, ◌++◌, OnOk, string_bytes};
+ghost use Rattle.std.specs.Prelude.{◌≡◌, OnOk};
 ghost use Rattle.std.specs.Option.{option_copied};
+ghost use Rattle.locks.specs.Texts.{AddsText};
 ghost use Rattle.report.specs.Pieces as text;
 
 use core_lang::shape::{Pool, Shape};
@@ -13,7 +14,7 @@ use std::alloc::AllocError;
 
 /// The name of a section.
 fn push_section(out: &mut String, typed: &Typed, section: usize) -> Result<(), AllocError>
-    ensures { OnOk result (string_bytes out.new ≡ string_bytes out.old ++ text.section_name typed.now section) }
+    ensures { OnOk result (AddsText (text.section_name typed.now section) out.old out.new) }
 {
     match typed.sections.get(section) {
         Some(section) => out.push_str(section.name.as_str()),
@@ -33,7 +34,7 @@ fn pool_of(shape: &Shape, object: usize) -> Option<&Pool>
 
 /// An object as `p[0]`.
 fn push_object(out: &mut String, shape: &Shape, object: usize) -> Result<(), AllocError>
-    ensures { OnOk result (string_bytes out.new ≡ string_bytes out.old ++ text.object_text shape.now object) }
+    ensures { OnOk result (AddsText (text.object_text shape.now object) out.old out.new) }
 {
     match pool_of(shape, object) {
         Some(pool) => {
@@ -46,7 +47,7 @@ fn push_object(out: &mut String, shape: &Shape, object: usize) -> Result<(), All
 
 /// A number, `null` or an object.
 pub fn push_value(out: &mut String, shape: &Shape, value: Value) -> Result<(), AllocError>
-    ensures { OnOk result (string_bytes out.new ≡ string_bytes out.old ++ text.value_text shape.now value) }
+    ensures { OnOk result (AddsText (text.value_text shape.now value) out.old out.new) }
 {
     match value {
         Value::Int(number) => write!(out, "{number}"),
@@ -57,7 +58,7 @@ pub fn push_value(out: &mut String, shape: &Shape, value: Value) -> Result<(), A
 
 /// What stands before the name of a lock: of an object's, the object and a dot.
 fn push_lock_owner(out: &mut String, program: &Typed, lock: Lock) -> Result<(), AllocError>
-    ensures { OnOk result (string_bytes out.new ≡ string_bytes out.old ++ text.lock_owner program.now lock) }
+    ensures { OnOk result (AddsText (text.lock_owner program.now lock) out.old out.new) }
 {
     match program.classes.get(lock.class) {
         Some(LockClass::Field { .. }) => {
@@ -71,7 +72,7 @@ fn push_lock_owner(out: &mut String, program: &Typed, lock: Lock) -> Result<(), 
 
 /// A lock, as `G` or `p[0].l`.
 pub fn push_lock(out: &mut String, program: &Typed, lock: Lock) -> Result<(), AllocError>
-    ensures { OnOk result (string_bytes out.new ≡ string_bytes out.old ++ text.lock_text program.now lock) }
+    ensures { OnOk result (AddsText (text.lock_text program.now lock) out.old out.new) }
 {
     push_lock_owner(out, program, lock)?;
     push_last(out, program, lock.class)
@@ -79,7 +80,7 @@ pub fn push_lock(out: &mut String, program: &Typed, lock: Lock) -> Result<(), Al
 
 /// Values with a comma and a space between.
 fn push_values(out: &mut String, shape: &Shape, values: &[Value]) -> Result<(), AllocError>
-    ensures { OnOk result (string_bytes out.new ≡ string_bytes out.old ++ text.values_text shape.now values.now) }
+    ensures { OnOk result (AddsText (text.values_text shape.now values.now) out.old out.new) }
 {
     let Some((first, rest)) = values.split_first() else {
         return Ok(());
@@ -99,7 +100,7 @@ pub fn push_invocation(
     section: usize,
     arguments: &[Value],
 ) -> Result<(), AllocError>
-    ensures { OnOk result (string_bytes out.new ≡ string_bytes out.old ++ text.invocation_text typed.now section arguments.now) }
+    ensures { OnOk result (AddsText (text.invocation_text typed.now section arguments.now) out.old out.new) }
 {
     push_section(out, typed, section)?;
     out.push_str("(")?;
@@ -109,7 +110,7 @@ pub fn push_invocation(
 
 /// How a call ended.
 pub fn push_outcome(out: &mut String, shape: &Shape, outcome: Outcome) -> Result<(), AllocError>
-    ensures { OnOk result (string_bytes out.new ≡ string_bytes out.old ++ text.outcome_text shape.now outcome) }
+    ensures { OnOk result (AddsText (text.outcome_text shape.now outcome) out.old out.new) }
 {
     match outcome {
         Outcome::Ends => out.push_str("ends"),
@@ -126,7 +127,7 @@ pub fn push_outcome(out: &mut String, shape: &Shape, outcome: Outcome) -> Result
 
 /// The name of a global that is no array.
 fn push_global(out: &mut String, typed: &Typed, global: usize) -> Result<(), AllocError>
-    ensures { OnOk result (string_bytes out.new ≡ string_bytes out.old ++ text.global_name typed.now global) }
+    ensures { OnOk result (AddsText (text.global_name typed.now global) out.old out.new) }
 {
     match typed.globals.get(global) {
         Some(global) => out.push_str(global.name.as_str()),
@@ -136,7 +137,7 @@ fn push_global(out: &mut String, typed: &Typed, global: usize) -> Result<(), All
 
 /// The name of an array.
 fn push_array(out: &mut String, shape: &Shape, array: usize) -> Result<(), AllocError>
-    ensures { OnOk result (string_bytes out.new ≡ string_bytes out.old ++ text.array_name shape.now array) }
+    ensures { OnOk result (AddsText (text.array_name shape.now array) out.old out.new) }
 {
     match shape.arrays.get(array) {
         Some(array) => out.push_str(array.name.as_str()),
@@ -151,7 +152,7 @@ fn push_field(
     object: usize,
     field: usize,
 ) -> Result<(), AllocError>
-    ensures { OnOk result (string_bytes out.new ≡ string_bytes out.old ++ text.field_name typed.now object field) }
+    ensures { OnOk result (AddsText (text.field_name typed.now object field) out.old out.new) }
 {
     let Some(pool) = pool_of(&typed.shape, object) else {
         return Ok(());
@@ -167,7 +168,7 @@ fn push_field(
 
 /// A cell as `n`, `a[0]` or `p[0].x`.
 pub fn push_owner(out: &mut String, typed: &Typed, owner: Owner) -> Result<(), AllocError>
-    ensures { OnOk result (string_bytes out.new ≡ string_bytes out.old ++ text.owner_text typed.now owner) }
+    ensures { OnOk result (AddsText (text.owner_text typed.now owner) out.old out.new) }
 {
     match owner {
         Owner::Global(global) => push_global(out, typed, global),

@@ -1,7 +1,8 @@
 //! The simulation text.
 
-ghost use Rattle.std.specs.Prelude.{◌≡◌, ◌++◌, ◌<◌, ◌^◌, OnOk, IfOk, length, string_bytes};
-ghost use Rattle.report.specs.Simulation.{present_text, present_texts, status_text, thread_text, thread_texts, commit_texts, simulation_of};
+ghost use Rattle.std.specs.Prelude.{◌≡◌, OnOk, IfOk, string_bytes};
+ghost use Rattle.locks.specs.Texts.{AddsText};
+ghost use Rattle.report.specs.Simulation.{present_text, cells_text, status_text, thread_text, threads_text, commit_texts, simulation_of};
 
 use crate::histories::push_entry;
 use crate::pieces::{push_lock, push_owner, push_value};
@@ -17,7 +18,7 @@ use std::alloc::{AllocError, Global};
 
 /// The line of each finished section, with its prints.
 fn push_entries(out: &mut String, typed: &Typed, entries: &[Entry]) -> Result<(), AllocError>
-    ensures { OnOk result (string_bytes out.new ≡ string_bytes out.old ++ commit_texts typed.now entries.now) }
+    ensures { OnOk result (AddsText (commit_texts typed.now entries.now) out.old out.new) }
 {
     for entry in entries {
         push_entry(out, typed, &said_of(entry))?;
@@ -27,7 +28,7 @@ fn push_entries(out: &mut String, typed: &Typed, entries: &[Entry]) -> Result<()
 
 /// What a cell holds, or that a section holds it.
 fn push_present(out: &mut String, shape: &Shape, value: Option<Value>) -> Result<(), AllocError>
-    ensures { OnOk result (string_bytes out.new ≡ string_bytes out.old ++ present_text shape.now value) }
+    ensures { OnOk result (AddsText (present_text shape.now value) out.old out.new) }
 {
     match value {
         Some(value) => push_value(out, shape, value),
@@ -37,8 +38,7 @@ fn push_present(out: &mut String, shape: &Shape, value: Option<Value>) -> Result
 
 /// A line for each cell.
 fn push_cells(out: &mut String, world: &World<'_>) -> Result<(), AllocError>
-    ensures { OnOk result (string_bytes out.new ≡ string_bytes out.old
-        ++ present_texts world.now.plan.program world.now.world 0 world.now.plan.program.cells.items) }
+    ensures { OnOk result (AddsText (cells_text world.now.plan world.now.world) out.old out.new) }
 {
     let typed = world.program().typed();
     for (number, cell) in typed.cells.iter().enumerate() {
@@ -52,7 +52,7 @@ fn push_cells(out: &mut String, world: &World<'_>) -> Result<(), AllocError>
 
 /// How a thread stands.
 fn push_status(out: &mut String, typed: &Typed, status: Status) -> Result<(), AllocError>
-    ensures { OnOk result (string_bytes out.new ≡ string_bytes out.old ++ status_text typed.now status) }
+    ensures { OnOk result (AddsText (status_text typed.now status) out.old out.new) }
 {
     match status {
         Status::Idle => out.push_str("idle"),
@@ -68,7 +68,7 @@ fn push_status(out: &mut String, typed: &Typed, status: Status) -> Result<(), Al
 
 /// The line of a thread.
 fn push_thread(out: &mut String, world: &World<'_>, thread: u32) -> Result<(), AllocError>
-    ensures { OnOk result (string_bytes out.new ≡ string_bytes out.old ++ thread_text world.now.plan world.now.world thread) }
+    ensures { OnOk result (AddsText (thread_text world.now.plan world.now.world thread) out.old out.new) }
 {
     write!(out, "{thread} ")?;
     push_status(out, world.program().typed(), world.state(thread))?;
@@ -77,8 +77,7 @@ fn push_thread(out: &mut String, world: &World<'_>, thread: u32) -> Result<(), A
 
 /// A line for each thread.
 fn push_threads(out: &mut String, world: &World<'_>) -> Result<(), AllocError>
-    ensures { OnOk result (string_bytes out.new ≡ string_bytes out.old
-        ++ thread_texts world.now.plan world.now.world (length world.now.plan.program.threads.items)) }
+    ensures { OnOk result (AddsText (threads_text world.now.plan world.now.world) out.old out.new) }
 {
     for thread in 0..world.program().threads() {
         push_thread(out, world, thread)?;

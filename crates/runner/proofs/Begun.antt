@@ -1,4 +1,4 @@
-use Rattle.std.specs.Prelude.{◌≡◌, ◌<◌, ℕ, false, List, [], length, get_or, slice_get, Option, Some}
+use Rattle.std.specs.Prelude.{◌≡◌, ◌<◌, ℕ, false, List, [], length, get_or, slice_get, Option, Some, vec_capacity}
 use Rattle.std.specs.Option.{option_map_or}
 use Rattle.std.proofs.Common.{refl, sym, ap, ◌∙◌, subst, arith}
 use Rattle.std.proofs.lemmas.Option.{slice_get_within, get_or_from_slice_get}
@@ -8,7 +8,6 @@ use Rattle.core_lang.specs.declared.typed.Typed.{Typed}
 use Rattle.core_lang.specs.Serial.{Invocation}
 use Rattle.core_lang.specs.WellFormed.{CanCall}
 use Rattle.core_lang.specs.Whole.{opening}
-use Rattle.locks.specs.declared.lock.Lock.{Lock}
 use Rattle.layout.specs.declared.room.Room.{Room}
 use Rattle.lock_manager.specs.Sessions.{SessionOf, TicketOf, fresh}
 use Rattle.lock_manager.specs.Managers.{Managed}
@@ -19,7 +18,8 @@ use Rattle.worlds.specs.Worlds.{locals_at}
 use Rattle.worlds.specs.InOrder.{SectionsStayInOrder}
 use Rattle.section_machine.specs.Machines.{RunOf}
 use Rattle.runner.specs.Opens.{OpenOf, ReadyOf, IsOpen, Began}
-use Rattle.runner.specs.Ties.{open_as, begun_as, cells_together, IsPrepared, IsKeptOpen}
+use Rattle.runner.specs.declared.open.Prepared.{Prepared}
+use Rattle.runner.specs.Ties.{open_as, begun_as, cells_together, its_call, IsPrepared, IsKeptOpen}
 
 -- a call that fits has its section
 pub called : (program : Typed) (number : ℕ) (arguments : List Value) → CanCall program number arguments →
@@ -44,18 +44,20 @@ first_locals plan call x can is =
     ∙ sym (ap (λ (s : Option Section). option_map_or (λ (s : Section). (opening s call.arguments []).locals) s []) section.1)
 
 -- the section as it begins
-pub as_begun : (plan : Plan) (ticket : TicketOf) (step : ℕ) (call : Invocation) (room : Room) (run : RunOf) (held pending : List Lock)
-    (held_room pending_room : ℕ) → IsPrepared plan call room run held pending held_room pending_room →
-    ticket.session ≡ fresh ticket.session.begun room →
-    open_as plan ticket step call run pending false ≡ begun_as plan ticket.thread step room ticket.session.begun call
-as_begun plan ticket step call room run held pending held_room pending_room p is =
-    λ i. open_as plan (record { thread = ticket.thread; session = is i }) step call (p.run_is i) (p.none_pending i) false
+pub as_begun : (x : Prepared) (ticket : TicketOf) (step : ℕ) → IsPrepared x → ticket.session ≡ fresh ticket.session.begun x.room →
+    open_as x.program.now ticket step (its_call x) x.machine x.pending.items false
+    ≡ begun_as x.program.now ticket.thread step x.room ticket.session.begun (its_call x)
+as_begun x ticket step p is =
+    λ i. open_as x.program.now (record { thread = ticket.thread; session = is i }) step (its_call x) (p.run_is i) (p.none_pending i) false
 
-pub kept_at_first : (plan : Plan) (ticket : TicketOf) (step : ℕ) (call : Invocation) (room : Room) (run : RunOf) (held pending : List Lock)
-    (held_room pending_room : ℕ) → SectionsStayInOrder → IsPrepared plan call room run held pending held_room pending_room →
-    ticket.session ≡ fresh ticket.session.begun room →
-    IsKeptOpen (open_as plan ticket step call run pending false) ticket run held held_room pending_room
-kept_at_first plan ticket step call room run held pending held_room pending_room laws p is =
+pub kept_at_first : (x : Prepared) (ticket : TicketOf) (step : ℕ) → SectionsStayInOrder → IsPrepared x →
+    ticket.session ≡ fresh ticket.session.begun x.room →
+    IsKeptOpen (open_as x.program.now ticket step (its_call x) x.machine x.pending.items false) ticket x.machine x.held.items
+    (vec_capacity x.held) (vec_capacity x.pending)
+kept_at_first x ticket step laws p is =
+    let plan = x.program.now in
+    let call = its_call x in
+    let room = x.room in
     let o : OpenOf = begun_as plan ticket.thread step room ticket.session.begun call in
     let open_at_first : IsOpen o = record {
       compiled = p.compiled;
@@ -66,7 +68,7 @@ kept_at_first plan ticket step call room run held pending held_room pending_room
     let its_room : ticket.session.room ≡ room = ap (λ (s : SessionOf). s.room) is in
     let locks : ticket.session.room.locks ≡ room.locks = ap (λ (r : Room). r.locks) its_room in
     record {
-      is_open = subst IsOpen (sym (as_begun plan ticket step call room run held pending held_room pending_room p is)) open_at_first;
+      is_open = subst IsOpen (sym (as_begun x ticket step p is)) open_at_first;
       ticket_is = λ i. record {
         thread = ticket.thread;
         session = record {

@@ -1,4 +1,4 @@
-use Rattle.std.specs.Prelude.{◌≡◌, ℕ, ℤ, Bool, List, [], ◌∷◌, ◌++◌, length, drop, get_or, unwrap_or, Option, Some}
+use Rattle.std.specs.Prelude.{◌≡◌, ℕ, Bool, List, [], ◌∷◌, ◌++◌, length, drop, get_or, unwrap_or, Option, Some}
 use Rattle.std.specs.List.{All}
 use Rattle.std.proofs.Common.{refl, sym, ap, ◌∙◌, subst, arith}
 use Rattle.core_lang.specs.declared.value.Value.{Value}
@@ -18,59 +18,67 @@ use Rattle.lock_manager.specs.Sessions.{TicketOf}
 use Rattle.lowering.specs.Plans.{Plan}
 use Rattle.worlds.specs.Waiting.{first_if}
 use Rattle.worlds.specs.InOrder.{SectionsStayInOrder}
+use Rattle.section_machine.specs.declared.machine.Left.{Left}
 use Rattle.section_machine.specs.Machines.{RunOf, IsLeftOf}
 use Rattle.runner.specs.Opens.{OpenOf, IsOpen, CanGiveBack, entry_of, ticket_of, moved}
 use Rattle.runner.specs.Ties.{open_as, call_of, over_by, ended_as, IsKeptOpen, IsKeptEnded}
 use Rattle.runner.proofs.Opened.{RunsInOrder, moved_is_open}
 
 -- an entry as the code writes it
-abbrev pub entered : ℕ → ℕ → ℕ → List Value → ℕ → List (ℕ × Value) → List (ℕ × Value) → Outcome → List ℤ → Commit
-entered thread step section arguments begun reads writes outcome prints = record {
+abbrev pub entered : ℕ → ℕ → ℕ → List Value → ℕ → Left → Outcome → Commit
+entered thread step section arguments begun p outcome = record {
   thread = thread;
   step = step;
   section = section;
   arguments = arguments;
   begun = begun;
-  reads = reads;
-  writes = writes;
+  reads = p.parts.reads.items;
+  writes = p.parts.writes.items;
   outcome = outcome;
-  prints = prints;
+  prints = p.prints.items;
 }
 
 module _ (plan : Plan) (ticket : TicketOf) (step section : ℕ) (arguments : List Value) (run : RunOf) (held pending : List Lock)
     (asked : Bool) (held_room pending_room : ℕ) (outcome : Outcome)
-    (place : ℕ) (stack locals : List Value) (grants : List GrantOf) (reads writes : List (ℕ × Value)) (prints : List ℤ)
-    (thread begun : ℕ) where
+    (p : Left) (thread begun : ℕ) where
   -- it ran, and is taken apart
   pub record IsTakenApart : Type 0 where
     pub kept : IsKeptOpen (open_as plan ticket step (call_of section arguments) run pending asked) ticket run held held_room pending_room
     pub none : pending ≡ []
     pub leads : moved (open_as plan ticket step (call_of section arguments) run pending asked)
         ≡ over_by (open_as plan ticket step (call_of section arguments) run pending asked) outcome
-    pub left : IsLeftOf run place stack locals grants reads writes prints
+    pub left : IsLeftOf run p
     pub thread_is : thread ≡ ticket.thread
     pub begun_is : begun ≡ ticket.session.begun
 
   pub ended_is : IsTakenApart →
-      ended_as plan ticket step place stack locals grants
-      (entered thread step section arguments begun reads writes outcome prints) asked
+      ended_as plan ticket step p.place p.operands.stack p.locals.items p.parts.grants.items
+      (entered thread step section arguments begun p outcome) asked
       ≡ over_by (open_as plan ticket step (call_of section arguments) run pending asked) outcome
   ended_is t =
       let machine : Machine HeldCells = record {
-        place = place;
-        stack = stack;
-        locals = locals;
-        memory = record { cells = cells_granted plan.layout.cell_locks grants; reads = reads; writes = writes };
-        prints = prints;
+        place = p.place;
+        stack = p.operands.stack;
+        locals = p.locals.items;
+        memory = record {
+          cells = cells_granted plan.layout.cell_locks p.parts.grants.items;
+          reads = p.parts.reads.items;
+          writes = p.parts.writes.items;
+        };
+        prints = p.prints.items;
       } in
       let same : run.machine ≡ machine =
       t.left.machine
       ∙ (λ i. record {
-        place = place;
-        stack = stack;
-        locals = locals;
-        memory = record { cells = cells_granted (t.kept.layout i).cell_locks grants; reads = reads; writes = writes };
-        prints = prints;
+        place = p.place;
+        stack = p.operands.stack;
+        locals = p.locals.items;
+        memory = record {
+          cells = cells_granted (t.kept.layout i).cell_locks p.parts.grants.items;
+          reads = p.parts.reads.items;
+          writes = p.parts.writes.items;
+        };
+        prints = p.prints.items;
       }) in
       sym (λ i. record {
         plan = plan;
@@ -90,9 +98,9 @@ module _ (plan : Plan) (ticket : TicketOf) (step section : ℕ) (arguments : Lis
 
   pub kept_ended : SectionsStayInOrder → IsTakenApart →
       IsKeptEnded
-      (ended_as plan ticket step place stack locals grants
-      (entered thread step section arguments begun reads writes outcome prints) asked)
-      ticket grants (entered thread step section arguments begun reads writes outcome prints)
+      (ended_as plan ticket step p.place p.operands.stack p.locals.items p.parts.grants.items
+      (entered thread step section arguments begun p outcome) asked)
+      ticket p.parts.grants.items (entered thread step section arguments begun p outcome)
   kept_ended laws t =
       let o = open_as plan ticket step (call_of section arguments) run pending asked in
       let r : RunsInOrder o = record { is_open = t.kept.is_open; pending = t.none; outcome = refl } in
@@ -109,10 +117,10 @@ module _ (plan : Plan) (ticket : TicketOf) (step section : ℕ) (arguments : Lis
         });
         its = record {
           locks = t.left.locks ∙ t.kept.locks;
-          whole = subst (λ (l : LayoutOf). All (IsWhole l.cell_locks) grants) t.kept.layout t.left.whole;
+          whole = subst (λ (l : LayoutOf). All (IsWhole l.cell_locks) p.parts.grants.items) t.kept.layout t.left.whole;
           cells = refl;
         };
-        entry_is = λ i. entered (t.thread_is i) step section arguments (t.begun_is i) reads writes outcome prints;
+        entry_is = λ i. entered (t.thread_is i) step section arguments (t.begun_is i) p outcome;
       }
 
 -- ---- its grants

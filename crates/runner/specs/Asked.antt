@@ -6,8 +6,9 @@ use Rattle.core_lang.specs.declared.tree.Section.{Section}
 use Rattle.core_lang.specs.Typing.{lookup}
 use Rattle.locks.specs.declared.lock.Lock.{Lock}
 use Rattle.lowering.specs.Plans.{Plan}
-use Rattle.worlds.specs.Asking.{lock_numbered, to_ask}
-use Rattle.worlds.specs.Worlds.{section_at}
+use Rattle.worlds.specs.Asking.{insert_new, lock_numbered, to_ask}
+use Rattle.worlds.specs.Worlds.{section_at, locks_before}
+use Rattle.runner.specs.declared.asker.Asker.{Asker}
 
 -- the lock that the lock path of this number names, of the section of a number
 abbrev pub lock_at : Plan → ℕ → List Value → ℕ → Option Lock
@@ -17,3 +18,17 @@ lock_at plan k locals i = lookup (section_at plan k) (λ (section : Section). lo
 abbrev pub asked_at : Plan → ℕ → List Lock → List Value → List ℕ → List Lock
 asked_at plan k held locals list =
     option_map_or (λ (section : Section). to_ask plan.program section plan.ranks held locals list) (section_at plan k) []
+
+-- ---- of a section that comes to a point
+
+-- with the lock of its lock path of this number put in, unless it is held
+abbrev pub with_lock_of : Asker → ℕ → List Lock → List Lock
+with_lock_of a i locks = insert_new a.program.now.ranks a.held.now (lock_at a.program.now a.section a.locals.now i) locks
+
+-- the locks that it asks for where these lock paths are listed
+abbrev pub asked_of : Asker → List ℕ → List Lock
+asked_of a list = asked_at a.program.now a.section a.held.now a.locals.now list
+
+-- and before a point
+abbrev pub asked_before : Asker → ℕ → List Lock
+asked_before a point = locks_before a.program.now a.section point a.held.now a.locals.now

@@ -1,5 +1,5 @@
 -- How the code keeps an open section. Nobody has to believe this file.
-use Rattle.std.specs.Prelude.{◌≡◌, ◌≤◌, ℕ, ℤ, Bool, List, [], length, Option, Some, None}
+use Rattle.std.specs.Prelude.{◌≡◌, ◌≤◌, ℕ, ℤ, Bool, List, [], length, Option, Some, None, vec_capacity}
 use Rattle.std.specs.List.{sum_by, All}
 use Rattle.core_lang.specs.declared.value.Value.{Value}
 use Rattle.core_lang.specs.declared.value.Outcome.{Outcome}
@@ -8,6 +8,9 @@ use Rattle.locks.specs.declared.lock.Lock.{Lock}
 use Rattle.core_lang.specs.WellFormed.{CanCall}
 use Rattle.layout.specs.declared.room.Room.{Room}
 use Rattle.layout.specs.LockCells.{cells_of}
+use Rattle.code.specs.declared.instr.Instr.{Instr}
+use Rattle.code.specs.Machine.{Effect, act}
+use Rattle.code.specs.Memory.{HeldCells, load_held, store_held}
 use Rattle.lock_manager.specs.Sessions.{TicketOf}
 use Rattle.lowering.specs.Plans.{Plan, IsCompiled}
 use Rattle.lowering.specs.Compiled.{IsRoomAt}
@@ -17,6 +20,7 @@ use Rattle.lock_manager.specs.Managers.{Managed}
 use Rattle.moved_cells.specs.Grants.{GrantOf, IsWhole, locks_of}
 use Rattle.history.specs.Commits.{Commit}
 use Rattle.held_cells.specs.Held.{cells_granted}
+use Rattle.runner.specs.declared.open.Prepared.{Prepared}
 use Rattle.runner.specs.Opens.{OpenOf, IsOpen, AreItsGrants, entry_of, Gets, Waits, ticket_of, further, moved}
 
 -- a call
@@ -63,6 +67,10 @@ pub record IsKeptOpen (o : OpenOf) (ticket : TicketOf) (run : RunOf) (held : Lis
 abbrev pub over_by : OpenOf → Outcome → OpenOf
 over_by o outcome = further o (record o.activation { outcome = Some outcome })
 
+-- what an instruction does to its machine
+abbrev pub effect_on : OpenOf → Instr → Effect HeldCells
+effect_on o instruction = act load_held store_held o.plan.program.shape (Some instruction) o.activation.machine
+
 -- an instruction leads on, or to an outcome
 abbrev pub HasMoved : OpenOf → Option Outcome → OpenOf → Type 0
 HasMoved old None new = (new ≡ moved old) × (new.activation.outcome ≡ None)
@@ -70,17 +78,20 @@ HasMoved old (Some outcome) new = (new ≡ old) × (moved old ≡ over_by old ou
 
 -- ---- a section that is about to begin
 
+-- its call
+abbrev pub its_call : Prepared → Invocation
+its_call p = call_of p.section p.arguments.items
+
 -- its call fits, and there is all memory that it can need
-pub record IsPrepared (plan : Plan) (call : Invocation) (room : Room) (run : RunOf) (held pending : List Lock)
-    (held_room pending_room : ℕ) : Type 0 where
-  pub compiled : IsCompiled plan
-  pub fits : CanCall plan.program call.section call.arguments
-  pub room_is : IsRoomAt plan call.section room
-  pub run_is : run ≡ at_first (locals_at plan call) plan.layout room
-  pub none_held : held ≡ []
-  pub none_pending : pending ≡ []
-  pub held_fits : room.locks ≤ held_room
-  pub pending_fits : room.locks ≤ pending_room
+pub record IsPrepared (p : Prepared) : Type 0 where
+  pub compiled : IsCompiled p.program.now
+  pub fits : CanCall p.program.now.program p.section p.arguments.items
+  pub room_is : IsRoomAt p.program.now p.section p.room
+  pub run_is : p.machine ≡ at_first (locals_at p.program.now (its_call p)) p.program.now.layout p.room
+  pub none_held : p.held.items ≡ []
+  pub none_pending : p.pending.items ≡ []
+  pub held_fits : p.room.locks ≤ vec_capacity p.held
+  pub pending_fits : p.room.locks ≤ vec_capacity p.pending
 
 -- it begins where the history is so long
 abbrev pub begun_as : Plan → ℕ → ℕ → Room → ℕ → Invocation → OpenOf

@@ -1,9 +1,7 @@
 //! A section that comes to a point.
 
 ghost use Rattle.std.specs.Prelude.{◌≡◌, ◌≤◌, ◌<◌, [], length, vec_capacity};
-ghost use Rattle.worlds.specs.Asking.{insert_new};
-ghost use Rattle.worlds.specs.Worlds.{locks_before};
-ghost use Rattle.runner.specs.Asked.{lock_at, asked_at};
+ghost use Rattle.runner.specs.Asked.{lock_at, with_lock_of, asked_of, asked_before};
 
 use crate::asking::{is_among, lock_named, put_in};
 use core_lang::value::Value;
@@ -35,12 +33,8 @@ impl<'a> Asker<'a> {
 
     // Puts the lock of a lock path in, unless it is held.
     fn add(&self, number: u8, pending: &mut Vec<Lock>)
-        requires { length (insert_new self.now.program.now.ranks self.now.held.now
-            (lock_at self.now.program.now self.now.section self.now.locals.now number) pending.old.items)
-            ≤ vec_capacity pending.old }
-        ensures items { pending.new.items
-            ≡ insert_new self.now.program.now.ranks self.now.held.now
-            (lock_at self.now.program.now self.now.section self.now.locals.now number) pending.old.items }
+        requires { length (with_lock_of self.now number pending.old.items) ≤ vec_capacity pending.old }
+        ensures items { pending.new.items ≡ with_lock_of self.now number pending.old.items }
         ensures capacity { vec_capacity pending.old ≤ vec_capacity pending.new }
     {
         if let Some(lock) = self.lock(number) {
@@ -53,10 +47,8 @@ impl<'a> Asker<'a> {
     // The locks that it asks for where these lock paths are listed.
     fn ask(&self, list: &[u8], pending: &mut Vec<Lock>)
         requires none { pending.old.items ≡ [] }
-        requires room { length (asked_at self.now.program.now self.now.section self.now.held.now self.now.locals.now list.now)
-            ≤ vec_capacity pending.old }
-        ensures items { pending.new.items
-            ≡ asked_at self.now.program.now self.now.section self.now.held.now self.now.locals.now list.now }
+        requires room { length (asked_of self.now list.now) ≤ vec_capacity pending.old }
+        ensures items { pending.new.items ≡ asked_of self.now list.now }
         ensures capacity { vec_capacity pending.old ≤ vec_capacity pending.new }
     {
         let mut left = list.len();
@@ -69,10 +61,8 @@ impl<'a> Asker<'a> {
     // The locks that it asks for before a point.
     pub(crate) fn ask_before(&self, point: usize, pending: &mut Vec<Lock>)
         requires none { pending.old.items ≡ [] }
-        requires room { length (locks_before self.now.program.now self.now.section point self.now.held.now self.now.locals.now)
-            ≤ vec_capacity pending.old }
-        ensures items { pending.new.items
-            ≡ locks_before self.now.program.now self.now.section point self.now.held.now self.now.locals.now }
+        requires room { length (asked_before self.now point) ≤ vec_capacity pending.old }
+        ensures items { pending.new.items ≡ asked_before self.now point }
         ensures capacity { vec_capacity pending.old ≤ vec_capacity pending.new }
     {
         let Some(lists) = self.program.placed().sections.get(self.section) else {

@@ -1,11 +1,10 @@
 //! An open section that has no outcome yet.
 
 ghost use Rattle.std.specs.Prelude.{◌≡◌, [], slice_get, Some};
-ghost use Rattle.code.specs.Machine.{act, Asks};
-ghost use Rattle.code.specs.Memory.{load_held, store_held};
+ghost use Rattle.code.specs.Machine.{Asks};
 ghost use Rattle.worlds.specs.Worlds.{next_effect};
 ghost use Rattle.runner.specs.Opens.{moved};
-ghost use Rattle.runner.specs.Ties.{HasMoved};
+ghost use Rattle.runner.specs.Ties.{effect_on, HasMoved};
 
 use crate::asker::Asker;
 use crate::asking::{put_last, take_first};
@@ -67,8 +66,7 @@ impl<'p> Open<'p> {
     // Its next instruction.
     fn instruction(&self) -> Instr
         requires { self.now.activation.pending ≡ [] }
-        ensures { next_effect self.now.plan self.now.activation
-            ≡ act load_held store_held self.now.plan.program.shape (Some result) self.now.activation.machine }
+        ensures { next_effect self.now.plan self.now.activation ≡ effect_on self.now result }
     {
         worlds::laws::sections_stay_in_order();
         let code = self.program.code();
@@ -224,11 +222,11 @@ pub(crate) struct Prepared<'p> {
 }
 
 impl<'p> Prepared<'p> {
-    ghost use Rattle.std.specs.Prelude.{IfOk, vec_capacity};
+    ghost use Rattle.std.specs.Prelude.{IfOk};
     ghost use Rattle.core_lang.specs.Serial.{invocation};
     ghost use Rattle.core_lang.specs.WellFormed.{CanCall};
     ghost use Rattle.lock_manager.specs.Sessions.{fresh};
-    ghost use Rattle.runner.specs.Ties.{IsPrepared, call_of, begun_as};
+    ghost use Rattle.runner.specs.Ties.{IsPrepared, its_call, begun_as};
 
     // For a call of a program. Errors: want of memory.
     pub(crate) fn new(
@@ -238,9 +236,8 @@ impl<'p> Prepared<'p> {
     ) -> Result<Prepared<'p>, NoMemory>
         requires { CanCall program.now.program call.now.section call.now.arguments.items }
         ensures program { IfOk result (λ p. p.program.now ≡ program.now) }
-        ensures call { IfOk result (λ p. call_of p.section p.arguments.items ≡ invocation call.now) }
-        ensures prepared { IfOk result (λ p. IsPrepared p.program.now (call_of p.section p.arguments.items) p.room p.machine
-            p.held.items p.pending.items (vec_capacity p.held) (vec_capacity p.pending)) }
+        ensures call { IfOk result (λ p. its_call p ≡ invocation call.now) }
+        ensures prepared { IfOk result IsPrepared }
     {
         let section = &program.typed().sections[call.section];
         let room = program.room(call.section);
@@ -288,11 +285,9 @@ impl<'p> Prepared<'p> {
 
     // It begins, as this call of its thread.
     pub(crate) fn open(self, ticket: Ticket, step: usize) -> Open<'p>
-        requires prepared { IsPrepared self.program.now (call_of self.section self.arguments.items) self.room self.machine
-            self.held.items self.pending.items (vec_capacity self.held) (vec_capacity self.pending) }
+        requires prepared { IsPrepared self }
         requires ticket { ticket.session ≡ fresh ticket.session.begun self.room }
-        ensures { result ≡ begun_as self.entry.program.now ticket.thread step self.entry.room ticket.session.begun
-            (call_of self.entry.section self.entry.arguments.items) }
+        ensures { result ≡ begun_as self.entry.program.now ticket.thread step self.entry.room ticket.session.begun (its_call self.entry) }
     {
         worlds::laws::sections_stay_in_order();
         let Prepared {

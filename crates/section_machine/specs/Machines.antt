@@ -1,5 +1,5 @@
 -- Machines of open sections, and what one instruction does to them.
-use Rattle.std.specs.Prelude.{◌≡◌, ◌<◌, ◌≤◌, ◌-◌, ◌^◌, ℕ, ℤ, Bool, true, false, not, List, [], ◌∷◌, length, slice_get, slice_set, Some, None, Result}
+use Rattle.std.specs.Prelude.{◌≡◌, ◌<◌, ◌≤◌, ◌-◌, ◌^◌, ℕ, Bool, true, false, not, List, [], ◌∷◌, length, slice_get, slice_set, Some, None, Result}
 use Rattle.std.specs.List.{All}
 use Rattle.core_lang.specs.declared.value.Value.{Value}
 use Rattle.core_lang.specs.declared.value.Failure.{Failure}
@@ -16,10 +16,11 @@ use Rattle.code.specs.Alone.{starting}
 use Rattle.code.specs.declared.instr.Instr.{Instr}
 use Rattle.code.specs.Machine.{Machine, Effect, Moves, Asks, Finishes, Undefined, act, advances, jumps_if, or_trap, on_top, on_two, if_there, is_true, truth, printed}
 use Rattle.code.specs.Memory.{HeldCells, none_held, value_at, load_held, store_held}
-use Rattle.moved_cells.specs.Grants.{GrantOf, IsWhole, locks_of}
+use Rattle.moved_cells.specs.Grants.{IsWhole, locks_of}
 use Rattle.held_cells.specs.Held.{HoldingOf, cells_granted}
 use Rattle.section_machine.specs.declared.answer.Answer.{Answer}
 use Rattle.section_machine.specs.declared.answer.Answer.TheVariants as answer
+use Rattle.section_machine.specs.declared.machine.Left.{Left}
 
 -- a machine over the cells that a section holds; for how many operands it has room; and beside its cells what belongs to
 -- them: where cells lie, the locks, the oldest first, and for how many locks and cells there is room
@@ -111,6 +112,10 @@ abbrev pub storing_under : List Value → ℕ → Value → Machine HeldCells �
 storing_under stack cell v m =
     if_there (store_held m.memory cell v) (λ memory. advances (record m { memory = memory }) stack)
 
+-- the same of a cell that is found
+abbrev pub storing_found : List Value → Result ℕ Failure → Value → Machine HeldCells → Effect HeldCells
+storing_found stack cell v m = or_trap cell (λ c. storing_under stack c v m)
+
 -- a local goes on the top
 abbrev pub getting : ℕ → Machine HeldCells → Effect HeldCells
 getting k m = putting_on m.stack (found (slice_get m.locals k)) m
@@ -151,7 +156,7 @@ loading_named named m = on_top m.stack (λ v rest. or_trap (named v) (λ cell. l
 
 -- the top goes into the cell that the one below it names
 abbrev pub storing_named : (Value → Result ℕ Failure) → Machine HeldCells → Effect HeldCells
-storing_named named m = on_two m.stack (λ a b rest. or_trap (named a) (λ cell. storing_under rest cell b m))
+storing_named named m = on_two m.stack (λ a b rest. storing_found rest (named a) b m)
 
 -- whether a truth value is the one that it is to be
 abbrev pub agrees : Bool → Bool → Bool
@@ -175,14 +180,17 @@ abbrev pub returning : Machine HeldCells → Effect HeldCells
 returning m = on_top m.stack (λ v rest. Finishes (Returns v))
 
 -- what is left of a machine that is taken apart
-pub record IsLeftOf (run : RunOf) (place : ℕ) (stack locals : List Value) (grants : List GrantOf)
-    (reads writes : List (ℕ × Value)) (prints : List ℤ) : Type 0 where
+pub record IsLeftOf (run : RunOf) (left : Left) : Type 0 where
   pub machine : run.machine ≡ record {
-    place = place;
-    stack = stack;
-    locals = locals;
-    memory = record { cells = cells_granted run.layout.cell_locks grants; reads = reads; writes = writes };
-    prints = prints;
+    place = left.place;
+    stack = left.operands.stack;
+    locals = left.locals.items;
+    memory = record {
+      cells = cells_granted run.layout.cell_locks left.parts.grants.items;
+      reads = left.parts.reads.items;
+      writes = left.parts.writes.items;
+    };
+    prints = left.prints.items;
   }
-  pub locks : locks_of grants ≡ run.locks
-  pub whole : All (IsWhole run.layout.cell_locks) grants
+  pub locks : locks_of left.parts.grants.items ≡ run.locks
+  pub whole : All (IsWhole run.layout.cell_locks) left.parts.grants.items

@@ -6,7 +6,7 @@ ghost use Rattle.core_lang.specs.Cells.{element_cell, member_of, field_cell, fin
 ghost use Rattle.code.specs.Machine.{advances, jumps, negation, or_trap};
 ghost use Rattle.held_cells.specs.Held.{IsLoad, IsStore};
 ghost use Rattle.section_machine.specs.Machines.{FitsRoom, HasSmallCells, HasEffect, effect_of, putting_on, loading_on};
-ghost use Rattle.section_machine.specs.Machines.{storing_under, getting, setting, storing, on_one, on_both, testing, passing};
+ghost use Rattle.section_machine.specs.Machines.{storing_found, getting, setting, storing, on_one, on_both, testing, passing};
 ghost use Rattle.section_machine.specs.Machines.{if_passed, loading_named, storing_named, branching, printing, back_by, returning};
 
 use crate::answer::{Answer, failed};
@@ -133,8 +133,7 @@ impl<'p> Machine<'p> {
 
     /// Takes it apart.
     pub fn into_parts(self) -> Left
-        ensures { IsLeftOf self.entry result.place result.operands.stack result.locals.items result.parts.grants.items
-            result.parts.reads.items result.parts.writes.items result.prints.items }
+        ensures { IsLeftOf self.entry result }
     {
         let Machine {
             place,
@@ -319,8 +318,8 @@ impl<'p> Machine<'p> {
     fn store_cell(&mut self, cell: Result<usize, Failure>, value: Value) -> Answer
         requires top { 1 < length self.old.machine.stack }
         requires small { HasSmallCells self.old.machine.memory }
-        requires fits { FitsRoom self.old.operand_room (or_trap cell (λ c. storing_under (drop 2 self.old.machine.stack) c value self.old.machine)) }
-        ensures { HasEffect (or_trap cell (λ c. storing_under (drop 2 self.old.machine.stack) c value self.old.machine)) self.old result self.new }
+        requires fits { FitsRoom self.old.operand_room (storing_found (drop 2 self.old.machine.stack) cell value self.old.machine) }
+        ensures { HasEffect (storing_found (drop 2 self.old.machine.stack) cell value self.old.machine) self.old result self.new }
     {
         match cell {
             Ok(cell) => {

@@ -1,5 +1,5 @@
 -- Where a fault stands, the line that reports it, and refusals that are one fault.
-use Rattle.std.specs.Prelude.{◌≡◌, ℕ, ◌+◌, List, [], ◌∷◌, ◌++◌, take, min, length, count_by, ◌==◌, not, codes, string_bytes}
+use Rattle.std.specs.Prelude.{◌≡◌, ℕ, ◌+◌, List, [], ◌∷◌, ◌++◌, take, min, length, count_by, ◌==◌, not, codes, string_bytes, Result, MatchResult}
 use Rattle.std.specs.List.{suffix_len}
 use Rattle.std.specs.Fmt.{decimal}
 use Rattle.source.specs.declared.fault.Code.{Code}
@@ -51,3 +51,7 @@ IsBare code start fault = (fault.code ≡ code) × (fault.start ≡ start) × (s
 abbrev pub IsFaultAt : Code → ℕ → Refusal → Type 0
 IsFaultAt code start (Fault fault) = IsBare code start fault
 IsFaultAt code start NoMemory = Unit {0}
+
+-- what is returned is this, as it is viewed, unless memory ran out
+abbrev pub IsGiven : {X Y : Type 0} → (X → Y) → Y → Result X Refusal → Type 0
+IsGiven view y r = MatchResult r (λ x. view x ≡ y) (λ e. e ≡ NoMemory)

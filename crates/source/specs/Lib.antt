@@ -6,7 +6,7 @@ pub mod Mistakes
 pub mod Leasts
 -- what public clauses cite
 pub use Rattle.source.specs.Codes.{code_name, code_text}
-pub use Rattle.source.specs.Faults.{place_text, fault_text, shown_code, shown_fault, IsBare, IsFaultAt}
+pub use Rattle.source.specs.Faults.{place_text, fault_text, shown_code, shown_fault, IsBare, IsFaultAt, IsGiven}
 pub use Rattle.source.specs.Mistakes.{code_number, goes_before, lesser, least_of, IsLeastOf}
 pub use Rattle.source.specs.Tokens.{Tok, seen_token, seen}
 pub use Rattle.source.specs.Texts.{keyword_text, sign_text, HasTokens}

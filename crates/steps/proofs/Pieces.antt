@@ -9,7 +9,7 @@ use Rattle.steps.specs.declared.turn.Turn.{Turn}
 use Rattle.steps.specs.declared.refusal.StepsFault.{StepsFault}
 use Rattle.steps.specs.declared.refusal.StepsRefusal.{StepsRefusal}
 use Rattle.steps.specs.declared.refusal.StepsRefusal.TheVariants.{Fault, NoMemory}
-use Rattle.steps.specs.Steps.{IfFault, Answers, is_white, turn_of, in_front, and_then, turns_from, turns_in}
+use Rattle.steps.specs.Steps.{IfFault, IsFaultOfPiece, Answers, is_white, turn_of, in_front, and_then, turns_from, turns_in}
 
 -- nothing in front
 pub in_front-nil : (said : Result (List Turn) StepsFault) → in_front [] said ≡ said
@@ -61,16 +61,14 @@ module _ (threads start before after : ℕ) (old : List Turn) (rest text : List 
     (all : in_front old (turns_from threads start before (slice_split is_white rest)) ≡ turns_in threads text) where
   -- a faulty item is the text's first
   pub pieces_fault : (fault : StepsFault) →
-      ((pieces : List (List ℕ)) → turns_from threads start before (take len rest ∷ pieces) ≡ Err fault) →
-      turns_in threads text ≡ Err fault
+      IsFaultOfPiece threads start before (take len rest) fault → turns_in threads text ≡ Err fault
   pieces_fault fault is_fault =
       let found = split_any rest len is bound in
       sym all ∙ ap (in_front old) (ap (turns_from threads start before) found.1 ∙ is_fault found.0)
 
   -- the same of a refusal
   pub pieces_refused : (refusal : StepsRefusal) →
-      IfFault {T = Unit {0}} (Err refusal)
-      (λ fault. (pieces : List (List ℕ)) → turns_from threads start before (take len rest ∷ pieces) ≡ Err fault) →
+      IfFault {T = Unit {0}} (Err refusal) (IsFaultOfPiece threads start before (take len rest)) →
       Answers (Err refusal) (turns_in threads text)
   pieces_refused (Fault fault) is_fault = pieces_fault fault is_fault
   pieces_refused NoMemory is_fault = tt

@@ -4,6 +4,7 @@ use Rattle.std.specs.List.{slice_split, list_all, fold, position_or_len}
 use Rattle.std.specs.Global.{Vec}
 use Rattle.source.specs.Faults.{place_text}
 use Rattle.steps.specs.declared.turn.Turn.{Turn}
+use Rattle.steps.specs.declared.reading.Reader.{Reader}
 use Rattle.steps.specs.declared.refusal.StepsCode.{StepsCode}
 use Rattle.steps.specs.declared.refusal.StepsCode.TheVariants.{BadItem, NoSuchThread, TooManySteps}
 use Rattle.steps.specs.declared.refusal.StepsFault.{StepsFault}
@@ -76,6 +77,17 @@ turns_from threads start before ((byte ∷ bytes) ∷ pieces) =
 -- the turns of a file's items, or the fault of the first faulty one, where there are so many threads
 abbrev pub turns_in : ℕ → List ℕ → Result (List Turn) StepsFault
 turns_in threads text = turns_from threads 0 0 (slice_split is_white text)
+
+-- a piece was taken: whatever pieces follow, all turns are as they were with the piece still to come
+abbrev pub TakesPiece : ℕ → ℕ → List ℕ → Reader → Reader → Type 0
+TakesPiece threads start piece old new = (pieces : List (List ℕ)) →
+    in_front new.turns.items (turns_from threads (start + (length piece + 1)) new.steps pieces)
+    ≡ in_front old.turns.items (turns_from threads start old.steps (piece ∷ pieces))
+
+-- the fault of a piece at a place, behind so many steps, whatever pieces follow
+abbrev pub IsFaultOfPiece : ℕ → ℕ → ℕ → List ℕ → StepsFault → Type 0
+IsFaultOfPiece threads start before piece fault = (pieces : List (List ℕ)) →
+    turns_from threads start before (piece ∷ pieces) ≡ Err fault
 
 -- the turns were read, or the fault was found, or memory ran out
 abbrev pub Answers : Result (Vec Turn) StepsRefusal → Result (List Turn) StepsFault → Type 0

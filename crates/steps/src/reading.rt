@@ -1,8 +1,8 @@
 //! The whole file.
 
-ghost use Rattle.std.specs.Prelude.{◌≡◌, ◌<◌, ◌≤◌, ℕ, ◌+◌, List, drop, ◌∷◌, ◌++◌, length, Err, OnOk};
+ghost use Rattle.std.specs.Prelude.{◌≡◌, ◌<◌, ◌≤◌, ◌+◌, drop, length, OnOk};
 ghost use Rattle.std.specs.List.{position_or_len};
-ghost use Rattle.steps.specs.Steps.{is_white, in_front, turns_from, turns_in, most_steps, IfFault, Answers};
+ghost use Rattle.steps.specs.Steps.{is_white, turns_in, most_steps, TakesPiece, IsFaultOfPiece, IfFault, Answers};
 
 use crate::item::turn;
 use crate::refusal::{StepsFault, StepsRefusal};
@@ -48,12 +48,9 @@ impl Reader {
     // The next piece, which is an item if it is not empty, where there are so many threads.
     fn read(&mut self, piece: &[u8], start: usize, threads: u32) -> Result<(), StepsRefusal>
         requires { self.old.steps ≤ most_steps }
-        ensures ok { OnOk result ((pieces : List (List ℕ)) →
-            in_front self.new.turns.items (turns_from threads (start + (length piece.now + 1)) self.new.steps pieces)
-            ≡ in_front self.old.turns.items (turns_from threads start self.old.steps (piece.now ∷ pieces))) }
+        ensures ok { OnOk result (TakesPiece threads start piece.now self.old self.new) }
         ensures most { OnOk result (self.new.steps ≤ most_steps) }
-        ensures fault { IfFault result (λ fault. (pieces : List (List ℕ)) →
-            turns_from threads start self.old.steps (piece.now ∷ pieces) ≡ Err fault) }
+        ensures fault { IfFault result (IsFaultOfPiece threads start self.old.steps piece.now) }
     {
         if piece.is_empty() {
             return Ok(());

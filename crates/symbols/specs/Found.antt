@@ -17,9 +17,13 @@ found n q = get_by_text n.places q
 abbrev pub IsTableOf : {A : Type 0} → (A → List ℕ → Bool) → List A → Names → Type 0
 IsTableOf bears xs n = (q : List ℕ) → found n q ≡ place_of bears xs q
 
--- the table that has a name more, with its place, if there is a name and the table has it not yet
+-- the table that has a name more, with its place, if it has it not yet
+abbrev pub IsTableWithName : List ℕ → ℕ → Names → Names → Type 0
+IsTableWithName name place old new = (q : List ℕ) → found new q ≡ option_or (found old q) (if bytes_eq q name then Some place else None)
+
+-- the same, if there is a name
 abbrev pub IsTableWith : Option Ident → ℕ → Names → Names → Type 0
-IsTableWith (Some x) place old new = (q : List ℕ) → found new q ≡ option_or (found old q) (if bytes_eq q x.text then Some place else None)
+IsTableWith (Some x) place old new = IsTableWithName x.text place old new
 IsTableWith None place old new = (q : List ℕ) → found new q ≡ found old q
 
 -- a name that the table has already

@@ -1,9 +1,10 @@
 -- Locals and scopes that the checker's values stand for.
-use Rattle.std.specs.Prelude.{List, Option, map, string_bytes}
+use Rattle.std.specs.Prelude.{◌≡◌, List, Option, map, string_bytes}
+use Rattle.core_lang.specs.declared.tree.LocalKind.{LocalKind}
 use Rattle.core_lang.specs.declared.value.ValueType.{ValueType}
-use Rattle.syntax.specs.Trees.{Decl}
+use Rattle.syntax.specs.Trees.{Decl, Ident}
 use Rattle.syntax.specs.Views.{decl_of}
-use Rattle.resolution.specs.Scopes.{Local, Scope, Meaning, a_local, a_decl, nothing}
+use Rattle.resolution.specs.Scopes.{Local, Scope, Meaning, a_local, a_decl, nothing, bound}
 use Rattle.symbols.specs.declared.scope.Local as the_local
 use Rattle.symbols.specs.declared.scope.Meaning as m
 use Rattle.symbols.specs.declared.scope.Meaning.TheVariants as v
@@ -21,6 +22,10 @@ pub record KnownLocals : Type 0 where
 
 abbrev pub scope_of : List Decl → KnownLocals → Scope
 scope_of decls k = record { decls = decls; locals = k.locals; result = k.result }
+
+-- a local of this kind, name and type more, whatever is declared
+abbrev pub IsBound : KnownLocals → KnownLocals → LocalKind → Ident → Option ValueType → Type 0
+IsBound old new kind x t = (decls : List Decl) → scope_of decls new ≡ bound (scope_of decls old) kind x t
 
 abbrev pub meaning_of : m.Meaning → Meaning
 meaning_of (v.Local i x) = a_local i (local_seen x.now)

@@ -6,10 +6,14 @@ use Rattle.syntax.specs.declared.tree.Name as the_name
 use Rattle.syntax.specs.declared.tree.Struct as the_struct
 use Rattle.syntax.specs.Trees.{Ident, Decl, struct, Member, Struct}
 use Rattle.syntax.specs.Views.{ident, decl_of, struct_of}
-use Rattle.resolution.specs.Scopes.{structs_in}
+use Rattle.resolution.specs.Scopes.{structs_in, the_decl as first_of_name}
 
 abbrev pub decls_of : List the_decl.Decl → List Decl
 decls_of ds = map decl_of ds
+
+-- the first declaration of this name, with its place
+abbrev pub decl_named : List the_decl.Decl → the_name.Name → Option (ℕ × Decl)
+decl_named ds x = first_of_name (decls_of ds) (ident x).text
 
 -- a name behind a reference
 abbrev pub name_seen : Option (Bor the_name.Name) → Option Ident

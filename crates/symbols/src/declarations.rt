@@ -7,6 +7,7 @@ ghost use Rattle.source.specs.Mistakes.{least_of};
 ghost use Rattle.resolution.specs.FaultLists.{twice_faults, struct_faults};
 ghost use Rattle.symbols.specs.Found.{IsTableOf, IsTableWith, declared_in, AreAhead};
 ghost use Rattle.symbols.specs.Counted.{count_of, counted, counts_from, no_counts};
+ghost use Rattle.symbols.specs.Faults.{name_faults};
 ghost use Rattle.symbols.specs.Views.{decls_of, name_seen, struct_in, AreStructures};
 
 use crate::members::Structure;
@@ -242,7 +243,7 @@ impl<'t> Declarations<'t> {
         least: &mut Option<Mistake>,
     ) -> Result<Declarations<'t>, AllocError>
         ensures items { IfOk result (λ t. t ≡ items.now) }
-        ensures faults { OnOk result (least.new ≡ least_of least.old (twice_faults [] (decls_of items.now) ++ struct_faults (decls_of items.now))) }
+        ensures faults { OnOk result (least.new ≡ least_of least.old (name_faults (decls_of items.now))) }
     {
         let (names, ahead, all) = judge_names(alloc, items, least)?;
         let structs = judge_structs(alloc, items, least)?;

@@ -1,15 +1,13 @@
 //! What `init`s give the members of pools.
 
-ghost use Rattle.std.specs.Prelude.{◌≡◌, [], OnOk, IfOk, option_map, Some, None, if◌then◌else◌};
-ghost use Rattle.std.specs.Option.{option_or};
-ghost use Rattle.syntax.specs.Views.{decl_of, init_of, ident, pool_of, member_of, struct_of};
+ghost use Rattle.std.specs.Prelude.{◌≡◌, [], OnOk, IfOk, option_map, None};
+ghost use Rattle.syntax.specs.Views.{decl_of, init_of, pool_of, member_of, struct_of};
 ghost use Rattle.resolution.specs.declared.init_target.InitTarget as the_init_target;
-ghost use Rattle.resolution.specs.Scopes.{the_decl};
 ghost use Rattle.resolution.specs.Constants.{init_target_of, gives, same_init_target, initialised, pool_members};
 ghost use Rattle.source.specs.Mistakes.{least_of};
 ghost use Rattle.resolution.specs.FaultLists.{repeated_faults};
-ghost use Rattle.symbols.specs.Given.{init_target_found, IsInitTargetTable, again_given, repeated_in, pool_in, struct_of_pool};
-ghost use Rattle.symbols.specs.Views.{decls_of, members_seen};
+ghost use Rattle.symbols.specs.Given.{init_target_found, IsInitTargetTable, IsInitTargetTableWith, again_given, repeated_in, pool_named, struct_of_pool};
+ghost use Rattle.symbols.specs.Views.{decls_of, decl_named, members_seen};
 
 use crate::declarations::Declarations;
 use crate::members::Structure;
@@ -49,7 +47,7 @@ impl FirstInits {
 
     /// Adds what an `init` gives a value to, with the place of that `init`, if it isn't there yet.
     fn add(&mut self, init_target: InitTarget, place: usize) -> Result<(), AllocError>
-        ensures { OnOk result ((g : the_init_target.InitTarget) → init_target_found self.new g ≡ option_or (init_target_found self.old g) (if same_init_target init_target g then Some place else None)) }
+        ensures { OnOk result (IsInitTargetTableWith (same_init_target init_target) place self.old self.new) }
     {
         if self.find(init_target).is_none() {
             self.places.insert(init_target, place)?;
@@ -60,7 +58,7 @@ impl FirstInits {
 
 /// The pool that an `init` names, with its place.
 fn pool_at<'a, 't>(decls: &'a Declarations<'t>, i: &Init) -> Option<(usize, &'t Pool)>
-    ensures { option_map (λ f. (f.0, pool_of f.1.now)) result ≡ pool_in (the_decl (decls_of decls.now) (ident i.now.pool).text) }
+    ensures { option_map (λ f. (f.0, pool_of f.1.now)) result ≡ pool_named decls.now i.now.pool }
 {
     match decls.find(i.pool.text.as_str()) {
         Some((place, Decl::Pool(pool))) => Some((place, pool)),
@@ -71,8 +69,8 @@ fn pool_at<'a, 't>(decls: &'a Declarations<'t>, i: &Init) -> Option<(usize, &'t 
 /// The struct, with its tables, of the members of the pool that an `init` names. `None` where it names no pool, or the
 /// pool's struct is unknown.
 pub fn structure_given<'a, 't>(decls: &'a Declarations<'t>, i: &Init) -> Option<&'a Structure<'t>>
-    ensures structure { option_map (λ s. struct_of s.now) result ≡ struct_of_pool (decls_of decls.now) (pool_in (the_decl (decls_of decls.now) (ident i.now.pool).text)) }
-    ensures members { option_map (λ s. members_seen s.now) result ≡ pool_members (decls_of decls.now) (the_decl (decls_of decls.now) (ident i.now.pool).text) }
+    ensures structure { option_map (λ s. struct_of s.now) result ≡ struct_of_pool (decls_of decls.now) (pool_named decls.now i.now.pool) }
+    ensures members { option_map (λ s. members_seen s.now) result ≡ pool_members (decls_of decls.now) (decl_named decls.now i.now.pool) }
 {
     let (_, pool) = pool_at(decls, i)?;
     let (_, structure) = decls.struct_of(&pool.target)?;
@@ -131,7 +129,7 @@ fn judge_decl(
     d: &Decl,
     least: &mut Option<Mistake>,
 ) -> Result<(), AllocError>
-    ensures first_inits { OnOk result ((g : the_init_target.InitTarget) → init_target_found first_inits.new g ≡ option_or (init_target_found first_inits.old g) (if gives (decls_of decls.now) (decl_of d.now) g then Some place else None)) }
+    ensures first_inits { OnOk result (IsInitTargetTableWith (gives (decls_of decls.now) (decl_of d.now)) place first_inits.old first_inits.new) }
     ensures faults { OnOk result (least.new ≡ least_of least.old (repeated_in first_inits.old (decls_of decls.now) (decl_of d.now))) }
 {
     if let Decl::Init(i) = d {

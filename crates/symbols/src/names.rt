@@ -1,10 +1,8 @@
 //! Names and their places.
 
-ghost use Rattle.std.specs.Prelude.{◌≡◌, ℕ, List, IfOk, OnOk, Some, None, is_some, if◌then◌else◌};
+ghost use Rattle.std.specs.Prelude.{◌≡◌, ℕ, List, IfOk, OnOk, None, is_some};
 ghost use Rattle.std.specs.Rc.{rc_str_bytes};
-ghost use Rattle.std.specs.Str.{bytes_eq};
-ghost use Rattle.std.specs.Option.{option_or};
-ghost use Rattle.symbols.specs.Found.{found};
+ghost use Rattle.symbols.specs.Found.{found, IsTableWithName};
 
 use indexmap::IndexMap;
 use std::alloc::{AllocError, Global};
@@ -44,7 +42,7 @@ impl Names {
         name: &RcStr,
         place: usize,
     ) -> Result<(), AllocError>
-        ensures { OnOk result ((q : List ℕ) → found self.new q ≡ option_or (found self.old q) (if bytes_eq q (rc_str_bytes name.now) then Some place else None)) }
+        ensures { OnOk result (IsTableWithName (rc_str_bytes name.now) place self.old self.new) }
     {
         if self.find(name.as_str()).is_some() {
             return Ok(());

@@ -1,18 +1,15 @@
 //! What names mean, and the types that are written.
 
-ghost use Rattle.std.specs.Prelude.{◌≡◌, ◌∷◌, ◌++◌, [], ℕ, List, Some, None, OnOk, length, option_map, if◌then◌else◌};
-ghost use Rattle.std.specs.Option.{option_or};
+ghost use Rattle.std.specs.Prelude.{◌≡◌, ◌∷◌, ◌++◌, [], OnOk, length, option_map};
 ghost use Rattle.std.specs.Rc.{rc_str_bytes};
-ghost use Rattle.std.specs.Str.{bytes_eq};
 ghost use Rattle.syntax.specs.Views.{ident, member_of, type_of as type_seen};
-ghost use Rattle.syntax.specs.Trees as trees;
 ghost use Rattle.syntax.specs.Trees.{ref_type};
-ghost use Rattle.resolution.specs.Scopes.{meaning, outside, bound, hidden_from, struct_meant, struct_named, type_of, has_type, member_has_type, the_local};
+ghost use Rattle.resolution.specs.Scopes.{meaning, outside, hidden_from, struct_meant, struct_named, type_of, has_type, member_has_type, the_local};
 ghost use Rattle.source.specs.Mistakes.{least_of};
 ghost use Rattle.resolution.specs.FaultLists.{no_struct, type_faults, unfit, unfit_member};
-ghost use Rattle.symbols.specs.Found.{found};
+ghost use Rattle.symbols.specs.Found.{IsTableWithName};
 ghost use Rattle.symbols.specs.Views.{decls_of};
-ghost use Rattle.symbols.specs.Scoped.{locals_seen, local_seen, scope_of, meaning_of};
+ghost use Rattle.symbols.specs.Scoped.{locals_seen, local_seen, scope_of, IsBound, meaning_of};
 
 use crate::names::Names;
 use crate::note::note_if;
@@ -84,7 +81,7 @@ fn push_local(
     local: Local,
 ) -> Result<(), AllocError>
     ensures items { OnOk result (items.new.items ≡ items.old.items ++ local ∷ []) }
-    ensures names { OnOk result ((q : List ℕ) → found names.new q ≡ option_or (found names.old q) (if bytes_eq q (rc_str_bytes name.now) then Some (length items.old.items) else None)) }
+    ensures names { OnOk result (IsTableWithName (rc_str_bytes name.now) (length items.old.items) names.old names.new) }
 {
     let place = items.len();
     items.push(local)?;
@@ -143,7 +140,7 @@ impl Locals {
         kind: LocalKind,
         value_type: Option<ValueType>,
     ) -> Result<(), AllocError>
-        ensures { OnOk result ((decls : List trees.Decl) → scope_of decls self.new ≡ bound (scope_of decls self.old) kind (ident name.now) value_type) }
+        ensures { OnOk result (IsBound self.old self.new kind (ident name.now) value_type) }
     {
         let local = Local {
             name: String::from_str(alloc, name.text.as_str())?,

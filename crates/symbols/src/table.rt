@@ -1,6 +1,6 @@
 //! The declarations, with all that is known of them before their parts are looked at.
 
-ghost use Rattle.std.specs.Prelude.{◌≡◌, ◌++◌, OnOk, IfOk, Some, option_map, [], take};
+ghost use Rattle.std.specs.Prelude.{◌≡◌, OnOk, IfOk, Some, option_map, take};
 ghost use Rattle.syntax.specs.Views.{const_of, decl_of, ident, struct_of};
 ghost use Rattle.resolution.specs.Scopes.{number_at, the_decl, the_struct};
 ghost use Rattle.resolution.specs.Expressions.{cell_of};
@@ -8,8 +8,8 @@ ghost use Rattle.resolution.specs.Constants.{object_of, given, value_in};
 ghost use Rattle.resolution.specs.Annotations.{class_number};
 ghost use Rattle.resolution.specs.Resolution.{few_calls};
 ghost use Rattle.source.specs.Mistakes.{least_of};
-ghost use Rattle.resolution.specs.FaultLists.{twice_faults, struct_faults, total_faults, repeated_faults};
 ghost use Rattle.symbols.specs.Capped.{totals_of};
+ghost use Rattle.symbols.specs.Faults.{table_faults};
 ghost use Rattle.symbols.specs.Views.{decls_of, struct_in};
 
 use crate::declarations::Declarations;
@@ -66,7 +66,7 @@ impl<'t> SymbolTable<'t> {
         least: &mut Option<Mistake>,
     ) -> Result<SymbolTable<'t>, AllocError>
         ensures items { IfOk result (λ t. t ≡ items.now) }
-        ensures faults { OnOk result (least.new ≡ least_of least.old (twice_faults [] (decls_of items.now) ++ struct_faults (decls_of items.now) ++ total_faults (decls_of items.now) [] (decls_of items.now) ++ repeated_faults (decls_of items.now) [] (decls_of items.now))) }
+        ensures faults { OnOk result (least.new ≡ least_of least.old (table_faults (decls_of items.now))) }
     {
         let decls = Declarations::new(alloc, items, least)?;
         let Ok((ahead, all)) = judge_totals(alloc, &decls, least) else {

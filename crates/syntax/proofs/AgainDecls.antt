@@ -39,7 +39,7 @@ init_line p n x c tail = simp append_assoc
 call_line : (x cs tail : List ℕ) → (((x ++ 40 ∷ []) ++ cs) ++ 41 ∷ 59 ∷ []) ++ tail ≡ x ++ 40 ∷ (cs ++ 41 ∷ 59 ∷ tail)
 call_line x cs tail = simp append_assoc
 
-repeat_line : (n is i tail : List ℕ) → (((((n ++ 32 ∷ 123 ∷ []) ++ is) ++ 10 ∷ []) ++ i) ++ 125 ∷ []) ++ tail ≡ n ++ 32 ∷ 123 ∷ (is ++ 10 ∷ (i ++ 125 ∷ tail))
+repeat_line : (n is i tail : List ℕ) → (n ++ 32 ∷ 123 ∷ (((is ++ 10 ∷ []) ++ i) ++ 125 ∷ [])) ++ tail ≡ n ++ 32 ∷ 123 ∷ (is ++ 10 ∷ (i ++ 125 ∷ tail))
 repeat_line n is i tail = simp append_assoc
 
 item_line : (i x is tail : List ℕ) → ((i ++ x) ++ is) ++ tail ≡ i ++ (x ++ (is ++ tail))

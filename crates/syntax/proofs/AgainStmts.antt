@@ -21,10 +21,10 @@ local_line x t e tail = simp append_assoc
 assign_line : (p e tail : List ℕ) → (((p ++ 32 ∷ 61 ∷ 32 ∷ []) ++ e) ++ 59 ∷ []) ++ tail ≡ p ++ 32 ∷ 61 ∷ 32 ∷ (e ++ 59 ∷ tail)
 assign_line p e tail = simp append_assoc
 
-while_line : (e ss i tail : List ℕ) → (((((e ++ 41 ∷ 32 ∷ 123 ∷ []) ++ ss) ++ 10 ∷ []) ++ i) ++ 125 ∷ []) ++ tail ≡ e ++ 41 ∷ 32 ∷ 123 ∷ (ss ++ 10 ∷ (i ++ 125 ∷ tail))
+while_line : (e ss i tail : List ℕ) → ((e ++ 41 ∷ []) ++ 32 ∷ 123 ∷ (((ss ++ 10 ∷ []) ++ i) ++ 125 ∷ [])) ++ tail ≡ e ++ 41 ∷ 32 ∷ 123 ∷ (ss ++ 10 ∷ (i ++ 125 ∷ tail))
 while_line e ss i tail = simp append_assoc
 
-if_line : (e ss i o tail : List ℕ) → ((((((e ++ 41 ∷ 32 ∷ 123 ∷ []) ++ ss) ++ 10 ∷ []) ++ i) ++ 125 ∷ []) ++ o) ++ tail ≡ e ++ 41 ∷ 32 ∷ 123 ∷ (ss ++ 10 ∷ (i ++ 125 ∷ (o ++ tail)))
+if_line : (e ss i o tail : List ℕ) → (((e ++ 41 ∷ []) ++ 32 ∷ 123 ∷ (((ss ++ 10 ∷ []) ++ i) ++ 125 ∷ [])) ++ o) ++ tail ≡ e ++ 41 ∷ 32 ∷ 123 ∷ (ss ++ 10 ∷ (i ++ 125 ∷ (o ++ tail)))
 if_line e ss i o tail = simp append_assoc
 
 else_line : (ss i tail : List ℕ) → (((ss ++ 10 ∷ []) ++ i) ++ 125 ∷ []) ++ tail ≡ ss ++ 10 ∷ (i ++ 125 ∷ tail)

@@ -19,7 +19,7 @@ use Rattle.syntax.specs.declared.tree.Item.{Repeat}
 use Rattle.std.specs.Fmt.{decimal}
 use Rattle.syntax.specs.Trees.{Expr}
 use Rattle.syntax.specs.Views.{expr_of, pair_of, joined_of, links_of, stmt_of, if_of, stmts_of, else_of, item_of, items_of}
-use Rattle.syntax.specs.Printing.{many_text, after_comma, listed_text, op_text, expr_text, links_text, indent, deeper, stmt_text, stmts_text, else_text, item_text, items_text}
+use Rattle.syntax.specs.Printing.{many_text, after_comma, listed_text, op_text, expr_text, links_text, indent, deeper, braced, stmt_text, stmts_text, else_text, item_text, items_text}
 use Rattle.syntax.specs.Rows.{joined_of-Chain, while_of, stmt_of-While, if_of-out, item_of_Repeat}
 
 pub indent_is : (d : ℕ) → (d ≡ 0 → ⊥) → codes "    " ++ indent (d - 1) ≡ indent d
@@ -50,24 +50,19 @@ pair_is op left right = ap (λ (s : List ℕ). expr_text left ++ s) (sym (append
 pub chain_is : (j : the_joined.Joined) (k : Level) (first : the_expr.Expr) (links : Vec the_link.Link Global) → j ≡ Chain k first links → expr_text (expr_of first) ++ links_text (links_of links.items) ≡ expr_text (joined_of j)
 chain_is j k first links is = sym (ap expr_text (ap joined_of is ∙ joined_of-Chain k first links))
 
--- a block in braces
-abbrev pub braced : ℕ → List ℕ → List ℕ
-braced d text = codes " {" ++ text ++ codes "\n" ++ indent d ++ codes "}"
-
-braced_behind : (before c o text line margin last : List ℕ) → (before ++ c) ++ ((((o ++ text) ++ line) ++ margin) ++ last) ≡ ((((before ++ (c ++ o)) ++ text) ++ line) ++ margin) ++ last
-braced_behind before c o text line margin last = simp append_assoc
-
 pub while_is : (d : ℕ) (w : the_while.While) → codes "while (" ++ expr_text (expr_of w.condition) ++ codes ")" ++ braced d (stmts_text (deeper d) (stmts_of w.block.stmts.items)) ≡ stmt_text d (while_of w)
-while_is d w = braced_behind (codes "while (" ++ expr_text (expr_of w.condition)) (codes ")") (codes " {") (stmts_text (deeper d) (stmts_of w.block.stmts.items)) (codes "\n") (indent d) (codes "}")
+while_is d w = refl
 
 pub loop_is : (d : ℕ) (s : the_stmt.Stmt) (b : Box the_while.While Global) → s ≡ While b → stmt_text d (while_of b.value) ≡ stmt_text d (stmt_of s)
 loop_is d s b is = sym (ap (stmt_text d) (ap stmt_of is ∙ stmt_of-While b))
 
 pub if_is : (d : ℕ) (i : the_if.If) → codes "if (" ++ expr_text (expr_of (out-If i).condition) ++ codes ")" ++ braced d (stmts_text (deeper d) (stmts_of (out-If i).block.stmts.items)) ++ else_text d (else_of (out-If i).otherwise) ≡ stmt_text d (if_of i)
-if_is d i =
-    let o = out-If i in
-    ap (λ (t : List ℕ). t ++ else_text d (else_of o.otherwise)) (braced_behind (codes "if (" ++ expr_text (expr_of o.condition)) (codes ")") (codes " {") (stmts_text (deeper d) (stmts_of o.block.stmts.items)) (codes "\n") (indent d) (codes "}"))
-    ∙ sym (ap (stmt_text d) (if_of-out i))
+if_is d i = sym (ap (stmt_text d) (if_of-out i))
+
+in_braces : (before o lines line margin last : List ℕ) → ((((before ++ o) ++ lines) ++ line) ++ margin) ++ last ≡ before ++ ((((o ++ lines) ++ line) ++ margin) ++ last)
+in_braces before o lines line margin last = simp append_assoc
 
 pub repeat_is : (d : ℕ) (x : the_item.Item) (n : Number) (items : Vec the_item.Item Global) → x ≡ Repeat n items → codes "repeat " ++ decimal n.value ++ codes " {" ++ items_text (deeper d) (items_of items.items) ++ codes "\n" ++ indent d ++ codes "}" ≡ item_text d (item_of x)
-repeat_is d x n items is = sym (ap (item_text d) (ap item_of is ∙ item_of_Repeat n items))
+repeat_is d x n items is =
+    in_braces (codes "repeat " ++ decimal n.value) (codes " {") (items_text (deeper d) (items_of items.items)) (codes "\n") (indent d) (codes "}")
+    ∙ sym (ap (item_text d) (ap item_of is ∙ item_of_Repeat n items))

@@ -142,3 +142,7 @@ pub record HasTextOf (text : List ℕ) (ds : List Decl) : Type 0 where
   pub has_tokens : HasTokens text tokens
   pub has_tree : HasTree tokens tree
   pub same : bare tree ≡ bare ds
+
+-- where any text has the tree, this one has it, but for places
+abbrev pub HasTextIfAny : List ℕ → List Decl → Type 0
+HasTextIfAny printed ds = (text : List ℕ) (tokens : List Tok) → HasTokens text tokens → HasTree tokens ds → HasTextOf printed ds

@@ -14,4 +14,4 @@ pub use Rattle.syntax.specs.Grammar.{HasTree}
 pub use Rattle.syntax.specs.Returns.{ReturnsRight}
 pub use Rattle.syntax.specs.Faults.{HasRightTree, IsMisplaced, IsRefusal, IsTooDeep, IsUnexpected}
 pub use Rattle.syntax.specs.Printing.{tree_text}
-pub use Rattle.syntax.specs.Bare.{HasTextOf}
+pub use Rattle.syntax.specs.Bare.{HasTextOf, HasTextIfAny}

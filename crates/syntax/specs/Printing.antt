@@ -88,6 +88,10 @@ indent (suc n) = codes "    " ++ indent n
 abbrev pub deeper : ℕ → ℕ
 deeper d = if nat_lt d 64 then d + 1 else d
 
+-- lines in braces, behind what stands at this depth before them
+abbrev pub braced : ℕ → List ℕ → List ℕ
+braced d lines = codes " {" ++ lines ++ codes "\n" ++ indent d ++ codes "}"
+
 abbrev pub local_text : Local → List ℕ
 local_text l = l.name.text ++ codes ": " ++ type_text l.value_type ++ codes " = " ++ expr_text l.value ++ codes ";"
 
@@ -97,8 +101,8 @@ abbrev mutual
   stmt_text d (let_local l) = codes "let " ++ local_text l
   stmt_text d (var_local l) = codes "var " ++ local_text l
   stmt_text d (assign p e) = place_text p ++ codes " = " ++ expr_text e ++ codes ";"
-  stmt_text d (if_then at e body close other) = codes "if (" ++ expr_text e ++ codes ") {" ++ stmts_text (deeper d) body ++ codes "\n" ++ indent d ++ codes "}" ++ else_text d other
-  stmt_text d (while at e body close) = codes "while (" ++ expr_text e ++ codes ") {" ++ stmts_text (deeper d) body ++ codes "\n" ++ indent d ++ codes "}"
+  stmt_text d (if_then at e body close other) = codes "if (" ++ expr_text e ++ codes ")" ++ braced d (stmts_text (deeper d) body) ++ else_text d other
+  stmt_text d (while at e body close) = codes "while (" ++ expr_text e ++ codes ")" ++ braced d (stmts_text (deeper d) body)
   stmt_text d (print at e) = codes "print " ++ expr_text e ++ codes ";"
   stmt_text d (return_value at e) = codes "return " ++ expr_text e ++ codes ";"
 
@@ -109,7 +113,7 @@ abbrev mutual
 
   pub else_text : ℕ → Otherwise → List ℕ
   else_text d no_else = []
-  else_text d (else_do body close) = codes " else {" ++ stmts_text (deeper d) body ++ codes "\n" ++ indent d ++ codes "}"
+  else_text d (else_do body close) = codes " else" ++ braced d (stmts_text (deeper d) body)
 
 -- ---- declarations
 
@@ -138,7 +142,7 @@ abbrev mutual
   -- at this depth
   pub item_text : ℕ → Item → List ℕ
   item_text d (call c) = call_text c
-  item_text d (repeat n is) = codes "repeat " ++ decimal n.value ++ codes " {" ++ items_text (deeper d) is ++ codes "\n" ++ indent d ++ codes "}"
+  item_text d (repeat n is) = codes "repeat " ++ decimal n.value ++ braced d (items_text (deeper d) is)
 
   pub items_text : ℕ → Items → List ℕ
   items_text d no_items = []

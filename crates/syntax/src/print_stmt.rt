@@ -4,7 +4,7 @@ ghost use Rattle.std.specs.Prelude.{◌≡◌, ◌++◌, codes};
 ghost use Rattle.syntax.specs.Adding.{Adds};
 ghost use Rattle.syntax.specs.Views.{place_of, expr_of, local_of, stmt_of, if_of, stmts_of, else_of};
 ghost use Rattle.syntax.specs.Rows.{while_of};
-ghost use Rattle.syntax.specs.Printing.{place_text, expr_text, indent, deeper, local_text, stmt_text, stmts_text, else_text};
+ghost use Rattle.syntax.specs.Printing.{place_text, expr_text, indent, deeper, local_text, stmt_text, stmts_text, braced, else_text};
 
 use crate::print::{push_expr, push_place, push_type};
 use crate::printer::Printer;
@@ -111,7 +111,7 @@ fn push_else(out: &mut Printer, other: &Option<Block>, depth: usize)
 /// A block in braces behind what its line begins with, whose own lines stand one level further in than that line.
 #[cycle(print_stmt)]
 fn push_braced(out: &mut Printer, body: &Block, depth: usize)
-    ensures { Adds out.old out.new (codes " {" ++ stmts_text (deeper depth) (stmts_of body.now.stmts.items) ++ codes "\n" ++ indent depth ++ codes "}") }
+    ensures { Adds out.old out.new (braced depth (stmts_text (deeper depth) (stmts_of body.now.stmts.items))) }
 {
     out.push_str(" {");
     push_stmts(out, &body.stmts, deeper(depth));

@@ -1,11 +1,8 @@
 //! The text of a tree.
 
-ghost use Rattle.std.specs.Prelude.{◌≡◌, ℕ, List, IfOk, string_bytes};
-ghost use Rattle.source.specs.Tokens.{Tok};
-ghost use Rattle.source.specs.Texts.{HasTokens};
+ghost use Rattle.std.specs.Prelude.{◌≡◌, IfOk, string_bytes};
 ghost use Rattle.syntax.specs.Views.{tree_of};
-ghost use Rattle.syntax.specs.Grammar.{HasTree};
-ghost use Rattle.syntax.specs.Bare.{HasTextOf};
+ghost use Rattle.syntax.specs.Bare.{HasTextIfAny};
 ghost use Rattle.syntax.specs.Printing.{tree_text};
 
 use crate::print_decl::push_decls;
@@ -21,7 +18,7 @@ pub fn print_tree(alloc: Global, tree: &Tree) -> Result<String, NoMemory>
     // What is printed, byte for byte.
     ensures text { IfOk result (λ printed. string_bytes printed ≡ tree_text (tree_of tree.now)) }
     // For a tree that some text has, the text printed has that tree, but for places.
-    ensures same { IfOk result (λ printed. (text : List ℕ) (ts : List Tok) → HasTokens text ts → HasTree ts (tree_of tree.now) → HasTextOf (string_bytes printed) (tree_of tree.now)) }
+    ensures same { IfOk result (λ printed. HasTextIfAny (string_bytes printed) (tree_of tree.now)) }
 {
     let mut out = Printer::new(alloc);
     push_decls(&mut out, &tree.decls);

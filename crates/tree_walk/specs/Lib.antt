@@ -5,3 +5,4 @@ pub mod Chains
 -- what the public clauses cite
 pub use Rattle.tree_walk.specs.Undo.{Changed}
 pub use Rattle.tree_walk.specs.Stops.{Follows, Concludes}
+pub use Rattle.tree_walk.specs.Execution.{run_from}

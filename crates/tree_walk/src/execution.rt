@@ -1,11 +1,9 @@
 //! A section under way.
 
 ghost use Rattle.std.specs.Prelude.{◌≡◌, Ok, IfSome};
-ghost use Rattle.core_lang.specs.Cells.{element_cell, with};
-ghost use Rattle.core_lang.specs.Meaning.{effect_of, sequence, stored, written, printed, truth_of, turns, value_of};
-ghost use Rattle.core_lang.specs.Whole.{concluded};
+ghost use Rattle.core_lang.specs.Meaning.{effect_of, sequence, stored, written, printed};
 ghost use Rattle.tree_walk.specs.Stops.{Follows, Concludes};
-ghost use Rattle.tree_walk.specs.Execution.{state_of, assigned, Keeps};
+ghost use Rattle.tree_walk.specs.Execution.{state_of, assigned, cell_at, while, run_from, Keeps};
 
 use crate::draft::Draft;
 use crate::evaluate::{evaluate, is_true};
@@ -186,7 +184,7 @@ impl Execution {
         shape: &Shape,
         most: u64,
     ) -> Result<(), Stop>
-        ensures follows { Follows result (state_of self.new) (turns most (λ s. truth_of condition.now shape.now s.locals s.heap) (sequence body.now shape.now most) (state_of self.old)) }
+        ensures follows { Follows result (state_of self.new) (while condition.now body.now shape.now most (state_of self.old)) }
         ensures keeps { Keeps self.old self.new }
     {
         let mut left = most;
@@ -240,8 +238,7 @@ impl Execution {
     // The cell of an array's element, if its index is found the short way.
     #[inline(always)]
     fn element(&self, array: usize, index: &Expr, shape: &Shape) -> Option<usize>
-        ensures { IfSome result (λ cell. with (value_of index.now shape.now self.now.locals.items self.now.draft.now)
-            (element_cell shape.now array) ≡ Ok cell) }
+        ensures { IfSome result (λ cell. cell_at array index.now shape.now (state_of self.now) ≡ Ok cell) }
     {
         short::cell(array, index, shape, &self.locals, self.draft.cells())
     }
@@ -296,7 +293,7 @@ impl Execution {
         shape: &Shape,
         turns: u64,
     ) -> Result<Outcome, Stop>
-        ensures follows { Concludes result (state_of self.new) (concluded section.now.result shape.now (sequence section.now.body.items shape.now turns (state_of self.old))) }
+        ensures follows { Concludes result (state_of self.new) (run_from section.now shape.now turns (state_of self.old)) }
         ensures keeps { Keeps self.old self.new }
     {
         self.run_all(&section.body, shape, turns)?;

@@ -4,6 +4,12 @@ use Rattle.syntax.specs.Trees.{Decl, Variable, Array, Section, Thread}
 use Rattle.resolution.specs.Core as core
 use Rattle.resolution.specs.Scopes.{◌>>=◌}
 use Rattle.resolution.specs.Resolution.{extended, with_section, with_thread, typed_section, typed_calls, global_with, array_with}
+use Rattle.declarations.specs.Values as builder
+use Rattle.types.specs.declared.program.Judge.{Judge}
+
+-- the declarations, as a judge knows them
+abbrev pub known : Judge → List Decl
+known j = builder.known j.builder
 
 -- a program, if there is one, with one more declaration
 abbrev pub extended_if : List Decl → ℕ → Option core.Program → Decl → Option core.Program

@@ -13,7 +13,7 @@ ghost use Rattle.source.specs.Mistakes.{least_of, IsLeastOf};
 ghost use Rattle.resolution.specs.FaultLists.{global_faults, array_faults, section_faults, decl_faults, each_faults, items_faults};
 ghost use Rattle.symbols.specs.{decls_of};
 ghost use Rattle.declarations.specs.Grown.{built};
-ghost use Rattle.types.specs.Whole.{extended_if, global_if, array_if, section_if, thread_if};
+ghost use Rattle.types.specs.Whole.{known, extended_if, global_if, array_if, section_if, thread_if};
 
 use annotations::note_lock;
 use constants::constant::note_opening;
@@ -52,8 +52,8 @@ impl<'a> Judge<'a> {
         grown: &mut Grown,
         least: &mut Option<Mistake>,
     ) -> Result<(), AllocError>
-        ensures value { OnOk result (built grown.new ≡ extended_if (decls_of self.now.builder.symbols.now) place (built grown.old) (struct (struct_of table.now))) }
-        ensures faults { OnOk result (least.new ≡ least_of least.old (decl_faults (decls_of self.now.builder.symbols.now) place (struct (struct_of table.now)))) }
+        ensures value { OnOk result (built grown.new ≡ extended_if (known self.now) place (built grown.old) (struct (struct_of table.now))) }
+        ensures faults { OnOk result (least.new ≡ least_of least.old (decl_faults (known self.now) place (struct (struct_of table.now)))) }
     {
         let members = &table.item().members;
         note_members(
@@ -78,8 +78,8 @@ impl<'a> Judge<'a> {
         grown: &mut Grown,
         least: &mut Option<Mistake>,
     ) -> Result<(), AllocError>
-        ensures value { OnOk result (built grown.new ≡ global_if (decls_of self.now.builder.symbols.now) (built grown.old) (variable_of v.now)) }
-        ensures faults { OnOk result (least.new ≡ least_of least.old (global_faults (decls_of self.now.builder.symbols.now) (variable_of v.now))) }
+        ensures value { OnOk result (built grown.new ≡ global_if (known self.now) (built grown.old) (variable_of v.now)) }
+        ensures faults { OnOk result (least.new ≡ least_of least.old (global_faults (known self.now) (variable_of v.now))) }
     {
         let symbols = self.builder.symbols;
         note_type(symbols, &v.value_type, least);
@@ -100,8 +100,8 @@ impl<'a> Judge<'a> {
         grown: &mut Grown,
         least: &mut Option<Mistake>,
     ) -> Result<(), AllocError>
-        ensures value { OnOk result (built grown.new ≡ array_if (decls_of self.now.builder.symbols.now) (built grown.old) (array_of a.now)) }
-        ensures faults { OnOk result (least.new ≡ least_of least.old (array_faults (decls_of self.now.builder.symbols.now) (array_of a.now))) }
+        ensures value { OnOk result (built grown.new ≡ array_if (known self.now) (built grown.old) (array_of a.now)) }
+        ensures faults { OnOk result (least.new ≡ least_of least.old (array_faults (known self.now) (array_of a.now))) }
     {
         let symbols = self.builder.symbols;
         note_type(symbols, &a.value_type, least);
@@ -121,8 +121,8 @@ impl<'a> Judge<'a> {
         grown: &mut Grown,
         least: &mut Option<Mistake>,
     ) -> Result<(), AllocError>
-        ensures value { OnOk result (built grown.new ≡ extended_if (decls_of self.now.builder.symbols.now) place (built grown.old) (pool (pool_of p.now))) }
-        ensures faults { OnOk result (least.new ≡ least_of least.old (decl_faults (decls_of self.now.builder.symbols.now) place (pool (pool_of p.now)))) }
+        ensures value { OnOk result (built grown.new ≡ extended_if (known self.now) place (built grown.old) (pool (pool_of p.now))) }
+        ensures faults { OnOk result (least.new ≡ least_of least.old (decl_faults (known self.now) place (pool (pool_of p.now)))) }
     {
         note_target(self.builder.symbols, &p.target, least);
         note_missing(self.builder.symbols, place, p, least);
@@ -139,8 +139,8 @@ impl<'a> Judge<'a> {
         grown: &mut Grown,
         least: &mut Option<Mistake>,
     ) -> Result<(), AllocError>
-        ensures value { OnOk result (built grown.new ≡ section_if (decls_of self.now.builder.symbols.now) (built grown.old) (section_of s.now)) }
-        ensures faults { OnOk result (least.new ≡ least_of least.old (section_faults (decls_of self.now.builder.symbols.now) (section_of s.now))) }
+        ensures value { OnOk result (built grown.new ≡ section_if (known self.now) (built grown.old) (section_of s.now)) }
+        ensures faults { OnOk result (least.new ≡ least_of least.old (section_faults (known self.now) (section_of s.now))) }
     {
         let section = judge_section(self.builder.alloc, self.builder.symbols, s, least)?;
         if grown.is_right {
@@ -156,8 +156,8 @@ impl<'a> Judge<'a> {
         grown: &mut Grown,
         least: &mut Option<Mistake>,
     ) -> Result<(), AllocError>
-        ensures value { OnOk result (built grown.new ≡ thread_if (decls_of self.now.builder.symbols.now) (built grown.old) (thread_of t.now)) }
-        ensures faults { OnOk result (least.new ≡ least_of least.old (items_faults (decls_of self.now.builder.symbols.now) (items_of t.now.items.items))) }
+        ensures value { OnOk result (built grown.new ≡ thread_if (known self.now) (built grown.old) (thread_of t.now)) }
+        ensures faults { OnOk result (least.new ≡ least_of least.old (items_faults (known self.now) (items_of t.now.items.items))) }
     {
         note_items(self.builder.symbols, &t.items, least);
         if grown.is_right {
@@ -176,9 +176,9 @@ impl<'a> Judge<'a> {
         grown: &mut Grown,
         least: &mut Option<Mistake>,
     ) -> Result<(), AllocError>
-        requires { slice_get (decls_of self.now.builder.symbols.now) place ≡ Some (decl_of d.now) }
-        ensures value { OnOk result (built grown.new ≡ extended_if (decls_of self.now.builder.symbols.now) place (built grown.old) (decl_of d.now)) }
-        ensures faults { OnOk result (least.new ≡ least_of least.old (decl_faults (decls_of self.now.builder.symbols.now) place (decl_of d.now))) }
+        requires { slice_get (known self.now) place ≡ Some (decl_of d.now) }
+        ensures value { OnOk result (built grown.new ≡ extended_if (known self.now) place (built grown.old) (decl_of d.now)) }
+        ensures faults { OnOk result (least.new ≡ least_of least.old (decl_faults (known self.now) place (decl_of d.now))) }
     {
         let symbols = self.builder.symbols;
         match d {
@@ -207,8 +207,8 @@ impl<'a> Judge<'a> {
     // The declarations, one after another.
     #[tactic(auto, using(source::specs::Leasts::least_append))]
     fn judge_decls(&self, grown: &mut Grown, least: &mut Option<Mistake>) -> Result<(), AllocError>
-        ensures value { OnOk result (built grown.new ≡ resolved_from (decls_of self.now.builder.symbols.now) 0 (built grown.old) (decls_of self.now.builder.symbols.now)) }
-        ensures faults { OnOk result (least.new ≡ least_of least.old (each_faults (decls_of self.now.builder.symbols.now) 0 (decls_of self.now.builder.symbols.now))) }
+        ensures value { OnOk result (built grown.new ≡ resolved_from (known self.now) 0 (built grown.old) (known self.now)) }
+        ensures faults { OnOk result (least.new ≡ least_of least.old (each_faults (known self.now) 0 (known self.now))) }
     {
         let items = self.builder.symbols.items();
         for (place, d) in items.iter().enumerate() {

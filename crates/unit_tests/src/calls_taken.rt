@@ -1,10 +1,9 @@
 //! A test of the crate `core_lang`: which calls a program takes.
 
-use compiler::compile;
-use core_lang::calls::can_call;
+use case_files::judging::compare;
 use core_lang::value::Value;
 use std::test::Fail;
-use unit_cases::judging::compare;
+use text_answers::taken;
 
 /// A section with a parameter of each kind, and an object of another struct.
 const TWO_STRUCTS: &str = "struct S { lock l; } struct T { lock l; }
@@ -15,27 +14,25 @@ atomic f(ref S s, int k) { }
 #[test]
 fn takes_and_refuses_calls(rt: HostRuntime) -> Result<(), Fail> {
     let alloc = rt.alloc();
-    let program = compile(alloc, TWO_STRUCTS.as_bytes())?;
-    let mut said = String::new(alloc);
-    for (section, first, second) in [
-        (0, Value::Ref(None), Value::Int(7)),
-        (0, Value::Ref(Some(0)), Value::Int(7)),
-        // An object of the other struct, one that is none, a number for a reference, and the other way round.
-        (0, Value::Ref(Some(1)), Value::Int(7)),
-        (0, Value::Ref(Some(2)), Value::Int(7)),
-        (0, Value::Int(0), Value::Int(7)),
-        (0, Value::Ref(None), Value::Ref(None)),
-        // No such section.
-        (1, Value::Ref(None), Value::Int(7)),
-    ] {
-        let taken = can_call(program.typed(), section, &[first, second]);
-        write!(&mut said, "{taken} ")?;
-    }
-    let one = can_call(program.typed(), 0, &[Value::Ref(None)]);
-    write!(&mut said, "{one}")?;
+    let said = taken(
+        alloc,
+        TWO_STRUCTS,
+        &[
+            (0, &[Value::Ref(None), Value::Int(7)]),
+            (0, &[Value::Ref(Some(0)), Value::Int(7)]),
+            // An object of the other struct, one that is none, a number for a reference, and the other way round.
+            (0, &[Value::Ref(Some(1)), Value::Int(7)]),
+            (0, &[Value::Ref(Some(2)), Value::Int(7)]),
+            (0, &[Value::Int(0), Value::Int(7)]),
+            (0, &[Value::Ref(None), Value::Ref(None)]),
+            // No such section, and too few arguments.
+            (1, &[Value::Ref(None), Value::Int(7)]),
+            (0, &[Value::Ref(None)]),
+        ],
+    )?;
     compare(
         alloc,
         said.as_str(),
-        "true true false false false false false false",
+        "true true false false false false false false ",
     )
 }

@@ -1,15 +1,9 @@
 //! Tests of the crate `lock_manager`: who is granted which lock with which cells, who waits, and what is kept.
 
-use compiler::compile;
-use core_lang::value::Value;
-use lock_manager::manager::Manager;
-use locks::lock::Lock;
-use lowering::compiled::Program;
-use source::memory::NoMemory;
-use std::alloc::Global;
+use case_files::judging::compare;
+use manager_calls::Scenario;
 use std::test::Fail;
-use unit_cases::judging::compare;
-use unit_cases::manager_calls::Calls;
+use text_answers::said_of_calls;
 
 /// Two cells, each under a lock of its own.
 const DISJOINT_LOCKS: &str = "lock G; lock H;
@@ -29,85 +23,10 @@ init q[0].owner = b[0];
 init q[1].owner = b[0];
 ";
 
-/// The lock of the first class, or of its first object.
-const G: Lock = Lock {
-    class: 0,
-    object: 0,
-};
-
-/// A manager of the program's locks.
-fn opened<'p>(alloc: Global, program: &'p Program) -> Result<Manager<'p>, NoMemory> {
-    let _typed = program.typed();
-    Manager::open(alloc, program.layout(), program.ranks())
-}
-
-/// Thread 1 gets what thread 0 wrote, and what it gives up is as if it had never been.
-fn hand_over(calls: &mut Calls<'_>) -> Result<(), Fail> {
-    calls.begin(0)?;
-    calls.ask(0, G)?;
-    calls.say_values(0)?;
-    calls.begin(1)?;
-    calls.ask(1, G)?;
-    calls.set(0, 0, 1)?;
-    calls.release(0, &[(0, Value::Int(1))])?;
-    calls.ask(1, G)?;
-    calls.say_values(1)?;
-    calls.set(1, 0, 5)?;
-    calls.give_up(1)?;
-    calls.say_cell(0)?;
-    calls.say_lock(G)
-}
-
-/// Who waits keeps the place of the first ask, until the lock is granted.
-fn wait_in_line(calls: &mut Calls<'_>) -> Result<(), Fail> {
-    calls.begin(0)?;
-    calls.ask(0, G)?;
-    calls.begin(1)?;
-    calls.begin(2)?;
-    calls.ask(2, G)?;
-    calls.ask(1, G)?;
-    calls.ask(2, G)?;
-    calls.say_lock(G)?;
-    calls.release(0, &[])?;
-    calls.ask(1, G)?;
-    calls.say_lock(G)?;
-    calls.release(1, &[])
-}
-
-/// A grant has all cells of its lock, in the order of their numbers.
-fn set_one_of_three(calls: &mut Calls<'_>) -> Result<(), Fail> {
-    calls.begin(0)?;
-    calls.ask(0, G)?;
-    calls.set(0, 1, 1)?;
-    calls.say_values(0)
-}
-
-/// Calls of these tests, in their order.
-#[derive(Clone, Copy)]
-enum Scenario {
-    HandOver,
-    WaitInLine,
-    SetOneOfThree,
-}
-
-/// What is said of calls of a manager of the program.
-fn said_of(alloc: Global, text: &str, scenario: Scenario) -> Result<String, Fail> {
-    let program = compile(alloc, text.as_bytes())?;
-    let mut calls = Calls::of(alloc, opened(alloc, &program)?);
-    let made = match scenario {
-        Scenario::HandOver => hand_over(&mut calls),
-        Scenario::WaitInLine => wait_in_line(&mut calls),
-        Scenario::SetOneOfThree => set_one_of_three(&mut calls),
-    };
-    let said = calls.into_said();
-    made?;
-    Ok(said)
-}
-
 #[test]
 fn hands_over(rt: HostRuntime) -> Result<(), Fail> {
     let alloc = rt.alloc();
-    let said = said_of(alloc, DISJOINT_LOCKS, Scenario::HandOver)?;
+    let said = said_of_calls(alloc, DISJOINT_LOCKS, Scenario::HandOver)?;
     compare(
         alloc,
         said.as_str(),
@@ -129,7 +48,7 @@ held by None, waiting None None None
 #[test]
 fn keeps_places_in_line(rt: HostRuntime) -> Result<(), Fail> {
     let alloc = rt.alloc();
-    let said = said_of(alloc, DISJOINT_LOCKS, Scenario::WaitInLine)?;
+    let said = said_of_calls(alloc, DISJOINT_LOCKS, Scenario::WaitInLine)?;
     compare(
         alloc,
         said.as_str(),
@@ -152,7 +71,7 @@ held by Some(1), waiting Some(2) None None
 #[test]
 fn grants_all_cells_of_a_lock(rt: HostRuntime) -> Result<(), Fail> {
     let alloc = rt.alloc();
-    let said = said_of(alloc, SHARED_OWNER, Scenario::SetOneOfThree)?;
+    let said = said_of_calls(alloc, SHARED_OWNER, Scenario::SetOneOfThree)?;
     compare(
         alloc,
         said.as_str(),

@@ -6,7 +6,7 @@ use Rattle.std.proofs.lemmas.Result.{on_ok_weaker}
 use Rattle.core_lang.specs.declared.shape.Pool.{Pool}
 use Rattle.core_lang.specs.declared.typed.Field.{Field}
 use Rattle.core_lang.specs.declared.typed.Struct.{Struct}
-use Rattle.report.proofs.Written.{item_here, item_past, piece_added}
+use Rattle.locks.specs.Theory.Written.{item_here, item_past, piece_added}
 use Rattle.report.proofs.pieces.push_field.Goals as goal
 
 -- the name of a field, by what was found on the way to it

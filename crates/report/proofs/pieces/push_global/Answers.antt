@@ -2,7 +2,7 @@ use Rattle.std.proofs.Common.{Option, string_bytes, [], refl}
 use Rattle.std.specs.Option.{option_map_or}
 use Rattle.std.proofs.lemmas.Result.{on_ok_weaker}
 use Rattle.core_lang.specs.declared.typed.GlobalVariable.{GlobalVariable}
-use Rattle.report.proofs.Written.{item_here, item_past, some_added, none_added, piece_added}
+use Rattle.locks.specs.Theory.Written.{item_here, item_past, some_added, none_added, piece_added}
 use Rattle.report.proofs.pieces.push_global.Goals as goal
 
 pub returns-in-Some : goal.returns-in-Some

@@ -2,7 +2,7 @@ use Rattle.std.proofs.Common.{◌∙◌, ◌++◌, ℕ, List, Some, string_bytes
 use Rattle.std.specs.Prelude.{codes}
 use Rattle.std.proofs.lemmas.Result.{on_ok_weaker}
 use Rattle.report.specs.Pieces.{object_text, owner_of_lock}
-use Rattle.report.proofs.Written.{item_here, item_past, some_added, none_added, piece_added}
+use Rattle.locks.specs.Theory.Written.{item_here, item_past, some_added, none_added, piece_added}
 use Rattle.report.proofs.pieces.push_lock_owner.Goals as goal
 
 pub returns-in_ok-push_object-in-Some-Field : goal.returns-in_ok-push_object-in-Some-Field

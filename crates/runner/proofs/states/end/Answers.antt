@@ -11,8 +11,7 @@ invariant_of-result c =
     let p = c.into_parts-place.result in
     let apart : IsTakenApart x.program.now x.ticket x.step x.section x.arguments.items x.machine x.held.items x.pending.items x.asked
     (vec_capacity x.held) (vec_capacity x.pending) c.args.outcome
-    p.place p.operands.stack p.locals.items p.parts.grants.items p.parts.reads.items p.parts.writes.items p.prints.items
-    c.thread-thread.result c.begun-begun.result =
+    p c.thread-thread.result c.begun-begun.result =
     record {
       kept = c.opened.invariant;
       none = ap (λ (s : OpenOf). s.activation.pending) c.opened.view_is ∙ c.requires.pending;
@@ -23,8 +22,7 @@ invariant_of-result c =
     } in
     kept_ended x.program.now x.ticket x.step x.section x.arguments.items x.machine x.held.items x.pending.items x.asked
     (vec_capacity x.held) (vec_capacity x.pending) c.args.outcome
-    p.place p.operands.stack p.locals.items p.parts.grants.items p.parts.reads.items p.parts.writes.items p.prints.items
-    c.thread-thread.result c.begun-begun.result
+    p c.thread-thread.result c.begun-begun.result
     c.sections_stay_in_order.ensures apart
 
 pub returns : goal.returns
@@ -33,8 +31,7 @@ returns c =
     let p = c.into_parts-place.result in
     let apart : IsTakenApart x.program.now x.ticket x.step x.section x.arguments.items x.machine x.held.items x.pending.items x.asked
     (vec_capacity x.held) (vec_capacity x.pending) c.args.outcome
-    p.place p.operands.stack p.locals.items p.parts.grants.items p.parts.reads.items p.parts.writes.items p.prints.items
-    c.thread-thread.result c.begun-begun.result =
+    p c.thread-thread.result c.begun-begun.result =
     record {
       kept = c.opened.invariant;
       none = ap (λ (s : OpenOf). s.activation.pending) c.opened.view_is ∙ c.requires.pending;
@@ -45,6 +42,5 @@ returns c =
     } in
     ended_is x.program.now x.ticket x.step x.section x.arguments.items x.machine x.held.items x.pending.items x.asked
     (vec_capacity x.held) (vec_capacity x.pending) c.args.outcome
-    p.place p.operands.stack p.locals.items p.parts.grants.items p.parts.reads.items p.parts.writes.items p.prints.items
-    c.thread-thread.result c.begun-begun.result apart
+    p c.thread-thread.result c.begun-begun.result apart
     ∙ ap (λ (s : OpenOf). over_by s c.args.outcome) c.opened.view_is

@@ -1,0 +1,72 @@
+-- The text of `check`, as bytes: a line `accepted`; a line for each rank; for each section a line with its name and one for
+-- each of its points before which locks are taken.
+use Rattle.std.specs.Prelude.{ℕ, ◌==◌, List, [], ◌∷◌, ◌++◌, length, slice_get, position, codes, string_bytes}
+use Rattle.std.specs.Option.{option_map_or}
+use Rattle.std.specs.List.{flat_map, range_with_len}
+use Rattle.std.specs.Fmt.{decimal}
+use Rattle.source.specs.Faults.{line_of, column_of}
+use Rattle.core_lang.specs.declared.tree.Section.{Section}
+use Rattle.core_lang.specs.declared.typed.Typed.{Typed}
+use Rattle.flow.specs.Points.{Point, points, start_of}
+use Rattle.locks.specs.LockPaths.{lock_paths}
+use Rattle.locks.specs.Texts.{class_name, path_text}
+use Rattle.code.specs.Listing.{line}
+
+-- ---- the ranks
+
+-- the class that has a rank
+abbrev pub ranked_class : Typed → List ℕ → ℕ → List ℕ
+ranked_class program ranks rank = option_map_or (class_name program) (position (λ r. r == rank) ranks) []
+
+-- rank R CLASS
+abbrev pub rank_text : Typed → List ℕ → ℕ → List ℕ
+rank_text program ranks rank = line (codes "rank " ++ decimal rank ++ codes " " ++ ranked_class program ranks rank)
+
+-- for each rank from 0 on
+abbrev pub rank_texts : Typed → List ℕ → List ℕ
+rank_texts program ranks = flat_map (rank_text program ranks) (range_with_len 0 (length ranks))
+
+-- ---- a section
+
+-- LINE:COL
+abbrev pub position_text : ℕ → ℕ → List ℕ
+position_text line column = decimal line ++ codes ":" ++ decimal column
+
+-- the section's lock path of this number
+abbrev pub numbered_path : Typed → Section → ℕ → List ℕ
+numbered_path program section i = option_map_or (path_text program section) (slice_get (lock_paths program section) i) []
+
+-- those of a list, a space before each
+abbrev pub taken_text : Typed → Section → List ℕ → List ℕ
+taken_text program section list = flat_map (λ i. codes " " ++ numbered_path program section i) list
+
+-- at LINE:COL take PATHS, where there are any
+abbrev pub take_text : List ℕ → Typed → Section → ℕ → List ℕ → List ℕ
+take_text text program section start [] = []
+take_text text program section start (i ∷ is) =
+    line (codes "at " ++ position_text (line_of text start) (column_of text start)
+    ++ codes " take" ++ taken_text program section (i ∷ is))
+
+-- for each point, where its statement starts and with the list before it
+abbrev pub take_texts : List ℕ → Typed → Section → List Point → List (List ℕ) → List ℕ
+take_texts text program section [] lists = []
+take_texts text program section (p ∷ ps) [] = []
+take_texts text program section (p ∷ ps) (list ∷ lists) =
+    take_text text program section (start_of p) list ++ take_texts text program section ps lists
+
+-- section NAME, and its points
+abbrev pub section_text : List ℕ → Typed → Section → List (List ℕ) → List ℕ
+section_text text program section lists =
+    line (codes "section " ++ string_bytes section.name) ++ take_texts text program section (points section) lists
+
+-- for each section, with its lists
+abbrev pub section_texts : List ℕ → Typed → List Section → List (List (List ℕ)) → List ℕ
+section_texts text program [] lists = []
+section_texts text program (s ∷ ss) [] = []
+section_texts text program (s ∷ ss) (ls ∷ lists) = section_text text program s ls ++ section_texts text program ss lists
+
+-- ---- the whole text, of a program with the rank of each class and the lists before the points of each section
+abbrev pub check_text : List ℕ → Typed → List ℕ → List (List (List ℕ)) → List ℕ
+check_text text program ranks lists =
+    line (codes "accepted") ++ rank_texts program ranks
+    ++ section_texts text program program.sections.items lists

@@ -1,0 +1,12 @@
+//! The exact text that `check` writes of a program that is accepted: its ranks, and where its sections take which locks.
+//!
+//! - [`Check`]: what that text says.
+//!
+//! `specs/Check.antt` defines it byte for byte.
+#![tactic(auto)]
+
+mod check;
+mod places;
+mod section_text;
+
+pub use check::Check;

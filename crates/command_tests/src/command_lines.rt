@@ -1,0 +1,77 @@
+//! Tests of the crate `words`: of what `clap` refuses, which no clause says, and of a line of each form.
+
+use case_files::judging::compare;
+use source::memory::NoMemory;
+use std::alloc::{AllocError, Global};
+use std::test::Fail;
+use words::words;
+
+/// The words of the line.
+fn parted(alloc: Global, line: &str) -> Result<Vec<&str>, AllocError> {
+    let mut parted = Vec::new(alloc);
+    for word in line.split(' ') {
+        parted.push(word)?;
+    }
+    Ok(parted)
+}
+
+/// What the line asks for, or the kind of the error.
+fn told(alloc: Global, line: &str) -> Result<String, Fail> {
+    let parted = parted(alloc, line)?;
+    let told = match words(alloc, parted.as_slice()) {
+        Ok(line) => format!(in alloc; "{line:?}")?,
+        Err(error) => format!(in alloc; "{:?}", error.kind())?,
+    };
+    // So a refused growth ends a test by this error, and never by another answer.
+    if told.as_str() == "OutOfMemory" {
+        return Err(NoMemory.into());
+    }
+    Ok(told)
+}
+
+/// Judges each case, a command line, ` => ` and what is told of it.
+fn judge(alloc: Global, cases: &str) -> Result<(), Fail> {
+    for case in cases.trim().split('\n') {
+        let (line, want) = case.split_once(" => ").unwrap_or((case, ""));
+        let told = told(alloc, line)?;
+        compare(alloc, told.as_str(), want)?;
+    }
+    Ok(())
+}
+
+#[test]
+fn reads_lines(rt: HostRuntime) -> Result<(), Fail> {
+    judge(
+        rt.alloc(),
+        "
+autolock check F => Check { file: \"F\" }
+autolock serial F => Serial { file: \"F\", turns: 1000000 }
+autolock serial --turns 7 F => Serial { file: \"F\", turns: 7 }
+autolock serial --turns=0 F => Serial { file: \"F\", turns: 0 }
+autolock serial --turns 1000000000 F => Serial { file: \"F\", turns: 1000000000 }
+",
+    )
+}
+
+#[test]
+fn refuses_words(rt: HostRuntime) -> Result<(), Fail> {
+    judge(
+        rt.alloc(),
+        "
+autolock => MissingSubcommand
+autolock --help => DisplayHelp
+autolock serial --help => DisplayHelp
+autolock --version => DisplayVersion
+autolock serial --version => UnknownArgument
+autolock walk => InvalidSubcommand
+autolock check => MissingRequiredArgument
+autolock check --help => DisplayHelp
+autolock check --turns 3 F => UnknownArgument
+autolock check F G => UnknownArgument
+autolock serial => MissingRequiredArgument
+autolock serial F G => UnknownArgument
+autolock serial --turns 1000000001 F => ValueValidation
+autolock serial --turns -1 F => UnknownArgument
+",
+    )
+}

@@ -1,0 +1,215 @@
+//! A lock manager that is called, and the lines that tell of it.
+
+ghost use Rattle.std.specs.Prelude.{◌<◌, length, IfOk};
+
+use core_lang::value::{Outcome, Value};
+use history::entry::{CellValue, Entry};
+use layout::room::Room;
+use lock_manager::answer::Answer;
+use lock_manager::manager::Manager;
+use lock_manager::ticket::Ticket;
+use locks::lock::Lock;
+use moved_cells::grant::Grant;
+use std::alloc::Global;
+use std::test::Fail;
+
+/// What a section needs at most in these tests.
+const ROOM: Room = Room {
+    locks: 2,
+    cells: 4,
+    operands: 0,
+    locals: 0,
+};
+
+/// An open section, with what it was granted.
+struct Session {
+    ticket: Ticket,
+    grants: Vec<Grant>,
+}
+
+/// The entry of an open section that read nothing and wrote these.
+fn entry_of(alloc: Global, session: &Session, writes: &[CellValue]) -> Result<Entry, Fail> {
+    let mut written = Vec::new(alloc);
+    for write in writes {
+        written.push(*write)?;
+    }
+    Ok(Entry {
+        thread: session.ticket.thread(),
+        step: 0,
+        section: 0,
+        arguments: Vec::new(alloc),
+        begun: session.ticket.begun(),
+        reads: Vec::new(alloc),
+        writes: written,
+        outcome: Outcome::Ends,
+        prints: Vec::new(alloc),
+    })
+}
+
+/// A manager, the sections that are open, and what was said of the calls so far.
+pub struct Calls<'p> {
+    alloc: Global,
+    manager: Manager<'p>,
+    sessions: Vec<Session>,
+    said: String,
+}
+
+impl<'p> Calls<'p> {
+    /// With nothing said yet.
+    pub fn of(alloc: Global, manager: Manager<'p>) -> Calls<'p> {
+        Calls {
+            alloc,
+            manager,
+            sessions: Vec::new(alloc),
+            said: String::new(alloc),
+        }
+    }
+
+    /// Gives up what is still open, and hands out what was said.
+    pub fn into_said(self) -> String {
+        let Calls {
+            alloc: _,
+            mut manager,
+            mut sessions,
+            said,
+        } = self;
+        while let Some(Session { ticket, grants }) = sessions.pop() {
+            manager.give_up(ticket, grants);
+        }
+        sessions.destroy_empty();
+        said
+    }
+
+    // Where the thread's section stands among the open ones.
+    fn place(&self, thread: u32) -> Result<usize, Fail>
+        ensures { IfOk result (λ place. place < length self.now.sessions.items) }
+    {
+        for (place, session) in self.sessions.iter().enumerate() {
+            if session.ticket.thread() == thread {
+                return Ok(place);
+            }
+        }
+        Err(Fail::from("no section of the thread is open"))
+    }
+
+    /// A section of the thread begins.
+    pub fn begin(&mut self, thread: u32) -> Result<(), Fail> {
+        if thread >= 64 || self.manager.is_open(thread) {
+            write!(&mut self.said, "{thread} may not begin\n")?;
+            return Ok(());
+        }
+        self.sessions.reserve(1)?;
+        let grants = Vec::with_capacity(self.alloc, ROOM.locks)?;
+        match self.manager.begin(self.alloc, thread, ROOM) {
+            Ok(ticket) => {
+                self.sessions.push(Session { ticket, grants }).unwrap();
+                write!(&mut self.said, "{thread} begins\n")?;
+                Ok(())
+            }
+            Err(refused) => {
+                grants.destroy_empty();
+                Err(refused.into())
+            }
+        }
+    }
+
+    /// The thread's section asks for a lock.
+    pub fn ask(&mut self, thread: u32, lock: Lock) -> Result<(), Fail> {
+        let place = self.place(thread)?;
+        let session = &mut self.sessions[place];
+        if !self.manager.knows(&session.ticket) || !self.manager.can_ask(&session.ticket, lock) {
+            write!(&mut self.said, "{thread} may not ask\n")?;
+            return Ok(());
+        }
+        session.grants.reserve(1)?;
+        match self.manager.request(&mut session.ticket, lock) {
+            Answer::Granted(grant) => {
+                session.grants.push(grant).unwrap();
+                write!(&mut self.said, "{thread} is granted the lock\n")?;
+            }
+            Answer::Held(holder) => {
+                write!(&mut self.said, "{thread} waits for {holder}\n")?;
+            }
+        }
+        Ok(())
+    }
+
+    /// The thread's section sets a cell of the lock that it was granted first.
+    pub fn set(&mut self, thread: u32, offset: u32, value: i64) -> Result<(), Fail> {
+        let place = self.place(thread)?;
+        let Some(grant) = self.sessions[place].grants.get_mut(0) else {
+            return Err(Fail::from("nothing is granted"));
+        };
+        if offset as usize >= grant.values().len() {
+            return Err(Fail::from("no such cell"));
+        }
+        grant.write(offset, Value::Int(value));
+        Ok(())
+    }
+
+    /// Says what the cells of the thread's first lock hold.
+    pub fn say_values(&mut self, thread: u32) -> Result<(), Fail> {
+        let place = self.place(thread)?;
+        for grant in &self.sessions[place].grants {
+            for value in grant.values() {
+                write!(&mut self.said, "{value:?} ")?;
+            }
+        }
+        write!(&mut self.said, "are with {thread}\n")?;
+        Ok(())
+    }
+
+    /// The thread's section gives up.
+    pub fn give_up(&mut self, thread: u32) -> Result<(), Fail> {
+        let place = self.place(thread)?;
+        let Session { ticket, grants } = self.sessions.swap_remove(place);
+        self.manager.give_up(ticket, grants);
+        write!(&mut self.said, "{thread} gives up\n")?;
+        Ok(())
+    }
+
+    /// The thread's section ends, having written these cells.
+    pub fn release(&mut self, thread: u32, writes: &[CellValue]) -> Result<(), Fail> {
+        let place = self.place(thread)?;
+        let session = &self.sessions[place];
+        let entry = entry_of(self.alloc, session, writes)?;
+        if !self.manager.fits(&session.ticket, &session.grants, &entry) {
+            write!(&mut self.said, "{thread} may not end\n")?;
+            return Ok(());
+        }
+        let Session { ticket, grants } = self.sessions.swap_remove(place);
+        let receipt = self.manager.release(ticket, grants, entry);
+        let position = receipt.position();
+        write!(
+            &mut self.said,
+            "{thread} ends at {position}, wakes {:?} {:?}\n",
+            receipt.wake(0),
+            receipt.wake(1)
+        )?;
+        Ok(())
+    }
+
+    /// Says who holds a lock, and who waits for it.
+    pub fn say_lock(&mut self, lock: Lock) -> Result<(), Fail> {
+        let holder = self.manager.holder(lock);
+        let first = self.manager.waiting(lock, 0);
+        let second = self.manager.waiting(lock, 1);
+        let third = self.manager.waiting(lock, 2);
+        write!(
+            &mut self.said,
+            "held by {holder:?}, waiting {first:?} {second:?} {third:?}\n"
+        )?;
+        Ok(())
+    }
+
+    /// Says what a cell holds, and how many entries there are.
+    pub fn say_cell(&mut self, cell: usize) -> Result<(), Fail> {
+        let value = self.manager.cell(cell);
+        let entries = self.manager.history().len();
+        write!(
+            &mut self.said,
+            "cell {cell} holds {value:?}, {entries} entries\n"
+        )?;
+        Ok(())
+    }
+}

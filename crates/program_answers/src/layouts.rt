@@ -1,0 +1,25 @@
+//! Where the locks and the cells of a program lie.
+
+use lowering::compiled::Program;
+use std::alloc::Global;
+use std::test::Fail;
+
+/// A line for each lock of the program, and one for each cell: what it holds at the opening, and where it lies.
+pub fn laid_out(alloc: Global, program: &Program) -> Result<String, Fail> {
+    let layout = program.layout();
+    let mut said = String::new(alloc);
+    for lock in layout.locks() {
+        write!(&mut said, "lock {} of {}\n", lock.class, lock.object)?;
+    }
+    for cell in 0..program.typed().cells.len() {
+        let (lock, offset) = layout.slot_of(cell);
+        let size = layout.cells_of(lock);
+        let opening = layout.opening(cell);
+        write!(
+            &mut said,
+            "{opening:?} at {offset} of {size} under lock {} of {}\n",
+            lock.class, lock.object
+        )?;
+    }
+    Ok(said)
+}
