@@ -55,7 +55,10 @@ slot_of bs = (3 * slice_index bs 0 + 2 * slice_index bs 2 + 9 * length bs) % 32
 
 -- the keyword of a number
 abbrev pub SLOTS : List Keyword
-SLOTS = Lock ∷ Var ∷ Lock ∷ Lock ∷ While ∷ Call ∷ Null ∷ Let ∷ Lock ∷ Global ∷ Lock ∷ Lock ∷ Repeat ∷ If ∷ Lock ∷ Print ∷ Lock ∷ Init ∷ Pool ∷ Struct ∷ Return ∷ Lock ∷ Thread ∷ Atomic ∷ Lock ∷ Else ∷ ProtectedBy ∷ Final ∷ Where ∷ Ref ∷ Int ∷ Lock ∷ []
+SLOTS =
+    Lock ∷ Var ∷ Lock ∷ Lock ∷ While ∷ Call ∷ Null ∷ Let ∷ Lock ∷ Global ∷ Lock ∷ Lock ∷ Repeat ∷ If ∷ Lock ∷ Print ∷
+    Lock ∷ Init ∷ Pool ∷ Struct ∷ Return ∷ Lock ∷ Thread ∷ Atomic ∷ Lock ∷ Else ∷ ProtectedBy ∷ Final ∷ Where ∷ Ref ∷
+    Int ∷ Lock ∷ []
 
 abbrev pub if_same : Bool → Keyword → Option Keyword
 if_same true w = Some w
@@ -74,7 +77,10 @@ pick (p ∷ ps) b = if b == p.0 then Some p.1 else pick ps b
 
 -- the signs of one byte
 abbrev pub SINGLES : List (ℕ × Sign)
-SINGLES = (123, OpenBrace) ∷ (125, CloseBrace) ∷ (40, OpenParen) ∷ (41, CloseParen) ∷ (91, OpenBracket) ∷ (93, CloseBracket) ∷ (59, Semicolon) ∷ (44, Comma) ∷ (58, Colon) ∷ (46, Dot) ∷ (61, Equals) ∷ (60, Less) ∷ (62, Greater) ∷ (43, Plus) ∷ (45, Minus) ∷ (42, Star) ∷ (47, Slash) ∷ (37, Percent) ∷ (33, Not) ∷ []
+SINGLES =
+    (123, OpenBrace) ∷ (125, CloseBrace) ∷ (40, OpenParen) ∷ (41, CloseParen) ∷ (91, OpenBracket) ∷
+    (93, CloseBracket) ∷ (59, Semicolon) ∷ (44, Comma) ∷ (58, Colon) ∷ (46, Dot) ∷ (61, Equals) ∷ (60, Less) ∷
+    (62, Greater) ∷ (43, Plus) ∷ (45, Minus) ∷ (42, Star) ∷ (47, Slash) ∷ (37, Percent) ∷ (33, Not) ∷ []
 
 -- the signs of two bytes, of which the second is the equals sign
 abbrev pub WITH_EQUALS : List (ℕ × Sign)

@@ -100,7 +100,14 @@ abbrev pub core_locals : List the_local.Local → List Local
 core_locals ls = map core_local ls
 
 abbrev pub core_section : the_section.Section → Section
-core_section x = record { name = string_bytes x.name; parameters = x.parameters; locals = core_locals x.locals.items; result_type = x.result_type; body = core_stmts x.body.items; result = option_map core_return x.result }
+core_section x = record {
+  name = string_bytes x.name;
+  parameters = x.parameters;
+  locals = core_locals x.locals.items;
+  result_type = x.result_type;
+  body = core_stmts x.body.items;
+  result = option_map core_return x.result;
+}
 
 abbrev pub core_class : the_class.LockClass → LockClass
 core_class (class_case.Global name) = global_lock (string_bytes name)

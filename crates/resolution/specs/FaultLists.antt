@@ -176,7 +176,9 @@ abbrev mutual
   expr_faults sc (prefix o at e) = expr_faults sc e ++ misfit (prefix_want o) (start_of e) (typed sc e)
   expr_faults sc (chain level e links) = expr_faults sc e ++ misfit (operand_want level) (start_of e) (typed sc e) ++ link_faults sc level links
   expr_faults sc (compare a c b) =
-      expr_faults sc a ++ misfit (side_want c) (start_of a) (typed sc a) ++ expr_faults sc b ++ misfit (side_want c) (start_of b) (typed sc b) ++ side_faults c (start_of a) (start_of b) (typed sc a) (typed sc b)
+      expr_faults sc a ++ misfit (side_want c) (start_of a) (typed sc a)
+      ++ expr_faults sc b ++ misfit (side_want c) (start_of b) (typed sc b)
+      ++ side_faults c (start_of a) (start_of b) (typed sc a) (typed sc b)
 
   -- of a place as a value
   pub place_faults : Scope → Place → List Mistake

@@ -50,34 +50,47 @@ const_start (member_const p n) = p.span.start
 -- ---- E02: a number of an expression or a constant that no token can be; no tree of tokens has one
 
 pub data IsTooLarge (decls : List Decl) : ℕ → Type 0 where
-  expression : {sc : Scope} {w : Want} {n : Number} → HasExpr decls sc w (int n) → NUMBER_LIMIT < n.value → IsTooLarge decls n.span.start
-  constant : {w : Want} {n : Number} → HasConst decls w (int_const n) → NUMBER_LIMIT < n.value → IsTooLarge decls n.span.start
-  negative_constant : {w : Want} (sign : Span) {n : Number} → HasConst decls w (negative sign n) → NUMBER_LIMIT < n.value → IsTooLarge decls n.span.start
+  expression : {sc : Scope} {w : Want} {n : Number} →
+      HasExpr decls sc w (int n) → NUMBER_LIMIT < n.value → IsTooLarge decls n.span.start
+  constant : {w : Want} {n : Number} →
+      HasConst decls w (int_const n) → NUMBER_LIMIT < n.value → IsTooLarge decls n.span.start
+  negative_constant : {w : Want} (sign : Span) {n : Number} →
+      HasConst decls w (negative sign n) → NUMBER_LIMIT < n.value → IsTooLarge decls n.span.start
 
 -- ---- E05: the later of two names of one name space; a local that bears an earlier local's name or a top-level name
 
 pub data IsDeclaredTwice (decls : List Decl) : ℕ → Type 0 where
-  two_decls : (before behind : List Decl) (d : Decl) {x : Ident} {i : ℕ} → decls ≡ before ++ d ∷ behind → declared d ≡ Some x → place_of bears before x.text ≡ Some i → IsDeclaredTwice decls x.span.start
-  two_members : {s : Struct} (before behind : List Member) (m : Member) {i : ℕ} → Has decls (struct s) → s.members ≡ before ++ m ∷ behind → place_of member_bears before (member_name m).text ≡ Some i → IsDeclaredTwice decls (member_name m).span.start
-  two_locals : {sc : Scope} {x : Ident} {f : ℕ × Local} → Binds decls sc x → the_local sc.locals x.text ≡ Some f → IsDeclaredTwice decls x.span.start
-  top_level : {sc : Scope} {x : Ident} {f : ℕ × Decl} → Binds decls sc x → the_decl decls x.text ≡ Some f → IsDeclaredTwice decls x.span.start
+  two_decls : (before behind : List Decl) (d : Decl) {x : Ident} {i : ℕ} →
+      decls ≡ before ++ d ∷ behind → declared d ≡ Some x → place_of bears before x.text ≡ Some i →
+      IsDeclaredTwice decls x.span.start
+  two_members : {s : Struct} (before behind : List Member) (m : Member) {i : ℕ} →
+      Has decls (struct s) → s.members ≡ before ++ m ∷ behind →
+      place_of member_bears before (member_name m).text ≡ Some i → IsDeclaredTwice decls (member_name m).span.start
+  two_locals : {sc : Scope} {x : Ident} {f : ℕ × Local} →
+      Binds decls sc x → the_local sc.locals x.text ≡ Some f → IsDeclaredTwice decls x.span.start
+  top_level : {sc : Scope} {x : Ident} {f : ℕ × Decl} →
+      Binds decls sc x → the_decl decls x.text ≡ Some f → IsDeclaredTwice decls x.span.start
 
 -- ---- annotations
 
 -- a walk along an annotation comes from where it stands, with a name and those behind it left, to where it stands with others left
 pub data Reaches (decls : List Decl) : AnnotationCursor → Ident → List Ident → AnnotationCursor → Ident → List Ident → Type 0 where
   stays : {st : AnnotationCursor} {y : Ident} {ys : List Ident} → Reaches decls st y ys st y ys
-  goes_on : {st next to : AnnotationCursor} {y z x : Ident} {zs xs : List Ident} → through_member decls st (the_member st.members y.text) ≡ Some next → Reaches decls next z zs to x xs → Reaches decls st y (z ∷ zs) to x xs
+  goes_on : {st next to : AnnotationCursor} {y z x : Ident} {zs xs : List Ident} →
+      through_member decls st (the_member st.members y.text) ≡ Some next → Reaches decls next z zs to x xs →
+      Reaches decls st y (z ∷ zs) to x xs
 
 -- the annotation, with its first name p, begins at an own member of the field's struct, and its walk comes there
 pub data Walks (decls : List Decl) : Protection → AnnotationCursor → Ident → List Ident → Type 0 where
   walks : {i : ℕ} {ms : List Member} {p : Protection} {own : ℕ × Member} {st : AnnotationCursor} {y : Ident} {ys : List Ident} →
-      Annotates decls i ms p → the_member ms p.first.text ≡ Some own → Reaches decls (cursor_at i ms) p.first p.rest st y ys → Walks decls p st y ys
+      Annotates decls i ms p → the_member ms p.first.text ≡ Some own →
+      Reaches decls (cursor_at i ms) p.first p.rest st y ys → Walks decls p st y ys
 
 -- the annotation is to name a global lock: a global's, or that of a field whose struct has no member of the first name
 pub data NamesGlobal (decls : List Decl) : Protection → Type 0 where
   of_global : {p : Protection} → HasLock decls p → NamesGlobal decls p
-  no_member : {i : ℕ} {ms : List Member} {p : Protection} → Annotates decls i ms p → the_member ms p.first.text ≡ None → NamesGlobal decls p
+  no_member : {i : ℕ} {ms : List Member} {p : Protection} →
+      Annotates decls i ms p → the_member ms p.first.text ≡ None → NamesGlobal decls p
 
 abbrev pub IsLockDecl : Decl → Type 0
 IsLockDecl (lock x) = Unit {0}
@@ -94,16 +107,25 @@ IsFinalMember _ = ⊥
 -- ---- E06: a name that means nothing where it stands, or no field
 
 pub data IsUnknown (decls : List Decl) : ℕ → Type 0 where
-  in_place : {sc : Scope} {p : Place} → HasPlace decls sc p → meaning sc (first_name p).text ≡ nothing → IsUnknown decls (first_name p).span.start
-  in_type : {sc : Scope} {x : Ident} → HasType decls sc (ref_type x) → meaning sc x.text ≡ nothing → IsUnknown decls x.span.start
+  in_place : {sc : Scope} {p : Place} →
+      HasPlace decls sc p → meaning sc (first_name p).text ≡ nothing → IsUnknown decls (first_name p).span.start
+  in_type : {sc : Scope} {x : Ident} →
+      HasType decls sc (ref_type x) → meaning sc x.text ≡ nothing → IsUnknown decls x.span.start
   in_call : {c : Call} → HasCall decls c → the_decl decls c.section.text ≡ None → IsUnknown decls c.section.span.start
-  in_const : {w : Want} {p : Ident} {n : Number} → HasConst decls w (member_const p n) → the_decl decls p.text ≡ None → IsUnknown decls p.span.start
+  in_const : {w : Want} {p : Ident} {n : Number} →
+      HasConst decls w (member_const p n) → the_decl decls p.text ≡ None → IsUnknown decls p.span.start
   in_init : {i : Init} → Has decls (init i) → the_decl decls i.pool.text ≡ None → IsUnknown decls i.pool.span.start
-  no_field_initialised : {i : Init} {ms : List Member} → Has decls (init i) → pool_members decls (the_decl decls i.pool.text) ≡ Some ms → the_member ms i.field.text ≡ None → IsUnknown decls i.field.span.start
-  no_field : {sc : Scope} {x : Ident} {fs : List Ident} (before behind : List Ident) (f : Ident) (steps : List FieldStep) (k : ℕ) {s : Struct} → HasPlace decls sc (path x fs) → fs ≡ before ++ f ∷ behind →
-      walk_from decls (meaning sc x.text) before ≡ reached steps (Reference k) → the_struct decls k ≡ Some s → the_member s.members f.text ≡ None → IsUnknown decls f.span.start
-  no_lock : {p : Protection} → NamesGlobal decls p → the_decl decls p.first.text ≡ None → IsUnknown decls p.first.span.start
-  no_field_passed : {p : Protection} {st : AnnotationCursor} {y : Ident} {ys : List Ident} → Walks decls p st y ys → the_member st.members y.text ≡ None → IsUnknown decls y.span.start
+  no_field_initialised : {i : Init} {ms : List Member} →
+      Has decls (init i) → pool_members decls (the_decl decls i.pool.text) ≡ Some ms →
+      the_member ms i.field.text ≡ None → IsUnknown decls i.field.span.start
+  no_field : {sc : Scope} {x : Ident} {fs : List Ident} (before behind : List Ident) (f : Ident) (steps : List FieldStep) (k : ℕ) {s : Struct} →
+      HasPlace decls sc (path x fs) → fs ≡ before ++ f ∷ behind →
+      walk_from decls (meaning sc x.text) before ≡ reached steps (Reference k) → the_struct decls k ≡ Some s →
+      the_member s.members f.text ≡ None → IsUnknown decls f.span.start
+  no_lock : {p : Protection} →
+      NamesGlobal decls p → the_decl decls p.first.text ≡ None → IsUnknown decls p.first.span.start
+  no_field_passed : {p : Protection} {st : AnnotationCursor} {y : Ident} {ys : List Ident} →
+      Walks decls p st y ys → the_member st.members y.text ≡ None → IsUnknown decls y.span.start
 
 -- ---- E07
 
@@ -159,49 +181,90 @@ IsPool _ = ⊥
 
 -- an expression or a constant that isn't what is wanted, sides of `==` that are unlike, a name of the wrong kind
 pub data IsWrongType (decls : List Decl) : ℕ → Type 0 where
-  unwanted : {sc : Scope} {w : Want} {e : Expr} {s : ResolvedExpr} → HasExpr decls sc w e → typed sc e ≡ Some s → fits w s ≡ false → IsWrongType decls (start_of e)
-  unwanted_constant : {w : Want} {c : Const} {s : Sort} → HasConst decls w c → const_sort decls c ≡ Some s → fits_sort w s ≡ false → IsWrongType decls (const_start c)
-  unlike_sides : {sc : Scope} {w : Want} {a b : Expr} {c : written.Comparison} {s t : ResolvedExpr} → HasExpr decls sc w (compare a c b) → IsEquality c → typed sc a ≡ Some s → typed sc b ≡ Some t → AreUnlike s t → IsWrongType decls (start_of b)
-  truths_compared : {sc : Scope} {w : Want} {a b : Expr} {c : written.Comparison} {x y : core.Condition} → HasExpr decls sc w (compare a c b) → IsEquality c → typed sc a ≡ Some (truth x) → typed sc b ≡ Some (truth y) → IsWrongType decls (start_of a)
-  no_value : {sc : Scope} {w : Want} {x : Ident} {i : ℕ} {d : Decl} → HasExpr decls sc w (place (lone x)) → meaning sc x.text ≡ a_decl i d → IsNoValue d → has_type decls (a_decl i d) ≡ true → IsWrongType decls x.span.start
-  no_elements : {sc : Scope} {x : Ident} {e : Expr} → HasPlace decls sc (element x e) → HasNoElements (meaning sc x.text) → has_type decls (meaning sc x.text) ≡ true → IsWrongType decls x.span.start
-  field_of_declaration : {sc : Scope} {x : Ident} {fs : List Ident} {i : ℕ} {d : Decl} → HasPlace decls sc (path x fs) → meaning sc x.text ≡ a_decl i d → has_type decls (a_decl i d) ≡ true → IsWrongType decls x.span.start
-  no_reference : {sc : Scope} {x : Ident} {fs : List Ident} (before behind : List Ident) (f : Ident) → HasPlace decls sc (path x fs) → fs ≡ before ++ f ∷ behind → IsNoReference (walk_from decls (meaning sc x.text) before) → IsWrongType decls x.span.start
-  no_struct : {sc : Scope} {x : Ident} → HasType decls sc (ref_type x) → IsNoStruct (meaning sc x.text) → IsWrongType decls x.span.start
-  no_section : {c : Call} {i : ℕ} {d : Decl} → HasCall decls c → the_decl decls c.section.text ≡ Some (i, d) → (IsSection d → ⊥) → has_type decls (a_decl i d) ≡ true → IsWrongType decls c.section.span.start
-  no_pool : {w : Want} {p : Ident} {n : Number} {i : ℕ} {d : Decl} → HasConst decls w (member_const p n) → the_decl decls p.text ≡ Some (i, d) → (IsPool d → ⊥) → has_type decls (a_decl i d) ≡ true → IsWrongType decls p.span.start
-  no_pool_initialised : {j : Init} {i : ℕ} {d : Decl} → Has decls (init j) → the_decl decls j.pool.text ≡ Some (i, d) → (IsPool d → ⊥) → has_type decls (a_decl i d) ≡ true → IsWrongType decls j.pool.span.start
+  unwanted : {sc : Scope} {w : Want} {e : Expr} {s : ResolvedExpr} →
+      HasExpr decls sc w e → typed sc e ≡ Some s → fits w s ≡ false → IsWrongType decls (start_of e)
+  unwanted_constant : {w : Want} {c : Const} {s : Sort} →
+      HasConst decls w c → const_sort decls c ≡ Some s → fits_sort w s ≡ false → IsWrongType decls (const_start c)
+  unlike_sides : {sc : Scope} {w : Want} {a b : Expr} {c : written.Comparison} {s t : ResolvedExpr} →
+      HasExpr decls sc w (compare a c b) → IsEquality c → typed sc a ≡ Some s → typed sc b ≡ Some t → AreUnlike s t →
+      IsWrongType decls (start_of b)
+  truths_compared : {sc : Scope} {w : Want} {a b : Expr} {c : written.Comparison} {x y : core.Condition} →
+      HasExpr decls sc w (compare a c b) → IsEquality c → typed sc a ≡ Some (truth x) → typed sc b ≡ Some (truth y) →
+      IsWrongType decls (start_of a)
+  no_value : {sc : Scope} {w : Want} {x : Ident} {i : ℕ} {d : Decl} →
+      HasExpr decls sc w (place (lone x)) → meaning sc x.text ≡ a_decl i d → IsNoValue d →
+      has_type decls (a_decl i d) ≡ true → IsWrongType decls x.span.start
+  no_elements : {sc : Scope} {x : Ident} {e : Expr} →
+      HasPlace decls sc (element x e) → HasNoElements (meaning sc x.text) →
+      has_type decls (meaning sc x.text) ≡ true → IsWrongType decls x.span.start
+  field_of_declaration : {sc : Scope} {x : Ident} {fs : List Ident} {i : ℕ} {d : Decl} →
+      HasPlace decls sc (path x fs) → meaning sc x.text ≡ a_decl i d → has_type decls (a_decl i d) ≡ true →
+      IsWrongType decls x.span.start
+  no_reference : {sc : Scope} {x : Ident} {fs : List Ident} (before behind : List Ident) (f : Ident) →
+      HasPlace decls sc (path x fs) → fs ≡ before ++ f ∷ behind →
+      IsNoReference (walk_from decls (meaning sc x.text) before) → IsWrongType decls x.span.start
+  no_struct : {sc : Scope} {x : Ident} →
+      HasType decls sc (ref_type x) → IsNoStruct (meaning sc x.text) → IsWrongType decls x.span.start
+  no_section : {c : Call} {i : ℕ} {d : Decl} →
+      HasCall decls c → the_decl decls c.section.text ≡ Some (i, d) → (IsSection d → ⊥) →
+      has_type decls (a_decl i d) ≡ true → IsWrongType decls c.section.span.start
+  no_pool : {w : Want} {p : Ident} {n : Number} {i : ℕ} {d : Decl} →
+      HasConst decls w (member_const p n) → the_decl decls p.text ≡ Some (i, d) → (IsPool d → ⊥) →
+      has_type decls (a_decl i d) ≡ true → IsWrongType decls p.span.start
+  no_pool_initialised : {j : Init} {i : ℕ} {d : Decl} →
+      Has decls (init j) → the_decl decls j.pool.text ≡ Some (i, d) → (IsPool d → ⊥) →
+      has_type decls (a_decl i d) ≡ true → IsWrongType decls j.pool.span.start
   -- an operator of conditions in a chain of numbers; no tree of tokens has one
-  misplaced_operator : {sc : Scope} {w : Want} {level : Level} {e f : Expr} {links : Links} {o : Op} → HasExpr decls sc w (chain level e links) → IsOfNumbers level → HasLink links o f → operator_of o ≡ None → IsWrongType decls (start_of f)
+  misplaced_operator : {sc : Scope} {w : Want} {level : Level} {e f : Expr} {links : Links} {o : Op} →
+      HasExpr decls sc w (chain level e links) → IsOfNumbers level → HasLink links o f → operator_of o ≡ None →
+      IsWrongType decls (start_of f)
 
 -- ---- E08
 
 pub data IsWrongCount (decls : List Decl) : ℕ → Type 0 where
-  wrong_count : {c : Call} {i : ℕ} {s : Section} → HasCall decls c → the_decl decls c.section.text ≡ Some (i, atomic s) → (length c.arguments ≡ length s.params → ⊥) → IsWrongCount decls c.section.span.start
+  wrong_count : {c : Call} {i : ℕ} {s : Section} →
+      HasCall decls c → the_decl decls c.section.text ≡ Some (i, atomic s) →
+      (length c.arguments ≡ length s.params → ⊥) → IsWrongCount decls c.section.span.start
 
 -- ---- E09: what can't be assigned to
 
 pub data IsNotAssignable (decls : List Decl) : ℕ → Type 0 where
-  to_fixed : {sc : Scope} {x : Ident} {e : Expr} {i : ℕ} {l : Local} → HasStmt decls sc (assign (lone x) e) → meaning sc x.text ≡ a_local i l → is_var l.kind ≡ false → has_type decls (a_local i l) ≡ true → IsNotAssignable decls x.span.start
-  to_decl : {sc : Scope} {x : Ident} {e : Expr} {i : ℕ} {d : Decl} → HasStmt decls sc (assign (lone x) e) → meaning sc x.text ≡ a_decl i d → IsNoValue d → has_type decls (a_decl i d) ≡ true → IsNotAssignable decls x.span.start
-  to_member : {sc : Scope} {x : Ident} {j e : Expr} {i : ℕ} {p : Pool} → HasStmt decls sc (assign (element x j) e) → meaning sc x.text ≡ a_decl i (pool p) → has_type decls (a_decl i (pool p)) ≡ true → IsNotAssignable decls x.span.start
-  to_final : {sc : Scope} {x : Ident} {fs : List Ident} {e : Expr} (steps : List FieldStep) (t : core_type.ValueType) → HasStmt decls sc (assign (path x fs) e) → walk_from decls (meaning sc x.text) fs ≡ reached steps t → last_field steps ≡ None → IsNotAssignable decls x.span.start
+  to_fixed : {sc : Scope} {x : Ident} {e : Expr} {i : ℕ} {l : Local} →
+      HasStmt decls sc (assign (lone x) e) → meaning sc x.text ≡ a_local i l → is_var l.kind ≡ false →
+      has_type decls (a_local i l) ≡ true → IsNotAssignable decls x.span.start
+  to_decl : {sc : Scope} {x : Ident} {e : Expr} {i : ℕ} {d : Decl} →
+      HasStmt decls sc (assign (lone x) e) → meaning sc x.text ≡ a_decl i d → IsNoValue d →
+      has_type decls (a_decl i d) ≡ true → IsNotAssignable decls x.span.start
+  to_member : {sc : Scope} {x : Ident} {j e : Expr} {i : ℕ} {p : Pool} →
+      HasStmt decls sc (assign (element x j) e) → meaning sc x.text ≡ a_decl i (pool p) →
+      has_type decls (a_decl i (pool p)) ≡ true → IsNotAssignable decls x.span.start
+  to_final : {sc : Scope} {x : Ident} {fs : List Ident} {e : Expr} (steps : List FieldStep) (t : core_type.ValueType) →
+      HasStmt decls sc (assign (path x fs) e) → walk_from decls (meaning sc x.text) fs ≡ reached steps t →
+      last_field steps ≡ None → IsNotAssignable decls x.span.start
 
 -- ---- E10, E11, E12: annotations
 
 pub data IsUnprotected (decls : List Decl) : ℕ → Type 0 where
   bare_global : {v : Variable} → Has decls (global v) → v.protection ≡ None → IsUnprotected decls v.name.span.start
   bare_array : {a : Array} → Has decls (array a) → a.protection ≡ None → IsUnprotected decls a.name.span.start
-  bare_field : {s : Struct} {f : Field} → Has decls (struct s) → Has s.members (field_member f) → f.protection ≡ None → IsUnprotected decls f.name.span.start
+  bare_field : {s : Struct} {f : Field} →
+      Has decls (struct s) → Has s.members (field_member f) → f.protection ≡ None →
+      IsUnprotected decls f.name.span.start
 
 -- at its end stands a field that is no lock; or it names something else than a global lock, and that alone
 pub data EndsAtNoLock (decls : List Decl) : ℕ → Type 0 where
-  ends_at_member : {p : Protection} {st : AnnotationCursor} {y : Ident} {i : ℕ} {m : Member} → Walks decls p st y [] → the_member st.members y.text ≡ Some (i, m) → (IsLockMember m → ⊥) → member_has_type decls m ≡ true → EndsAtNoLock decls p.first.span.start
-  names_no_lock : {p : Protection} {i : ℕ} {d : Decl} → NamesGlobal decls p → the_decl decls p.first.text ≡ Some (i, d) → ((IsLockDecl d × (p.rest ≡ [])) → ⊥) → has_type decls (a_decl i d) ≡ true → EndsAtNoLock decls p.first.span.start
+  ends_at_member : {p : Protection} {st : AnnotationCursor} {y : Ident} {i : ℕ} {m : Member} →
+      Walks decls p st y [] → the_member st.members y.text ≡ Some (i, m) → (IsLockMember m → ⊥) →
+      member_has_type decls m ≡ true → EndsAtNoLock decls p.first.span.start
+  names_no_lock : {p : Protection} {i : ℕ} {d : Decl} →
+      NamesGlobal decls p → the_decl decls p.first.text ≡ Some (i, d) → ((IsLockDecl d × (p.rest ≡ [])) → ⊥) →
+      has_type decls (a_decl i d) ≡ true → EndsAtNoLock decls p.first.span.start
 
 -- a name that isn't the last is a field, and no final reference
 pub data PassesNonFinal (decls : List Decl) : ℕ → Type 0 where
-  passes : {p : Protection} {st : AnnotationCursor} {y z : Ident} {zs : List Ident} {i : ℕ} {m : Member} → Walks decls p st y (z ∷ zs) → the_member st.members y.text ≡ Some (i, m) → (IsFinalMember m → ⊥) → member_has_type decls m ≡ true → PassesNonFinal decls y.span.start
+  passes : {p : Protection} {st : AnnotationCursor} {y z : Ident} {zs : List Ident} {i : ℕ} {m : Member} →
+      Walks decls p st y (z ∷ zs) → the_member st.members y.text ≡ Some (i, m) → (IsFinalMember m → ⊥) →
+      member_has_type decls m ≡ true → PassesNonFinal decls y.span.start
 
 -- ---- E15
 
@@ -213,38 +276,70 @@ limit_of (thread t) = Some THREAD_LIMIT
 limit_of _ = None
 
 pub data IsOverLimit (decls : List Decl) : ℕ → Type 0 where
-  too_many : (before behind : List Decl) (d : Decl) {x : Ident} (n : ℕ) → decls ≡ before ++ d ∷ behind → declared d ≡ Some x → limit_of d ≡ Some n → n ≤ count (alike d) before → IsOverLimit decls x.span.start
-  too_many_members : {s : Struct} (before behind : List Member) (m : Member) → Has decls (struct s) → s.members ≡ before ++ m ∷ behind → MEMBER_LIMIT ≤ length before → IsOverLimit decls (member_name m).span.start
-  too_many_locks : (before behind : List Decl) (x : Ident) → decls ≡ before ++ lock x ∷ behind → CLASS_LIMIT ≤ total classes_of before → IsOverLimit decls x.span.start
-  too_many_lock_fields : (before behind : List Decl) (s : Struct) (ahead rest : List Member) (x : Ident) → decls ≡ before ++ struct s ∷ behind → s.members ≡ ahead ++ lock_member x ∷ rest → CLASS_LIMIT ≤ total classes_of before + count is_lock ahead → IsOverLimit decls x.span.start
+  too_many : (before behind : List Decl) (d : Decl) {x : Ident} (n : ℕ) →
+      decls ≡ before ++ d ∷ behind → declared d ≡ Some x → limit_of d ≡ Some n → n ≤ count (alike d) before →
+      IsOverLimit decls x.span.start
+  too_many_members : {s : Struct} (before behind : List Member) (m : Member) →
+      Has decls (struct s) → s.members ≡ before ++ m ∷ behind → MEMBER_LIMIT ≤ length before →
+      IsOverLimit decls (member_name m).span.start
+  too_many_locks : (before behind : List Decl) (x : Ident) →
+      decls ≡ before ++ lock x ∷ behind → CLASS_LIMIT ≤ total classes_of before → IsOverLimit decls x.span.start
+  too_many_lock_fields : (before behind : List Decl) (s : Struct) (ahead rest : List Member) (x : Ident) →
+      decls ≡ before ++ struct s ∷ behind → s.members ≡ ahead ++ lock_member x ∷ rest →
+      CLASS_LIMIT ≤ total classes_of before + count is_lock ahead → IsOverLimit decls x.span.start
   -- the one by which there are first too many
-  too_many_objects : (before behind : List Decl) (d : Decl) {x : Ident} → decls ≡ before ++ d ∷ behind → declared d ≡ Some x → total objects_of before ≤ OBJECT_LIMIT → OBJECT_LIMIT < total objects_of before + objects_of d → IsOverLimit decls x.span.start
-  too_many_cells : (before behind : List Decl) (d : Decl) {x : Ident} → decls ≡ before ++ d ∷ behind → declared d ≡ Some x → total (cells_of decls) before ≤ CELL_LIMIT → CELL_LIMIT < total (cells_of decls) before + cells_of decls d → IsOverLimit decls x.span.start
-  too_many_calls : (before behind : List Decl) (d : Decl) {x : Ident} → decls ≡ before ++ d ∷ behind → declared d ≡ Some x → total calls_of before ≤ CALL_LIMIT → CALL_LIMIT < total calls_of before + calls_of d → IsOverLimit decls x.span.start
-  too_many_parameters : {x : Section} (p : Param) (before behind : List Param) → Has decls (atomic x) → x.params ≡ before ++ p ∷ behind → PARAMETER_LIMIT ≤ length before → IsOverLimit decls p.name.span.start
-  too_many_locals : {sc : Scope} {x : Ident} → Binds decls sc x → LOCAL_LIMIT ≤ length sc.locals → IsOverLimit decls x.span.start
-  too_many_finals : {p : Protection} {st : AnnotationCursor} {y z : Ident} {zs : List Ident} {i : ℕ} {f : Final} → Walks decls p st y (z ∷ zs) → the_member st.members y.text ≡ Some (i, final_member f) → FINAL_LIMIT ≤ length st.through → IsOverLimit decls p.first.span.start
+  too_many_objects : (before behind : List Decl) (d : Decl) {x : Ident} →
+      decls ≡ before ++ d ∷ behind → declared d ≡ Some x → total objects_of before ≤ OBJECT_LIMIT →
+      OBJECT_LIMIT < total objects_of before + objects_of d → IsOverLimit decls x.span.start
+  too_many_cells : (before behind : List Decl) (d : Decl) {x : Ident} →
+      decls ≡ before ++ d ∷ behind → declared d ≡ Some x → total (cells_of decls) before ≤ CELL_LIMIT →
+      CELL_LIMIT < total (cells_of decls) before + cells_of decls d → IsOverLimit decls x.span.start
+  too_many_calls : (before behind : List Decl) (d : Decl) {x : Ident} →
+      decls ≡ before ++ d ∷ behind → declared d ≡ Some x → total calls_of before ≤ CALL_LIMIT →
+      CALL_LIMIT < total calls_of before + calls_of d → IsOverLimit decls x.span.start
+  too_many_parameters : {x : Section} (p : Param) (before behind : List Param) →
+      Has decls (atomic x) → x.params ≡ before ++ p ∷ behind → PARAMETER_LIMIT ≤ length before →
+      IsOverLimit decls p.name.span.start
+  too_many_locals : {sc : Scope} {x : Ident} →
+      Binds decls sc x → LOCAL_LIMIT ≤ length sc.locals → IsOverLimit decls x.span.start
+  too_many_finals : {p : Protection} {st : AnnotationCursor} {y z : Ident} {zs : List Ident} {i : ℕ} {f : Final} →
+      Walks decls p st y (z ∷ zs) → the_member st.members y.text ≡ Some (i, final_member f) →
+      FINAL_LIMIT ≤ length st.through → IsOverLimit decls p.first.span.start
 
 -- ---- E16: a final reference of a pool's member that no `init` gives a value, or that one gives null
 
 pub data IsFinalMissing (decls : List Decl) : ℕ → Type 0 where
-  not_given : (i : ℕ) {p : Pool} {ms : List Member} (q : List ℕ) {m : ℕ} {f : Final} {s : ℕ} (n : ℕ) → slice_get decls i ≡ Some (pool p) → members_of decls p.target ≡ Some ms → the_member ms q ≡ Some (m, final_member f) →
-      struct_named decls f.target ≡ Some s → n < p.length.value → given decls (record { pool = i; index = n; member = m }) ≡ None → IsFinalMissing decls p.name.span.start
-  given_null : {i : Init} {m : ℕ} {f : Final} {s : ℕ} {at : Span} → Has decls (init i) → initialised decls i ≡ Some (m, final_member f) → struct_named decls f.target ≡ Some s → i.value ≡ null_const at → IsFinalMissing decls at.start
+  not_given : (i : ℕ) {p : Pool} {ms : List Member} (q : List ℕ) {m : ℕ} {f : Final} {s : ℕ} (n : ℕ) →
+      slice_get decls i ≡ Some (pool p) → members_of decls p.target ≡ Some ms →
+      the_member ms q ≡ Some (m, final_member f) → struct_named decls f.target ≡ Some s → n < p.length.value →
+      given decls (record { pool = i; index = n; member = m }) ≡ None → IsFinalMissing decls p.name.span.start
+  given_null : {i : Init} {m : ℕ} {f : Final} {s : ℕ} {at : Span} →
+      Has decls (init i) → initialised decls i ≡ Some (m, final_member f) → struct_named decls f.target ≡ Some s →
+      i.value ≡ null_const at → IsFinalMissing decls at.start
 
 -- ---- E17: an index of a pool that has no such member, or a second `init` of one field
 
 pub data IsOutOfRange (decls : List Decl) : ℕ → Type 0 where
-  constant_beyond : {w : Want} {x : Ident} {n : Number} {i : ℕ} {p : Pool} → HasConst decls w (member_const x n) → the_decl decls x.text ≡ Some (i, pool p) → has_type decls (a_decl i (pool p)) ≡ true → p.length.value ≤ n.value → IsOutOfRange decls n.span.start
-  init_beyond : {j : Init} {i : ℕ} {p : Pool} → Has decls (init j) → the_decl decls j.pool.text ≡ Some (i, pool p) → has_type decls (a_decl i (pool p)) ≡ true → p.length.value ≤ j.index.value → IsOutOfRange decls j.index.span.start
-  given_again : (before behind : List Decl) (j : Init) {g : InitTarget} {e : ℕ × Decl} → decls ≡ before ++ init j ∷ behind → init_target_of decls j ≡ Some g → giver decls before g ≡ Some e → IsOutOfRange decls j.start.start
+  constant_beyond : {w : Want} {x : Ident} {n : Number} {i : ℕ} {p : Pool} →
+      HasConst decls w (member_const x n) → the_decl decls x.text ≡ Some (i, pool p) →
+      has_type decls (a_decl i (pool p)) ≡ true → p.length.value ≤ n.value → IsOutOfRange decls n.span.start
+  init_beyond : {j : Init} {i : ℕ} {p : Pool} →
+      Has decls (init j) → the_decl decls j.pool.text ≡ Some (i, pool p) → has_type decls (a_decl i (pool p)) ≡ true →
+      p.length.value ≤ j.index.value → IsOutOfRange decls j.index.span.start
+  given_again : (before behind : List Decl) (j : Init) {g : InitTarget} {e : ℕ × Decl} →
+      decls ≡ before ++ init j ∷ behind → init_target_of decls j ≡ Some g → giver decls before g ≡ Some e →
+      IsOutOfRange decls j.start.start
 
 -- ---- E19: a lock as a value, on the left, or in an `init`
 
 pub data IsLockAsValue (decls : List Decl) : ℕ → Type 0 where
-  global_lock : {sc : Scope} {x y : Ident} {i : ℕ} → HasPlace decls sc (lone x) → meaning sc x.text ≡ a_decl i (lock y) → IsLockAsValue decls x.span.start
-  lock_field : {sc : Scope} {x : Ident} {fs : List Ident} → HasPlace decls sc (path x fs) → walk_from decls (meaning sc x.text) fs ≡ at_lock → IsLockAsValue decls x.span.start
-  lock_initialised : {i : Init} {m : ℕ} {y : Ident} → Has decls (init i) → initialised decls i ≡ Some (m, lock_member y) → IsLockAsValue decls i.field.span.start
+  global_lock : {sc : Scope} {x y : Ident} {i : ℕ} →
+      HasPlace decls sc (lone x) → meaning sc x.text ≡ a_decl i (lock y) → IsLockAsValue decls x.span.start
+  lock_field : {sc : Scope} {x : Ident} {fs : List Ident} →
+      HasPlace decls sc (path x fs) → walk_from decls (meaning sc x.text) fs ≡ at_lock →
+      IsLockAsValue decls x.span.start
+  lock_initialised : {i : Init} {m : ℕ} {y : Ident} →
+      Has decls (init i) → initialised decls i ≡ Some (m, lock_member y) → IsLockAsValue decls i.field.span.start
 
 -- ---- a fault of the program
 

@@ -56,11 +56,16 @@ pub data HasLink : Links → Op → Expr → Type 0 where
 pub data Within : Want → Expr → Want → Expr → Type 0 where
   itself : {w : Want} {e : Expr} → Within w e w e
   in_parentheses : {w v : Want} {at : Span} {e x : Expr} → Within Anything e v x → Within w (paren at e) v x
-  in_prefix : {w v : Want} {o : Prefix} {at : Span} {e x : Expr} → Within (prefix_want o) e v x → Within w (prefix o at e) v x
-  in_first : {w v : Want} {level : Level} {e x : Expr} {links : Links} → Within (operand_want level) e v x → Within w (chain level e links) v x
-  in_operand : {w v : Want} {level : Level} {e f x : Expr} {links : Links} {o : Op} → HasLink links o f → Within (operand_want level) f v x → Within w (chain level e links) v x
-  in_left : {w v : Want} {a b x : Expr} {c : written.Comparison} → Within (side_want c) a v x → Within w (compare a c b) v x
-  in_right : {w v : Want} {a b x : Expr} {c : written.Comparison} → Within (side_want c) b v x → Within w (compare a c b) v x
+  in_prefix : {w v : Want} {o : Prefix} {at : Span} {e x : Expr} →
+      Within (prefix_want o) e v x → Within w (prefix o at e) v x
+  in_first : {w v : Want} {level : Level} {e x : Expr} {links : Links} →
+      Within (operand_want level) e v x → Within w (chain level e links) v x
+  in_operand : {w v : Want} {level : Level} {e f x : Expr} {links : Links} {o : Op} →
+      HasLink links o f → Within (operand_want level) f v x → Within w (chain level e links) v x
+  in_left : {w v : Want} {a b x : Expr} {c : written.Comparison} →
+      Within (side_want c) a v x → Within w (compare a c b) v x
+  in_right : {w v : Want} {a b x : Expr} {c : written.Comparison} →
+      Within (side_want c) b v x → Within w (compare a c b) v x
   in_index : {w v : Want} {y : Ident} {e x : Expr} → Within (Value Integer) e v x → Within w (place (element y e)) v x
 
 -- ---- statements
@@ -69,9 +74,13 @@ pub data Within : Want → Expr → Want → Expr → Type 0 where
 pub data Among : Scope → Stmts → Scope → Stmt → Type 0 where
   here : {sc : Scope} {s : Stmt} {rest : Stmts} → Among sc (stmt s rest) sc s
   later : {sc sc' : Scope} {s s' : Stmt} {rest : Stmts} → Among (after sc s) rest sc' s' → Among sc (stmt s rest) sc' s'
-  in_then : {sc sc' : Scope} {s' : Stmt} {start close : Span} {e : Expr} {body rest : Stmts} {other : Otherwise} → Among sc body sc' s' → Among sc (stmt (if_then start e body close other) rest) sc' s'
-  in_else : {sc sc' : Scope} {s' : Stmt} {start close end : Span} {e : Expr} {body other rest : Stmts} → Among (left sc (after_all sc body)) other sc' s' → Among sc (stmt (if_then start e body close (else_do other end)) rest) sc' s'
-  in_while : {sc sc' : Scope} {s' : Stmt} {start close : Span} {e : Expr} {body rest : Stmts} → Among sc body sc' s' → Among sc (stmt (while start e body close) rest) sc' s'
+  in_then : {sc sc' : Scope} {s' : Stmt} {start close : Span} {e : Expr} {body rest : Stmts} {other : Otherwise} →
+      Among sc body sc' s' → Among sc (stmt (if_then start e body close other) rest) sc' s'
+  in_else : {sc sc' : Scope} {s' : Stmt} {start close end : Span} {e : Expr} {body other rest : Stmts} →
+      Among (left sc (after_all sc body)) other sc' s' →
+      Among sc (stmt (if_then start e body close (else_do other end)) rest) sc' s'
+  in_while : {sc sc' : Scope} {s' : Stmt} {start close : Span} {e : Expr} {body rest : Stmts} →
+      Among sc body sc' s' → Among sc (stmt (while start e body close) rest) sc' s'
 
 -- an expression of a statement, and what is wanted of it
 pub data Asks : Scope → Stmt → Want → Expr → Type 0 where
@@ -79,18 +88,22 @@ pub data Asks : Scope → Stmt → Want → Expr → Type 0 where
   of_var : {sc : Scope} {l : Local} → Asks sc (var_local l) (want (type_of sc l.value_type)) l.value
   of_assign : {sc : Scope} {p : Place} {e : Expr} → Asks sc (assign p e) (wanted_by (target_of sc p)) e
   of_index : {sc : Scope} {x : Ident} {i e : Expr} → Asks sc (assign (element x i) e) (Value Integer) i
-  of_if : {sc : Scope} {start close : Span} {e : Expr} {body : Stmts} {other : Otherwise} → Asks sc (if_then start e body close other) Condition e
-  of_while : {sc : Scope} {start close : Span} {e : Expr} {body : Stmts} → Asks sc (while start e body close) Condition e
+  of_if : {sc : Scope} {start close : Span} {e : Expr} {body : Stmts} {other : Otherwise} →
+      Asks sc (if_then start e body close other) Condition e
+  of_while : {sc : Scope} {start close : Span} {e : Expr} {body : Stmts} →
+      Asks sc (while start e body close) Condition e
   of_print : {sc : Scope} {start : Span} {e : Expr} → Asks sc (print start e) (Value Integer) e
   of_return : {sc : Scope} {start : Span} {e : Expr} → Asks sc (return_value start e) (want sc.result) e
 
 -- a statement of the program, with the scope there
 pub data HasStmt (decls : List Decl) : Scope → Stmt → Type 0 where
-  in_section : {x : Section} {sc : Scope} {s : Stmt} → Has decls (atomic x) → Among (entry decls x) x.body.stmts sc s → HasStmt decls sc s
+  in_section : {x : Section} {sc : Scope} {s : Stmt} →
+      Has decls (atomic x) → Among (entry decls x) x.body.stmts sc s → HasStmt decls sc s
 
 -- an expression of the program, with the scope there and what is wanted of it
 pub data HasExpr (decls : List Decl) : Scope → Want → Expr → Type 0 where
-  in_stmt : {sc : Scope} {s : Stmt} {w v : Want} {e x : Expr} → HasStmt decls sc s → Asks sc s w e → Within w e v x → HasExpr decls sc v x
+  in_stmt : {sc : Scope} {s : Stmt} {w v : Want} {e x : Expr} →
+      HasStmt decls sc s → Asks sc s w e → Within w e v x → HasExpr decls sc v x
 
 -- a place that is read or written
 pub data HasPlace (decls : List Decl) : Scope → Place → Type 0 where
@@ -101,7 +114,8 @@ pub data HasPlace (decls : List Decl) : Scope → Place → Type 0 where
 
 -- a local that the program declares, with the scope ahead of it
 pub data Binds (decls : List Decl) : Scope → Ident → Type 0 where
-  parameter : {x : Section} (p : Param) (before behind : List Param) → Has decls (atomic x) → x.params ≡ before ++ p ∷ behind → Binds decls (entered (ahead_of decls x) before) p.name
+  parameter : {x : Section} (p : Param) (before behind : List Param) →
+      Has decls (atomic x) → x.params ≡ before ++ p ∷ behind → Binds decls (entered (ahead_of decls x) before) p.name
   a_let : {sc : Scope} {l : Local} → HasStmt decls sc (let_local l) → Binds decls sc l.name
   a_var : {sc : Scope} {l : Local} → HasStmt decls sc (var_local l) → Binds decls sc l.name
 
@@ -110,9 +124,12 @@ pub data HasType (decls : List Decl) : Scope → ValueType → Type 0 where
   of_global : {v : Variable} → Has decls (global v) → HasType decls (outside decls) v.value_type
   of_array : {a : Array} → Has decls (array a) → HasType decls (outside decls) a.value_type
   of_pool : {p : Pool} → Has decls (pool p) → HasType decls (outside decls) (ref_type p.target)
-  of_final : {s : Struct} {f : Final} → Has decls (struct s) → Has s.members (final_member f) → HasType decls (outside decls) (ref_type f.target)
-  of_field : {s : Struct} {f : Field} → Has decls (struct s) → Has s.members (field_member f) → HasType decls (outside decls) f.value_type
-  of_parameter : {x : Section} {p : Param} → Has decls (atomic x) → Has x.params p → HasType decls (outside decls) p.value_type
+  of_final : {s : Struct} {f : Final} →
+      Has decls (struct s) → Has s.members (final_member f) → HasType decls (outside decls) (ref_type f.target)
+  of_field : {s : Struct} {f : Field} →
+      Has decls (struct s) → Has s.members (field_member f) → HasType decls (outside decls) f.value_type
+  of_parameter : {x : Section} {p : Param} →
+      Has decls (atomic x) → Has x.params p → HasType decls (outside decls) p.value_type
   of_result : {x : Section} {t : ValueType} → Has decls (atomic x) → x.result ≡ Some t → HasType decls (outside decls) t
   of_a_let : {sc : Scope} {l : Local} → HasStmt decls sc (let_local l) → HasType decls sc l.value_type
   of_a_var : {sc : Scope} {l : Local} → HasStmt decls sc (var_local l) → HasType decls sc l.value_type
@@ -130,9 +147,11 @@ pub data HasCall (decls : List Decl) : Call → Type 0 where
 
 -- a constant that is judged, and what is wanted of it: a global's, an `init`'s, or an argument of a call that has as many as it should
 pub data HasConst (decls : List Decl) : Want → Const → Type 0 where
-  opening : {v : Variable} {c : Const} → Has decls (global v) → v.value ≡ Some c → HasConst decls (want (type_of (outside decls) v.value_type)) c
+  opening : {v : Variable} {c : Const} →
+      Has decls (global v) → v.value ≡ Some c → HasConst decls (want (type_of (outside decls) v.value_type)) c
   initial : {i : Init} → Has decls (init i) → HasConst decls (member_want decls (initialised decls i)) i.value
-  argument : {c : Call} {i : ℕ} (k : ℕ) {s : Section} {p : Param} {x : Const} → HasCall decls c → the_decl decls c.section.text ≡ Some (i, atomic s) → length c.arguments ≡ length s.params →
+  argument : {c : Call} {i : ℕ} (k : ℕ) {s : Section} {p : Param} {x : Const} →
+      HasCall decls c → the_decl decls c.section.text ≡ Some (i, atomic s) → length c.arguments ≡ length s.params →
       slice_get s.params k ≡ Some p → slice_get c.arguments k ≡ Some x → HasConst decls (want_of decls p) x
 
 -- ---- annotations
@@ -144,4 +163,6 @@ pub data HasLock (decls : List Decl) : Protection → Type 0 where
 
 -- the annotation of a field of the struct at this place with these members
 pub data Annotates (decls : List Decl) : ℕ → List Member → Protection → Type 0 where
-  annotates : {i : ℕ} {s : Struct} {f : Field} {p : Protection} → slice_get decls i ≡ Some (struct s) → Has s.members (field_member f) → f.protection ≡ Some p → Annotates decls i s.members p
+  annotates : {i : ℕ} {s : Struct} {f : Field} {p : Protection} →
+      slice_get decls i ≡ Some (struct s) → Has s.members (field_member f) → f.protection ≡ Some p →
+      Annotates decls i s.members p

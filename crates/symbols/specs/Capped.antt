@@ -16,7 +16,12 @@ no_totals = record { classes = 0; objects = 0; cells = 0; calls = 0 }
 
 -- what a declaration adds
 abbrev pub added_by : List Decl → Decl → Totals
-added_by decls d = record { classes = capped CLASS_LIMIT (classes_of d); objects = capped OBJECT_LIMIT (objects_of d); cells = capped CELL_LIMIT (cells_of decls d); calls = capped CALL_LIMIT (calls_of d) }
+added_by decls d = record {
+  classes = capped CLASS_LIMIT (classes_of d);
+  objects = capped OBJECT_LIMIT (objects_of d);
+  cells = capped CELL_LIMIT (cells_of decls d);
+  calls = capped CALL_LIMIT (calls_of d);
+}
 
 -- what declarations add together
 abbrev pub totals_of : List Decl → List Decl → Totals

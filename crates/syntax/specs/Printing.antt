@@ -167,7 +167,9 @@ abbrev pub init_text : Init → List ℕ
 init_text i = codes "init " ++ i.pool.text ++ index_text i.index ++ codes "." ++ i.field.text ++ codes " = " ++ const_text i.value ++ codes ";\n"
 
 abbrev pub section_text : Section → List ℕ
-section_text s = codes "atomic " ++ s.name.text ++ codes "(" ++ listed_text param_text s.params ++ codes ")" ++ optional_text result_text s.result ++ codes " {" ++ stmts_text 1 s.body.stmts ++ codes "\n}\n"
+section_text s =
+    codes "atomic " ++ s.name.text ++ codes "(" ++ listed_text param_text s.params ++ codes ")"
+    ++ optional_text result_text s.result ++ codes " {" ++ stmts_text 1 s.body.stmts ++ codes "\n}\n"
 
 abbrev pub decl_text : Decl → List ℕ
 decl_text (lock x) = codes "lock " ++ x.text ++ codes ";\n"
