@@ -2,6 +2,6 @@ pub mod Threads
 pub mod Statuses
 pub mod States
 pub mod Steps
-pub use Rattle.interleavings.specs.Threads.{ThreadsOf, cell_in}
+pub use Rattle.interleavings.specs.Threads.{ThreadsOf, with_steps, StopsAtBegin, cell_in}
 pub use Rattle.interleavings.specs.Statuses.{status_of}
 pub use Rattle.steps.specs.Turns.{steps_of}

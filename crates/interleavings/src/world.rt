@@ -4,7 +4,7 @@ ghost use Rattle.std.specs.Prelude.{◌≡◌, ◌≤◌, replicate, IfOk, OnOk,
 ghost use Rattle.worlds.specs.Worlds.{happens};
 ghost use Rattle.worlds.specs.declared.event.Event.TheVariants.{Began};
 ghost use Rattle.worlds.specs.Claims.{Headline};
-ghost use Rattle.interleavings.specs.Threads.{cell_in, at_opening, after_steps, with_steps};
+ghost use Rattle.interleavings.specs.Threads.{cell_in, at_opening, after_steps, with_steps, StopsAtBegin};
 ghost use Rattle.interleavings.specs.Statuses.{status_of};
 ghost use Rattle.steps.specs.Turns.{steps_of};
 
@@ -129,13 +129,29 @@ impl<'p> World<'p> {
 
     // So many steps of a thread.
     fn take(&mut self, alloc: Global, turn: Turn) -> Result<(), NoMemory>
-        ensures { OnOk result (self.new ≡ with_steps self.old (replicate turn.count turn.thread)) }
+        ensures ok { OnOk result (self.new ≡ with_steps self.old (replicate turn.count turn.thread)) }
+        ensures err { OnErr result (StopsAtBegin self.old (replicate turn.count turn.thread) self.new) }
     {
         let mut left = turn.count;
         while left > 0 {
             self.step(alloc, turn.thread)?;
             left -= 1;
             left -= self.run_on(turn.thread, left);
+        }
+        Ok(())
+    }
+
+    /// Takes these turns, one after another.
+    ///
+    /// # Errors
+    ///
+    /// Want of memory, only where a step would begin a call; all steps before that one are taken, and it is not.
+    pub fn take_turns(&mut self, alloc: Global, turns: &[Turn]) -> Result<(), NoMemory>
+        ensures ok { OnOk result (self.new ≡ with_steps self.old (steps_of turns.now)) }
+        ensures err { OnErr result (StopsAtBegin self.old (steps_of turns.now) self.new) }
+    {
+        for turn in turns {
+            self.take(alloc, *turn)?;
         }
         Ok(())
     }
@@ -186,9 +202,15 @@ impl<'p> Drop for World<'p> {
             match state {
                 State::Away => {}
                 State::Ready(_ready) => {}
-                State::Running(running) => running.give_up(&mut manager),
-                State::Asking(asking) => asking.give_up(&mut manager),
-                State::Ended(ended) => ended.give_up(&mut manager),
+                State::Running(running) => {
+                    let _ready = running.give_up(&mut manager);
+                }
+                State::Asking(asking) => {
+                    let _ready = asking.give_up(&mut manager);
+                }
+                State::Ended(ended) => {
+                    let _ready = ended.give_up(&mut manager);
+                }
             }
         }
         states.destroy_empty();
@@ -199,7 +221,8 @@ impl<'p> Drop for World<'p> {
 ///
 /// # Errors
 ///
-/// Want of memory.
+/// Want of memory: for the opening, or where a step would begin a call ([`World::take_turns`] says so of a world that is
+/// open).
 pub fn run<'p>(alloc: Global, program: &'p Program, turns: &[Turn]) -> Result<World<'p>, NoMemory>
     ensures last { IfOk result (λ w. w ≡ after_steps program.now (steps_of turns.now)) }
     ensures headline { OnOk result (Headline program.now (steps_of turns.now)) }
@@ -207,8 +230,6 @@ pub fn run<'p>(alloc: Global, program: &'p Program, turns: &[Turn]) -> Result<Wo
     worlds::laws::every_run();
     let _typed = program.typed();
     let mut world = World::open(alloc, program)?;
-    for turn in turns {
-        world.take(alloc, *turn)?;
-    }
+    world.take_turns(alloc, turns)?;
     Ok(world)
 }

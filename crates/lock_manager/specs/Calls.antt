@@ -158,7 +158,15 @@ pub record AreItsGrants (m : Managed) (t : ℕ) (grants : List GrantOf) : Type 0
   pub is : session_of m t ≡ Some session
   pub own : AreOf m.layout.cell_locks session.held grants
 
--- so where the grants are exactly those of the thread's slot; else all stays as it is
+-- the program, the entries and what they leave stay as they are
+pub record KeepsEntries (m m' : Managed) : Type 0 where
+  pub layout : m'.layout ≡ m.layout
+  pub ranks : m'.ranks ≡ m.ranks
+  pub history : m'.history ≡ m.history
+  pub values : m'.values ≡ m.values
+
+-- so where the grants are exactly those of the thread's slot; else all stays as it is. In both cases nothing is entered
 pub record GivesUp (m : Managed) (ticket : TicketOf) (grants : List GrantOf) (m' : Managed) : Type 0 where
   pub own : AreItsGrants m ticket.thread grants → m' ≡ after_give_up m ticket.thread grants
   pub not_own : (AreItsGrants m ticket.thread grants → ⊥) → m' ≡ m
+  pub entries : KeepsEntries m m'

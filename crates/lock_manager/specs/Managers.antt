@@ -73,6 +73,10 @@ session_in slots t = lookup (slice_get slots t) (λ s. s)
 abbrev pub session_of : Managed → ℕ → Option SessionOf
 session_of m t = session_in m.slots t
 
+-- no thread has a section open
+abbrev pub IsQuiet : Managed → Type 0
+IsQuiet m = (t : ℕ) → session_of m t ≡ None
+
 -- what a cell of a lock holds, if the lock's cells are here
 abbrev pub value_in : List Lock → Lock → Option Place → ℕ → Option Value
 value_in cell_locks lock (Some (Free values)) cell =

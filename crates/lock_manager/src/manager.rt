@@ -1,9 +1,9 @@
 //! The manager of locks.
 
-ghost use Rattle.std.specs.Prelude.{◌≡◌, ◌↔◌, ◌<◌, length, slice_get, IfOk, OnErr, IsTrue, is_some};
+ghost use Rattle.std.specs.Prelude.{◌≡◌, ◌↔◌, ◌<◌, length, slice_get, Some, IfOk, OnErr, IsTrue, is_some};
 ghost use Rattle.std.specs.List.{Contains, All};
 ghost use Rattle.locks.specs.Waiting.{HasNoCycle};
-ghost use Rattle.lock_manager.specs.Managers.{IsLayout, IsKept, opened, waiting_for, session_of, holder_of, cell_of, askers_of};
+ghost use Rattle.lock_manager.specs.Managers.{IsLayout, IsKept, opened, waiting_for, session_of, IsQuiet, holder_of, cell_of, askers_of};
 ghost use Rattle.lock_manager.specs.Calls.{Begins, Answers, CanAsk, Knows, Fits, CanRelease, Releases, GivesUp, AreOf, AreItsGrants};
 
 use crate::answer::Answer;
@@ -252,6 +252,13 @@ impl<'p> Manager<'p> {
         self.sections.of(thread).is_some()
     }
 
+    /// Whether no thread has an open section.
+    pub fn is_quiet(&self) -> bool
+        ensures { IsTrue result ↔ IsQuiet self.now }
+    {
+        self.sections.are_none()
+    }
+
     /// The i-th thread that waits for a lock.
     pub fn waiting(&self, lock: Lock, i: usize) -> Option<u32>
         ensures { result ≡ slice_get (waiting_for self.now lock) i }
@@ -276,6 +283,14 @@ impl<'p> Manager<'p> {
             Place::Free(_) => Some(self.committed.value(cell)),
             Place::Taken(_) => None,
         }
+    }
+
+    /// What the entries leave in a cell.
+    pub fn committed(&self, cell: usize) -> Value
+        requires { cell < length self.now.values }
+        ensures { slice_get self.now.values cell ≡ Some result }
+    {
+        self.committed.value(cell)
     }
 
     /// The entries.

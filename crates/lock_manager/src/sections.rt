@@ -52,6 +52,19 @@ impl Sections {
         }
     }
 
+    /// Whether no section is open.
+    pub fn are_none(&self) -> bool
+        ensures { IsTrue result ↔ ((t : ℕ) → session_in self.now t ≡ None) }
+    {
+        let _slots = &self.slots;
+        for thread in 0..64u32 {
+            if self.of(thread).is_some() {
+                return false;
+            }
+        }
+        true
+    }
+
     /// A thread's section begins.
     pub fn open(&mut self, thread: u32, session: Session)
         requires { thread < 64 }

@@ -121,6 +121,7 @@ module _ (plan : Plan) (ticket : TicketOf) (step section : ℕ) (arguments : Lis
           cells = refl;
         };
         entry_is = λ i. entered (t.thread_is i) step section arguments (t.begun_is i) p outcome;
+        few = t.left.few_prints;
       }
 
 -- ---- its grants

@@ -4,3 +4,4 @@ pub mod Begun
 pub mod Asks
 pub mod Endings
 pub mod Along
+pub mod Same

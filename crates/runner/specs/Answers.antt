@@ -5,7 +5,7 @@ use Rattle.runner.specs.declared.states.Next.{Next}
 use Rattle.runner.specs.declared.states.Next.TheVariants.{Running, Asking, Ended}
 use Rattle.runner.specs.declared.states.Asked.{Asked}
 use Rattle.runner.specs.declared.states.Asked.TheVariants.{Granted, Held}
-use Rattle.runner.specs.Opens.{OpenOf, IsRunning, Gets, Waits}
+use Rattle.runner.specs.Opens.{OpenOf, IsRunning, IsSame, Gets, Waits}
 
 -- the open section
 abbrev pub open_of : Next → OpenOf
@@ -28,3 +28,8 @@ Answered m o (Held holder asking) m' = Waits m o holder asking m'
 abbrev pub IsNamedAfter : Asked → Type 0
 IsNamedAfter (Granted next) = IsNamed next
 IsNamedAfter (Held holder asking) = Unit {0}
+
+-- it goes on as the same section
+abbrev pub GoesOnSame : OpenOf → Asked → Type 0
+GoesOnSame o (Granted next) = IsSame o (open_of next)
+GoesOnSame o (Held holder asking) = IsSame o asking

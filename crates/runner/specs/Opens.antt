@@ -1,16 +1,17 @@
 -- Open sections, as their types show them, and what their calls do.
 use Rattle.std.specs.Prelude.{◌≡◌, ◌≢◌, ◌<◌, ◌≤◌, ◌+◌, ◌^◌, ℕ, zero, suc, true, List, [], ◌∷◌, length, Some, None}
-use Rattle.std.specs.List.{All}
+use Rattle.std.specs.List.{All, Contains}
 use Rattle.core_lang.specs.declared.value.Value.{Value}
 use Rattle.core_lang.specs.declared.value.Outcome.{Outcome}
 use Rattle.core_lang.specs.Serial.{Invocation}
 use Rattle.core_lang.specs.Typing.{IsHeap}
 use Rattle.locks.specs.declared.lock.Lock.{Lock}
+use Rattle.locks.specs.Order.{Precedes}
 use Rattle.layout.specs.declared.room.Room.{Room}
 use Rattle.layout.specs.LockCells.{cells_of}
 use Rattle.moved_cells.specs.Grants.{GrantOf, IsWhole, numbered, locks_of}
 use Rattle.held_cells.specs.Held.{cells_granted}
-use Rattle.history.specs.Commits.{Commit}
+use Rattle.history.specs.Commits.{Commit, IsTrueCommit}
 use Rattle.lock_manager.specs.declared.places.Place.TheVariants.{Free, Taken}
 use Rattle.lock_manager.specs.Sessions.{SessionOf, TicketOf, ReceiptOf}
 use Rattle.lock_manager.specs.Managers.{Managed, place_of}
@@ -39,6 +40,15 @@ pub record OpenOf : Type 0 where
 abbrev pub further : OpenOf → Activation → OpenOf
 further o a = record o { activation = a }
 
+-- the same section, later: of one plan, thread and call, with its room, begun when it was
+pub record IsSame (o o' : OpenOf) : Type 0 where
+  pub plan : o'.plan ≡ o.plan
+  pub thread : o'.thread ≡ o.thread
+  pub step : o'.step ≡ o.step
+  pub room : o'.room ≡ o.room
+  pub call : o'.activation.call ≡ o.activation.call
+  pub begun : o'.activation.begun ≡ o.activation.begun
+
 -- what its ticket says
 abbrev pub session_of_open : OpenOf → SessionOf
 session_of_open o = record {
@@ -58,6 +68,22 @@ pub record AreItsGrants (o : OpenOf) (grants : List GrantOf) : Type 0 where
   pub cells : cells_granted o.plan.layout.cell_locks grants ≡ o.activation.machine.memory.cells
 
 -- ---- the calls
+
+-- a thread whose next call has all the memory that it needs
+pub record PoisedOf : Type 0 where
+  pub plan : Plan
+  pub thread : ℕ
+  pub step : ℕ
+  pub room : Room
+  pub call : Invocation
+
+-- the thread, with no section open
+abbrev pub ready_of : PoisedOf → ReadyOf
+ready_of p = record { thread = p.thread; step = p.step }
+
+-- a thread is prepared for a call of a plan
+abbrev pub Prepares : ReadyOf → Plan → Invocation → PoisedOf → Type 0
+Prepares ready plan call p = p ≡ record { plan = plan; thread = ready.thread; step = ready.step; room = p.room; call = call }
 
 -- a call of a thread with no section open begins
 pub record Began (m : Managed) (ready : ReadyOf) (plan : Plan) (call : Invocation) (o : OpenOf) (m' : Managed) : Type 0
@@ -123,6 +149,12 @@ pub record Waits (m : Managed) (o : OpenOf) (holder : ℕ) (o' : OpenOf) (m' : M
 abbrev pub entry_of : OpenOf → Outcome → Commit
 entry_of o outcome = commit o.thread o.step o.activation outcome
 
+-- the entry that it has where it is over, and its few prints
+pub record IsItsEntry (o : OpenOf) (entry : Commit) : Type 0 where
+  pub over : o.activation.outcome ≡ Some entry.outcome
+  pub is : entry ≡ entry_of o entry.outcome
+  pub few : length entry.prints ≤ 256
+
 -- its grants and its entry may be given back
 abbrev pub CanGiveBack : Managed → OpenOf → Type 0
 CanGiveBack m o =
@@ -143,6 +175,10 @@ pub record Released (m : Managed) (o : OpenOf) (ready : ReadyOf) (receipt : Rece
   pub ready_is : ready ≡ record { thread = o.thread; step = o.step + 1 }
   pub releases : Releases m (ticket_of o) grants (entry_of o outcome) receipt m'
 
+-- the thread of an open section, with none
+abbrev pub ready_again : OpenOf → ReadyOf
+ready_again o = record { thread = o.thread; step = o.step }
+
 -- it is given up, with all its grants
 pub record GivenUp (m : Managed) (o : OpenOf) (m' : Managed) : Type 0 where
   pub grants : List GrantOf
@@ -156,3 +192,16 @@ pub record IsOpen (o : OpenOf) : Type 0 where
   pub compiled : IsCompiled o.plan
   pub in_order : IsInOrder o.plan o.activation
   pub room : IsRoomAt o.plan o.activation.call.section o.room
+
+-- ---- what its state says of it
+
+-- the lock that it is to be granted next comes after all that it holds
+abbrev pub NextRises : OpenOf → Type 0
+NextRises o =
+    (lock other : Lock) (rest : List Lock) → o.activation.pending ≡ lock ∷ rest → Contains o.activation.held other →
+    Precedes o.plan.ranks other lock
+
+-- its entry is that of a run of its section, whole, from each heap that agrees with what it read
+abbrev pub HasTrueEntry : OpenOf → Type 0
+HasTrueEntry o =
+    (outcome : Outcome) → o.activation.outcome ≡ Some outcome → IsTrueCommit o.plan.program (entry_of o outcome)

@@ -146,3 +146,4 @@ pub record IsKeptEnded (o : OpenOf) (ticket : TicketOf) (grants : List GrantOf) 
   pub ticket_is : ticket ≡ ticket_of o
   pub its : AreItsGrants o grants
   pub entry_is : entry ≡ entry_of o entry.outcome
+  pub few : length entry.prints ≤ 256

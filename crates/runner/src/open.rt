@@ -10,7 +10,6 @@ use crate::asker::Asker;
 use crate::asking::{put_last, take_first};
 use crate::opening::opening_locals;
 use code::instr::Instr;
-use core_lang::typed::Call;
 use core_lang::value::{Outcome, Value};
 use held_cells::parts::Parts;
 use layout::room::Room;
@@ -151,7 +150,15 @@ impl<'p> Open<'p> {
     ghost use Rattle.std.specs.Prelude.{◌≢◌, ◌↔◌, IsTrue};
     ghost use Rattle.std.specs.List.{All};
     ghost use Rattle.lock_manager.specs.Sessions.{TicketOf};
-    ghost use Rattle.runner.specs.Opens.{IsOpen, AreItsGrants, ticket_of};
+    ghost use Rattle.lock_manager.specs.Calls.{Knows};
+    ghost use Rattle.runner.specs.Opens.{IsOpen, AreItsGrants, ticket_of, ready_again};
+
+    // Whether the manager knows it.
+    pub(crate) fn fits(&self, manager: &Manager<'p>) -> bool
+        ensures { IsTrue result ↔ Knows manager.now (ticket_of self.now) }
+    {
+        manager.knows(&self.ticket)
+    }
 
     // It keeps the rules.
     pub(crate) fn keeps_its_rules(&self)
@@ -182,15 +189,16 @@ impl<'p> Open<'p> {
         self.asked
     }
 
-    // Its ticket and its grants, to give it up.
-    pub(crate) fn into_parts(self) -> (Ticket, Vec<Grant>)
+    // Its ticket, the number of its call and its grants, to give it up.
+    pub(crate) fn into_parts(self) -> (Ticket, usize, Vec<Grant>)
         ensures ticket { result.0 ≡ ticket_of self.entry }
-        ensures grants { AreItsGrants self.entry result.1.items }
+        ensures step { result.1 ≡ self.entry.step }
+        ensures grants { AreItsGrants self.entry result.2.items }
     {
         let Open {
             program: _,
             ticket,
-            step: _,
+            step,
             section: _,
             arguments: _,
             machine,
@@ -198,7 +206,7 @@ impl<'p> Open<'p> {
             pending: _,
             asked: _,
         } = self;
-        (ticket, machine.into_grants())
+        (ticket, step, machine.into_grants())
     }
 }
 
@@ -223,7 +231,6 @@ pub(crate) struct Prepared<'p> {
 
 impl<'p> Prepared<'p> {
     ghost use Rattle.std.specs.Prelude.{IfOk};
-    ghost use Rattle.core_lang.specs.Serial.{invocation};
     ghost use Rattle.core_lang.specs.WellFormed.{CanCall};
     ghost use Rattle.lock_manager.specs.Sessions.{fresh};
     ghost use Rattle.runner.specs.Ties.{IsPrepared, its_call, begun_as};
@@ -232,24 +239,25 @@ impl<'p> Prepared<'p> {
     pub(crate) fn new(
         alloc: Global,
         program: &'p Program,
-        call: &Call,
+        section: usize,
+        arguments: &[Value],
     ) -> Result<Prepared<'p>, NoMemory>
-        requires { CanCall program.now.program call.now.section call.now.arguments.items }
+        requires { CanCall program.now.program section arguments.now }
         ensures program { IfOk result (λ p. p.program.now ≡ program.now) }
-        ensures call { IfOk result (λ p. its_call p ≡ invocation call.now) }
+        ensures call { IfOk result (λ p. its_call p ≡ record { section = section; arguments = arguments.now }) }
         ensures prepared { IfOk result IsPrepared }
     {
-        let section = &program.typed().sections[call.section];
-        let room = program.room(call.section);
-        let arguments = Vec::from_slice(alloc, &call.arguments)?;
+        let called = &program.typed().sections[section];
+        let room = program.room(section);
+        let given = Vec::from_slice(alloc, arguments)?;
         let held = Vec::with_capacity(alloc, room.locks)?;
         let pending = Vec::with_capacity(alloc, room.locks)?;
-        let locals = opening_locals(alloc, section, &call.arguments)?;
+        let locals = opening_locals(alloc, called, arguments)?;
         let machine = Machine::new(alloc, locals, program.layout(), room)?;
         Ok(Prepared {
             program,
-            section: call.section,
-            arguments,
+            section,
+            arguments: given,
             room,
             machine,
             held,

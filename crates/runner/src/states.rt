@@ -135,7 +135,7 @@ pub enum Asked<'p> {
 }
 
 impl Ready {
-    ghost use Rattle.runner.specs.Opens.{Began};
+    ghost use Rattle.runner.specs.Opens.{Began, Prepares};
 
     /// A thread before its first call.
     pub fn new(thread: u32) -> Ready
@@ -160,6 +160,31 @@ impl Ready {
         self.step
     }
 
+    /// Makes ready all the memory that a call can need, but for what the manager keeps.
+    ///
+    /// # Errors
+    ///
+    /// Want of memory.
+    pub fn prepare<'p>(
+        self,
+        alloc: Global,
+        program: &'p Program,
+        section: usize,
+        arguments: &[Value],
+    ) -> Result<Poised<'p>, Ready>
+        requires { CanCall program.now.program section arguments.now }
+        ensures ok { IfOk result (λ p. Prepares self program.now (record { section = section; arguments = arguments.now }) p) }
+        ensures err { IfErr result (λ ready. ready ≡ self) }
+    {
+        match Prepared::new(alloc, program, section, arguments) {
+            Ok(prepared) => Ok(Poised {
+                ready: self,
+                prepared,
+            }),
+            Err(_) => Err(self),
+        }
+    }
+
     /// Begins a call, with all the memory that it can need.
     ///
     /// # Errors
@@ -179,19 +204,85 @@ impl Ready {
         ensures err { IfErr result (λ ready. ready ≡ self) }
         ensures same { OnErr result (manager.new ≡ manager.old) }
     {
-        let Ok(prepared) = Prepared::new(alloc, program, call) else {
-            return Err(self);
-        };
+        match self.prepare(alloc, program, call.section, &call.arguments) {
+            Ok(poised) => poised.begin(alloc, manager),
+            Err(ready) => Err(ready),
+        }
+    }
+}
+
+/// A thread whose next call has all the memory that it can need, but for what the manager keeps.
+pub struct Poised<'p> {
+    ready: Ready,
+    prepared: Prepared<'p>,
+}
+
+impl<'p> Model for Poised<'p> {
+    ghost use Rattle.core_lang.specs.contracts.tree.Action as action;
+    ghost use Rattle.core_lang.specs.contracts.tree.Expr as expr;
+    ghost use Rattle.core_lang.specs.contracts.tree.Condition as condition;
+    ghost use Rattle.std.specs.Coded.{codes};
+    ghost use Rattle.runner.specs.Opens.{PoisedOf};
+    ghost use Rattle.runner.specs.Ties.{IsPrepared, its_call};
+
+    ghost Value = { PoisedOf };
+
+    ghost coded = { Prim.hlevel (codes, action.the_row.coded, expr.the_row.coded, condition.the_row.coded) };
+
+    ghost view = { λ p. record {
+      plan = p.prepared.program.now;
+      thread = p.ready.thread;
+      step = p.ready.step;
+      room = p.prepared.room;
+      call = its_call p.prepared;
+    } };
+
+    ghost invariant = { λ p. IsPrepared p.prepared };
+}
+
+impl<'p> Poised<'p> {
+    ghost use Rattle.runner.specs.Opens.{Began, ready_of};
+
+    /// The thread.
+    #[inline]
+    pub fn thread(&self) -> u32
+        ensures { result ≡ self.now.thread }
+    {
+        self.ready.thread()
+    }
+
+    /// Begins the call.
+    ///
+    /// # Errors
+    ///
+    /// Want of memory; all is as it was.
+    pub fn begin(self, alloc: Global, manager: &mut Manager<'p>) -> Result<Running<'p>, Ready>
+        requires thread { self.thread < 64 }
+        requires closed { session_of manager.old self.thread ≡ None }
+        ensures ok { IfOk result (λ running. Began manager.old (ready_of self.entry) self.entry.plan self.entry.call running manager.new) }
+        ensures err { IfErr result (λ ready. ready ≡ ready_of self.entry) }
+        ensures same { OnErr result (manager.new ≡ manager.old) }
+    {
+        let Poised { ready, prepared } = self;
         let room = prepared.room;
-        match manager.begin(alloc, self.thread, room) {
+        match manager.begin(alloc, ready.thread, room) {
             Ok(ticket) => Ok(Running {
-                open: prepared.open(ticket, self.step),
+                open: prepared.open(ticket, ready.step),
             }),
             Err(_) => {
                 prepared.let_go();
-                Err(self)
+                Err(ready)
             }
         }
+    }
+
+    /// Lets the memory go: the call doesn't begin.
+    pub fn let_go(self) -> Ready
+        ensures { result ≡ ready_of self.entry }
+    {
+        let Poised { ready, prepared } = self;
+        prepared.let_go();
+        ready
     }
 }
 
@@ -264,15 +355,28 @@ fn end<'p>(opened: Open<'p>, outcome: Outcome) -> Ended<'p>
 }
 
 impl<'p> Running<'p> {
-    ghost use Rattle.runner.specs.Opens.{GivenUp, Ran};
+    ghost use Rattle.worlds.specs.Waiting.{HasNext};
+    ghost use Rattle.runner.specs.Opens.{GivenUp, Ran, IsSame, ready_again};
     ghost use Rattle.runner.specs.Answers.{open_of, IsNamed};
 
-    /// Does its next instruction.
+    /// How long the history was when it began.
+    #[inline]
+    pub fn begun(&self) -> usize
+        ensures { result ≡ self.now.activation.begun }
+    {
+        self.open.ticket.begun()
+    }
+
+    /// Does its next instruction, which has its case.
     #[inline]
     pub fn step(self) -> Next<'p>
+        ensures next { HasNext self.entry.plan self.entry.activation }
         ensures is { open_of result ≡ moved self.entry }
+        ensures same { IsSame self.entry (open_of result) }
         ensures named { IsNamed result }
     {
+        worlds::laws::sections_stay_in_order();
+        self.keeps_its_rules();
         let Running { mut open } = self;
         match open.step() {
             None => named(open),
@@ -283,6 +387,7 @@ impl<'p> Running<'p> {
     /// Does its instructions, at most so many, until it is to be granted a lock or has an outcome; and how many it did.
     pub fn run(self, most: usize) -> (usize, Next<'p>)
         ensures ran { Ran most self.entry result.0 (open_of result.1) }
+        ensures same { IsSame self.entry (open_of result.1) }
         ensures named { IsNamed result.1 }
     {
         let Running { mut open } = self;
@@ -298,25 +403,31 @@ impl<'p> Running<'p> {
     }
 
     /// Gives the section up.
-    pub fn give_up(self, manager: &mut Manager<'p>)
-        ensures { GivenUp manager.old self.entry manager.new }
+    pub fn give_up(self, manager: &mut Manager<'p>) -> Ready
+        ensures given_up { GivenUp manager.old self.entry manager.new }
+        ensures ready { result ≡ ready_again self.entry }
     {
         let Running { open } = self;
-        let (ticket, grants) = open.into_parts();
+        let (ticket, step, grants) = open.into_parts();
+        let thread = ticket.thread();
         manager.give_up(ticket, grants);
+        Ready { thread, step }
     }
 
-    /// It keeps the rules, whatever the others do.
+    /// It keeps the rules, whatever the others do, and its next instruction has its case.
     pub fn keeps_its_rules(&self)
-        ensures { IsOpen self.now }
+        ensures kept { IsOpen self.now }
+        ensures next { HasNext self.now.plan self.now.activation }
     {
+        worlds::laws::sections_stay_in_order();
         self.open.keeps_its_rules();
     }
 }
 
 impl<'p> Asking<'p> {
-    ghost use Rattle.runner.specs.Opens.{IsKnown, GivenUp};
-    ghost use Rattle.runner.specs.Answers.{Answered, IsNamedAfter};
+    ghost use Rattle.lock_manager.specs.Calls.{Knows};
+    ghost use Rattle.runner.specs.Opens.{IsKnown, NextRises, GivenUp, ticket_of, ready_again};
+    ghost use Rattle.runner.specs.Answers.{Answered, IsNamedAfter, GoesOnSame};
 
     /// The lock that it asks for.
     #[inline]
@@ -334,10 +445,20 @@ impl<'p> Asking<'p> {
         self.open.asked()
     }
 
+    /// Whether the manager knows the section: it is as the section's own steps left it. The rest of what [`Asking::ask`]
+    /// requires (the program's layout and ranks, cells with values of their types) isn't tested here: whoever keeps
+    /// the manager keeps that by its type.
+    pub fn fits(&self, manager: &Manager<'p>) -> bool
+        ensures { IsTrue result ↔ Knows manager.now (ticket_of self.now) }
+    {
+        self.open.fits(manager)
+    }
+
     /// Asks for the lock.
     pub fn ask(self, manager: &mut Manager<'p>) -> Asked<'p>
         requires { IsKnown manager.old self }
         ensures answered { Answered manager.old self.entry result manager.new }
+        ensures same { GoesOnSame self.entry result }
         ensures named { IsNamedAfter result }
     {
         let Asking { mut open } = self;
@@ -348,24 +469,29 @@ impl<'p> Asking<'p> {
     }
 
     /// Gives the section up.
-    pub fn give_up(self, manager: &mut Manager<'p>)
-        ensures { GivenUp manager.old self.entry manager.new }
+    pub fn give_up(self, manager: &mut Manager<'p>) -> Ready
+        ensures given_up { GivenUp manager.old self.entry manager.new }
+        ensures ready { result ≡ ready_again self.entry }
     {
         let Asking { open } = self;
-        let (ticket, grants) = open.into_parts();
+        let (ticket, step, grants) = open.into_parts();
+        let thread = ticket.thread();
         manager.give_up(ticket, grants);
+        Ready { thread, step }
     }
 
-    /// It keeps the rules, whatever the others do.
+    /// It keeps the rules, whatever the others do, and the lock that it asks for comes after all that it holds.
     pub fn keeps_its_rules(&self)
-        ensures { IsOpen self.now }
+        ensures kept { IsOpen self.now }
+        ensures rises { NextRises self.now }
     {
+        worlds::laws::sections_stay_in_order();
         self.open.keeps_its_rules();
     }
 }
 
 impl<'p> Ended<'p> {
-    ghost use Rattle.runner.specs.Opens.{CanBeReleased, Released, GivenUp};
+    ghost use Rattle.runner.specs.Opens.{CanBeReleased, Released, GivenUp, IsItsEntry, HasTrueEntry, ready_again};
 
     /// Whether it may be released.
     pub fn fits(&self, manager: &Manager<'p>) -> bool
@@ -402,13 +528,14 @@ impl<'p> Ended<'p> {
     }
 
     /// Gives the section up.
-    pub fn give_up(self, manager: &mut Manager<'p>)
-        ensures { GivenUp manager.old self.entry manager.new }
+    pub fn give_up(self, manager: &mut Manager<'p>) -> Ready
+        ensures given_up { GivenUp manager.old self.entry manager.new }
+        ensures ready { result ≡ ready_again self.entry }
     {
         let Ended {
             program: _,
             ticket,
-            step: _,
+            step,
             place: _,
             operands: _,
             locals: _,
@@ -416,13 +543,25 @@ impl<'p> Ended<'p> {
             entry: _,
             asked: _,
         } = self;
+        let thread = ticket.thread();
         manager.give_up(ticket, grants);
+        Ready { thread, step }
     }
 
-    /// It keeps the rules, whatever the others do.
-    pub fn keeps_its_rules(&self)
-        ensures { IsOpen self.now }
+    /// Its entry.
+    #[inline]
+    pub fn entry(&self) -> &Entry
+        ensures { IsItsEntry self.now result.now }
     {
+        &self.entry
+    }
+
+    /// It keeps the rules, whatever the others do, and its entry is true.
+    pub fn keeps_its_rules(&self)
+        ensures kept { IsOpen self.now }
+        ensures true_entry { HasTrueEntry self.now }
+    {
+        worlds::laws::sections_stay_in_order();
         let _step = self.step;
     }
 }

@@ -194,3 +194,4 @@ pub record IsLeftOf (run : RunOf) (left : Left) : Type 0 where
   }
   pub locks : locks_of left.parts.grants.items ≡ run.locks
   pub whole : All (IsWhole run.layout.cell_locks) left.parts.grants.items
+  pub few_prints : length left.prints.items ≤ 256

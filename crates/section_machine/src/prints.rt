@@ -1,6 +1,6 @@
 //! What a section prints.
 
-ghost use Rattle.std.specs.Prelude.{◌≡◌, [], IfOk};
+ghost use Rattle.std.specs.Prelude.{◌≡◌, ◌≤◌, [], IfOk, vec_len};
 ghost use Rattle.section_machine.specs.Prints.{IsPrinted};
 
 use core_lang::value::{Failure, Trap, Value};
@@ -18,13 +18,13 @@ pub struct Prints {
 }
 
 impl Model for Prints {
-    ghost use Rattle.std.specs.Prelude.{ℤ, List, ◌≤◌, vec_capacity};
+    ghost use Rattle.std.specs.Prelude.{ℤ, List, ◌≤◌, vec_len, vec_capacity};
 
     ghost Value = { List ℤ };
 
     ghost view = { λ p. p.numbers.items };
 
-    ghost invariant = { λ p. 256 ≤ vec_capacity p.numbers };
+    ghost invariant = { λ p. (vec_len p.numbers ≤ 256) × (256 ≤ vec_capacity p.numbers) };
 }
 
 impl Prints {
@@ -62,7 +62,8 @@ impl Prints {
 
     /// The numbers.
     pub fn into_numbers(self) -> Vec<i64>
-        ensures { result.items ≡ self }
+        ensures items { result.items ≡ self }
+        ensures few { vec_len result ≤ 256 }
     {
         let Prints { numbers } = self;
         numbers

@@ -1,5 +1,5 @@
 -- What a sound and ready world at the end of a run says.
-use Rattle.std.proofs.Common.{◌≡◌, ℕ, true, List, [], ◌∷◌, map, Some, slice_get, sym, ◌∙◌, subst}
+use Rattle.std.proofs.Common.{◌≡◌, ℕ, true, List, [], ◌∷◌, map, take, Some, slice_get, sym, ◌∙◌, subst}
 use Rattle.core_lang.specs.Serial.{Serial}
 use Rattle.history.specs.Commits.{call_of, answer_of, committed}
 use Rattle.locks.specs.Order.{PrecedesIsStrict}
@@ -8,7 +8,7 @@ use Rattle.lowering.specs.Plans.{Plan, IsCompiled}
 use Rattle.worlds.specs.Asking.{among}
 use Rattle.worlds.specs.Worlds.{World, happens, world_after, opening_world, final}
 use Rattle.worlds.specs.Claims.{IsSerial, HeldCellsAre, EveryRunHasIt, EveryWorldKeepsTheRules}
-use Rattle.worlds.specs.Waiting.{RisingHasNoCycle, RisingGoesOn, InstructionsHaveTheirCase}
+use Rattle.worlds.specs.Waiting.{RisingHasNoCycle, RisingWaitsForHolders, RisingGoesOn, InstructionsHaveTheirCase, PendingRises}
 use Rattle.worlds.specs.States.{IsSound, OpeningIsSound, StepsKeepSound}
 use Rattle.worlds.specs.Ahead.{IsReadyWorld, WorldsStayReady}
 use Rattle.worlds.proofs.Cells.{contains_among, among_contains}
@@ -49,8 +49,10 @@ pub record HeadlineLaws : Type 0 where
   pub step : StepsKeepSound
   pub ready : WorldsStayReady
   pub no_cycle : RisingHasNoCycle
+  pub waits : RisingWaitsForHolders
   pub goes_on : RisingGoesOn
   pub serial : LegalIsSerial
+  pub strict : PrecedesIsStrict
 
 record IsKept (plan : Plan) (w : World) : Type 0 where
   sound : IsSound plan w
@@ -68,29 +70,6 @@ kept : OpeningIsSound → StepsKeepSound → WorldsStayReady → (plan : Plan) (
 kept opening step ready plan steps ok =
     kept_after step ready plan (opening_world plan) steps ok (record { sound = opening plan; ready = ready.opening plan ok })
 
-pub headline : HeadlineLaws → EveryRunHasIt
-headline laws plan steps ok =
-    let w = final plan steps in
-    let is = kept laws.opening laws.step laws.ready plan steps ok in
-    let rises = laws.ready.rises plan w is.ready in
-    record {
-      heap = committed plan.layout.opening w.history;
-      results_and_prints = serial laws.serial plan w ok is.sound;
-      free_cells = is.sound.values;
-      held_cells = held_cells plan w ok is.sound;
-      all_cells = is.sound.size ∙ opening_size plan ok;
-      order = in_order plan steps;
-      runs = ends_are_runs plan steps;
-      scripts = follows_scripts plan steps;
-      entries = have_entries plan steps;
-      no_cycle = laws.no_cycle plan.ranks w rises;
-      goes_on = laws.goes_on plan w rises;
-    }
-
-pub have_their_case : OpeningIsSound → StepsKeepSound → WorldsStayReady → InstructionsHaveTheirCase
-have_their_case opening step ready plan steps ok =
-    let is = kept opening step ready plan steps ok in ready.next plan (final plan steps) ok is.sound is.ready
-
 -- no lock is held twice in any world that is reached
 once_after : PrecedesIsStrict → StepsKeepSound → WorldsStayReady → (plan : Plan) (w : World) (steps : List ℕ) → IsCompiled plan →
     IsKept plan w → Once w → Once (world_after plan w steps)
@@ -106,3 +85,31 @@ rules_kept strict opening step ready plan steps ok =
     let first : IsKept plan (opening_world plan) = record { sound = opening plan; ready = ready.opening plan ok } in
     keeps_the_rules plan (final plan steps) ok is.sound (ready.rises plan (final plan steps) is.ready)
     (once_after strict step ready plan (opening_world plan) steps ok first (once_at_first plan))
+
+pub headline : HeadlineLaws → EveryRunHasIt
+headline laws plan steps ok =
+    let w = final plan steps in
+    let is = kept laws.opening laws.step laws.ready plan steps ok in
+    let there : (n : ℕ) → IsKept plan (final plan (take n steps)) = λ n. kept laws.opening laws.step laws.ready plan (take n steps) ok in
+    let rises : (n : ℕ) → PendingRises plan.ranks (final plan (take n steps)) =
+    λ n. laws.ready.rises plan (final plan (take n steps)) (there n).ready in
+    record {
+      heap = committed plan.layout.opening w.history;
+      results_and_prints = serial laws.serial plan w ok is.sound;
+      free_cells = is.sound.values;
+      all_cells = is.sound.size ∙ opening_size plan ok;
+      order = in_order plan steps;
+      runs = ends_are_runs plan steps;
+      scripts = follows_scripts plan steps;
+      entries = have_entries plan steps;
+      held_cells = λ n. held_cells plan (final plan (take n steps)) ok (there n).sound;
+      rules = λ n. rules_kept laws.strict laws.opening laws.step laws.ready plan (take n steps) ok;
+      no_cycle = λ n. laws.no_cycle plan.ranks (final plan (take n steps)) (rises n);
+      waits = λ n. laws.waits plan (final plan (take n steps)) (rises n);
+      goes_on = λ n. laws.goes_on plan (final plan (take n steps)) (rises n);
+      next = λ n. laws.ready.next plan (final plan (take n steps)) ok (there n).sound (there n).ready;
+    }
+
+pub have_their_case : OpeningIsSound → StepsKeepSound → WorldsStayReady → InstructionsHaveTheirCase
+have_their_case opening step ready plan steps ok =
+    let is = kept opening step ready plan steps ok in ready.next plan (final plan steps) ok is.sound is.ready

@@ -1,5 +1,5 @@
 -- Where pending locks rise, nobody waits in a circle, and someone goes on.
-use Rattle.std.proofs.Common.{◌≡◌, ◌⊎◌, ◌<◌, ◌≤◌, ℕ, zero, suc, ◌+◌, Bool, true, false, if◌then◌else◌, List, [], ◌∷◌, map, Option, Some, None, slice_get, refl, sym, ap, ◌∙◌, subst, arith, inl, inr, true≢false}
+use Rattle.std.proofs.Common.{◌≡◌, ◌⊎◌, ◌<◌, ◌≤◌, ℕ, zero, suc, ◌+◌, Bool, true, false, if◌then◌else◌, List, [], ◌∷◌, map, length, Option, Some, None, slice_get, refl, sym, ap, ◌∙◌, subst, arith, inl, inr, true≢false}
 use Rattle.std.proofs.lemmas.Bool.{cases_lt, cases_eq}
 use Rattle.std.specs.Option.{option_map_or}
 use Rattle.std.specs.List.{Contains}
@@ -12,8 +12,11 @@ use Rattle.lowering.specs.Plans.{Plan}
 use Rattle.worlds.specs.declared.event.Event.{Event}
 use Rattle.worlds.specs.Asking.{among}
 use Rattle.worlds.specs.Worlds.{World, ThreadState, Activation, holds, holder_from, holder, asks, goes_on, steps_with, thread_steps, happens, HasOpen}
-use Rattle.worlds.specs.Waiting.{first_if, asker_of, asker, IsNoWait, PendingRises, RisingHasNoCycle, RisingGoesOn}
+use Rattle.worlds.specs.Waiting.{first_if, asker_of, asker, IsNoWait, IsWait, PendingRises, RisingHasNoCycle, RisingWaitsForHolders, RisingGoesOn}
+use Rattle.worlds.specs.declared.event.Event.TheVariants.{Idle, Began, Got, Waits, Moved, Ended}
 use Rattle.worlds.proofs.Cells.{among_contains}
+use Rattle.worlds.proofs.Places.{get_set_same}
+use Rattle.worlds.proofs.Turns.{Turn, idles, starts, gets, waits, over, moves, turn}
 use Rattle.worlds.proofs.Steps.{got_map}
 
 -- ---- no circle
@@ -221,3 +224,66 @@ rising_goes_on strict plan w rise t a o = elim (top_of strict plan.ranks w.threa
   ]
   | inr r ↦ at_top plan w rise r (wants_of r.thread r.lock r.thread.active refl r.wants) (holder w r.lock) refl
 ]
+
+-- ---- who waits
+
+-- the thread of a holder, of whom the first of the threads has this number
+record HolderAt (n : ℕ) (threads : List ThreadState) (lock : Lock) (h : ℕ) : Type 0 where
+  by : ℕ
+  is : h ≡ n + by
+  thread : ThreadState
+  at : slice_get threads by ≡ Some thread
+  section : Activation
+  is_open : thread.active ≡ Some section
+  held : among section.held lock ≡ true
+
+holder_at : (n : ℕ) (threads : List ThreadState) (lock : Lock) (h : ℕ) → holder_from n threads lock ≡ Some h → HolderAt n threads lock h
+holder_at n [] lock h e = absurd cc
+holder_at n (x ∷ xs) lock h e = first (holds lock x) refl e (λ f. holder_at (n + 1) xs lock h f) where
+  first : (b : Bool) → holds lock x ≡ b → (if b then Some n else holder_from (n + 1) xs lock) ≡ Some h →
+      (holder_from (n + 1) xs lock ≡ Some h → HolderAt (n + 1) xs lock h) → HolderAt n (x ∷ xs) lock h
+  first true is e go =
+      let a = holding lock x x.active refl is in
+      let same : n ≡ h = cc e in
+      record { by = 0; is = omega (arith, same); thread = x; at = refl; section = a.0; is_open = a.1; held = a.2 }
+  first false is e go =
+      let r = go e in let same = r.is in
+      record { by = suc r.by; is = omega (arith, same); thread = r.thread; at = r.at; section = r.section; is_open = r.is_open; held = r.held }
+
+wait_is : PrecedesIsStrict → (plan : Plan) (w : World) (t : ℕ) (e : Event) (after : World) → Turn plan w t e after →
+    PendingRises plan.ranks w → (key : Lock) (by : ℕ) → happens plan w t ≡ (e, after) → e ≡ Waits key by → IsWait plan w t key by
+wait_is strict plan w t e after idles rise key by is same = absurd (let bad : Idle ≡ Waits key by = same in cc bad)
+wait_is strict plan w t e after (starts {thread} {call} at none next) rise key by is same = absurd (let bad : Began ≡ Waits key by = same in cc bad)
+wait_is strict plan w t e after (gets {thread} {a} {lock} {rest} at want free) rise key by is same = absurd (let bad : Got lock ≡ Waits key by = same in cc bad)
+wait_is strict plan w t e after (over {thread} {a} {outcome} at none out) rise key by is same = absurd (let bad : Ended (length w.history) ≡ Waits key by = same in cc bad)
+wait_is strict plan w t e after (moves {thread} {a} at none out) rise key by is same = absurd (let bad : Moved ≡ Waits key by = same in cc bad)
+wait_is strict plan w t e after (waits {thread} {a} {lock} {rest} {h} at want busy) rise key by is same =
+    let both : Waits lock h ≡ Waits key by = same in
+    let one_lock : lock ≡ key = cc both in
+    let one_holder : h ≡ by = cc both in
+    let found = holder_at 0 w.threads lock h busy in
+    let from_0 = found.is in
+    let at_h : h ≡ found.by = omega (arith, from_0) in
+    let open_by : slice_get w.threads by ≡ Some found.thread = ap (slice_get w.threads) (sym one_holder ∙ at_h) ∙ found.at in
+    let holds_it : Contains found.section.held lock = among_contains found.section.held lock found.held in
+    record {
+      another = λ bad. (
+          let one_thread : Some found.thread ≡ Some thread = sym open_by ∙ ap (slice_get w.threads) bad ∙ at.at in
+          let as_thread : found.thread ≡ thread = cc one_thread in
+          let one_section : Some found.section ≡ Some a = sym found.is_open ∙ ap (λ x. x.active) as_thread ∙ at.is in
+          let as_section : found.section ≡ a = cc one_section in
+          strict.not_itself plan.ranks lock
+          (rise t a lock lock rest (thread, at.at, at.is) want (subst (λ (x : Activation). Contains x.held lock) as_section holds_it)));
+      holder = found.section;
+      is_open = (found.thread, open_by, found.is_open);
+      holds = subst (Contains found.section.held) one_lock holds_it;
+      waiter = record a { asked = true };
+      waits = subst (λ (r : Event × World). HasOpen r.1 t (record a { asked = true })) (sym is)
+          (record { step = thread.step; active = Some (record a { asked = true }) }, get_set_same w.threads t thread _ at.at, refl);
+      first = ap (λ locks. slice_get locks 0) want ∙ ap (λ l. Some l) one_lock;
+      asked = refl;
+    }
+
+pub rising_waits_for_holders : PrecedesIsStrict → RisingWaitsForHolders
+rising_waits_for_holders strict plan w rise t lock h same =
+    wait_is strict plan w t (happens plan w t).0 (happens plan w t).1 (turn plan w t) rise lock h refl same

@@ -111,6 +111,7 @@ keeps_the_rules plan w ok s rises once = record {
             among_contains a.held lock (subst (λ l. among a.held l ≡ true) as_one of.2)),
         λ held. (s.well t a at).all cell (lock, here, contains_among a.held lock held),
       );
+  part = λ t a at. (s.fit t a at).part;
   rises = rises;
   legal = s.legal;
   true_entries = s.true_commits;

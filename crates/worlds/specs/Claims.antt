@@ -5,13 +5,13 @@ use Rattle.core_lang.specs.declared.value.Value.{Value}
 use Rattle.core_lang.specs.Serial.{Invocation, Scheduled, SerialFromOpening}
 use Rattle.locks.specs.declared.lock.Lock.{Lock}
 use Rattle.locks.specs.Locks.{lock_of_cell}
-use Rattle.code.specs.Memory.{value_at}
+use Rattle.code.specs.Memory.{value_at, IsPartOf}
 use Rattle.layout.specs.Layouts.{AreDistinct}
-use Rattle.history.specs.Commits.{Commit, call_of, answer_of, script_call, IsLegal, AreTrue}
+use Rattle.history.specs.Commits.{Commit, call_of, answer_of, script_call, committed, IsLegal, AreTrue}
 use Rattle.lowering.specs.Plans.{Plan, IsCompiled}
 use Rattle.worlds.specs.declared.event.Event.TheVariants.{Began, Ended}
 use Rattle.worlds.specs.Worlds.{World, ThreadState, Activation, HasOpen, scripts, call_at, final, trace}
-use Rattle.worlds.specs.Waiting.{NobodyWaitsInACircle, SomeoneGoesOn, PendingRises}
+use Rattle.worlds.specs.Waiting.{NobodyWaitsInACircle, SomeoneGoesOn, PendingRises, WaitsAreForHolders, AllHaveNext}
 
 -- ---- words
 
@@ -45,6 +45,27 @@ pub record IsSectionRun (plan : Plan) (steps : List ℕ) (t begin end position :
   pub ended : slice_get (trace plan steps) end ≡ Some (Ended position)
   pub only : (k p : ℕ) → begin < k → k < end → slice_get steps k ≡ Some t →
       slice_get (trace plan steps) k ≡ Some (Ended p) → ⊥
+
+-- ---- the rules of locking
+
+-- no two sections hold one lock, and none holds one twice; a section has just the cells of the locks that it holds; what
+-- it read is what the history leaves, and its cells hold that with its writes made; each lock that a section is to be
+-- granted next comes after all that it holds; and the history is legal, its entries true
+pub record KeepsTheRules (plan : Plan) (w : World) : Type 0 where
+  pub one_holder : (t u : ℕ) (a b : Activation) (lock : Lock) → HasOpen w t a → HasOpen w u b →
+      Contains a.held lock → Contains b.held lock → t ≡ u
+  pub once : (t : ℕ) (a : Activation) → HasOpen w t a → AreDistinct a.held
+  pub own_cells : (t : ℕ) (a : Activation) (cell : ℕ) (lock : Lock) → HasOpen w t a →
+      lock_of_cell plan.program cell ≡ Some lock → HoldsCell a cell ↔ Contains a.held lock
+  pub part : (t : ℕ) (a : Activation) → HasOpen w t a →
+      IsPartOf (committed plan.layout.opening w.history) a.machine.memory
+  pub rises : PendingRises plan.ranks w
+  pub legal : IsLegal plan.layout.opening w.history
+  pub true_entries : AreTrue plan.program w.history
+
+-- so it is in each world that a compiled program reaches
+abbrev pub EveryWorldKeepsTheRules : Type 0
+EveryWorldKeepsTheRules = (plan : Plan) (steps : List ℕ) → IsCompiled plan → KeepsTheRules plan (final plan steps)
 
 -- ---- the headline
 
@@ -102,39 +123,25 @@ HaveEntries plan steps = (t b e p : ℕ) → IsSectionRun plan steps t b e p →
 -- of running the history's sections whole, one after another, from the opening cells; a section that ended before
 -- another began stands before it; the entries are those of the sections that began and ended, each where it ended, with
 -- what is noted of its begin; each thread's are the first calls of its script, in order, and its open section is of the
--- next; and in the world that the steps lead to, which is any world reached, no threads wait for each other in a circle,
--- and where a section is open, some open section goes on
+-- next. And in each world on the way: the cells that are away are those of the locks held; sections keep the rules of
+-- locking; no threads wait for each other in a circle; who waits does so for another's open section; where a section is
+-- open, some open section goes on; and each open section's next instruction has its case
 pub record Headline (plan : Plan) (steps : List ℕ) : Type 0 where
   pub heap : List Value
   pub results_and_prints : IsSerial plan (final plan steps) heap
   pub free_cells : FreeCellsAre (final plan steps) heap
-  pub held_cells : HeldCellsAre plan (final plan steps)
   pub all_cells : length (final plan steps).cells ≡ length plan.program.cells.items
   pub order : EndsInOrder plan steps
   pub runs : EndsAreRuns plan steps
   pub scripts : FollowsScripts plan (final plan steps)
   pub entries : HaveEntries plan steps
-  pub no_cycle : NobodyWaitsInACircle (final plan steps)
-  pub goes_on : SomeoneGoesOn plan (final plan steps)
+  pub held_cells : (n : ℕ) → HeldCellsAre plan (final plan (take n steps))
+  pub rules : (n : ℕ) → KeepsTheRules plan (final plan (take n steps))
+  pub no_cycle : (n : ℕ) → NobodyWaitsInACircle (final plan (take n steps))
+  pub waits : (n : ℕ) → WaitsAreForHolders plan (final plan (take n steps))
+  pub goes_on : (n : ℕ) → SomeoneGoesOn plan (final plan (take n steps))
+  pub next : (n : ℕ) → AllHaveNext plan (final plan (take n steps))
 
 -- every run of a compiled program has it
 abbrev pub EveryRunHasIt : Type 0
 EveryRunHasIt = (plan : Plan) (steps : List ℕ) → IsCompiled plan → Headline plan steps
-
--- ---- the rules of locking
-
--- no two sections hold one lock, and none holds one twice; a section has just the cells of the locks that it holds; each
--- lock that a section is to be granted next comes after all that it holds; and the history is legal, its entries true
-pub record KeepsTheRules (plan : Plan) (w : World) : Type 0 where
-  pub one_holder : (t u : ℕ) (a b : Activation) (lock : Lock) → HasOpen w t a → HasOpen w u b →
-      Contains a.held lock → Contains b.held lock → t ≡ u
-  pub once : (t : ℕ) (a : Activation) → HasOpen w t a → AreDistinct a.held
-  pub own_cells : (t : ℕ) (a : Activation) (cell : ℕ) (lock : Lock) → HasOpen w t a →
-      lock_of_cell plan.program cell ≡ Some lock → HoldsCell a cell ↔ Contains a.held lock
-  pub rises : PendingRises plan.ranks w
-  pub legal : IsLegal plan.layout.opening w.history
-  pub true_entries : AreTrue plan.program w.history
-
--- so it is in each world that a compiled program reaches
-abbrev pub EveryWorldKeepsTheRules : Type 0
-EveryWorldKeepsTheRules = (plan : Plan) (steps : List ℕ) → IsCompiled plan → KeepsTheRules plan (final plan steps)

@@ -10,7 +10,8 @@ pub mod InOrder
 pub use Rattle.worlds.specs.Worlds.{World, ThreadState, Activation, happens, final, trace}
 pub use Rattle.worlds.specs.Claims.{Headline, EveryRunHasIt, KeepsTheRules, EveryWorldKeepsTheRules}
 pub use Rattle.worlds.specs.States.{IsSound, OpeningIsSound, StepsKeepSound}
-pub use Rattle.worlds.specs.Waiting.{NobodyWaitsInACircle, SomeoneGoesOn, PendingRises, RisingHasNoCycle, RisingGoesOn}
+pub use Rattle.worlds.specs.Waiting.{NobodyWaitsInACircle, SomeoneGoesOn, PendingRises, IsWait, WaitsAreForHolders}
+pub use Rattle.worlds.specs.Waiting.{RisingHasNoCycle, RisingWaitsForHolders, RisingGoesOn}
 pub use Rattle.worlds.specs.Waiting.{HasNext, AllHaveNext, InstructionsHaveTheirCase}
 pub use Rattle.worlds.specs.InTurn.{RiseBehind, AskedInTurn}
 pub use Rattle.worlds.specs.Ahead.{IsReadyWorld, WorldsStayReady}

@@ -1,5 +1,5 @@
 -- Who waits for whom in a world, who goes on, and that next instructions have their case.
-use Rattle.std.specs.Prelude.{◌≡◌, ◌≢◌, ◌≤◌, ℕ, Bool, true, false, List, [], ◌∷◌, length, map, Option, Some, None, ⊤}
+use Rattle.std.specs.Prelude.{◌≡◌, ◌≢◌, ◌≤◌, ℕ, Bool, true, false, List, [], ◌∷◌, length, map, slice_get, Option, Some, None, ⊤}
 use Rattle.std.specs.List.{Contains}
 use Rattle.core_lang.specs.declared.tree.Section.{Section}
 use Rattle.locks.specs.declared.lock.Lock.{Lock}
@@ -40,6 +40,23 @@ SomeoneGoesOn plan w =
     (t : ℕ) (a : Activation) → HasOpen w t a →
     (u : ℕ) × (b : Activation) × HasOpen w u b × IsNoWait (happens plan w u).0
 
+-- a thread's step was to ask for a lock and not to be granted it: another thread's open section holds the lock, and it
+-- is the first that the thread's own section is to be granted, asked for now
+pub record IsWait (plan : Plan) (w : World) (t : ℕ) (lock : Lock) (h : ℕ) : Type 0 where
+  pub another : h ≢ t
+  pub holder : Activation
+  pub is_open : HasOpen w h holder
+  pub holds : Contains holder.held lock
+  pub waiter : Activation
+  pub waits : HasOpen (happens plan w t).1 t waiter
+  pub first : slice_get waiter.pending 0 ≡ Some lock
+  pub asked : waiter.asked ≡ true
+
+-- so it is wherever a step's event says so
+abbrev pub WaitsAreForHolders : Plan → World → Type 0
+WaitsAreForHolders plan w =
+    (t : ℕ) (lock : Lock) (h : ℕ) → (happens plan w t).0 ≡ Waits lock h → IsWait plan w t lock h
+
 -- each lock that an open section is to be granted next comes after all that it holds
 abbrev pub PendingRises : List ℕ → World → Type 0
 PendingRises ranks w =
@@ -49,6 +66,10 @@ PendingRises ranks w =
 -- where pending locks rise, nobody waits in a circle
 abbrev pub RisingHasNoCycle : Type 0
 RisingHasNoCycle = (ranks : List ℕ) (w : World) → PendingRises ranks w → NobodyWaitsInACircle w
+
+-- who waits does so for another's open section
+abbrev pub RisingWaitsForHolders : Type 0
+RisingWaitsForHolders = (plan : Plan) (w : World) → PendingRises plan.ranks w → WaitsAreForHolders plan w
 
 -- and someone goes on
 abbrev pub RisingGoesOn : Type 0

@@ -1,7 +1,7 @@
 //! What holds of every run: functions that do nothing, and whose contracts are the laws.
 
 ghost use Rattle.worlds.specs.Claims.{EveryRunHasIt, EveryWorldKeepsTheRules};
-ghost use Rattle.worlds.specs.Waiting.{RisingHasNoCycle, RisingGoesOn, InstructionsHaveTheirCase};
+ghost use Rattle.worlds.specs.Waiting.{RisingHasNoCycle, RisingWaitsForHolders, RisingGoesOn, InstructionsHaveTheirCase};
 ghost use Rattle.worlds.specs.InTurn.{AskedInTurn};
 ghost use Rattle.worlds.specs.States.{OpeningIsSound, StepsKeepSound};
 ghost use Rattle.worlds.specs.Ahead.{WorldsStayReady};
@@ -71,9 +71,10 @@ pub fn sections_stay_in_order()
 /// Every run of a compiled program, whatever the steps: its finished sections' results and prints, and every cell that
 /// no section holds, are those of running these sections whole, one after another, from the opening cells; a section
 /// that ended before another began stands before it; each thread's finished sections are the first calls of its script,
-/// in order, and its open one is the next; where a section ended stands an entry of its thread; and in no world that is
-/// reached do threads wait for each other in a circle: where a section is open, the next step of some open section is
-/// no wait.
+/// in order, and its open one is the next; where a section ended stands an entry of its thread. And in each world on the
+/// way sections keep the rules of locking, no threads wait for each other in a circle, who waits does so for another's
+/// open section, where a section is open the next step of some open section is no wait, and each open section's next
+/// instruction has its case.
 pub fn every_run()
     ensures { EveryRunHasIt }
 {
@@ -81,11 +82,13 @@ pub fn every_run()
     steps_keep_sound();
     worlds_stay_ready();
     rising_sections_go_on();
+    locks::laws::precedes_is_strict();
 }
 
 /// In every world that a compiled program reaches: no two sections hold one lock, and none holds one twice; a section has
-/// just the cells of the locks that it holds; each lock that it is to be granted next comes after all that it holds; and
-/// the history is legal, its entries true.
+/// just the cells of the locks that it holds; what it read is what the history leaves, and its cells hold that with its
+/// writes made; each lock that it is to be granted next comes after all that it holds; and the history is legal, its
+/// entries true.
 pub fn sections_keep_the_rules()
     ensures { EveryWorldKeepsTheRules }
 {
@@ -104,9 +107,11 @@ pub fn instructions_have_their_case()
 }
 
 /// In a world where each lock that a section is to be granted next comes after all that it holds, nobody waits in a
-/// circle; and where a section is open, the next step of some open section is no wait.
+/// circle; who waits does so for the open section of another; and where a section is open, the next step of some open
+/// section is no wait.
 pub fn rising_sections_go_on()
     ensures no_cycle { RisingHasNoCycle }
+    ensures waits { RisingWaitsForHolders }
     ensures goes_on { RisingGoesOn }
 {
     locks::laws::no_circle();

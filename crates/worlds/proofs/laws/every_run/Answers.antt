@@ -7,6 +7,8 @@ returns c = headline (record {
   step = c.steps_keep_sound.ensures.step;
   ready = c.worlds_stay_ready.ensures;
   no_cycle = c.rising_sections_go_on.ensures.no_cycle;
+  waits = c.rising_sections_go_on.ensures.waits;
   goes_on = c.rising_sections_go_on.ensures.goes_on;
   serial = c.legal_is_serial.ensures;
+  strict = c.precedes_is_strict.ensures;
 })

@@ -57,9 +57,16 @@ returns-then-are_its_grants c =
     (subst (λ (gs : List GrantOf). AreItsGrants c.args.self.now c.into_thread-thread.result gs) c.deref.ensures.value (c.are_its_grants.ensures.0 c.if-are_its_grants.true)) in
     let same : managed x.committed x.ranks.now c.restore.new.places.items c.leave.new.self c.close.new.self c.forgo.new.self.commits ≡ after_give_up m c.into_thread-thread.result grants =
     λ i. managed x.committed x.ranks.now (c.restore.ensures i) (c.leave.ensures i) (c.close.ensures i) (c.forgo.ensures.commits i) in
+    let now = same ∙ ap (λ (v : Managed). after_give_up v c.into_thread-thread.result grants) c.self.view_is in
     record {
-      own = λ own. same ∙ ap (λ (v : Managed). after_give_up v c.into_thread-thread.result grants) c.self.view_is ∙ ap (λ (u : ℕ). after_give_up c.args.self.now u grants) c.into_thread-thread.ensures;
+      own = λ own. now ∙ ap (λ (u : ℕ). after_give_up c.args.self.now u grants) c.into_thread-thread.ensures;
       not_own = λ no. absurd (no its);
+      entries = record {
+        layout = ap (λ (v : Managed). v.layout) now;
+        ranks = ap (λ (v : Managed). v.ranks) now;
+        history = ap (λ (v : Managed). v.history) now;
+        values = ap (λ (v : Managed). v.values) now;
+      };
     }
 
 pub returns-else-are_its_grants : goal.returns-else-are_its_grants
@@ -68,4 +75,5 @@ returns-else-are_its_grants c = record {
       (subst (λ (gs : List GrantOf). AreItsGrants c.args.self.now c.into_thread-thread.result gs) (sym c.deref.ensures.value)
       (subst (λ (u : ℕ). AreItsGrants c.args.self.now u c.args.grants.items) (sym c.into_thread-thread.ensures) own))) c.if-are_its_grants.false;
   not_own = λ no. refl;
+  entries = record { layout = refl; ranks = refl; history = refl; values = refl };
 }

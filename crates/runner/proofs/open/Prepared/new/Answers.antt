@@ -10,32 +10,31 @@ use Rattle.runner.specs.Ties.{call_of}
 use Rattle.runner.proofs.Begun.{called_within, first_locals}
 use Rattle.runner.proofs.open.Prepared.new.Goals as goal
 
-pub index-section-requires : goal.index-section-requires
-index-section-requires c =
-    let within = called_within c.args.program.now.program c.args.call.now.section c.args.call.now.arguments.items c.requires in
+pub index-called-requires : goal.index-called-requires
+index-called-requires c =
+    let within = called_within c.args.program.now.program c.args.section c.args.arguments.now c.requires in
     let same = ap (λ (t : Typed). length t.sections.items) c.typed.ensures.program in
     omega (arith, within, same, c.typed.result.now.sections.ok.0)
 
 pub room-room-requires : goal.room-room-requires
 room-room-requires c =
-    called_within c.args.program.now.program c.args.call.now.section c.args.call.now.arguments.items c.requires
+    called_within c.args.program.now.program c.args.section c.args.arguments.now c.requires
 
 pub returns-clause-prepared : goal.returns-clause-prepared
 returns-clause-prepared c =
     let plan = c.args.program.now in
-    let section = c.args.call.now.section in
-    let arguments = c.in_ok-arguments.arguments.items in
+    let section = c.args.section in
+    let arguments = c.in_ok-given.given.items in
     let room = c.room-room.result in
-    let x = c.index-section.result.now in
-    let same : arguments ≡ c.args.call.now.arguments.items = c.in_ok-arguments.ensures.items ∙ c.deref.ensures.value in
-    let passed : c.deref-2.result.now ≡ arguments = c.deref-2.ensures.value ∙ sym same in
+    let x = c.index-called.result.now in
+    let same : arguments ≡ c.args.arguments.now = c.in_ok-given.ensures.items in
     let can : CanCall plan.program section arguments =
     subst (λ (vs : List Value). CanCall plan.program section vs) (sym same) c.requires in
     let read : x ≡ get_or plan.program.sections.items section x =
-    subst (λ (t : Typed). x ≡ get_or t.sections.items section x) c.typed.ensures.program c.index-section.ensures in
+    subst (λ (t : Typed). x ≡ get_or t.sections.items section x) c.typed.ensures.program c.index-called.ensures in
     let locals : c.in_ok-locals.locals.items ≡ locals_at plan (call_of section arguments) =
     c.in_ok-locals.ensures
-    ∙ ap (λ (vs : List Value). (opening x vs []).locals) passed
+    ∙ ap (λ (vs : List Value). (opening x vs []).locals) (sym same)
     ∙ first_locals plan (call_of section arguments) x can read in
     record {
       compiled = c.typed.ensures.compiled;

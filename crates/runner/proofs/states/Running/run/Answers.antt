@@ -3,6 +3,7 @@ use Rattle.std.proofs.lemmas.Option.{none-some}
 use Rattle.runner.specs.Opens.{OpenOf, IsRunning, moved, moved_by}
 use Rattle.runner.specs.Ties.{over_by}
 use Rattle.runner.proofs.Along.{ran_on}
+use Rattle.runner.proofs.Same.{moved_once_more, often_moved}
 use Rattle.runner.proofs.states.Running.run.Goals as goal
 
 pub returns-in-Some-clause-ran : goal.returns-in-Some-clause-ran
@@ -26,3 +27,23 @@ returns-then-not-is_running-clause-ran c =
     c.loop-done.invariant.2
     c.in_default.ensures.0
     (λ runs. true≢false (sym (c.if-not-is_running.ensures.1 runs.0)))
+
+pub returns-in-Some-clause-same : goal.returns-in-Some-clause-same
+returns-in-Some-clause-same c =
+    let outcome = c.in-Some.outcome in
+    let over : c.end.result ≡ over_by c.step.new.self outcome = c.end.ensures in
+    let next : c.end.result ≡ moved c.loop-done.open =
+    over ∙ ap (λ (s : OpenOf). over_by s outcome) c.in-Some.ensures.0 ∙ sym c.in-Some.ensures.1 in
+    moved_once_more c.args.self c.loop-done.open c.end.result c.loop-done.done
+    (subst (λ (o : OpenOf). c.loop-done.open ≡ moved_by c.loop-done.done o) c.self.view_is c.loop-done.invariant.0) next
+
+pub returns-then-not-is_running-clause-same : goal.returns-then-not-is_running-clause-same
+returns-then-not-is_running-clause-same c =
+    moved_once_more c.args.self c.loop-done.open c.step.new.self c.loop-done.done
+    (subst (λ (o : OpenOf). c.loop-done.open ≡ moved_by c.loop-done.done o) c.self.view_is c.loop-done.invariant.0)
+    c.in_default.ensures.0
+
+pub returns-clause-same : goal.returns-clause-same
+returns-clause-same c =
+    often_moved c.args.self c.loop-done.open c.loop-done.done
+    (subst (λ (o : OpenOf). c.loop-done.open ≡ moved_by c.loop-done.done o) c.self.view_is c.loop-done.invariant.0)

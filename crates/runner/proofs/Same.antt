@@ -1,0 +1,56 @@
+-- An instruction leaves a section what it is.
+use Rattle.std.proofs.Common.{◌≡◌, ℕ, zero, suc, refl, sym, ◌∙◌, subst}
+use Rattle.code.specs.Machine.{Effect, Moves, Asks, Finishes, Undefined}
+use Rattle.code.specs.Memory.{HeldCells}
+use Rattle.lowering.specs.Plans.{Plan}
+use Rattle.worlds.specs.Worlds.{Activation, instructed, next_effect}
+use Rattle.runner.specs.Opens.{OpenOf, IsSame, moved, moved_by}
+
+call_stays : (plan : Plan) (a : Activation) (e : Effect HeldCells) → (instructed plan a e).call ≡ a.call
+call_stays plan a (Moves m) = refl
+call_stays plan a (Asks point) = refl
+call_stays plan a (Finishes outcome) = refl
+call_stays plan a Undefined = refl
+
+begun_stays : (plan : Plan) (a : Activation) (e : Effect HeldCells) → (instructed plan a e).begun ≡ a.begun
+begun_stays plan a (Moves m) = refl
+begun_stays plan a (Asks point) = refl
+begun_stays plan a (Finishes outcome) = refl
+begun_stays plan a Undefined = refl
+
+same : (o : OpenOf) → IsSame o o
+same o = record { plan = refl; thread = refl; step = refl; room = refl; call = refl; begun = refl }
+
+same_then : (o p q : OpenOf) → IsSame o p → IsSame p q → IsSame o q
+same_then o p q a b = record {
+  plan = b.plan ∙ a.plan;
+  thread = b.thread ∙ a.thread;
+  step = b.step ∙ a.step;
+  room = b.room ∙ a.room;
+  call = b.call ∙ a.call;
+  begun = b.begun ∙ a.begun;
+}
+
+moved_same : (o : OpenOf) → IsSame o (moved o)
+moved_same o = record {
+  plan = refl;
+  thread = refl;
+  step = refl;
+  room = refl;
+  call = call_stays o.plan o.activation (next_effect o.plan o.activation);
+  begun = begun_stays o.plan o.activation (next_effect o.plan o.activation);
+}
+
+moved_by_same : (n : ℕ) (o : OpenOf) → IsSame o (moved_by n o)
+moved_by_same zero o = same o
+moved_by_same (suc n) o = same_then o (moved_by n o) (moved (moved_by n o)) (moved_by_same n o) (moved_same (moved_by n o))
+
+-- a section that has moved on is the same
+pub once_moved : (o p : OpenOf) → p ≡ moved o → IsSame o p
+once_moved o p is = subst (IsSame o) (sym is) (moved_same o)
+
+pub often_moved : (o p : OpenOf) (n : ℕ) → p ≡ moved_by n o → IsSame o p
+often_moved o p n is = subst (IsSame o) (sym is) (moved_by_same n o)
+
+pub moved_once_more : (o p q : OpenOf) (n : ℕ) → p ≡ moved_by n o → q ≡ moved p → IsSame o q
+moved_once_more o p q n so_far is = same_then o p q (often_moved o p n so_far) (once_moved p q is)
