@@ -2,12 +2,13 @@
 # Runs each program of docs/LANGUAGE.md and README.md and compares what is written with what the page
 # says. Its argument is the program to run, by default ./autolock at the top.
 #
-# A program is a block ```al. On the line behind it begins its answer; behind an answer may stand
+# A program is a block ```al. On the line after it begins its answer; after an answer may come
 # another one. An answer is
 #
 # - a block ```text, which is what `serial` writes to standard output; words behind ```text come
 #   between `serial` and the file;
 # - a block ```text check, which is what `check` writes there;
+# - a block ```text simulate ITEMS, which is what `simulate` writes there after the steps of these items;
 # - or one line `FILE:..`, which both write to standard error; FILE stands for the file's name.
 #
 # The other output has to be empty.
@@ -15,7 +16,7 @@ set -u
 
 top=$(cd -- "$(dirname -- "$0")/.." && pwd -P)
 program=$(realpath -- "${1:-$top/autolock}")
-"$program" --help >/dev/null 2>&1 # so that it is built before the first program
+"$program" --build >/dev/null 2>&1 # so that it is built before the first program
 work=$(mktemp -d)
 trap 'rm -rf "$work"' EXIT
 cd "$work" || exit 1
@@ -47,7 +48,8 @@ awk '
     }
     answer && /^```text/ {
         block = "text"
-        begin(/^```text check$/ ? "check" : "serial" substr($0, 8))
+        begin(/^```text check$/ ? "check" : /^```text simulate / ? "simulate" : "serial" substr($0, 8))
+        if (/^```text simulate /) print substr($0, 18) >(run ".steps")
     }
     answer && /^`FILE:.*`$/ {
         refuse("serial", substr($0, 2, length($0) - 2))
@@ -60,7 +62,7 @@ awk '
 judge() {
     sed -i "s/FILE/${1%.*}.al/" "$1.err"
     # shellcheck disable=SC2046 # the words, one by one
-    "$program" $(cat "$1.words") "${1%.*}.al" >out 2>err </dev/null
+    "$program" $(cat "$1.words") "${1%.*}.al" $(ls "$1.steps" 2>/dev/null) >out 2>err </dev/null
     status=$?
     if [ "$status" = "$(cat "$1.status")" ] && cmp -s "$1.out" out && cmp -s "$1.err" err; then
         echo "ok line ${1%.*}: $(cat "$1.words")"
@@ -77,7 +79,7 @@ count=0
 for number in $(ls | sed -n 's/\.al$//p' | sort -n); do
     count=$((count + 1))
     if [ ! -e "$number.1.status" ]; then
-        echo "FAILED line $number: no answer stands behind the program"
+        echo "FAILED line $number: no answer comes after the program"
         failed=1
         continue
     fi

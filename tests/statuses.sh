@@ -5,7 +5,7 @@ set -u
 
 top=$(cd -- "$(dirname -- "$0")/.." && pwd -P)
 program=$(realpath -- "${1:-$top/autolock}")
-"$program" --help >/dev/null 2>&1 # so that it is built before the first case
+"$program" --build >/dev/null 2>&1 # so that it is built before the first case
 work=$(mktemp -d)
 trap 'rm -rf "$work"' EXIT
 cd "$work" || exit 1

@@ -1,0 +1,42 @@
+# Completes the words of autolock in bash: `. completions/autolock.bash`, or copy this file to
+# ~/.local/share/bash-completion/completions/autolock. tests/words.sh compares it with the program's help.
+
+_autolock_files() {
+    local word=$1 ending=$2 name
+    COMPREPLY=()
+    compopt -o filenames 2>/dev/null
+    while IFS= read -r name; do
+        [[ -d $name || $name == *$ending ]] && COMPREPLY+=("$name")
+    done < <(compgen -f -- "$word")
+}
+
+_autolock() {
+    local word=${COMP_WORDS[COMP_CWORD]} before=${COMP_WORDS[COMP_CWORD - 1]} command= i at=0
+    local commands="check listing serial simulate help"
+    for ((i = 1; i < COMP_CWORD; i++)); do
+        if [ -z "$command" ]; then
+            case ${COMP_WORDS[i]} in
+                -*) ;;
+                *) command=${COMP_WORDS[i]} ;;
+            esac
+        else
+            case ${COMP_WORDS[i]} in
+                --turns) i=$((i + 1)) ;;
+                -*) ;;
+                *) at=$((at + 1)) ;;
+            esac
+        fi
+    done
+    COMPREPLY=()
+    case $command/$word in
+        /-*) mapfile -t COMPREPLY < <(compgen -W "-h --help -V --version --unproved --build" -- "$word") ;;
+        /*) mapfile -t COMPREPLY < <(compgen -W "$commands" -- "$word") ;;
+        help/*) mapfile -t COMPREPLY < <(compgen -W "$commands" -- "$word") ;;
+        serial/-*) mapfile -t COMPREPLY < <(compgen -W "--turns -h --help" -- "$word") ;;
+        check/-* | listing/-* | simulate/-*) mapfile -t COMPREPLY < <(compgen -W "-h --help" -- "$word") ;;
+        simulate/*) if [ $at -gt 0 ]; then _autolock_files "$word" .steps; else _autolock_files "$word" .al; fi ;;
+        check/* | listing/* | serial/*) [ "$before" = --turns ] || _autolock_files "$word" .al ;;
+    esac
+}
+
+complete -F _autolock autolock ./autolock

@@ -1,0 +1,17 @@
+# Completes the words of autolock in fish: copy this file to ~/.config/fish/completions. tests/words.sh compares it with
+# the program's help.
+
+complete -c autolock -f
+complete -c autolock -n __fish_use_subcommand -a check -d 'Say in which order locks are taken, and which ones before each statement'
+complete -c autolock -n __fish_use_subcommand -a listing -d 'Write the instructions of each section'
+complete -c autolock -n __fish_use_subcommand -a serial -d 'Run all calls one after another, and write the history'
+complete -c autolock -n __fish_use_subcommand -a simulate -d 'Run the steps of a steps file, and write the cells and threads after them'
+complete -c autolock -n __fish_use_subcommand -a help -d 'Print this message or the help of the given subcommand(s)'
+complete -c autolock -n __fish_use_subcommand -s V -l version -d 'Print version'
+complete -c autolock -n __fish_use_subcommand -l unproved -d 'Run it without any proof'
+complete -c autolock -n __fish_use_subcommand -l build -d 'Prove and build the program'
+complete -c autolock -s h -l help -d 'Print help'
+complete -c autolock -n '__fish_seen_subcommand_from help' -a 'check listing serial simulate help'
+complete -c autolock -n '__fish_seen_subcommand_from serial' -l turns -x -d 'How many turns an execution of a loop may take'
+complete -c autolock -n '__fish_seen_subcommand_from check listing serial' -k -a '(__fish_complete_suffix .al)'
+complete -c autolock -n '__fish_seen_subcommand_from simulate' -k -a '(__fish_complete_suffix .al; __fish_complete_suffix .steps)'

@@ -1,0 +1,2 @@
+" Files of autolock.
+autocmd BufRead,BufNewFile *.al set filetype=autolock

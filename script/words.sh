@@ -1,0 +1,273 @@
+# What `autolock` says of its words, said without the program: help, the version, and what is wrong with the words.
+# ./autolock uses it where the program isn't built; tests/words.sh compares each answer with the program's.
+#
+#     judge_words WORDS..     answers and exits, or sets `command`, `turns` (the N of --turns, or nothing) and `files`
+#
+# Where `many` is 1, a command over one FILE takes several. `top` is the folder of the repository.
+# shellcheck disable=SC2154,SC2016
+
+many=0
+command=
+turns=
+files=()
+
+# Writes a text of script/help, and exits.
+show_help() {
+    cat "$top/script/help/$1.txt" 2>/dev/null || {
+        say "cannot write"
+        exit 3
+    }
+    exit 0
+}
+
+show_version() {
+    echo "autolock 0.1.0" 2>/dev/null || {
+        say "cannot write"
+        exit 3
+    }
+    exit 0
+}
+
+# What is wrong, how the words should look, and a tip; the last two may be left out.
+refuse() {
+    printf 'error: %s\n' "$1"
+    [ -z "${3-}" ] || printf '\n  tip: %s\n' "$3"
+    [ -z "${2-}" ] || printf '\nUsage: autolock %s\n' "$2"
+    printf "\nFor more information, try '--help'.\n"
+    exit 2
+} >&2
+
+# How the words of a command look; with a second word, where that option is among them.
+usage_of() {
+    local option=${2-}
+    case $1 in
+        check | listing) echo "$1 ${option:+$option }<FILE>" ;;
+        serial) echo "serial ${option:-[OPTIONS]} <FILE>" ;;
+        simulate) echo "simulate ${option:+$option }<FILE> <STEPS>" ;;
+        *) echo "${option:+$option }<COMMAND>" ;;
+    esac
+}
+
+# How alike two words are, from 0 to 1000000: Jaro's measure.
+likeness() {
+    local a=$1 b=$2 i j range kept='' taken='' matches=0 differing=0 found=''
+    local -A used=()
+    [ "$a" != "$b" ] || { echo 1000000; return; }
+    range=$(((${#a} > ${#b} ? ${#a} : ${#b}) / 2 - 1))
+    [ $range -ge 0 ] || range=0
+    for ((i = 0; i < ${#a}; i++)); do
+        for ((j = i > range ? i - range : 0; j <= i + range && j < ${#b}; j++)); do
+            if [ "${a:i:1}" = "${b:j:1}" ] && [ -z "${used[$j]-}" ]; then
+                used[$j]=1
+                kept+=${a:i:1}
+                break
+            fi
+        done
+    done
+    for ((j = 0; j < ${#b}; j++)); do [ -z "${used[$j]-}" ] || taken+=${b:j:1}; done
+    matches=${#kept}
+    [ "$matches" -gt 0 ] || { echo 0; return; }
+    for ((i = 0; i < matches; i++)); do [ "${kept:i:1}" = "${taken:i:1}" ] || differing=$((differing + 1)); done
+    found=$((matches - differing / 2))
+    echo $(((matches * 1000000 / ${#a} + matches * 1000000 / ${#b} + found * 1000000 / matches) / 3))
+}
+
+# Of these words those that are like the first one, the one that is most like it last.
+similar() {
+    local word=$1 other
+    shift
+    for other in "$@"; do
+        echo "$(likeness "$word" "$other") $other"
+    done | awk '$1 > 700000' | sort -s -n -k1,1 | cut -d' ' -f2
+}
+
+refuse_command() {
+    local names tip=
+    mapfile -t names < <(similar "$1" check listing serial simulate help)
+    case ${#names[@]} in
+        0) ;;
+        1) tip="a similar subcommand exists: '${names[0]}'" ;;
+        *)
+            tip=$(printf "'%s', " "${names[@]}")
+            tip="some similar subcommands exist: ${tip%, }"
+            ;;
+    esac
+    refuse "unrecognized subcommand '$1'" "$(usage_of '')" "$tip"
+}
+
+# An option `--NAME` that the command doesn't have; the words after it follow.
+refuse_long() {
+    local name=$1 near='' options=(help) word used=${turns:+--turns <N>}
+    shift
+    case $command in
+        serial) options=(turns help) ;;
+        '') options=(help version) ;;
+    esac
+    near=$(similar "$name" "${options[@]}" | tail -n 1)
+    if [ "$near" = turns ]; then
+        used="--turns <N>"
+    elif [ -n "$near" ]; then
+        used="${used:+$used }--$near"
+    fi
+    if [ -n "$near" ]; then
+        refuse "unexpected argument '--$name' found" "$(usage_of "$command" "$used")" \
+            "a similar argument exists: '--$near'"
+    elif [ "$command" = serial ] && [ "$used${#files[@]}" != 0 ]; then
+        refuse "unexpected argument '--$name' found" "serial ${used:+$used }<FILE>" \
+            "to pass '--$name' as a value, use '-- --$name'"
+    elif [ -n "$command" ]; then
+        refuse "unexpected argument '--$name' found" "$(usage_of "$command")" \
+            "to pass '--$name' as a value, use '-- --$name'"
+    fi
+    for word in "$@"; do
+        case $word in
+            check | listing | simulate) near=$(similar "$name" help) ;;
+            serial) near=$(similar "$name" turns help | tail -n 1) ;;
+        esac
+        [ -z "$near" ] || refuse "unexpected argument '--$name' found" "$(usage_of '')" "'$word --$near' exists"
+    done
+    refuse "unexpected argument '--$name' found" "$(usage_of '')"
+}
+
+# The words after `help`.
+judge_help() {
+    local name=${1-autolock}
+    case $name in
+        autolock) [ $# -eq 0 ] || refuse "unrecognized subcommand '$1'" "$(usage_of '')" ;;
+        check | listing | serial | simulate | help) ;;
+        *) refuse "unrecognized subcommand '$1'" "$(usage_of '')" ;;
+    esac
+    [ $# -gt 1 ] || show_help "$name"
+    if [ "$name" = help ]; then
+        printf "error: unrecognized subcommand '%s'\n\nUsage: autolock help [COMMAND]...\n" "$2" >&2
+        exit 2
+    fi
+    refuse "unrecognized subcommand '$2'" "$(usage_of "$name")"
+}
+
+# The value of `--turns`.
+judge_turns() {
+    local value=$1 digits=${1#+} least most=18446744073709551615
+    [ -n "$value" ] || refuse "invalid value '' for '--turns <N>': cannot parse integer from empty string"
+    case $digits in
+        '' | *[!0-9]*) refuse "invalid value '$value' for '--turns <N>': invalid digit found in string" ;;
+    esac
+    least=${digits#"${digits%%[!0]*}"}
+    least=${least:-0}
+    if [ ${#least} -gt 20 ] || { [ ${#least} -eq 20 ] && [[ $least > $most ]]; }; then
+        refuse "invalid value '$value' for '--turns <N>': number too large to fit in target type"
+    elif [ ${#least} -gt 10 ] || [ "$least" -gt 1000000000 ]; then
+        refuse "invalid value '$value' for '--turns <N>': $least is not in 0..=1000000000"
+    fi
+    [ -z "$turns" ] || refuse "the argument '--turns <N>' cannot be used multiple times" "$(usage_of serial)"
+    turns=$least
+}
+
+# The words from `--turns` on.
+judge_option_turns() {
+    [ $# -gt 1 ] || refuse "a value is required for '--turns <N>' but none was supplied"
+    case $2 in
+        -- | -h* | --help | --turns*) refuse "a value is required for '--turns <N>' but none was supplied" ;;
+        --?*) judge_long "${@:2}" ;;
+        -?*) judge_short "$2" ;;
+    esac
+    judge_turns "$2"
+}
+
+# An option `--NAME` or `--NAME=VALUE` of the command, and the words after it.
+judge_long() {
+    local word=${1#--} name
+    shift
+    name=${word%%=*}
+    case $name in
+        help | version)
+            [ "$name" = help ] || [ -z "$command" ] || refuse_long "$name" "$@"
+            [ "$name" = "$word" ] || refuse \
+                "unexpected value '${word#*=}' for '--$name' found; no more were expected" \
+                "$(usage_of "$command" "--$name")"
+            [ "$name" = help ] || show_version
+            show_help "${command:-autolock}"
+            ;;
+        *) refuse_long "$name" "$@" ;;
+    esac
+}
+
+# Options `-ABC`.
+judge_short() {
+    local letter=${1:1:1}
+    case $command$letter in
+        *h) show_help "${command:-autolock}" ;;
+        V) show_version ;;
+    esac
+    refuse "unexpected argument '-$letter' found" "$(usage_of "$command")" \
+        "${command:+to pass '-$letter' as a value, use '-- -$letter'}"
+}
+
+# The words after a command.
+judge_arguments() {
+    local most=1 is_last=0 missing
+    [ "$command" != simulate ] || most=2
+    [ "$command" = simulate ] || [ "$many" = 0 ] || most=100000
+    while [ $# -gt 0 ]; do
+        case $is_last$command$1 in
+            "0$command--")
+                is_last=1
+                shift
+                continue
+                ;;
+            0serial--turns)
+                judge_option_turns "$@"
+                shift 2
+                continue
+                ;;
+            0serial--turns=*)
+                judge_turns "${1#--turns=}"
+                shift
+                continue
+                ;;
+        esac
+        case $is_last$1 in
+            0--*) judge_long "$@" ;;
+            0-?*) judge_short "$1" ;;
+        esac
+        [ ${#files[@]} -lt $most ] || refuse "unexpected argument '$1' found" "$(usage_of "$command")"
+        files+=("$1")
+        shift
+    done
+    missing=
+    [ ${#files[@]} -gt 0 ] || missing+=$'\n  <FILE>'
+    [ "$command" != simulate ] || [ ${#files[@]} -gt 1 ] || missing+=$'\n  <STEPS>'
+    [ -n "$missing" ] || return 0
+    missing="the following required arguments were not provided:$missing"
+    [ "$command" != serial ] || [ -n "$turns" ] || refuse "$missing" "serial <FILE>"
+    refuse "$missing" "$(usage_of "$command" "${turns:+--turns <N>}")"
+}
+
+judge_words() {
+    local is_last=0
+    while [ $# -gt 0 ]; do
+        case $is_last$1 in
+            0check | 0listing | 0serial | 0simulate)
+                command=$1
+                shift
+                judge_arguments "$@"
+                return
+                ;;
+            0help)
+                shift
+                judge_help "$@"
+                ;;
+            0--) is_last=1 ;;
+            0--?*) judge_long "$@" ;;
+            0-?*) judge_short "$1" ;;
+            1check | 1listing | 1serial | 1simulate | 1help)
+                refuse "unexpected argument '$1' found" "$(usage_of '')" \
+                    "subcommand '$1' exists; to use it, remove the '--' before it"
+                ;;
+            *) refuse_command "$1" ;;
+        esac
+        shift
+    done
+    refuse $'\'autolock\' requires a subcommand but one was not provided
+  [subcommands: check, listing, serial, simulate, help]' "$(usage_of '')"
+}

@@ -1,0 +1,198 @@
+#!/usr/bin/env bash
+# Compares what ./autolock says of its words without the program (script/words.sh, script/help) with what the program
+# says: the bytes of both outputs, and the status. Compares the files of completions/ and docs/autolock.1 with the help.
+#
+#     tests/words.sh [BIN]      by default the program that ./autolock --build leaves
+set -u
+
+top=$(cd -- "$(dirname -- "$0")/.." && pwd -P)
+if [ $# -gt 0 ]; then
+    program=$(realpath -- "$1")
+else
+    "$top/autolock" --build || exit 1
+    program=$top/crates/autolock/out/autolock
+fi
+work=$(mktemp -d)
+trap 'rm -rf "$work"' EXIT
+mkdir "$work/bin" "$work/in"
+cp -r "$top/autolock" "$top/script" "$work"
+: >"$work/crates.txt"
+# Where the script asks for the toolchain, it has not judged the words.
+printf '#!/bin/sh\necho "the toolchain was called"\n' >"$work/bin/rt"
+chmod +x "$work/bin/rt"
+PATH=$work/bin:$PATH
+export LC_ALL=C.UTF-8
+cd "$work/in" || exit 1
+: >right.al
+mkdir folder
+failed=0
+count=0
+
+fail() {
+    echo "FAILED $1"
+    failed=1
+}
+
+# The words, said to both.
+same() {
+    local wanted status
+    "$program" "$@" >../wanted.out 2>../wanted.err </dev/null
+    wanted=$?
+    timeout 20 ../autolock "$@" >../out 2>../err </dev/null
+    status=$?
+    count=$((count + 1))
+    if [ $status -ne $wanted ] || ! cmp -s ../out ../wanted.out || ! cmp -s ../err ../wanted.err; then
+        fail "'$*': status $status, and of the program $wanted"
+        cat ../wanted.out ../wanted.err >../wanted
+        cat ../out ../err | diff ../wanted - | head -n 10
+    fi
+}
+
+# Help and the version.
+same --help
+same -h
+same help
+same --version
+same -V
+same -hV
+same -Vh
+same -hx
+for command in check listing serial simulate; do
+    same help "$command"
+    same "$command" --help
+    same "$command" -h
+    same "$command" -hx
+    same "$command" right.al --help
+    same "$command"
+    same "$command" --
+    same "$command" -x
+    same "$command" --foo
+    same "$command" --foo=3
+    same "$command" --version
+    same "$command" --help=x
+    same "$command" --hel
+    same "$command" right.al --foo
+    same "$command" right.al -- --foo x
+    same "$command" missing.al missing.al
+    same "$command" a b c
+    same "$command" --turns
+    same help "$command" x
+done
+same help help
+same help help help
+same help help x
+same help nothing
+same help -x
+same help --
+same help ''
+same help check check
+
+# Other commands.
+same
+same ''
+same -
+same --
+same -x
+same -xh
+same -v check right.al
+same --foo
+same --hlp
+same --versoin
+same --verbose
+same --help=x
+same --version=1
+same --turns 3 serial right.al
+same --turns 3 check right.al
+same -- check right.al
+same -- nothing
+same -- chek
+for word in chek Check CHECK checks c lis list listin lsiting seral seriall sim simulat simulation s hlep halp helper \
+    run replay explain foobar größe trace prints seril stimulate; do
+    same "$word" right.al
+done
+
+# Arguments of `serial`.
+for turns in -1 --x -h --help -- - '' x 0x10 1_000 ' 5' +5 1000000001 01000000001 18446744073709551615 \
+    18446744073709551616 99999999999999999999 3; do
+    same serial --turns "$turns" missing.al
+    same serial --turns="$turns" missing.al
+done
+same serial --turns 3
+same serial --turns=3 --
+same serial --turns 3 a b
+same serial --turns 1 --turns 2 a
+same serial --turns 1 --turns=2 a
+same serial --turns x --turns 2 a
+same serial a b --turns x
+same serial --turns x a b
+same serial a --turns
+same serial --turn 3 a
+same serial --tunrs a
+same serial -t 3 a
+same serial a --foo
+same serial --turns 3 --foo
+same serial --turns 3 a --foo
+same serial --turns 3 a --hel
+same serial a --hel
+same serial --turns 3 --turn 4
+same serial --turns 3 --help=x
+same serial --turns 3 a -x
+
+# Files that can't be read.
+same check missing.al
+same check folder
+same check ''
+same check -
+same check -- -dash.al
+same check -dash.al
+same check right.al/
+same simulate missing.al nothing
+same simulate right.al missing.al
+same simulate folder missing.al
+same simulate missing.al right.al
+same serial --turns 3 missing.al
+
+# The completions and the manual page name what the help names.
+commands=$(sed -n '/^Commands:/,/^$/s/^  \([a-z]*\) .*/\1/p' "$top/script/help/autolock.txt")
+options=$(sed -n 's/^ *\(-[a-zA-Z], \)\{0,1\}--\([a-z]*\).*/\2/p' "$top"/script/help/*.txt | sort -u)
+[ "$(echo $commands)" = "check listing serial simulate help" ] || fail "the commands of the help: $commands"
+[ "$(echo $options)" = "help turns version" ] || fail "the options of the help: $options"
+for file in completions/autolock.bash completions/_autolock completions/autolock.fish docs/autolock.1; do
+    for word in $commands $options; do
+        sed 's/\\-/-/g' "$top/$file" | grep -qw -- "$word" || fail "$file lacks $word"
+    done
+done
+for command in $commands; do
+    about=$(sed -n "s/^  $command  *\(.*\)/\1/p" "$top/script/help/autolock.txt")
+    for file in completions/_autolock completions/autolock.fish; do
+        grep -qF -- "$about" "$top/$file" || fail "$file says something else of $command"
+    done
+done
+
+# What bash completes.
+completes() {
+    local wanted=$1
+    shift
+    COMP_WORDS=(autolock "$@")
+    COMP_CWORD=$#
+    COMPREPLY=()
+    _autolock 2>/dev/null
+    [ "$(printf '%s\n' "${COMPREPLY[@]}" | sort | xargs)" = "$wanted" ] ||
+        fail "bash completes '$*' by '${COMPREPLY[*]}'"
+}
+. "$top/completions/autolock.bash"
+: >x.steps
+completes "check help listing serial simulate" ''
+completes "serial simulate" s
+completes "--build --help --unproved --version -V -h" -
+completes "check help listing serial simulate" --unproved ''
+completes "--turns" serial --t
+completes "folder right.al" check ''
+completes "right.al" check r
+completes "folder x.steps" simulate right.al ''
+completes "folder right.al" serial --turns 3 ''
+completes "" serial --turns ''
+completes "simulate" help si
+
+echo "$count lists of words"
+exit $failed
