@@ -44,7 +44,8 @@ abbrev pub HasNoTokenFault : List Tok → Type 0
 HasNoTokenFault tokens = (code : Code) (start : ℕ) → grammar.IsFault tokens code start → ⊥
 
 -- a true fault of the first pass that has any: of a text, which has one fault of its own at most; of its tokens; of its tree, and there
--- the least; of the lock paths of the program that the tree means, and there the least; or of the order of its locks
+-- the least; of the lock paths of the program that the tree means, and there the least; or of the order of its locks, and there at the
+-- first point that makes the cycle's first edge
 pub data IsOfFirstPass (source : List ℕ) (fault : the_fault.Fault) : Type 0 where
   in_text : text.IsRefusal source (Fault fault) → IsOfFirstPass source fault
   in_tokens : (tokens : List Tok) → HasNoTextFault source → text.HasTokens source tokens
@@ -57,7 +58,7 @@ pub data IsOfFirstPass (source : List ℕ) (fault : the_fault.Fault) : Type 0 wh
       → paths.IsRefusal program (Fault fault) → paths.IsLeast program (Fault fault) → IsOfFirstPass source fault
   in_order : (tokens : List Tok) (tree : List Decl) (program : Typed) → HasNoTextFault source → text.HasTokens source tokens
       → HasNoTokenFault tokens → grammar.HasRightTree tokens tree → names.HasNoFault tree → Resolves tree program
-      → paths.HasNoFault program → order.IsFault program fault → IsOfFirstPass source fault
+      → paths.HasNoFault program → order.IsFaultAtFirst program fault → IsOfFirstPass source fault
 
 -- a text was refused for such a fault, or for want of memory
 abbrev pub IsRefusal : List ℕ → Refusal → Type 0
@@ -67,4 +68,4 @@ IsRefusal source (Fault fault) = IsOfFirstPass source fault
 -- a program was refused for a cycle of its lock classes, or for want of memory
 abbrev pub IsOrderRefusal : Typed → Refusal → Type 0
 IsOrderRefusal program NoMemory = Unit {0}
-IsOrderRefusal program (Fault fault) = order.IsFault program fault
+IsOrderRefusal program (Fault fault) = order.IsFaultAtFirst program fault

@@ -1,6 +1,8 @@
 //! What holds of the meaning of every program: functions that do nothing, and whose contracts are the laws.
 
 ghost use Rattle.core_lang.specs.Laws.{MoreTurnsChangeNothing, HaveAtMostOneWhole, NeverGoAstray, OpeningIsTyped, OverIsWhole, WholeIsOver, SerialOfNone, SerialOfBoth, SerialSplits, QuietCallsChangeNothing, HaveAtMostOneSerial, SettledAreSerial};
+ghost use denote.Param.Send.{IsSync};
+ghost use Rattle.core_lang.specs.contracts.typed.Typed as typed;
 ghost use Rattle.core_lang.specs.Soundness.{ValuesHaveTheirTypes, TestsDecide, EffectsStayTyped};
 
 /// What a run gives with some turns, it gives with more.
@@ -71,4 +73,10 @@ pub fn at_most_one_serial()
 /// The calls that some turns settle are run serially, and the first of the others isn't settled.
 pub fn settled_are_serial()
     ensures { SettledAreSerial }
+{}
+
+/// A program may be lent to many threads at once, by itself and as a part of what is.
+pub fn programs_are_shared()
+    ensures whole { IsSync typed.the_row }
+    ensures part { IsSync (typed.the_field).row }
 {}

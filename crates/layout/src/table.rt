@@ -124,14 +124,16 @@ impl Layout {
         self.sizes[self.numbering.number_of(lock)]
     }
 
-    /// The object that a final reference of an object names.
+    /// The object that a final reference of an object names, if there are both.
     #[inline]
-    pub fn final_of(&self, object: u32, number: u32) -> u32
-        requires { object_named self.now object number ≢ None }
-        ensures { object_named self.now object number ≡ Some result }
+    pub fn final_of(&self, object: u32, number: u32) -> Option<u32>
+        ensures { result ≡ object_named self.now object number }
     {
-        let first = self.numbering.objects[object as usize].first_final;
-        self.finals[first as usize + number as usize]
+        let place = self.numbering.objects.get(object as usize)?;
+        let target = self
+            .finals
+            .get(place.first_final as usize + number as usize)?;
+        Some(*target)
     }
 
     /// The number of a lock: its place in the list of locks.

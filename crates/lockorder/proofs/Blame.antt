@@ -14,9 +14,9 @@ use Rattle.flow.specs.PointList.{point_at}
 use Rattle.flow.specs.declared.points.PointRef.{PointRef}
 use Rattle.locks.specs.Laws.{PathsHaveClasses}
 use Rattle.lockorder.specs.declared.ranks.Edge as written
-use Rattle.lockorder.specs.Edges.{Makes, Edge}
+use Rattle.lockorder.specs.Edges.{Makes, MakesFirst, Edge}
 use Rattle.lockorder.specs.Ranks.{AreRanks, LeadTo}
-use Rattle.lockorder.specs.Faults.{cycle_text, second, StartsAt, IsFault, cycle, HasNoFault, classes_of, AllMake, IsCycleOf}
+use Rattle.lockorder.specs.Faults.{cycle_text, second, StartsAt, cycle, HasNoFault, IsFaultAtFirst, at_first, classes_of, AllMakeFirst, IsCycleOf}
 use Rattle.lockorder.proofs.Rising.{ranks_rise, no_cycle}
 use Rattle.lockorder.proofs.Bridge.{edge_within}
 
@@ -26,12 +26,12 @@ no_fault program ranks well classes are fault (cycle c rest number used bound h 
     (λ b d e. let w = edge_within program well classes b d e in (omega (arith, w.0, are.long), omega (arith, w.1, are.long))) (c ∷ rest) h
 
 module _ (program : Typed) where
-  leads : (first : ℕ) (edges : List written.Edge) → AllMake program first edges → LeadTo (Edge program) first (classes_of edges)
+  leads : (first : ℕ) (edges : List written.Edge) → AllMakeFirst program first edges → LeadTo (Edge program) first (classes_of edges)
   leads first [] m = tt
-  leads first (e ∷ []) m = (e.section, e.used, e.bound, m)
-  leads first (e ∷ f ∷ rest) m = ((e.section, e.used, e.bound, m.0), leads first (f ∷ rest) m.1)
+  leads first (e ∷ []) m = (e.section, e.used, e.bound, m.makes)
+  leads first (e ∷ f ∷ rest) m = ((e.section, e.used, e.bound, m.0.makes), leads first (f ∷ rest) m.1)
 
-  head_makes : (e : written.Edge) (rest : List written.Edge) → AllMake program e.class (e ∷ rest) → Makes program e.section e.used e.bound e.class (second e.class (classes_of rest))
+  head_makes : (e : written.Edge) (rest : List written.Edge) → AllMakeFirst program e.class (e ∷ rest) → MakesFirst program e.section e.used e.bound e.class (second e.class (classes_of rest))
   head_makes e [] m = m
   head_makes e (f ∷ rest) m = m.0
 
@@ -39,13 +39,13 @@ module _ (program : Typed) where
       (d : ℕ) × Makes program first.section first.used first.bound first.class d
   first_makes [] first h e = absurd h
   first_makes (x ∷ rest) first h e =
-      subst (λ (y : written.Edge). (d : ℕ) × Makes program y.section y.used y.bound y.class d) (sym e) (second x.class (classes_of rest), head_makes x rest h.1)
+      subst (λ (y : written.Edge). (d : ℕ) × Makes program y.section y.used y.bound y.class d) (sym e) (second x.class (classes_of rest), (head_makes x rest h.1).makes)
 
   pub is_fault : (edges : List written.Edge) (first : written.Edge) (fault : Fault) → IsCycleOf program edges → first ≡ get_or edges 0 first →
-      StartsAt program first.section first.used fault.start → fault.code ≡ LockOrderCycle → string_bytes fault.detail ≡ cycle_text program (classes_of edges) → IsFault program fault
+      StartsAt program first.section first.used fault.start → fault.code ≡ LockOrderCycle → string_bytes fault.detail ≡ cycle_text program (classes_of edges) → IsFaultAtFirst program fault
   is_fault [] first fault h e starts code detail = absurd h
   is_fault (x ∷ rest) first fault h e starts code detail =
-      cycle x.class (classes_of rest) x.section x.used x.bound (h.0, leads x.class (x ∷ rest) h.1) (head_makes x rest h.1)
+      at_first x.class (classes_of rest) x.section x.used x.bound (h.0, leads x.class (x ∷ rest) h.1) (head_makes x rest h.1)
       (subst (λ (y : written.Edge). StartsAt program y.section y.used fault.start) e starts) code detail
 
   pub used_within : (number used bound c d : ℕ) (s : Section) (items : List PointRef) → Makes program number used bound c d → s ≡ get_or program.sections.items number s →

@@ -1,15 +1,14 @@
--- What makes an edge, binding point after binding point.
-use Rattle.std.proofs.Common.{◌≡◌, ℕ, ◌+◌, ◌<◌, Option, Some, None, IfSome, ◌⊎◌, inl, inr, refl, sym, ◌∙◌, subst, arith}
-use Rattle.std.specs.Prelude.{IsSome, MatchOption}
+-- What makes an edge first, binding point after binding point.
+use Rattle.std.proofs.Common.{◌≡◌, ℕ, ◌+◌, ◌<◌, ◌≤◌, length, Option, Some, None, ◌⊎◌, inl, inr, refl, sym, subst, arith}
+use Rattle.std.specs.Prelude.{MatchOption}
 use Rattle.std.specs.Bool.{Decides}
 use Rattle.std.proofs.lemmas.Bool.{cases_lt}
-use Rattle.std.proofs.lemmas.Option.{none-some}
 use Rattle.locks.specs.declared.path_set.PathSet.{PathSet}
 use Rattle.locks.specs.Sets.{has}
 use Rattle.points.specs.declared.table.Points.{Points}
 use Rattle.lockorder.specs.declared.section_edges.Made.{Made}
-use Rattle.lockorder.specs.Sections.{IsOfClass, IsUseFor, BindsAt, MakesAt, set_at}
-use Rattle.lockorder.proofs.InSection.{shared_class}
+use Rattle.lockorder.specs.Sections.{IsOfClass, IsUseFor, BindsAt, MakesAt, MakesFirstAt, KeepsLower, set_at}
+use Rattle.lockorder.proofs.InSection.{shared_class, set_within}
 
 pub match_none : {X : Type 0} (A : Type 0) (B : X → Type 0) (o : Option X) → MatchOption o A B → ((x : X) → o ≡ Some x → ⊥) → A
 match_none A B None h none = h
@@ -19,33 +18,62 @@ pub made_at : (x : Points) (from to used bound : ℕ) (users : PathSet) → ((i 
     MakesAt x from to used bound
 made_at x from to used bound users of use_for binds = ((shared_class x (set_at x.used.items used) users from of use_for.0, use_for.1), binds)
 
-module _ (x : Points) (from to b : ℕ) (old new : Option Made) where
-  abbrev IsKept : Option Made → Type 0
-  IsKept o = IfSome o (λ m. MakesAt x from to m.used m.bound)
+-- of what makes the edge by binding points below n the first
+pub record IsFirstBelow (x : Points) (from to n : ℕ) (m : Made) : Type 0 where
+  pub makes : MakesAt x from to m.used m.bound
+  pub below : m.bound < n
+  pub lowest_use : (u b : ℕ) → b < n → MakesAt x from to u b → m.used ≤ u
+  pub lowest_binding : (b : ℕ) → b < n → MakesAt x from to m.used b → m.bound ≤ b
 
-  -- what is known behind the binding points below b
-  abbrev Known : Option Made → ℕ → Type 0
-  Known o n = record { made : IsKept o; none : o ≡ None → (u c : ℕ) → c < n → MakesAt x from to u c → ⊥ }
+-- or none, where nothing does
+abbrev pub IsFirstOrNone : Points → ℕ → ℕ → ℕ → Option Made → Type 0
+IsFirstOrNone x from to n least = MatchOption least ((u b : ℕ) → b < n → MakesAt x from to u b → ⊥) (IsFirstBelow x from to n)
 
-  pub making_skip : IsKept old → (old ≡ None → (u c : ℕ) → c < b → MakesAt x from to u c → ⊥) → new ≡ old → ((u : ℕ) → MakesAt x from to u b → ⊥) → Known new (b + 1)
-  making_skip made none same here = record {
-    made = subst IsKept (sym same) made;
-    none = λ e u c lt m. elim (cases_lt c b) [
-      | inl less ↦ none (sym same ∙ e) u c less m
-      | inr ge ↦ let at : c ≡ b = omega arith in here u (subst (MakesAt x from to u) at m)
-    ];
+module _ (x : Points) (from to b : ℕ) where
+  below_or_here : (u c : ℕ) → c < b + 1 → MakesAt x from to u c → ((c < b) × MakesAt x from to u c) ⊎ ((c ≡ b) × MakesAt x from to u b)
+  below_or_here u c lt m = elim (cases_lt c b) [
+    | inl less ↦ inl (less, m)
+    | inr ge ↦ let at : c ≡ b = omega arith in inr (at, subst (MakesAt x from to u) at m)
+  ]
+
+  -- nothing makes it by this point
+  pub making_skip : (least : Option Made) → IsFirstOrNone x from to b least → ((u : ℕ) → MakesAt x from to u b → ⊥) → IsFirstOrNone x from to (b + 1) least
+  making_skip None none here = λ u c lt m. elim (below_or_here u c lt m) [ inl less ↦ none u c less.0 less.1 | inr at ↦ here u at.1 ]
+  making_skip (Some kept) first here = record {
+    makes = first.makes;
+    below = omega (arith, first.below);
+    lowest_use = λ u c lt m. elim (below_or_here u c lt m) [ inl less ↦ first.lowest_use u c less.0 less.1 | inr at ↦ absurd (here u at.1) ];
+    lowest_binding = λ c lt m. elim (below_or_here kept.used c lt m) [ inl less ↦ first.lowest_binding c less.0 less.1 | inr at ↦ absurd (here kept.used at.1) ];
   }
 
-  some_not_none : (o : Option Made) → IsSome o → o ≡ None → ⊥
-  some_not_none None h e = absurd cc
-  some_not_none (Some m) h e = absurd (none-some m (sym e))
+  -- a use makes it by this point, and no lower one
+  module _ (used : ℕ) (here : MakesAt x from to used b) (lowest : (u : ℕ) → MakesAt x from to u b → used ≤ u) where
+    taken : ((u c : ℕ) → c < b → MakesAt x from to u c → used < u) → IsFirstBelow x from to (b + 1) (record { used = used; bound = b })
+    taken higher = record {
+      makes = here;
+      below = omega arith;
+      lowest_use = λ u c lt m. elim (below_or_here u c lt m) [ inl less ↦ omega (arith, higher u c less.0 less.1) | inr at ↦ lowest u at.1 ];
+      lowest_binding = λ c lt m. elim (below_or_here used c lt m) [ inl less ↦ absurd (omega (arith, higher used c less.0 less.1)) | inr at ↦ omega (arith, at.0) ];
+    }
 
-  pub making_take : (used : ℕ) → IsKept old → MakesAt x from to used b → (new ≡ Some (record { used = used; bound = b })) ⊎ ((new ≡ old) × IsSome old) → Known new (b + 1)
-  making_take used made here (inl e) = record {
-    made = subst IsKept (sym e) here;
-    none = λ f. absurd (none-some (record { used = used; bound = b }) (sym f ∙ e));
-  }
-  making_take used made here (inr e) = record {
-    made = subst IsKept (sym e.0) made;
-    none = λ f. absurd (some_not_none old e.1 (sym e.0 ∙ f));
-  }
+    kept_on : (kept : Made) → kept.used ≤ used → IsFirstBelow x from to b kept → IsFirstBelow x from to (b + 1) kept
+    kept_on kept le first = record {
+      makes = first.makes;
+      below = omega (arith, first.below);
+      lowest_use = λ u c lt m. elim (below_or_here u c lt m) [ inl less ↦ first.lowest_use u c less.0 less.1 | inr at ↦ omega (arith, le, lowest u at.1) ];
+      lowest_binding = λ c lt m. elim (below_or_here kept.used c lt m) [ inl less ↦ first.lowest_binding c less.0 less.1 | inr at ↦ omega (arith, first.below, at.0) ];
+    }
+
+    pub making_take : (old new : Option Made) → IsFirstOrNone x from to b old → KeepsLower old new (record { used = used; bound = b }) → IsFirstOrNone x from to (b + 1) new
+    making_take None new none e = subst (IsFirstOrNone x from to (b + 1)) (sym e) (taken (λ u c lt m. absurd (none u c lt m)))
+    making_take (Some kept) new first (inl (less, e)) =
+        subst (IsFirstOrNone x from to (b + 1)) (sym e) (taken (λ u c lt m. omega (arith, less, first.lowest_use u c lt m)))
+    making_take (Some kept) new first (inr (le, e)) = subst (IsFirstOrNone x from to (b + 1)) (sym e) (kept_on kept le first)
+
+-- behind all points
+pub made_first : (x : Points) (from to n : ℕ) (m : Made) → length x.bound.items ≤ n → IsFirstBelow x from to n m → MakesFirstAt x from to m.used m.bound
+made_first x from to n m all first = record {
+  makes = first.makes;
+  lowest_use = λ u b h. first.lowest_use u b (omega (arith, all, set_within x.bound.items b h.1.0 h.1.1)) h;
+  lowest_binding = λ b h. first.lowest_binding b (omega (arith, all, set_within x.bound.items b h.1.0 h.1.1)) h;
+}

@@ -9,11 +9,11 @@ use Rattle.std.proofs.lemmas.List.{get_or-set_same, get_or-set_other, get_or_rea
 use Rattle.core_lang.specs.declared.typed.Typed.{Typed}
 use Rattle.points.specs.declared.table.Points.{Points}
 use Rattle.lockorder.specs.declared.ranks.Edge as written
-use Rattle.lockorder.specs.Edges.{Makes, Edge}
+use Rattle.lockorder.specs.Edges.{Makes, MakesFirst, Edge}
 use Rattle.lockorder.specs.Ranks.{AreDistinct, LeadTo, IsCycle}
-use Rattle.lockorder.specs.Faults.{classes_of, AllMake, IsCycleOf}
-use Rattle.lockorder.specs.Sections.{MakesSomewhere, MakesAt}
-use Rattle.lockorder.specs.Tellings.{follower, told_at, IsToldMore, IsTold, AreTold}
+use Rattle.lockorder.specs.Faults.{classes_of, AllMakeFirst, IsCycleOf}
+use Rattle.lockorder.specs.Sections.{MakesSomewhere, MakesAt, MakesFirstAt}
+use Rattle.lockorder.specs.Tellings.{follower, told_at, IsNotMade, IsToldMore, IsTold, AreTold}
 
 -- ---- one section
 
@@ -49,7 +49,7 @@ module _ (x : Points) (section : ℕ) (cycle : List ℕ) (old now : List (Option
       below : (i : ℕ) → i ≢ p → i < p + 1 → i < p
       below i ne lt = elim (cases_lt i p) [ inl less ↦ less | inr ge ↦ let e : i ≡ p = omega arith in absurd (ne e) ]
 
-  pub tell_here : (new : List (Option written.Edge)) (used bound : ℕ) → p < length now → told_at now p ≡ None → MakesAt x (slice_index cycle p) (follower cycle p) used bound →
+  pub tell_here : (new : List (Option written.Edge)) (used bound : ℕ) → p < length now → told_at now p ≡ None → MakesFirstAt x (slice_index cycle p) (follower cycle p) used bound →
       new ≡ set now p (Some (record { class = slice_index cycle p; section = section; used = used; bound = bound })) → AreToldBelow x section cycle old new (p + 1)
   tell_here new used bound lt none m e =
       let edge : written.Edge = record { class = slice_index cycle p; section = section; used = used; bound = bound } in
@@ -75,10 +75,20 @@ tell_starts x section cycle old = record { long = refl; told = λ i lt. absurd (
 -- ---- one section more
 
 module _ (program : Typed) (k : ℕ) (x : Points) (makes : (c d used bound : ℕ) → MakesAt x c d used bound → Makes program k used bound c d)
+    (made_at : (c d used bound : ℕ) → Makes program k used bound c d → MakesAt x c d used bound)
     (made : (c d used bound : ℕ) → Makes program k used bound c d → MakesSomewhere x c d) where
+  -- none of the sections before this one makes it
+  made_first : (c d used bound : ℕ) → IsNotMade program k c d → MakesFirstAt x c d used bound → MakesFirst program k used bound c d
+  made_first c d used bound none m = record {
+    makes = makes c d used bound m.makes;
+    lowest_section = λ n u b h. elim (cases_lt n k) [ inl less ↦ absurd (none n u b less h) | inr ge ↦ ge ];
+    lowest_use = λ u b h. m.lowest_use u b (made_at c d u b h);
+    lowest_binding = λ b h. m.lowest_binding b (made_at c d used b h);
+  }
+
   told_more : (c d : ℕ) (old new : Option written.Edge) → IsTold program k c d old → IsToldMore x k c d old new → IsTold program (k + 1) c d new
   told_more c d (Some e) new t m = subst (IsTold program (k + 1) c d) (sym m) t
-  told_more c d None new t (inl (used, bound, e, m)) = subst (IsTold program (k + 1) c d) (sym e) (refl, makes c d used bound m)
+  told_more c d None new t (inl (used, bound, e, m)) = subst (IsTold program (k + 1) c d) (sym e) (refl, made_first c d used bound t m)
   told_more c d None new t (inr (e, none)) = subst (IsTold program (k + 1) c d) (sym e) (λ j used bound lt m. elim (cases_lt j k) [
     | inl less ↦ t j used bound less m
     | inr ge ↦ let at : j ≡ k = omega arith in none (made c d used bound (subst (λ n. Makes program n used bound c d) at m))
@@ -133,12 +143,12 @@ module _ (program : Typed) where
   -- the edges, place by place
   abbrev AreMade : ℕ → List ℕ → List written.Edge → Type 0
   AreMade first cycle edges =
-      (i : ℕ) (e : written.Edge) → slice_get edges i ≡ Some e → (e.class ≡ slice_index cycle i) × Makes program e.section e.used e.bound (slice_index cycle i) (get_or cycle (suc i) first)
+      (i : ℕ) (e : written.Edge) → slice_get edges i ≡ Some e → (e.class ≡ slice_index cycle i) × MakesFirst program e.section e.used e.bound (slice_index cycle i) (get_or cycle (suc i) first)
 
-  made_of : (c d sections : ℕ) (o : Option written.Edge) (e : written.Edge) → IsTold program sections c d o → o ≡ Some e → (e.class ≡ c) × Makes program e.section e.used e.bound c d
+  made_of : (c d sections : ℕ) (o : Option written.Edge) (e : written.Edge) → IsTold program sections c d o → o ≡ Some e → (e.class ≡ c) × MakesFirst program e.section e.used e.bound c d
   made_of c d sections None e t is = absurd (none-some e is)
   made_of c d sections (Some f) e t is =
-      let same : f ≡ e = same_Some f e is in subst (λ (y : written.Edge). (y.class ≡ c) × Makes program y.section y.used y.bound c d) same t
+      let same : f ≡ e = same_Some f e is in subst (λ (y : written.Edge). (y.class ≡ c) × MakesFirst program y.section y.used y.bound c d) same t
 
   told_of : (edges : List written.Edge) (i : ℕ) (e : written.Edge) → slice_get edges i ≡ Some e → told_at (map Some edges) i ≡ Some e
   told_of [] i e is = absurd (none-some e is)
@@ -152,17 +162,17 @@ module _ (program : Typed) where
   classes_are (c ∷ cycle) (e ∷ edges) first long m =
       ap (λ n. n ∷ classes_of edges) (m 0 e refl).0 ∙ ap (λ l. c ∷ l) (classes_are cycle edges first (omega arith) (λ i f is. m (suc i) f is))
 
-  all_make : (cycle : List ℕ) (edges : List written.Edge) (first : ℕ) → length edges ≡ length cycle → AreMade first cycle edges → AllMake program first edges
+  all_make : (cycle : List ℕ) (edges : List written.Edge) (first : ℕ) → length edges ≡ length cycle → AreMade first cycle edges → AllMakeFirst program first edges
   all_make cycle [] first long m = tt
   all_make [] (e ∷ edges) first long m = absurd (omega arith)
   all_make (c ∷ []) (e ∷ []) first long m =
-      let h = m 0 e refl in subst (λ n. Makes program e.section e.used e.bound n first) (sym h.0) h.1
+      let h = m 0 e refl in subst (λ n. MakesFirst program e.section e.used e.bound n first) (sym h.0) h.1
   all_make (c ∷ d ∷ cycle) (e ∷ []) first long m = absurd (omega arith)
   all_make (c ∷ []) (e ∷ f ∷ edges) first long m = absurd (omega arith)
   all_make (c ∷ d ∷ cycle) (e ∷ f ∷ edges) first long m =
       let h = m 0 e refl in
       let g = m 1 f refl in (
-        subst (λ n. Makes program e.section e.used e.bound n f.class) (sym h.0) (subst (λ n. Makes program e.section e.used e.bound c n) (sym g.0) h.1),
+        subst (λ n. MakesFirst program e.section e.used e.bound n f.class) (sym h.0) (subst (λ n. MakesFirst program e.section e.used e.bound c n) (sym g.0) h.1),
         all_make (d ∷ cycle) (f ∷ edges) first (omega arith) (λ i y is. m (suc i) y is),
       )
 
@@ -176,7 +186,7 @@ module _ (program : Typed) where
       let inside : i < length (c ∷ cycle) = omega (arith, long, slice_get_within (e ∷ edges) i f is) in
       let m = made_of (slice_index (c ∷ cycle) i) (follower (c ∷ cycle) i) sections (told_at told i) f (t.each i inside) (ap (λ l. told_at l i) (sym same) ∙ told_of (e ∷ edges) i f is) in
       let next : i + 1 ≡ suc i = omega arith in
-      (m.0, subst (λ n. Makes program f.section f.used f.bound (slice_index (c ∷ cycle) i) (get_or (c ∷ cycle) n c)) next m.1) in
+      (m.0, subst (λ n. MakesFirst program f.section f.used f.bound (slice_index (c ∷ cycle) i) (get_or (c ∷ cycle) n c)) next m.1) in
       let classes = classes_are (c ∷ cycle) (e ∷ edges) c long made in
       let first : e.class ≡ c = (made 0 e refl).0 in
-      (subst AreDistinct (sym classes) h.0, subst (λ n. AllMake program n (e ∷ edges)) (sym first) (all_make (c ∷ cycle) (e ∷ edges) c long made))
+      (subst AreDistinct (sym classes) h.0, subst (λ n. AllMakeFirst program n (e ∷ edges)) (sym first) (all_make (c ∷ cycle) (e ∷ edges) c long made))

@@ -1,5 +1,5 @@
 -- Which lock classes have to come before which.
-use Rattle.std.specs.Prelude.{◌≡◌, ◌⊎◌, ℕ, List, length, slice_get, Some}
+use Rattle.std.specs.Prelude.{◌≡◌, ◌⊎◌, ◌≤◌, ℕ, List, length, slice_get, Some}
 use Rattle.core_lang.specs.declared.tree.Section.{Section}
 use Rattle.core_lang.specs.declared.typed.Typed.{Typed}
 use Rattle.flow.specs.Skeletons.{skeleton}
@@ -24,6 +24,14 @@ pub record Makes (program : Typed) (number used bound c d : ℕ) : Type 0 where
   pub uses : UsesClass program section used c
   pub binds : BindsClass program section bound d
   pub order : (used ≡ bound) ⊎ Before (skeleton section) used bound
+
+-- and these are the first that make the edge: no lower section does; in this section no lower use does, and with this use no lower
+-- binding
+pub record MakesFirst (program : Typed) (number used bound c d : ℕ) : Type 0 where
+  pub makes : Makes program number used bound c d
+  pub lowest_section : (n u b : ℕ) → Makes program n u b c d → number ≤ n
+  pub lowest_use : (u b : ℕ) → Makes program number u b c d → used ≤ u
+  pub lowest_binding : (b : ℕ) → Makes program number used b c d → bound ≤ b
 
 -- locks of class c have to be taken before those of class d
 abbrev pub Edge : Typed → ℕ → ℕ → Type 0

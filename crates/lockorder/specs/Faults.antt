@@ -9,7 +9,7 @@ use Rattle.locks.specs.Texts.{class_name}
 use Rattle.lockorder.specs.declared.ranks.Edge as written
 use Rattle.lockorder.specs.declared.ranks.OrderRefusal.{OrderRefusal}
 use Rattle.lockorder.specs.declared.ranks.OrderRefusal.TheVariants as refusal
-use Rattle.lockorder.specs.Edges.{Makes, Edge}
+use Rattle.lockorder.specs.Edges.{Makes, MakesFirst, Edge}
 use Rattle.lockorder.specs.Ranks.{AreDistinct, IsCycle}
 
 -- ---- the text
@@ -45,6 +45,12 @@ pub data IsFault (program : Typed) (fault : Fault) : Type 0 where
       → Makes program number used bound c (second c rest) → StartsAt program number used fault.start
       → fault.code ≡ LockOrderCycle → string_bytes fault.detail ≡ cycle_text program (c ∷ rest) → IsFault program fault
 
+-- the same at the first such point: of the lowest section that makes that edge the lowest whose use does
+pub data IsFaultAtFirst (program : Typed) (fault : Fault) : Type 0 where
+  at_first : (c : ℕ) (rest : List ℕ) (number used bound : ℕ) → IsCycle (Edge program) (c ∷ rest)
+      → MakesFirst program number used bound c (second c rest) → StartsAt program number used fault.start
+      → fault.code ≡ LockOrderCycle → string_bytes fault.detail ≡ cycle_text program (c ∷ rest) → IsFaultAtFirst program fault
+
 abbrev pub HasNoFault : Typed → Type 0
 HasNoFault program = (fault : Fault) → IsFault program fault → ⊥
 
@@ -53,16 +59,17 @@ HasNoFault program = (fault : Fault) → IsFault program fault → ⊥
 abbrev pub classes_of : List written.Edge → List ℕ
 classes_of edges = map (λ (e : written.Edge). e.class) edges
 
--- each edge is made by what it names, and leads from its class to the next one's, or from the last to this class
-abbrev pub AllMake : Typed → ℕ → List written.Edge → Type 0
-AllMake program first [] = ⊤
-AllMake program first (e ∷ []) = Makes program e.section e.used e.bound e.class first
-AllMake program first (e ∷ f ∷ rest) = Makes program e.section e.used e.bound e.class f.class × AllMake program first (f ∷ rest)
+-- each edge is made first by what it names, and leads from its class to the next one's, or from the last to this class
+abbrev pub AllMakeFirst : Typed → ℕ → List written.Edge → Type 0
+AllMakeFirst program first [] = ⊤
+AllMakeFirst program first (e ∷ []) = MakesFirst program e.section e.used e.bound e.class first
+AllMakeFirst program first (e ∷ f ∷ rest) =
+    MakesFirst program e.section e.used e.bound e.class f.class × AllMakeFirst program first (f ∷ rest)
 
 -- one or more edges, from distinct classes
 abbrev pub IsCycleOf : Typed → List written.Edge → Type 0
 IsCycleOf program [] = ⊥
-IsCycleOf program (e ∷ rest) = AreDistinct (classes_of (e ∷ rest)) × AllMake program e.class (e ∷ rest)
+IsCycleOf program (e ∷ rest) = AreDistinct (classes_of (e ∷ rest)) × AllMakeFirst program e.class (e ∷ rest)
 
 -- the refusal names a cycle, or is for want of memory
 abbrev pub IsRefusal : Typed → OrderRefusal → Type 0

@@ -5,6 +5,6 @@ pub mod Tables
 pub mod Reached
 pub mod Sections
 pub mod Tellings
-pub use Rattle.lockorder.specs.Edges.{Makes, Edge, AreRanksOf, RiseIn}
+pub use Rattle.lockorder.specs.Edges.{Makes, MakesFirst, Edge, AreRanksOf, RiseIn}
 pub use Rattle.lockorder.specs.Ranks.{IsRankList, AreRanks, Rise, IsCycle}
-pub use Rattle.lockorder.specs.Faults.{cycle_text, IsFault, HasNoFault, IsCycleOf, IsRefusal}
+pub use Rattle.lockorder.specs.Faults.{cycle_text, IsFault, HasNoFault, IsFaultAtFirst, IsCycleOf, IsRefusal}

@@ -1,11 +1,12 @@
 -- Edges of one section by the sets of paths at its points. Nobody has to believe these: what makes an edge, says `Edges`.
-use Rattle.std.specs.Prelude.{◌≡◌, ◌⊎◌, ◌||◌, ◌<◌, ◌+◌, ℕ, Bool, true, false, List, [], ◌∷◌, slice_get, slice_index_or, Some, Option, MatchOption}
+use Rattle.std.specs.Prelude.{◌≡◌, ◌⊎◌, ◌||◌, ◌<◌, ◌≤◌, ◌+◌, ℕ, Bool, true, false, List, [], ◌∷◌, slice_get, slice_index_or, Some, None, Option, MatchOption}
 use Rattle.std.specs.List.{All, Contains}
 use Rattle.flow.specs.Flow.{Plus}
 use Rattle.locks.specs.declared.path_set.PathSet.{PathSet}
 use Rattle.locks.specs.Sets.{has}
 use Rattle.points.specs.declared.table.Points.{Points}
 use Rattle.lockorder.specs.declared.class_set.ClassSet.{ClassSet}
+use Rattle.lockorder.specs.declared.section_edges.Made.{Made}
 use Rattle.lockorder.specs.Tables.{InSet}
 
 -- ---- sets of paths
@@ -58,6 +59,18 @@ UsesFor x c bound used = UsesAt x used c × ((used ≡ bound) ⊎ ComesBefore x.
 abbrev pub MakesAt : Points → ℕ → ℕ → ℕ → ℕ → Type 0
 MakesAt x c d used bound = UsesFor x c bound used × BindsAt x bound d
 
+-- and none do so by a lower use, or by that use and a lower binding
+pub record MakesFirstAt (x : Points) (c d used bound : ℕ) : Type 0 where
+  pub makes : MakesAt x c d used bound
+  pub lowest_use : (u b : ℕ) → MakesAt x c d u b → used ≤ u
+  pub lowest_binding : (b : ℕ) → MakesAt x c d used b → bound ≤ b
+
+-- of what is kept and a further use and binding the one with the lower use, of two with the same what is kept
+abbrev pub KeepsLower : Option Made → Option Made → Made → Type 0
+KeepsLower None new made = new ≡ Some made
+KeepsLower (Some kept) new made =
+    ((made.used < kept.used) × (new ≡ Some made)) ⊎ ((kept.used ≤ made.used) × (new ≡ Some kept))
+
 -- ---- points that come before a target
 
 abbrev pub is_found : List Bool → ℕ → Bool
@@ -88,9 +101,13 @@ LeadBetween points pairs = All (λ pair. (pair.0 < points) × (pair.1 < points))
 abbrev pub IsUseFor : Points → PathSet → ℕ → ℕ → Type 0
 IsUseFor x users bound u = Share (set_at x.used.items u) users × ((u ≡ bound) ⊎ ComesBefore x.pairs.items u bound)
 
--- the lowest such point, or none where there is none
+-- the lowest such point
+abbrev pub IsFirstUseFor : Points → PathSet → ℕ → ℕ → Type 0
+IsFirstUseFor x users bound u = IsUseFor x users bound u × ((v : ℕ) → IsUseFor x users bound v → u ≤ v)
+
+-- or none where there is none
 abbrev pub IsUseOrNone : Points → PathSet → ℕ → Option ℕ → Type 0
-IsUseOrNone x users bound used = MatchOption used ((u : ℕ) → IsUseFor x users bound u → ⊥) (IsUseFor x users bound)
+IsUseOrNone x users bound used = MatchOption used ((u : ℕ) → IsUseFor x users bound u → ⊥) (IsFirstUseFor x users bound)
 
 -- the paths that are used at a point or before it
 abbrev pub AreUsedSoFar : Points → ℕ → PathSet → Type 0

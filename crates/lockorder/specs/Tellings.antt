@@ -3,8 +3,8 @@ use Rattle.std.specs.Prelude.{◌≡◌, ◌⊎◌, ◌<◌, ◌+◌, ℕ, List,
 use Rattle.core_lang.specs.declared.typed.Typed.{Typed}
 use Rattle.points.specs.declared.table.Points.{Points}
 use Rattle.lockorder.specs.declared.ranks.Edge.{Edge}
-use Rattle.lockorder.specs.Edges.{Makes}
-use Rattle.lockorder.specs.Sections.{MakesSomewhere, MakesAt}
+use Rattle.lockorder.specs.Edges.{Makes, MakesFirst}
+use Rattle.lockorder.specs.Sections.{MakesSomewhere, MakesAt, MakesFirstAt}
 
 -- the class to which the edge from that at a place leads
 abbrev pub follower : List ℕ → ℕ → ℕ
@@ -13,10 +13,10 @@ follower cycle i = slice_index_or cycle (i + 1) (slice_index cycle 0)
 abbrev pub told_at : List (Option Edge) → ℕ → Option Edge
 told_at told i = slice_index_or told i None
 
--- the edge is told of this section, by what makes it there
+-- the edge is told of this section, by what makes it there first
 abbrev pub IsToldHere : Points → ℕ → ℕ → ℕ → Option Edge → Type 0
 IsToldHere x section c d told =
-    (used bound : ℕ) × (told ≡ Some (record { class = c; section = section; used = used; bound = bound })) × MakesAt x c d used bound
+    (used bound : ℕ) × (told ≡ Some (record { class = c; section = section; used = used; bound = bound })) × MakesFirstAt x c d used bound
 
 -- what was told stays; else it is told of this section, or the section doesn't make it and nothing is told
 abbrev pub IsToldMore : Points → ℕ → ℕ → ℕ → Option Edge → Option Edge → Type 0
@@ -38,10 +38,10 @@ MakesBySome x = (c d : ℕ) → MakesSomewhere x c d → (used bound : ℕ) × M
 abbrev pub IsNotMade : Typed → ℕ → ℕ → ℕ → Type 0
 IsNotMade program sections c d = (k used bound : ℕ) → k < sections → Makes program k used bound c d → ⊥
 
--- what is told makes the edge; nothing is told where none of so many sections does
+-- what is told is the first that makes the edge; nothing is told where none of so many sections does
 abbrev pub IsTold : Typed → ℕ → ℕ → ℕ → Option Edge → Type 0
 IsTold program sections c d told =
-    MatchOption told (IsNotMade program sections c d) (λ e. (e.class ≡ c) × Makes program e.section e.used e.bound c d)
+    MatchOption told (IsNotMade program sections c d) (λ e. (e.class ≡ c) × MakesFirst program e.section e.used e.bound c d)
 
 -- of each edge of the cycle
 pub record AreTold (program : Typed) (sections : ℕ) (cycle : List ℕ) (told : List (Option Edge)) : Type 0 where

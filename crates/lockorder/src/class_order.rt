@@ -39,7 +39,7 @@ fn table(alloc: Global, program: &Typed, paths: &Paths) -> Result<Table, NoMemor
     Ok(table)
 }
 
-// The edges of a cycle, with what makes each.
+// The edges of a cycle, with what makes each first.
 fn told(
     alloc: Global,
     program: &Typed,
@@ -77,7 +77,7 @@ pub fn order(alloc: Global, program: &Typed, paths: &Paths) -> Result<Ranks, Ord
     ensures rise { IfOk result (λ ranks. RiseIn program.now ranks.items) }
     // A program with a cycle is never accepted.
     ensures faultless { OnOk result (HasNoFault program.now) }
-    // The cycle is one of distinct classes, and what is told of each edge makes it.
+    // The cycle is one of distinct classes, and what is told of each edge is the first that makes it.
     ensures cycle { IfErr result (IsRefusal program.now) }
 {
     // The law tells that each edge is one between classes of the program.

@@ -1,7 +1,7 @@
 //! The fault of a cycle.
 
 ghost use Rattle.std.specs.Prelude.{◌≡◌, IfOk};
-ghost use Rattle.lockorder.specs.Faults.{IsCycleOf, IsFault};
+ghost use Rattle.lockorder.specs.Faults.{IsCycleOf, IsFaultAtFirst};
 
 use crate::ranks::Cycle;
 use crate::text::cycle_text;
@@ -12,11 +12,11 @@ use source::memory::NoMemory;
 use std::alloc::Global;
 
 impl Cycle {
-    /// The fault `E14` of a program for this cycle of it, at the statement of the first edge's use point; its detail is the
-    /// classes, as `A.l -> B.m -> A.l`.
+    /// The fault `E14` of a program for this cycle of it, at the statement of the first edge's use point: in the lowest
+    /// section that makes the edge, the lowest that does. Its detail is the classes, as `A.l -> B.m -> A.l`.
     pub fn fault(&self, alloc: Global, program: &Typed) -> Result<Fault, NoMemory>
         requires { IsCycleOf program.now self.now.edges.items }
-        ensures { IfOk result (IsFault program.now) }
+        ensures { IfOk result (IsFaultAtFirst program.now) }
     {
         let first = self.edges[0];
         let points = points_of(alloc, &program.sections[first.section])?;

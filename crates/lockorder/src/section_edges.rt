@@ -1,11 +1,11 @@
 //! The edges that one section makes.
 
-ghost use Rattle.std.specs.Prelude.{◌≡◌, ◌<◌, ◌⊎◌, ℕ, length, Some, IsSome, IfOk};
+ghost use Rattle.std.specs.Prelude.{◌≡◌, ◌<◌, ℕ, length, IfOk};
 ghost use Rattle.std.specs.Bool.{Decides};
 ghost use Rattle.std.specs.List.{All};
 ghost use Rattle.locks.specs.Sets.{has};
 ghost use Rattle.lockorder.specs.Tables.{InSet, has_class, AddsEdges};
-ghost use Rattle.lockorder.specs.Sections.{AreUsedSoFar, HasClass, IsOfClass, IsUseOrNone, LeadBetween, LeadsToRoots, MakesAt, MakesSomewhere};
+ghost use Rattle.lockorder.specs.Sections.{AreUsedSoFar, HasClass, IsOfClass, IsUseOrNone, KeepsLower, LeadBetween, LeadsToRoots, MakesAt, MakesFirstAt, MakesSomewhere};
 
 use crate::before::{leads_on, points_before};
 use crate::class_set::ClassSet;
@@ -134,7 +134,7 @@ impl<'a> SectionEdges<'a> {
     pub fn first_made(&self, alloc: Global, from: usize, to: usize) -> Result<Made, NoMemory>
         requires pairs { LeadBetween (length self.now.points.now.used.items) self.now.points.now.pairs.items }
         requires made { (used bound : ℕ) × MakesAt self.now.points.now from to used bound }
-        ensures { IfOk result (λ made. MakesAt self.now.points.now from to made.used made.bound) }
+        ensures { IfOk result (λ made. MakesFirstAt self.now.points.now from to made.used made.bound) }
     {
         let users = self.paths_of(from);
         let roots = self.paths_of(to);
@@ -155,7 +155,7 @@ impl<'a> SectionEdges<'a> {
 
 // Keeps of two the one with the lower use, of two with the same the first.
 fn note(least: &mut Option<Made>, made: Made)
-    ensures { (least.new ≡ Some made) ⊎ (least.new ≡ least.old × IsSome least.old) }
+    ensures { KeepsLower least.old least.new made }
 {
     match *least {
         Some(kept) => {

@@ -3,3 +3,4 @@ pub mod Depths
 pub mod Pushes
 pub mod Most
 pub mod Determined
+mod Crossing

@@ -1,5 +1,7 @@
 //! What holds of a compiled program: functions that do nothing, and whose contracts are the laws.
 
+ghost use denote.Param.Send.{IsSync};
+ghost use Rattle.lowering.specs.contracts.compiled.Program as program;
 ghost use Rattle.lowering.specs.Plans.{CodesBehave};
 ghost use Rattle.lowering.specs.PlanLaws.{NothingIsTaken, ListsDependOnTheSection, RanksStay};
 
@@ -27,3 +29,11 @@ pub fn sections_stand_alone()
 pub fn ranks_stay()
     ensures { RanksStay }
 {}
+
+/// A compiled program may be lent to many threads at once, by itself and as a part of what is.
+pub fn programs_are_shared()
+    ensures whole { IsSync program.the_row }
+    ensures part { IsSync (program.the_field).row }
+{
+    core_lang::laws::programs_are_shared();
+}

@@ -1,6 +1,6 @@
 -- How the code keeps an open section. Nobody has to believe this file.
-use Rattle.std.specs.Prelude.{◌≡◌, ◌≤◌, ℕ, ℤ, Bool, List, [], length, Option, Some, None, vec_capacity}
-use Rattle.std.specs.List.{sum_by, All}
+use Rattle.std.specs.Prelude.{◌≡◌, ◌≤◌, ℕ, Bool, List, [], length, Option, Some, None, vec_capacity}
+use Rattle.std.specs.List.{sum_by}
 use Rattle.core_lang.specs.declared.value.Value.{Value}
 use Rattle.core_lang.specs.declared.value.Outcome.{Outcome}
 use Rattle.core_lang.specs.Serial.{Invocation}
@@ -17,7 +17,7 @@ use Rattle.lowering.specs.Compiled.{IsRoomAt}
 use Rattle.worlds.specs.Worlds.{activation, locals_at}
 use Rattle.section_machine.specs.Machines.{RunOf, at_first}
 use Rattle.lock_manager.specs.Managers.{Managed}
-use Rattle.moved_cells.specs.Grants.{GrantOf, IsWhole, locks_of}
+use Rattle.moved_cells.specs.Grants.{GrantOf}
 use Rattle.history.specs.Commits.{Commit}
 use Rattle.held_cells.specs.Held.{cells_granted}
 use Rattle.runner.specs.declared.open.Prepared.{Prepared}

@@ -28,7 +28,7 @@ impl<'a> Asker<'a> {
         let Some(path) = paths.paths.get(number as usize) else {
             return None;
         };
-        lock_named(path, &self.program.typed().shape, self.locals)
+        lock_named(path, self.program, self.locals)
     }
 
     // Puts the lock of a lock path in, unless it is held.

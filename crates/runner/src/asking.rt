@@ -8,27 +8,26 @@ ghost use Rattle.locks.specs.LockPaths as of_paths;
 ghost use Rattle.layout.specs.LockCells as cells;
 ghost use Rattle.worlds.specs.Asking as asking;
 
-use core_lang::shape::Shape;
 use core_lang::value::Value;
 use locks::lock::Lock;
 use locks::path::{LockPath, Root};
+use lowering::compiled::Program;
 
 // The object that a final reference of an object names.
-fn final_of(shape: &Shape, object: u32, number: u32) -> Option<u32>
-    ensures { result ≡ paths_of_finals.final_of shape.now object number }
+fn final_of(program: &Program, object: u32, number: u32) -> Option<u32>
+    ensures { result ≡ paths_of_finals.final_of program.now.program.shape object number }
 {
-    let object = shape.objects.get(object as usize)?;
-    let target = shape.finals.get(object.finals as usize + number as usize)?;
-    Some(*target)
+    let _typed = program.typed();
+    program.layout().final_of(object, number)
 }
 
 // The object to which final references lead from an object.
-fn led_to(shape: &Shape, object: u32, finals: &[u32]) -> Option<u32>
-    ensures { result ≡ paths_of_finals.led_to shape.now object finals.now }
+fn led_to(program: &Program, object: u32, finals: &[u32]) -> Option<u32>
+    ensures { result ≡ paths_of_finals.led_to program.now.program.shape object finals.now }
 {
     let mut reached = object;
     for number in finals {
-        reached = final_of(shape, reached, *number)?;
+        reached = final_of(program, reached, *number)?;
     }
     Some(reached)
 }
@@ -44,17 +43,17 @@ fn named(value: Value) -> Option<u32>
 }
 
 // The object to which final references lead from the one that a local names.
-fn object_at(shape: &Shape, locals: &[Value], local: usize, finals: &[u32]) -> Option<u32>
-    ensures { result ≡ of_paths.object_at shape.now locals.now local finals.now }
+fn object_at(program: &Program, locals: &[Value], local: usize, finals: &[u32]) -> Option<u32>
+    ensures { result ≡ of_paths.object_at program.now.program.shape locals.now local finals.now }
 {
     let value = locals.get(local)?;
     let object = named(*value)?;
-    led_to(shape, object, finals)
+    led_to(program, object, finals)
 }
 
 // The lock that a path names, if its root isn't null.
-pub(crate) fn lock_named(path: &LockPath, shape: &Shape, locals: &[Value]) -> Option<Lock>
-    ensures { result ≡ of_paths.lock_named (of_paths.lock_path_of path.now) shape.now locals.now }
+pub(crate) fn lock_named(path: &LockPath, program: &Program, locals: &[Value]) -> Option<Lock>
+    ensures { result ≡ of_paths.lock_named (of_paths.lock_path_of path.now) program.now.program.shape locals.now }
 {
     match path.root {
         Root::GlobalLock => Some(Lock {
@@ -62,7 +61,7 @@ pub(crate) fn lock_named(path: &LockPath, shape: &Shape, locals: &[Value]) -> Op
             object: 0,
         }),
         Root::Local(local) => {
-            let object = object_at(shape, locals, local, &path.finals)?;
+            let object = object_at(program, locals, local, &path.finals)?;
             Some(Lock {
                 class: path.class,
                 object,

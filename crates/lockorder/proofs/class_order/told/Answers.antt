@@ -3,7 +3,7 @@ use Rattle.std.specs.Prelude.{slice_index}
 use Rattle.lockorder.specs.Tellings.{IsToldMore, follower, told_at}
 use Rattle.std.proofs.lemmas.Option.{slice_get_within}
 use Rattle.lockorder.proofs.Lists.{item_at}
-use Rattle.lockorder.proofs.Bridge.{pairs_within, made_somewhere, at_makes, makes_somewhere}
+use Rattle.lockorder.proofs.Bridge.{pairs_within, made_somewhere, at_makes, makes_at_points, makes_somewhere}
 use Rattle.lockorder.proofs.Tells.{none_are_told, are_told_more, all_told, told_cycle}
 use Rattle.lockorder.proofs.class_order.told.Goals as goal
 
@@ -42,6 +42,7 @@ loop-section-preserved c =
       told =
           are_told_more program k x
           (at_makes program c.requires.program c.each_path_once.ensures.listed c.paths_have_classes.ensures c.pairs_lead_between_points.ensures.within k s.0 s.1 x are)
+          (λ b d u v m. makes_at_points program c.requires.program c.each_path_once.ensures.listed c.paths_have_classes.ensures c.pairs_lead_between_points.ensures.within k s.0 s.1 x are u v b d m)
           (λ b d u v m. makes_somewhere program c.requires.program c.each_path_once.ensures.listed c.paths_have_classes.ensures c.pairs_lead_between_points.ensures.within k s.0 s.1 x are u v b d m)
           c.args.cycle.now c.loop-section.telling.told.items c.tell.new.self.told.items i.told c.in_ok-tell.ensures.long
           (subst

@@ -1,5 +1,5 @@
 use Rattle.std.proofs.Common.{◌<◌, List, Bool, length, inl, inr, sym, subst, arith}
-use Rattle.std.proofs.lemmas.Bool.{both_ways}
+use Rattle.std.proofs.lemmas.Bool.{both_ways, cases_lt}
 use Rattle.locks.specs.declared.path_set.PathSet.{PathSet}
 use Rattle.lockorder.specs.Sections.{IsUseFor, LeadsOn, Share, ComesBefore}
 use Rattle.lockorder.proofs.Added.{below_end}
@@ -34,9 +34,12 @@ returns-then-share c =
     let x = c.args.self.now.points.now in
     let u = c.loop-used.used in
     let lt : u < length x.used.items = below_end u c.len-used-end.result _ (length x.used.items) c.loop-used-test.true c.len-used-end.ensures x.used.ok.0 in (
-      subst (λ (s : PathSet). Share s c.args.users) (set_read x.used.items u c.index.result.now lt c.index.ensures) (c.share.ensures.0 c.if-share.true),
-      elim (subst (λ (l : List Bool). LeadsOn c.args.bound l u) c.deref-in-loop-used.ensures.value (c.leads_on.ensures.0 c.if-leads_on.true)) [
-        | inl at ↦ inl at
-        | inr found ↦ inr (subst (λ l. ComesBefore l u c.args.bound) c.deref.ensures.value ((c.in_ok-before.ensures.found u).0 found))
-      ],
+      (
+        subst (λ (s : PathSet). Share s c.args.users) (set_read x.used.items u c.index.result.now lt c.index.ensures) (c.share.ensures.0 c.if-share.true),
+        elim (subst (λ (l : List Bool). LeadsOn c.args.bound l u) c.deref-in-loop-used.ensures.value (c.leads_on.ensures.0 c.if-leads_on.true)) [
+          | inl at ↦ inl at
+          | inr found ↦ inr (subst (λ l. ComesBefore l u c.args.bound) c.deref.ensures.value ((c.in_ok-before.ensures.found u).0 found))
+        ],
+      ),
+      λ v h. elim (cases_lt v u) [ inl less ↦ absurd (c.loop-used.invariant v less h) | inr ge ↦ ge ],
     )

@@ -2,7 +2,7 @@ use Rattle.std.proofs.Common.{◌≡◌, ℕ, ◌<◌, List, Some, set, not, len
 use Rattle.std.specs.Prelude.{slice_index}
 use Rattle.std.proofs.lemmas.Bool.{both_ways}
 use Rattle.lockorder.specs.declared.telling.Telling.{Telling}
-use Rattle.lockorder.specs.Sections.{MakesSomewhere, MakesAt}
+use Rattle.lockorder.specs.Sections.{MakesSomewhere, MakesFirstAt}
 use Rattle.lockorder.specs.Tellings.{follower}
 use Rattle.lockorder.proofs.Tells.{tell_starts, tell_here, tell_none, tell_kept, told_read, not_told, is_told}
 use Rattle.lockorder.proofs.telling.Telling.tell.Goals as goal
@@ -28,8 +28,8 @@ loop-place-preserved c =
         cycle = ap (λ (t : Telling). t.cycle.now) w.self-is ∙ i.cycle;
         told = tell_here x s cycle c.args.self.now.told.items now p i.told c.if-is_none.self.told.items w.in_ok-made.made.used w.in_ok-made.made.bound lt
             (sym read ∙ not_told c.index.result.now (c.is_none.ensures ∙ ap not w.if-is_none.true))
-            (subst (λ d. MakesAt x (slice_index cycle p) d w.in_ok-made.made.used w.in_ok-made.made.bound) next
-            (subst (λ b. MakesAt x b c.follower-next.result w.in_ok-made.made.used w.in_ok-made.made.bound) class w.in_ok-made.ensures))
+            (subst (λ d. MakesFirstAt x (slice_index cycle p) d w.in_ok-made.made.used w.in_ok-made.made.bound) next
+            (subst (λ b. MakesFirstAt x b c.follower-next.result w.in_ok-made.made.used w.in_ok-made.made.bound) class w.in_ok-made.ensures))
             (ap (λ (t : Telling). t.told.items) w.self-is
             ∙ ap (λ b. set now p (Some (record { class = b; section = s; used = w.in_ok-made.made.used; bound = w.in_ok-made.made.bound }))) class);
       }

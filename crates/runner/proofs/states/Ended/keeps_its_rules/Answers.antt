@@ -1,5 +1,5 @@
 use Rattle.std.proofs.Common.{subst}
-use Rattle.runner.specs.Opens.{OpenOf, HasTrueEntry}
+use Rattle.runner.specs.Opens.{HasTrueEntry}
 use Rattle.runner.specs.Ties.{ended_as}
 use Rattle.runner.proofs.states.Ended.keeps_its_rules.Goals as goal
 
