@@ -1,5 +1,5 @@
 -- Step after step.
-use Rattle.std.proofs.Common.{◌≡◌, ℕ, zero, suc, ◌+◌, ◌<◌, ◌-◌, ◌≤◌, List, [], ◌∷◌, ◌++◌, length, take, drop, get_or, replicate, Some,  refl, sym, ap, ◌∙◌, arith, append_assoc}
+use Rattle.std.proofs.Common.{◌≡◌, ℕ, zero, suc, ◌+◌, ◌<◌, ◌-◌, ◌≤◌, List, [], ◌∷◌, ◌++◌, length, take, drop, get_or, replicate, Some, refl, sym, ap, ◌∙◌, arith, append_assoc}
 use Rattle.std.proofs.lemmas.List.{take_more}
 use Rattle.std.specs.Prelude.{slice_get, Result, Ok, Err, OnErr}
 use Rattle.lowering.specs.Plans.{Plan}
@@ -144,6 +144,6 @@ stops_in_turns first w last turns i d lt so_far stop =
           ∙ ap (λ (x : ThreadsOf). with_steps x (take stop.taken here)) so_far
           ∙ ap (threads_of first.plan) (sym (steps_more first.plan first.world before (take stop.taken here)))
           ∙ ap (with_steps first) (sym (ap (take (length before + stop.taken)) split
-            ∙ take_later before here behind stop.taken stop.thread stop.next));
+          ∙ take_later before here behind stop.taken stop.thread stop.next));
       begins = stop.begins;
     }

@@ -19,4 +19,4 @@ pub returns-in_err-step-clause-err : goal.returns-in_err-step-clause-err
 returns-in_err-step-clause-err c =
     in_any_case c.from_residual.result
     (stops_in_turn c.args.self.now c.loop-left.self c.step.new.self c.args.turn.count c.loop-left.left c.args.turn.thread
-      c.loop-left.invariant.0 c.loop-left-test.true c.loop-left.invariant.1 c.in_err-step.ensures.err c.in_err-step.ensures.begins)
+    c.loop-left.invariant.0 c.loop-left-test.true c.loop-left.invariant.1 c.in_err-step.ensures.err c.in_err-step.ensures.begins)

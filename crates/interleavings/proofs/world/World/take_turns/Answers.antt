@@ -6,7 +6,7 @@ pub returns-in_err-take-clause-err : goal.returns-in_err-take-clause-err
 returns-in_err-take-clause-err c =
     in_any_case c.from_residual.result
     (stops_in_turns c.args.self.now c.loop-turn.self c.take.new.self c.args.turns.now c.loop-turn.turn-index
-      (record { thread = 0; count = 0 }) (omega arith) c.loop-turn.invariant c.in_err-take.ensures.err)
+    (record { thread = 0; count = 0 }) (omega arith) c.loop-turn.invariant c.in_err-take.ensures.err)
 
 pub loop-turn-preserved : goal.loop-turn-preserved
 loop-turn-preserved c =
