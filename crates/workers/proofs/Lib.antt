@@ -1,0 +1,5 @@
+pub mod Passing
+pub mod Scripts
+pub mod Guarding
+pub mod Seats
+pub mod Crossing

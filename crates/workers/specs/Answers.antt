@@ -1,0 +1,79 @@
+-- What an answer of a call says, and what a closed history says of all answers.
+use Rattle.std.specs.Prelude.{◌≡◌, ◌+◌, ◌==◌, ◌&&◌, ℕ, ℤ, Bool, true, List, [], ◌∷◌, length, map, if◌then◌else◌, Option, Some, slice_get}
+use Rattle.std.specs.List.{Contains}
+use Rattle.core_lang.specs.declared.value.Value.{Value}
+use Rattle.core_lang.specs.declared.value.Outcome.{Outcome}
+use Rattle.core_lang.specs.Serial.{Invocation, WholeCall, SerialFromOpening}
+use Rattle.core_lang.specs.Typing.{HasCells}
+use Rattle.history.specs.Commits.{Commit, call_of, answer_of, committed, IsLegal, AreTrue}
+use Rattle.lowering.specs.Plans.{Plan}
+use Rattle.worlds.specs.Worlds.{scripts}
+use Rattle.workers.specs.Seats.{ReplyOf, SeatOf}
+
+-- the log is one that the program can make: a legal list of true entries
+pub record IsSound (plan : Plan) (log : List Commit) : Type 0 where
+  pub legal : IsLegal plan.layout.opening log
+  pub true_entries : AreTrue plan.program log
+
+-- there is such a log, as long as the position, after which the call, run whole, ends and prints so
+pub record IsAnswer (plan : Plan) (call : Invocation) (position : ℕ) (outcome : Outcome) (prints : List ℤ) : Type 0
+  where
+    pub log : List Commit
+    pub long : length log ≡ position
+    pub sound : IsSound plan log
+    pub heap : List Value
+    pub gives : WholeCall plan.program call (committed plan.layout.opening log)
+        (record { outcome = outcome; prints = prints; heap = heap })
+
+-- a call by its section and its arguments
+abbrev pub as_call : ℕ → List Value → Invocation
+as_call section arguments = record { section = section; arguments = arguments }
+
+-- what a seat keeps of an answer whose entry has this position
+abbrev pub reply_at : ℕ → Commit → ReplyOf
+reply_at position c =
+    record { position = position; begun = c.begun; call = call_of c; outcome = c.outcome; prints = c.prints }
+
+-- what a seat keeps of the answers that its thread's entries give, in order; the first of the list has this position
+abbrev pub replies_of : ℕ → ℕ → List Commit → List ReplyOf
+replies_of thread position [] = []
+replies_of thread position (c ∷ cs) =
+    if c.thread == thread then reply_at position c ∷ replies_of thread (position + 1) cs
+    else replies_of thread (position + 1) cs
+
+-- the steps of a thread's entries go up by one from this one
+abbrev pub in_step : ℕ → ℕ → List Commit → Bool
+in_step thread step [] = true
+in_step thread step (c ∷ cs) =
+    if c.thread == thread then ((c.step == step) && in_step thread (step + 1) cs) else in_step thread step cs
+
+-- the thread's entries are the seat's answers, each with the number of those before it as its step
+pub record AnswersAreIn (log : List Commit) (s : SeatOf) : Type 0 where
+  pub answers : s.answers ≡ replies_of s.thread 0 log
+  pub steps : in_step s.thread 0 log ≡ true
+
+-- the entry's thread is one of the seats'
+abbrev pub IsSeated : List SeatOf → Commit → Type 0
+IsSeated seats c = Contains (map (λ (s : SeatOf). s.thread) seats) c.thread
+
+-- a history of the program: sound; the values are those that it leaves, one of each cell, and those of its calls, run
+-- whole one after another, which end and print as it says
+pub record IsHistoryOf (plan : Plan) (log : List Commit) (values : List Value) : Type 0 where
+  pub sound : IsSound plan log
+  pub values_are : values ≡ committed plan.layout.opening log
+  pub cells : HasCells plan.program values
+  pub serial : SerialFromOpening plan.program (map call_of log) (map answer_of log) values
+
+-- ---- scripts
+
+abbrev pub call_in : ReplyOf → Invocation
+call_in h = h.call
+
+-- a thread's script; none for a thread that there isn't
+abbrev pub script_at : Plan → ℕ → Option (List Invocation)
+script_at plan t = slice_get (scripts plan) t
+
+-- thread t's entries are its script's calls in order, each once, with the steps 0, 1, 2 and so on
+pub record HasScript (plan : Plan) (log : List Commit) (t : ℕ) : Type 0 where
+  pub calls : Some (map call_in (replies_of t 0 log)) ≡ script_at plan t
+  pub steps : in_step t 0 log ≡ true

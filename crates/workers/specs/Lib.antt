@@ -1,0 +1,5 @@
+pub mod Seats
+pub mod Answers
+pub mod Guarding
+pub mod Within
+pub mod NoPlan

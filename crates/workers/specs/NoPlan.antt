@@ -1,0 +1,35 @@
+-- The program that a marker names where no call picks one: nothing.
+use Rattle.std.specs.Prelude.{ℕ, ◌^◌, List, []}
+use Rattle.std.proofs.Common.{refl, lit<, lit≤, Vec, Global}
+use denote.RawPtr.{null_ptr}
+use Rattle.lowering.specs.Plans.{Plan}
+
+abbrev no_memory : Global
+no_memory = record { memory = record { seal = tt } }
+
+abbrev none : {X : Type 0} → Vec X Global
+none = record {
+  ptr = null_ptr;
+  len = 0;
+  cap = 0;
+  alloc = no_memory;
+  items = [];
+  ok = (refl, lit≤ {m = 0} {n = 0} tt);
+  small = lit< {m = 0} {n = 2 ^ 63} tt;
+}
+
+abbrev pub no_plan : Plan
+no_plan = record {
+  program = record {
+    classes = none;
+    structs = none;
+    globals = none;
+    shape = record { arrays = none; pools = none; objects = none; finals = none };
+    cells = none;
+    sections = none;
+    threads = none;
+  };
+  ranks = [];
+  lists = [];
+  layout = record { opening = []; cell_locks = []; locks = []; first_finals = []; finals = [] };
+}

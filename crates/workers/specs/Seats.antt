@@ -1,0 +1,44 @@
+-- What contracts see of a seat.
+use Rattle.std.specs.Prelude.{◌≡◌, ◌<◌, ◌≤◌, ◌+◌, ℕ, ℤ, zero, suc, List, [], ◌∷◌, ◌++◌}
+use Rattle.std.specs.List.{All}
+use Rattle.core_lang.specs.declared.value.Outcome.{Outcome}
+use Rattle.core_lang.specs.Serial.{Invocation}
+
+-- an answered call: its position, how long the history was when it began, what was called, how it ended and what it
+-- printed
+pub record ReplyOf : Type 0 where
+  pub position : ℕ
+  pub begun : ℕ
+  pub call : Invocation
+  pub outcome : Outcome
+  pub prints : List ℤ
+
+-- a seat: its thread, and its answers in order
+pub record SeatOf : Type 0 where
+  pub thread : ℕ
+  pub answers : List ReplyOf
+
+-- a seat before its first call
+abbrev pub new_seat : ℕ → SeatOf
+new_seat thread = record { thread = thread; answers = [] }
+
+-- so many of them, of the threads from 0 on, in order
+abbrev pub new_seats : ℕ → List SeatOf
+new_seats zero = []
+new_seats (suc n) = new_seats n ++ new_seat n ∷ []
+
+-- all positions are below this one
+abbrev pub AllBelow : ℕ → List ReplyOf → Type 0
+AllBelow floor replies = All (λ (r : ReplyOf). r.position < floor) replies
+
+abbrev pub reply : ℕ → ℕ → Invocation → Outcome → List ℤ → ReplyOf
+reply position begun call outcome prints =
+    record { position = position; begun = begun; call = call; outcome = outcome; prints = prints }
+
+-- the seat has just one answer more, to a call that began above the positions of all its others, and at most at its own
+pub record Gains (old new : SeatOf) (position : ℕ) (call : Invocation) (outcome : Outcome) (prints : List ℤ) : Type 0
+  where
+    pub begun : ℕ
+    pub is : new ≡ record old { answers = old.answers ++ reply position begun call outcome prints ∷ [] }
+    pub above : AllBelow begun old.answers
+    pub at_most : begun ≤ position

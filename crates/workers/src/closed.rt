@@ -1,0 +1,53 @@
+//! A history that is over.
+
+ghost use Rattle.std.specs.Prelude.{◌≡◌, ◌<◌, length, slice_get, Some};
+ghost use Rattle.lock_manager.specs.Managers.{IsQuiet};
+
+use core_lang::value::Value;
+use history::entry::Entry;
+use lock_manager::manager::Manager;
+use std::marker::Model;
+
+/// A history that is over, with the values that it leaves. As a value it is a manager with no open section.
+#[derive(Drop)]
+pub struct Closed<'p> {
+    pub(crate) manager: Manager<'p>,
+}
+
+impl<'p> Model for Closed<'p> {
+    ghost use Rattle.lock_manager.specs.Managers.{Managed, IsQuiet};
+
+    ghost Value = { Managed };
+
+    ghost view = { λ c. c.manager };
+
+    ghost invariant = { λ c. IsQuiet c.manager };
+}
+
+impl<'p> Closed<'p> {
+    /// The entries, the first one first.
+    pub fn history(&self) -> &[Entry]
+        ensures { result.now ≡ self.now.history }
+    {
+        self.manager.history().entries()
+    }
+
+    /// What the entries leave in a cell.
+    pub fn cell(&self, cell: usize) -> Value
+        requires { cell < length self.now.values }
+        ensures { slice_get self.now.values cell ≡ Some result }
+    {
+        self.manager.committed(cell)
+    }
+
+    /// No thread has a section open.
+    pub fn keeps_its_rules(&self)
+        ensures { IsQuiet self.now }
+    {
+        let _manager = &self.manager;
+    }
+}
+
+/// The answers of the seats aren't just the entries of the history, or a section is open.
+#[derive(Clone, Copy, PartialEq, Eq, Debug)]
+pub struct Strange;

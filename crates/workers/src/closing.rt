@@ -1,0 +1,88 @@
+//! Whether the seats' answers are just the history's entries.
+
+ghost use Rattle.std.specs.Prelude.{◌≡◌, true, IsTrue, map};
+ghost use Rattle.std.specs.List.{All};
+ghost use Rattle.workers.specs.Answers.{IsSeated, AnswersAreIn, reply_at, replies_of, in_step};
+
+use crate::naming::Naming;
+use crate::seat::{Reply, Seat};
+use core_lang::value::Value;
+use history::entry::Entry;
+
+/// Whether each seat's answers are its thread's entries.
+pub fn all_answered<J: Naming>(seats: &[Seat<J>], log: &[Entry]) -> bool
+    ensures { IsTrue result → All (AnswersAreIn log.now) seats.now }
+{
+    seats.iter().all(|s| is_answered(s, log))
+}
+
+/// Whether each entry's thread has a seat.
+pub fn are_seated<J: Naming>(seats: &[Seat<J>], log: &[Entry]) -> bool
+    ensures { IsTrue result → All (IsSeated seats.now) log.now }
+{
+    for e in log {
+        if !is_seated(seats, e) {
+            return false;
+        }
+    }
+    true
+}
+
+fn is_seated<J: Naming>(seats: &[Seat<J>], e: &Entry) -> bool
+    ensures { IsTrue result → IsSeated seats.now e.now }
+{
+    for s in seats {
+        if s.thread() == e.thread() {
+            return true;
+        }
+    }
+    false
+}
+
+fn is_answered<J: Naming>(seat: &Seat<J>, log: &[Entry]) -> bool
+    ensures { IsTrue result → AnswersAreIn log.now seat.now }
+{
+    are_entries(seat.thread(), seat.answers.as_slice(), log)
+}
+
+fn are_entries(thread: u32, answers: &[Reply], log: &[Entry]) -> bool
+    ensures { IsTrue result → (answers.now ≡ replies_of thread 0 log.now) × (in_step thread 0 log.now ≡ true) }
+{
+    let mut at = 0;
+    for (position, e) in log.iter().enumerate() {
+        if e.thread() == thread {
+            if at >= answers.len() || e.step() != at || !is_answer(&answers[at], position, e) {
+                return false;
+            }
+            at += 1;
+        }
+    }
+    at == answers.len()
+}
+
+fn is_answer(reply: &Reply, position: usize, e: &Entry) -> bool
+    ensures { IsTrue result → reply.now ≡ reply_at position e.now }
+{
+    if reply.position != position || reply.begun != e.begun() || reply.section != e.section() {
+        return false;
+    }
+    if reply.outcome != e.outcome() {
+        return false;
+    }
+    if !same_values(&reply.arguments, e.arguments()) {
+        return false;
+    }
+    same_numbers(&reply.prints, e.prints())
+}
+
+fn same_values(a: &Vec<Value>, b: &[Value]) -> bool
+    ensures { IsTrue result → a.now.items ≡ b.now }
+{
+    a.as_slice() == b
+}
+
+fn same_numbers(a: &Vec<i64>, b: &[i64]) -> bool
+    ensures { IsTrue result → a.now.items ≡ b.now }
+{
+    a.as_slice() == b
+}

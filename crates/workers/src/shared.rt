@@ -1,0 +1,289 @@
+//! A program whose sections threads run.
+
+ghost use Rattle.std.specs.Prelude.{◌≡◌, ◌<◌, ◌≤◌, ◌+◌, ◌^◌, IfOk, IfErr, OnErr};
+ghost use Rattle.std.specs.List.{All};
+ghost use Rattle.core_lang.specs.WellFormed.{CanCall};
+ghost use Rattle.lock_manager.specs.Managers.{IsQuiet};
+ghost use Rattle.runner.specs.Opens.{IsSame, ready_again};
+ghost use Rattle.workers.specs.Seats.{AllBelow, Gains, new_seats};
+ghost use Rattle.workers.specs.Answers.{IsAnswer, IsSeated, IsHistoryOf, AnswersAreIn, as_call};
+ghost use Rattle.workers.specs.Within.{HasAnswer, IsEntered};
+
+use crate::answer_room::AnswerRoom;
+use crate::closed::{Closed, Strange};
+use crate::closing::{all_answered, are_seated};
+use crate::gate::Gate;
+use crate::guarded::Guarded;
+use crate::naming::Naming;
+use crate::parking::{Parking, Wakings};
+use crate::seat::{CallRefusal, Done, Reply, Seat};
+use core_lang::value::Value;
+use lock_manager::ticket::Receipt;
+use lowering::compiled::Program;
+use runner::states::{Asked, Ended, Next, Ready, Running};
+use source::memory::NoMemory;
+use std::alloc::Global;
+use std::sync::{Mutex, Wait};
+
+/// A program whose sections threads run, each from its own [`Seat`]. The manager of its locks, with the cells and the
+/// history, lies under a Mutex.
+#[derive(Drop)]
+pub struct Shared<'p, J: Naming> {
+    alloc: Global,
+    program: &'p Program,
+    guarded: Mutex<Guarded<'p, J>>,
+    wakings: Wakings,
+    ghost is: { program.now ≡ J.plan },
+}
+
+// A call of a section, which is to begin when the history is at least as long as the floor.
+#[derive(Clone, Copy)]
+struct Request<'a> {
+    section: usize,
+    arguments: &'a [Value],
+    floor: usize,
+}
+
+impl<'p, J: Naming> Shared<'p, J> {
+    /// Before any call, with so many seats, of the threads from 0 on.
+    ///
+    /// # Errors
+    ///
+    /// Want of memory.
+    pub fn open(
+        alloc: Global,
+        program: &'p Program,
+        count: u32,
+    ) -> Result<(Shared<'p, J>, Vec<Seat<J>>), NoMemory>
+        requires named { program.now ≡ J.plan }
+        requires few { count ≤ 64 }
+        ensures { IfOk result (λ r. r.1.items ≡ new_seats count) }
+    {
+        let guarded = Guarded::open(alloc, program)?;
+        let mut wakings = Vec::new(alloc);
+        let mut seats = Vec::new(alloc);
+        for thread in 0..count {
+            let parking = Parking::new(alloc)?;
+            wakings.push(parking.waking()?)?;
+            seats.push(Seat::new(alloc, thread, parking))?;
+        }
+        let shared = Shared {
+            alloc,
+            program,
+            guarded: Mutex::new(guarded),
+            wakings: Wakings::new(wakings),
+        };
+        Ok((shared, seats))
+    }
+
+    // The program.
+    pub(crate) fn program(&self) -> &'p Program
+        ensures { result.now ≡ J.plan }
+    {
+        self.program
+    }
+
+    /// Runs a section from a seat, and enters it into the history. Other threads may run sections meanwhile. The gate
+    /// is told how far it has come.
+    ///
+    /// # Errors
+    ///
+    /// Want of memory, or the manager isn't the one that the seat left: nothing is entered, and the seat is as it was.
+    pub fn call<R: Wait, G: Gate>(
+        &self,
+        rt: &R,
+        seat: &mut Seat<J>,
+        section: usize,
+        arguments: &[Value],
+        gate: &G,
+    ) -> Result<Done, CallRefusal>
+        requires { CanCall J.plan.program section arguments.now }
+        ensures answer { let call = as_call section arguments.now in
+            IfOk result (λ d. IsAnswer J.plan call d.position d.outcome d.prints.items) }
+        ensures gained { let call = as_call section arguments.now in
+            IfOk result (λ d. Gains seat.old seat.new d.position call d.outcome d.prints.items) }
+        ensures above { IfOk result (λ d. AllBelow d.position seat.old.answers) }
+        ensures err { OnErr result (seat.new ≡ seat.old) }
+    {
+        seat.answers.reserve(1)?;
+        let thread = seat.ready.thread();
+        let ready = std::mem::replace(&mut seat.ready, Ready::new(thread));
+        let request = Request {
+            section,
+            arguments,
+            floor: seat.floor,
+        };
+        match self.run(rt, ready, request, &seat.parking, gate) {
+            Ok((ready, reply, done)) => {
+                seat.ready = ready;
+                seat.floor = reply.position + 1;
+                seat.answers.push_reserved(reply);
+                Ok(done)
+            }
+            Err((ready, refusal)) => {
+                seat.ready = ready;
+                Err(refusal)
+            }
+        }
+    }
+
+    // A call of a thread, from its begin to its entry.
+    fn run<R: Wait, G: Gate>(
+        &self,
+        rt: &R,
+        ready: Ready,
+        request: Request<'_>,
+        parking: &Parking,
+        gate: &G,
+    ) -> Result<(Ready, Reply, Done), (Ready, CallRefusal)>
+        requires thread { ready.thread < 64 }
+        requires fits { CanCall J.plan.program request.section request.arguments.now }
+        ensures answer { let call = as_call request.entry.section request.entry.arguments.now in
+            IfOk result (λ r. HasAnswer J.plan call request.entry.floor ready r.0 r.1 r.2) }
+        ensures err { IfErr result (λ r. r.0 ≡ ready) }
+    {
+        let alloc = self.alloc;
+        let Ok(room) = AnswerRoom::new(alloc, request.arguments) else {
+            return Err((ready, CallRefusal::NoMemory));
+        };
+        let thread = ready.thread();
+        let poised = match ready.prepare(alloc, self.program, request.section, request.arguments) {
+            Ok(poised) => poised,
+            Err(ready) => return Err((ready, CallRefusal::NoMemory)),
+        };
+        let begun = self.guarded.lock(rt).begin(alloc, poised);
+        let running = match begun {
+            Ok(running) => running,
+            Err(refused) => return Err(refused),
+        };
+        gate.pass(thread, 0);
+        let ended = match self.go_on(rt, thread, running, parking, gate) {
+            Ok(ended) => ended,
+            Err(ready) => return Err((ready, CallRefusal::Strange)),
+        };
+        let (mut reply, mut done) = room.of(ended.entry());
+        match self.finish(rt, request.floor, ended) {
+            Ok((ready, position)) => {
+                reply.position = position;
+                done.position = position;
+                Ok((ready, reply, done))
+            }
+            Err(ready) => Err((ready, CallRefusal::Strange)),
+        }
+    }
+
+    // Runs an open section to its end, and waits for its locks. Errors: the manager isn't the one that it left; it has
+    // ended without an entry.
+    fn go_on<R: Wait, G: Gate>(
+        &self,
+        rt: &R,
+        thread: u32,
+        running: Running<'p>,
+        parking: &Parking,
+        gate: &G,
+    ) -> Result<Ended<'p>, Ready>
+        requires { running.plan ≡ J.plan }
+        ensures ok { IfOk result (λ ended. IsSame running.entry ended) }
+        ensures err { IfErr result (λ ready. ready ≡ ready_again running.entry) }
+    {
+        let mut next = Next::Running(running);
+        let mut granted = 0u32;
+        for _ in rt.forever() {
+            next = match next {
+                Next::Running(running) => running.run(usize::MAX).1,
+                Next::Asking(asking) => {
+                    let answer = self.guarded.lock(rt).ask(asking);
+                    match answer {
+                        Ok(Asked::Granted(further)) => {
+                            granted = granted.wrapping_add(1);
+                            gate.pass(thread, granted);
+                            further
+                        }
+                        Ok(Asked::Held(_, again)) => {
+                            parking.wait(rt);
+                            Next::Asking(again)
+                        }
+                        Err(ready) => {
+                            self.wakings.wake_all();
+                            return Err(ready);
+                        }
+                    }
+                }
+                Next::Ended(ended) => return Ok(ended),
+            };
+        }
+        unreachable!()
+    }
+
+    // Enters the entry of a section, and wakes who waits first for each of its locks. Errors: it doesn't fit; the
+    // section has ended without an entry.
+    fn finish<R: Wait>(
+        &self,
+        rt: &R,
+        floor: usize,
+        ended: Ended<'p>,
+    ) -> Result<(Ready, usize), Ready>
+        requires { ended.plan ≡ J.plan }
+        ensures entered { IfOk result (λ r. IsEntered J.plan floor ended.entry r.1) }
+        ensures small { IfOk result (λ r. r.1 + 1 < 2 ^ 64) }
+        ensures ok { IfOk result (λ r. r.0 ≡ record { thread = ended.entry.thread; step = ended.entry.step + 1 }) }
+        ensures err { IfErr result (λ ready. ready ≡ ready_again ended.entry) }
+    {
+        let finished = self.guarded.lock(rt).finish(floor, ended);
+        match finished {
+            Ok((ready, receipt)) => {
+                self.wake(&receipt);
+                Ok((ready, receipt.position()))
+            }
+            Err(ready) => {
+                self.wakings.wake_all();
+                Err(ready)
+            }
+        }
+    }
+
+    // Wakes those that a receipt names.
+    fn wake(&self, receipt: &Receipt) {
+        for i in 0..64usize {
+            match receipt.wake(i) {
+                Some(thread) => self.wakings.wake(thread),
+                None => return,
+            }
+        }
+    }
+
+    /// The history with the values that it leaves, where no section is open and the seats' answers are just its
+    /// entries.
+    ///
+    /// # Errors
+    ///
+    /// A section is open, or the answers aren't just the entries.
+    #[tactic(auto, using(crate::proofs::Guarding::has_cells))]
+    pub fn close(self, seats: Vec<Seat<J>>) -> Result<Closed<'p>, Strange>
+        ensures history { IfOk result (λ c. IsHistoryOf J.plan c.history c.values) }
+        ensures quiet { IfOk result IsQuiet }
+        ensures answers { IfOk result (λ c. All (AnswersAreIn c.history) seats.items) }
+        ensures no_other { IfOk result (λ c. All (IsSeated seats.items) c.history) }
+    {
+        history::laws::legal_is_serial();
+        let Shared {
+            alloc: _,
+            program,
+            guarded,
+            wakings: _,
+        } = self;
+        let _typed = program.typed();
+        let Some(manager) = guarded.into_inner().into_manager() else {
+            return Err(Strange);
+        };
+        manager.keeps_its_rules();
+        let history = manager.history().entries();
+        if !all_answered(seats.as_slice(), history) {
+            return Err(Strange);
+        }
+        if !are_seated(seats.as_slice(), history) {
+            return Err(Strange);
+        }
+        Ok(Closed { manager })
+    }
+}
