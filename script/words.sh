@@ -37,12 +37,29 @@ refuse() {
     exit 2
 } >&2
 
+# What a command calls its second file, if it reads one.
+other_of() {
+    case $1 in
+        simulate) echo '<STEPS>' ;;
+        replay) echo '<HISTORY>' ;;
+    esac
+}
+
+names_of() {
+    local other
+    other=$(other_of "$1")
+    echo "<FILE>${other:+ $other}"
+}
+
+takes_turns() { [ "$command" = serial ] || [ "$command" = replay ]; }
+
 # How the words of a command look; with a second word, where that option is among them.
 usage_of() {
     local option=${2-}
     case $1 in
-        check | listing) echo "$1 ${option:+$option }<FILE>" ;;
+        check | listing | run) echo "$1 ${option:+$option }<FILE>" ;;
         serial) echo "serial ${option:-[OPTIONS]} <FILE>" ;;
+        replay) echo "replay ${option:-[OPTIONS]} <FILE> <HISTORY>" ;;
         simulate) echo "simulate ${option:+$option }<FILE> <STEPS>" ;;
         *) echo "${option:+$option }<COMMAND>" ;;
     esac
@@ -83,7 +100,7 @@ similar() {
 
 refuse_command() {
     local names tip=
-    mapfile -t names < <(similar "$1" check listing serial simulate help)
+    mapfile -t names < <(similar "$1" check listing serial simulate run replay help)
     case ${#names[@]} in
         0) ;;
         1) tip="a similar subcommand exists: '${names[0]}'" ;;
@@ -100,7 +117,7 @@ refuse_long() {
     local name=$1 near='' options=(help) word used=${turns:+--turns <N>}
     shift
     case $command in
-        serial) options=(turns help) ;;
+        serial | replay) options=(turns help) ;;
         '') options=(help version) ;;
     esac
     near=$(similar "$name" "${options[@]}" | tail -n 1)
@@ -112,8 +129,8 @@ refuse_long() {
     if [ -n "$near" ]; then
         refuse "unexpected argument '--$name' found" "$(usage_of "$command" "$used")" \
             "a similar argument exists: '--$near'"
-    elif [ "$command" = serial ] && [ "$used${#files[@]}" != 0 ]; then
-        refuse "unexpected argument '--$name' found" "serial ${used:+$used }<FILE>" \
+    elif takes_turns && [ "$used${#files[@]}" != 0 ]; then
+        refuse "unexpected argument '--$name' found" "$command ${used:+$used }$(names_of "$command")" \
             "to pass '--$name' as a value, use '-- --$name'"
     elif [ -n "$command" ]; then
         refuse "unexpected argument '--$name' found" "$(usage_of "$command")" \
@@ -121,8 +138,8 @@ refuse_long() {
     fi
     for word in "$@"; do
         case $word in
-            check | listing | simulate) near=$(similar "$name" help) ;;
-            serial) near=$(similar "$name" turns help | tail -n 1) ;;
+            check | listing | simulate | run) near=$(similar "$name" help) ;;
+            serial | replay) near=$(similar "$name" turns help | tail -n 1) ;;
         esac
         [ -z "$near" ] || refuse "unexpected argument '--$name' found" "$(usage_of '')" "'$word --$near' exists"
     done
@@ -134,7 +151,7 @@ judge_help() {
     local name=${1-autolock}
     case $name in
         autolock) [ $# -eq 0 ] || refuse "unrecognized subcommand '$1'" "$(usage_of '')" ;;
-        check | listing | serial | simulate | help) ;;
+        check | listing | serial | simulate | run | replay | help) ;;
         *) refuse "unrecognized subcommand '$1'" "$(usage_of '')" ;;
     esac
     [ $# -gt 1 ] || show_help "$name"
@@ -159,7 +176,7 @@ judge_turns() {
     elif [ ${#least} -gt 10 ] || [ "$least" -gt 1000000000 ]; then
         refuse "invalid value '$value' for '--turns <N>': $least is not in 0..=1000000000"
     fi
-    [ -z "$turns" ] || refuse "the argument '--turns <N>' cannot be used multiple times" "$(usage_of serial)"
+    [ -z "$turns" ] || refuse "the argument '--turns <N>' cannot be used multiple times" "$(usage_of "$command")"
     turns=$least
 }
 
@@ -205,9 +222,10 @@ judge_short() {
 
 # The words after a command.
 judge_arguments() {
-    local most=1 is_last=0 missing
-    [ "$command" != simulate ] || most=2
-    [ "$command" = simulate ] || [ "$many" = 0 ] || most=100000
+    local most=1 is_last=0 missing other
+    other=$(other_of "$command")
+    [ -z "$other" ] || most=2
+    [ -n "$other" ] || [ "$many" = 0 ] || most=100000
     while [ $# -gt 0 ]; do
         case $is_last$command$1 in
             "0$command--")
@@ -215,12 +233,12 @@ judge_arguments() {
                 shift
                 continue
                 ;;
-            0serial--turns)
+            0serial--turns | 0replay--turns)
                 judge_option_turns "$@"
                 shift 2
                 continue
                 ;;
-            0serial--turns=*)
+            0serial--turns=* | 0replay--turns=*)
                 judge_turns "${1#--turns=}"
                 shift
                 continue
@@ -236,10 +254,10 @@ judge_arguments() {
     done
     missing=
     [ ${#files[@]} -gt 0 ] || missing+=$'\n  <FILE>'
-    [ "$command" != simulate ] || [ ${#files[@]} -gt 1 ] || missing+=$'\n  <STEPS>'
+    [ -z "$other" ] || [ ${#files[@]} -gt 1 ] || missing+=$'\n  '$other
     [ -n "$missing" ] || return 0
     missing="the following required arguments were not provided:$missing"
-    [ "$command" != serial ] || [ -n "$turns" ] || refuse "$missing" "serial <FILE>"
+    ! takes_turns || [ -n "$turns" ] || refuse "$missing" "$command $(names_of "$command")"
     refuse "$missing" "$(usage_of "$command" "${turns:+--turns <N>}")"
 }
 
@@ -247,7 +265,7 @@ judge_words() {
     local is_last=0
     while [ $# -gt 0 ]; do
         case $is_last$1 in
-            0check | 0listing | 0serial | 0simulate)
+            0check | 0listing | 0serial | 0simulate | 0run | 0replay)
                 command=$1
                 shift
                 judge_arguments "$@"

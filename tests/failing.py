@@ -9,7 +9,8 @@
 --turns N       of serial, by default 1000
 --every N       only every N-th growth
 --cases         the program `cases` over each of its files, and of its calls the growths alone
---unit-tests    the programs of the tests of `unit_tests` and `command_tests`, and of their calls the growths alone
+--unit-tests    the programs of the tests of `unit_tests`, `command_tests` and `thread_tests`, and of their calls the
+                growths alone; of each test of `thread_tests` some 300 growths, spread over all
 FILE..          programs, by default those of examples/; of `cases` files of crates/cases/data, by default all.
                 Where a file of steps lies beside a program, simulate takes it, else some steps of its threads in turn
 
@@ -34,12 +35,14 @@ TOP = pathlib.Path(__file__).resolve().parent.parent
 
 
 class Subject(typing.NamedTuple):
-    """A program with its words, the names that a failed read may tell, and how a run with a failing call is judged."""
+    """A program with its words, the names that a failed read may tell, how a run with a failing call is judged, and of
+    its growths every how many fail, and how many at most."""
 
     words: list
     names: list
     judges: dict
     every: int
+    most: int = 1 << 62
 
 
 def run(library, words, counts, **failing):
@@ -94,7 +97,8 @@ def fail_each(part):
         numbers = dict(zip(("growth", "read", "write"), told))
         runs, failed = 0, []
         for kind, judge in subject.judges.items():
-            for number in range(1, numbers[kind] + 1, subject.every if kind == "growth" else 1):
+            every = max(subject.every, numbers[kind] // subject.most + 1) if kind == "growth" else 1
+            for number in range(1, numbers[kind] + 1, every):
                 ended = run(library, subject.words, counts.name, **{kind: number})
                 wrong = judge(whole, ended, subject.names)
                 runs += 1
@@ -124,12 +128,13 @@ def of_cases(a):
 
 
 def of_unit_tests(a):
-    crates = [TOP / f"crates/{crate}/out/{crate}_tests" for crate in ("unit_tests", "command_tests")]
-    for program in [a.program] if a.program else crates:
-        program = str(program.resolve())
+    crates = [TOP / f"crates/{crate}/out/{crate}_tests" for crate in ("unit_tests", "command_tests", "thread_tests")]
+    for path in [a.program] if a.program else crates:
+        program = str(path.resolve())
+        most = 300 if path.name == "thread_tests_tests" else 1 << 62
         listed = subprocess.run([program, "--list"], capture_output=True, check=True, text=True)
         for name in re.findall(r"^(\S+): test$", listed.stdout + listed.stderr, re.M):
-            yield Subject([program, name], [], {"growth": wrong_test}, a.every)
+            yield Subject([program, name], [], {"growth": wrong_test}, a.every, most)
 
 
 def main():

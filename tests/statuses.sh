@@ -32,6 +32,15 @@ printf '0\n\t9*1 x' >bad_steps
 echo 'bad_steps:2:2: S2 no such thread' >steps_fault
 printf 'simulation 1\ncells\nn 0\nthreads\n0 running\nend\n' >simulated
 echo '0*2' >two_steps
+printf 'history 2\ncall 0 0 0 f() ends\ncells\nn 1\nend\n' >history_2
+printf 'history 1\ncall 0 0 f() ends\ncells\nn 2\nend\n' >other_history
+printf 'history 1\ncall 0 0 f() ends\ncells\nn 01\nend\n' >bad_history
+printf 'lock G;\nglobal int n protected_by(G);\natomic f() { while (n < 3) { n = n + 1; } }\nthread t { f(); }\n' >loop.al
+printf 'history 1\ncall 0 0 f() ends\ncells\nn 3\nend\n' >loop_history
+echo same >same
+echo 'differs at line 4' >differs
+echo 'unsettled at line 2' >unsettled
+echo 'bad_history:4: H2 bad line' >history_fault
 echo 'some text' >some
 echo 'autolock 0.1.0' >version
 
@@ -63,6 +72,15 @@ run "turns" 0 history none serial --turns 0 right.al
 run "check" 0 checked none check right.al
 run "listing" 0 listed none listing right.al
 run "simulate" 0 simulated none simulate right.al two_steps
+run "run" 0 history_2 none run right.al
+run "replay" 0 same none replay right.al history
+run "replay, of the second format" 0 same none replay right.al history_2
+run "replay, with turns enough" 0 same none replay --turns 3 loop.al loop_history
+run "another history" 5 differs none replay right.al other_history
+run "a fault of the history" 6 none history_fault replay right.al bad_history
+run "a call past its turns" 7 unsettled none replay --turns 2 loop.al loop_history
+run "a fault, of run" 1 none fault run wrong.al
+run "a fault, of replay" 1 none fault replay wrong.al bad_history
 run "a fault" 1 none fault serial wrong.al
 run "a fault, of simulate" 1 none fault simulate wrong.al bad_steps
 run "a fault of the steps" 6 none steps_fault simulate right.al bad_steps
@@ -77,6 +95,8 @@ run "no file" 2 none some serial
 run "no file, of check" 2 none some check
 run "no file, of listing" 2 none some listing
 run "no steps file" 2 none some simulate right.al
+run "no history file" 2 none some replay right.al
+run "turns, of run" 2 none some run --turns 3 right.al
 run "three files, of simulate" 2 none some simulate right.al two_steps two_steps
 run "two files" 2 none some serial right.al wrong.al
 run "two files, of check" 2 none some check right.al wrong.al
@@ -85,7 +105,7 @@ run "turns, of listing" 2 none some listing --turns 3 right.al
 run "too many turns" 2 none some serial --turns 1000000001 right.al
 run "turns that are no number" 2 none some serial --turns many right.al
 run "help" 0 some none --help
-for command in check listing serial simulate; do
+for command in check listing serial simulate run replay; do
     if grep -q "^  $command  " out; then
         echo "ok help lists $command"
     else
@@ -104,8 +124,25 @@ run "a steps file that is not there" 3 none no_missing.al simulate right.al miss
 run "a steps file that is not there, and a fault" 3 none no_missing.al simulate wrong.al missing.al
 run "a folder" 3 none no_folder serial folder
 run "a folder for a steps file" 3 none no_folder simulate right.al folder
+run "a folder for a steps file, and a fault" 3 none no_folder simulate wrong.al folder
+run "a folder for a history file, and a fault" 3 none no_folder replay wrong.al folder
+run "a history file that is not there" 3 none no_missing.al replay right.al missing.al
+run "a file that is not there, of run" 3 none no_missing.al run missing.al
 run "a folder, and no steps file" 3 none no_folder simulate folder missing.al
 run "a folder, of check" 3 none no_folder check folder
+
+# A program's file is read no further than a byte past what a program may have.
+head -c 209715200 /dev/zero >long.al
+for name in long.al /dev/zero; do echo "$name:1:1: E15 limit exceeded" >"too_long_${name##*/}"; done
+most=$(ulimit -v)
+ulimit -v 65536
+for command in check listing serial run; do
+    run "a file of 200 MB, of $command" 1 none too_long_long.al $command long.al
+    run "a file without an end, of $command" 1 none too_long_zero $command /dev/zero
+done
+run "a file without an end, of simulate" 1 none too_long_zero simulate /dev/zero two_steps
+ulimit -v "$most"
+rm long.al
 
 : >out
 "$program" serial right.al >/dev/full 2>err </dev/null
@@ -116,6 +153,10 @@ judge "an output that is full, of check" 3 $? none unwritten
 judge "an output that is full, of listing" 3 $? none unwritten
 "$program" simulate right.al two_steps >/dev/full 2>err </dev/null
 judge "an output that is full, of simulate" 3 $? none unwritten
+"$program" run right.al >/dev/full 2>err </dev/null
+judge "an output that is full, of run" 3 $? none unwritten
+"$program" replay right.al history >/dev/full 2>err </dev/null
+judge "an output that is full, of replay" 3 $? none unwritten
 "$program" --help >/dev/full 2>err </dev/null
 judge "help on an output that is full" 3 $? none unwritten
 : >err

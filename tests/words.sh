@@ -57,7 +57,7 @@ same -V
 same -hV
 same -Vh
 same -hx
-for command in check listing serial simulate; do
+for command in check listing serial simulate run replay; do
     same help "$command"
     same "$command" --help
     same "$command" -h
@@ -107,9 +107,20 @@ same -- check right.al
 same -- nothing
 same -- chek
 for word in chek Check CHECK checks c lis list listin lsiting seral seriall sim simulat simulation s hlep halp helper \
-    run replay explain foobar größe trace prints seril stimulate; do
+    rnu rum replya repla explain foobar größe trace prints seril stimulate; do
     same "$word" right.al
 done
+
+# Arguments of `replay`.
+same replay right.al
+same replay --turns 3
+same replay --turns 3 right.al
+same replay --turns 3 right.al missing.al --foo
+same replay right.al --turn
+same replay --turns=3 right.al --foo
+same replay --turns 3 --turns 4 right.al missing.al
+same replay --turns 1000000001 right.al missing.al
+same --turn 3 replay right.al
 
 # Arguments of `serial`.
 for turns in -1 --x -h --help -- - '' x 0x10 1_000 ' 5' +5 1000000001 01000000001 18446744073709551615 \

@@ -29,7 +29,7 @@ static void find(void) {
 }
 
 static int fails(enum kind kind) {
-    return is_counting && ++counted[kind] == failing[kind];
+    return is_counting && __atomic_add_fetch(&counted[kind], 1, __ATOMIC_SEQ_CST) == failing[kind];
 }
 
 static void tell(void) {

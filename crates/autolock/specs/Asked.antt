@@ -3,9 +3,9 @@ use Rattle.std.specs.Prelude.{◌≡◌, ◌⊎◌, ℕ, List, [], ◌∷◌, �
 use Rattle.clap.specs.declared.error.kind.ErrorKind.{ErrorKind}
 use Rattle.clap.specs.declared.error.kind.ErrorKind.TheVariants.{DisplayHelp, DisplayVersion}
 use Rattle.driver.specs.declared.status.Status.{Status}
-use Rattle.driver.specs.{cannot_read, CheckAnswers, ListingAnswers, SerialAnswers}
+use Rattle.driver.specs.{cannot_read, CheckAnswers, ListingAnswers, SerialAnswers, SimulationAnswers, ReplayAnswers, ThreadsAnswers}
 use Rattle.words.specs.declared.line.Line.{Line}
-use Rattle.words.specs.declared.line.Line.TheVariants.{Check, Listing, Serial, Simulate}
+use Rattle.words.specs.declared.line.Line.TheVariants.{Check, Listing, Serial, Simulate, Run, Replay}
 
 -- the name of the file whose program is asked for
 abbrev pub file_of : Line → List ℕ
@@ -13,10 +13,19 @@ file_of (Check file) = file.now
 file_of (Listing file) = file.now
 file_of (Serial file turns) = file.now
 file_of (Simulate file steps) = file.now
+file_of (Run file) = file.now
+file_of (Replay file history turns) = file.now
+
+-- the name of the other file, where there is one
+abbrev pub other_of : Line → List ℕ
+other_of (Simulate file steps) = steps.now
+other_of (Replay file history turns) = history.now
+other_of line = []
 
 -- the names of the files that a line names
 abbrev pub files_of : Line → List (List ℕ)
 files_of (Simulate file steps) = file.now ∷ steps.now ∷ []
+files_of (Replay file history turns) = file.now ∷ history.now ∷ []
 files_of line = file_of line ∷ []
 
 -- a message names one of these files as one that can't be read
@@ -24,17 +33,32 @@ abbrev pub NamesOneOf : (List ℕ → Type 0) → List (List ℕ) → Type 0
 NamesOneOf Told [] = ⊥
 NamesOneOf Told (file ∷ files) = Told (cannot_read file) ⊎ NamesOneOf Told files
 
--- the line names one file alone
-abbrev pub IsOverOneFile : Line → Type 0
-IsOverOneFile (Simulate file steps) = ⊥
-IsOverOneFile line = ⊤
+-- the line names one file alone; or two
+abbrev pub IsOverOne : Line → Type 0
+IsOverOne (Simulate file steps) = ⊥
+IsOverOne (Replay file history turns) = ⊥
+IsOverOne line = ⊤
 
--- what the engine of the line's command, which reads one file, answers for a text: the status, and what is written and told
-abbrev pub LineAnswers : Line → List ℕ → Status → List ℕ → List ℕ → Type 0
-LineAnswers (Check file) = CheckAnswers file.now
-LineAnswers (Listing file) = ListingAnswers file.now
-LineAnswers (Serial file turns) = SerialAnswers turns file.now
-LineAnswers (Simulate file steps) = λ text status out err. ⊥
+abbrev pub IsOverTwo : Line → Type 0
+IsOverTwo (Simulate file steps) = ⊤
+IsOverTwo (Replay file history turns) = ⊤
+IsOverTwo line = ⊥
+
+-- what the engine of the line's command, which reads one file of this name, answers for a text: the status, and what is
+-- written and told
+abbrev pub LineAnswers : Line → List ℕ → List ℕ → Status → List ℕ → List ℕ → Type 0
+LineAnswers (Check file) = CheckAnswers
+LineAnswers (Listing file) = ListingAnswers
+LineAnswers (Serial file turns) = SerialAnswers turns
+LineAnswers (Run file) = ThreadsAnswers
+LineAnswers (Simulate file steps) = λ name text status out err. ⊥
+LineAnswers (Replay file history turns) = λ name text status out err. ⊥
+
+-- the same of one that reads two
+abbrev pub PairAnswers : Line → List ℕ → List ℕ → List ℕ → List ℕ → Status → List ℕ → List ℕ → Type 0
+PairAnswers (Simulate file steps) = SimulationAnswers
+PairAnswers (Replay file history turns) = ReplayAnswers turns
+PairAnswers line = λ name other_name text other status out err. ⊥
 
 -- help or the version is asked for
 abbrev pub IsAsked : ErrorKind → Type 0

@@ -1,21 +1,21 @@
 //! The program `autolock`: reads its words, opens the files that they name, and runs the engine of
 //! the command on them.
 //!
-//! It exits with 0 where what was asked for was written, 1 where the program's text has a fault, 2
-//! where the words are none of its own, 3 where reading or writing failed, 4 where memory ran out,
-//! 6 where the steps file has a fault, 7 where a call is not settled by the given turns; `--help` and `--version` exit with 0.
+//! It exits with 0 where what was asked for was written, 1 where the program's text has a fault, 2 where the words are none of
+//! its own, 3 where reading or writing failed, 4 where memory ran out, 5 where a recorded history differs, 6 where the steps file
+//! or the history file has a fault, 7 where a call is not settled by the given turns, 8 where a thread found another history than
+//! it had left; `--help` and `--version` exit with 0.
 #![tactic(auto)]
 
-ghost use Rattle.std.specs.Prelude.{◌≡◌, ◌≢◌, ◌⊎◌, false, [], ◌∷◌, IfOk, map, string_bytes};
-ghost use Rattle.autolock.specs.Asked.{file_of, files_of, NamesOneOf, IsOverOneFile, IsAsked, LineAnswers};
+ghost use Rattle.std.specs.Prelude.{◌≡◌, ◌≢◌, ◌⊎◌, [], ◌∷◌, false, None, IfOk, IfSome, map, string_bytes};
+ghost use Rattle.autolock.specs.Asked.{file_of, other_of, files_of, NamesOneOf, IsOverOne, IsOverTwo, IsAsked, LineAnswers, PairAnswers};
 ghost use Rattle.clap.specs.Values.{kind_of};
-ghost use Rattle.driver.specs.{Serves, Tells, cannot_read, cannot_write, no_memory, reading_failed, writing_failed};
+ghost use Rattle.driver.specs.{Alone, Beside, Serves, Tells, IsMissed, cannot_read, cannot_write, no_memory, name_of, reading_failed, reading_of, writing_failed};
 
 use clap::Error;
 use clap::error::ErrorKind;
 use driver::{
-    ReadError, Sink, SourceText, Status, check, list, serial, simulate, tell_cannot_read,
-    tell_cannot_write, tell_no_memory,
+    Sink, SourceText, Status, Streams, check, list, miss_other, replay, run, serial, simulate,
 };
 use std::alloc::{AllocError, Global};
 use std::io::{Read, Write};
@@ -32,143 +32,120 @@ fn file_name<'a>(line: Line<'a>) -> &'a str
         Line::Listing { file } => file,
         Line::Serial { file, .. } => file,
         Line::Simulate { file, .. } => file,
+        Line::Run { file } => file,
+        Line::Replay { file, .. } => file,
     }
 }
 
-/// Runs the engine of a line's command over its file, which is open.
-fn run_opened<S: Read, O: Write, E: Write>(
-    alloc: Global,
-    line: Line<'_>,
-    source: &mut SourceText<S>,
-    out: &mut Sink<O>,
-    err: &mut Sink<E>,
-) -> Status
-    requires one { IsOverOneFile line }
-    requires readable { reading_failed source.old ≡ false }
-    requires writable { writing_failed out.old ≡ false }
-    ensures { Serves (LineAnswers line.entry) (file_of line.entry) S.remaining source.old source.new O.contents out.old out.new
-        E.contents err.old err.new result }
+/// The name of the other file that a line names, if it names one.
+fn other_name<'a>(line: Line<'a>) -> Option<&'a str>
+    ensures some { IfSome result (λ name. (name.now ≡ other_of line.entry) × IsOverTwo line.entry) }
+    ensures none { result ≡ None → IsOverOne line.entry }
 {
     match line {
-        Line::Check { file } => check(alloc, source, file, out, err),
-        Line::Listing { file } => list(alloc, source, file, out, err),
-        Line::Serial { file, turns } => serial(alloc, source, file, turns, out, err),
-        Line::Simulate { .. } => unreachable!(),
+        Line::Simulate { steps, .. } => Some(steps),
+        Line::Replay { history, .. } => Some(history),
+        _ => None,
     }
 }
 
-/// Opens the one file of a line, and runs its engine.
-fn run_one<E: Write>(rt: &HostRuntime, line: Line<'_>, err: &mut Sink<E>) -> Status
-    requires { IsOverOneFile line }
-    ensures words { result ≢ Status.BadWords }
-    ensures failed { result ≡ Status.Failed →
-        Tells E.contents err.old err.new (cannot_read (file_of line.entry)) ⊎ Tells E.contents err.old err.new cannot_write }
-    ensures memory { result ≡ Status.OutOfMemory → Tells E.contents err.old err.new no_memory }
-{
-    let Ok(opened) = fs::open(rt, file_name(line)) else {
-        tell_cannot_read(err, file_name(line));
-        return Status::Failed;
-    };
-    let mut source = SourceText::new(opened);
-    let mut out = Sink::new(rt.stdout());
-    run_opened(rt.alloc(), line, &mut source, &mut out, err)
-}
-
-/// Tells that the steps file can't be read; or what is wrong with the program's file, which is read first.
-fn miss_steps<S: Read, E: Write>(
-    alloc: Global,
-    source: &mut SourceText<S>,
-    file: &str,
-    steps_file: &str,
-    err: &mut Sink<E>,
-) -> Status
-    ensures failed { result ≡ Status.Failed → NamesOneOf (Tells E.contents err.old err.new) (file.now ∷ steps_file.now ∷ []) }
-    ensures memory { result ≡ Status.OutOfMemory → Tells E.contents err.old err.new no_memory }
-    ensures words { result ≢ Status.BadWords }
-{
-    match source.read_whole(alloc) {
-        Ok(_) => {
-            tell_cannot_read(err, steps_file);
-            Status::Failed
-        }
-        Err(ReadError::Failed) => {
-            tell_cannot_read(err, file);
-            Status::Failed
-        }
-        Err(ReadError::OutOfMemory) => {
-            tell_no_memory(err);
-            Status::OutOfMemory
-        }
-    }
-}
-
-/// Opens the two files of a simulation, and runs its engine.
-fn run_simulation<E: Write>(
+/// Runs the engine of a line's command over its one file, which is open.
+fn run_opened<S: Read, O: Write, E: Write>(
     rt: &HostRuntime,
-    file: &str,
-    steps_file: &str,
-    err: &mut Sink<E>,
+    line: Line<'_>,
+    source: &mut SourceText<'_, S>,
+    streams: &mut Streams<O, E>,
 ) -> Status
-    ensures words { result ≢ Status.BadWords }
-    ensures failed { result ≡ Status.Failed → NamesOneOf (Tells E.contents err.old err.new) (file.now ∷ steps_file.now ∷ [])
-        ⊎ Tells E.contents err.old err.new cannot_write }
-    ensures memory { result ≡ Status.OutOfMemory → Tells E.contents err.old err.new no_memory }
+    requires one { IsOverOne line }
+    requires readable { reading_failed source.old ≡ false }
+    requires writable { writing_failed streams.old.out ≡ false }
+    ensures { Serves (Alone (LineAnswers line.entry (name_of source.old))) (reading_of S.remaining source.old source.new) []
+        O.contents E.contents streams.old streams.new result }
 {
-    let Ok(opened) = fs::open(rt, file) else {
-        tell_cannot_read(err, file);
-        return Status::Failed;
-    };
-    let mut source = SourceText::new(opened);
-    let Ok(opened_steps) = fs::open(rt, steps_file) else {
-        return miss_steps(rt.alloc(), &mut source, file, steps_file, err);
-    };
-    let mut steps = SourceText::new(opened_steps);
-    let mut out = Sink::new(rt.stdout());
-    simulate(
-        rt.alloc(),
-        &mut source,
-        file,
-        &mut steps,
-        steps_file,
-        &mut out,
-        err,
-    )
+    match line {
+        Line::Check { .. } => check(rt.alloc(), source, streams),
+        Line::Listing { .. } => list(rt.alloc(), source, streams),
+        Line::Serial { turns, .. } => serial(rt.alloc(), turns, source, streams),
+        Line::Run { .. } => run(rt, rt.alloc(), source, streams),
+        Line::Simulate { .. } => unreachable!(),
+        Line::Replay { .. } => unreachable!(),
+    }
+}
+
+/// Runs the engine of a line's command over its two files, which are open.
+fn run_both_opened<S: Read, T: Read, O: Write, E: Write>(
+    alloc: Global,
+    line: Line<'_>,
+    source: &mut SourceText<'_, S>,
+    other: &mut SourceText<'_, T>,
+    streams: &mut Streams<O, E>,
+) -> Status
+    requires two { IsOverTwo line }
+    requires readable { reading_failed source.old ≡ false }
+    requires other_readable { reading_failed other.old ≡ false }
+    requires writable { writing_failed streams.old.out ≡ false }
+    ensures { Serves (Beside (PairAnswers line.entry (name_of source.old) (name_of other.old)))
+        (reading_of S.remaining source.old source.new) (reading_of T.remaining other.old other.new ∷ [])
+        O.contents E.contents streams.old streams.new result }
+{
+    match line {
+        Line::Simulate { .. } => simulate(alloc, source, other, streams),
+        Line::Replay { turns, .. } => replay(alloc, turns, source, other, streams),
+        _ => unreachable!(),
+    }
 }
 
 /// Opens the files of a line, and runs its engine.
-fn run_line<E: Write>(rt: &HostRuntime, line: Line<'_>, err: &mut Sink<E>) -> Status
+fn run_line<O: Write, E: Write>(
+    rt: &HostRuntime,
+    line: Line<'_>,
+    streams: &mut Streams<O, E>,
+) -> Status
+    requires { writing_failed streams.old.out ≡ false }
     ensures words { result ≢ Status.BadWords }
-    ensures failed { result ≡ Status.Failed →
-        NamesOneOf (Tells E.contents err.old err.new) (files_of line.entry) ⊎ Tells E.contents err.old err.new cannot_write }
-    ensures memory { result ≡ Status.OutOfMemory → Tells E.contents err.old err.new no_memory }
+    ensures failed { result ≡ Status.Failed → NamesOneOf (Tells E.contents streams.old.err streams.new.err) (files_of line.entry)
+        ⊎ Tells E.contents streams.old.err streams.new.err cannot_write }
+    ensures memory { result ≡ Status.OutOfMemory → Tells E.contents streams.old.err streams.new.err no_memory }
 {
-    match line {
-        Line::Check { .. } => run_one(rt, line, err),
-        Line::Listing { .. } => run_one(rt, line, err),
-        Line::Serial { .. } => run_one(rt, line, err),
-        Line::Simulate { file, steps } => run_simulation(rt, file, steps, err),
-    }
+    let file = file_name(line);
+    let Ok(opened) = fs::open(rt, file) else {
+        streams.tell_cannot_read(file);
+        return Status::Failed;
+    };
+    let mut source = SourceText::new(file, opened);
+    let Some(other_file) = other_name(line) else {
+        return run_opened(rt, line, &mut source, streams);
+    };
+    let Ok(opened) = fs::open(rt, other_file) else {
+        return miss_other(rt.alloc(), &mut source, other_file, streams);
+    };
+    let mut other = SourceText::new(other_file, opened);
+    run_both_opened(rt.alloc(), line, &mut source, &mut other, streams)
 }
 
-/// Prints what `clap` says of the words: help and the version on standard output, anything else on standard error. `err`
-/// gets no more than a message, where memory ran out or what was asked for could not be written.
-fn tell_words<E: Write>(rt: &HostRuntime, error: &Error, err: &mut Sink<E>) -> Status
+/// Prints what `clap` says of the words: help and the version on standard output, anything else on standard error.
+/// The streams get no more than a message, where memory ran out or what was asked for could not be written.
+fn tell_words<O: Write, E: Write>(
+    rt: &HostRuntime,
+    error: &Error,
+    streams: &mut Streams<O, E>,
+) -> Status
     ensures memory { kind_of error.now ≡ ErrorKind.OutOfMemory → result ≡ Status.OutOfMemory }
     ensures asked { IsAsked (kind_of error.now) → (result ≡ Status.Done) ⊎ (result ≡ Status.Failed) }
     ensures bad { kind_of error.now ≢ ErrorKind.OutOfMemory → (IsAsked (kind_of error.now) → ⊥) → result ≡ Status.BadWords }
-    ensures memory_err { kind_of error.now ≡ ErrorKind.OutOfMemory → Tells E.contents err.old err.new no_memory }
-    ensures asked_err { result ≡ Status.Failed → Tells E.contents err.old err.new cannot_write }
-    ensures quiet { result ≢ Status.OutOfMemory → result ≢ Status.Failed → err.new ≡ err.old }
+    ensures memory_err { kind_of error.now ≡ ErrorKind.OutOfMemory → Tells E.contents streams.old.err streams.new.err no_memory }
+    ensures asked_err { result ≡ Status.Failed → Tells E.contents streams.old.err streams.new.err cannot_write }
+    ensures quiet { result ≢ Status.OutOfMemory → result ≢ Status.Failed → streams.new.err ≡ streams.old.err }
 {
     match error.kind() {
         ErrorKind::OutOfMemory => {
-            tell_no_memory(err);
+            streams.tell_no_memory();
             Status::OutOfMemory
         }
         ErrorKind::DisplayHelp | ErrorKind::DisplayVersion => match error.print(rt) {
             Ok(()) => Status::Done,
             Err(_) => {
-                tell_cannot_write(err);
+                streams.tell_cannot_write();
                 Status::Failed
             }
         },
@@ -200,29 +177,34 @@ fn slices(alloc: Global, arguments: &[String]) -> Result<Vec<&str>, AllocError>
 }
 
 /// Reads the words, and runs what they ask for.
-fn run<E: Write>(rt: &HostRuntime, err: &mut Sink<E>) -> Status {
+fn run_words<O: Write, E: Write>(rt: &HostRuntime, streams: &mut Streams<O, E>) -> Status
+    requires { writing_failed streams.old.out ≡ false }
+{
     let arguments = match arguments(rt) {
         Ok(arguments) => arguments,
         Err(error) if error.kind() == io::ErrorKind::OutOfMemory => {
-            tell_no_memory(err);
+            streams.tell_no_memory();
             return Status::OutOfMemory;
         }
         Err(_) => {
-            err.put(b"autolock: the words are no text\n");
+            streams.err.put(b"autolock: the words are no text\n");
             return Status::BadWords;
         }
     };
     let Ok(slices) = slices(rt.alloc(), &arguments) else {
-        tell_no_memory(err);
+        streams.tell_no_memory();
         return Status::OutOfMemory;
     };
     match words(rt.alloc(), &slices) {
-        Ok(line) => run_line(rt, line, err),
-        Err(error) => tell_words(rt, &error, err),
+        Ok(line) => run_line(rt, line, streams),
+        Err(error) => tell_words(rt, &error, streams),
     }
 }
 
 fn main(rt: HostRuntime) -> ExitCode {
-    let mut err = Sink::new(rt.stderr());
-    ExitCode::from(run(&rt, &mut err).code())
+    let mut streams = Streams {
+        out: Sink::new(rt.stdout()),
+        err: Sink::new(rt.stderr()),
+    };
+    ExitCode::from(run_words(&rt, &mut streams).code())
 }

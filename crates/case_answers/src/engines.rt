@@ -1,7 +1,7 @@
 //! What the engines of the crate `driver` answer for a text.
 
 use case_files::asked::Engine;
-use driver::{Sink, SourceText, Status, check, list, serial, simulate};
+use driver::{Sink, SourceText, Status, Streams, check, list, serial, simulate};
 use source::memory::NoMemory;
 use std::alloc::Global;
 
@@ -17,18 +17,21 @@ struct Outcome {
 
 /// The engine's answer for the text in a file called `F`, and, of `simulate`, the steps in a file called `T`.
 fn answer(alloc: Global, engine: Engine<'_>, text: &str) -> Result<Outcome, NoMemory> {
-    let mut source = SourceText::new(text.as_bytes());
-    let mut out = Sink::new(Vec::new(alloc));
-    let mut err = Sink::new(Vec::new(alloc));
+    let mut source = SourceText::new("F", text.as_bytes());
+    let mut streams = Streams {
+        out: Sink::new(Vec::new(alloc)),
+        err: Sink::new(Vec::new(alloc)),
+    };
     let status = match engine {
-        Engine::Check | Engine::Lists => check(alloc, &mut source, "F", &mut out, &mut err),
-        Engine::Listing => list(alloc, &mut source, "F", &mut out, &mut err),
-        Engine::Serial(turns) => serial(alloc, &mut source, "F", turns, &mut out, &mut err),
+        Engine::Check | Engine::Lists => check(alloc, &mut source, &mut streams),
+        Engine::Listing => list(alloc, &mut source, &mut streams),
+        Engine::Serial(turns) => serial(alloc, turns, &mut source, &mut streams),
         Engine::Simulate(steps) => {
-            let mut steps = SourceText::new(steps.as_bytes());
-            simulate(alloc, &mut source, "F", &mut steps, "T", &mut out, &mut err)
+            let mut steps = SourceText::new("T", steps.as_bytes());
+            simulate(alloc, &mut source, &mut steps, &mut streams)
         }
     };
+    let Streams { out, err } = streams;
     // A vector fails as a writer where its growth is refused, and never else.
     if status == Status::OutOfMemory || out.has_failed() || err.has_failed() {
         return Err(NoMemory);

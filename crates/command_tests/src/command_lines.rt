@@ -49,6 +49,10 @@ autolock serial F => Serial { file: \"F\", turns: 1000000 }
 autolock serial --turns 7 F => Serial { file: \"F\", turns: 7 }
 autolock serial --turns=0 F => Serial { file: \"F\", turns: 0 }
 autolock serial --turns 1000000000 F => Serial { file: \"F\", turns: 1000000000 }
+autolock simulate F S => Simulate { file: \"F\", steps: \"S\" }
+autolock run F => Run { file: \"F\" }
+autolock replay F H => Replay { file: \"F\", history: \"H\", turns: 1000000 }
+autolock replay F --turns 7 H => Replay { file: \"F\", history: \"H\", turns: 7 }
 ",
     )
 }
@@ -70,6 +74,10 @@ autolock check --turns 3 F => UnknownArgument
 autolock check F G => UnknownArgument
 autolock serial => MissingRequiredArgument
 autolock serial F G => UnknownArgument
+autolock run => MissingRequiredArgument
+autolock run --turns 3 F => UnknownArgument
+autolock replay F => MissingRequiredArgument
+autolock replay F G H => UnknownArgument
 autolock serial --turns 1000000001 F => ValueValidation
 autolock serial --turns -1 F => UnknownArgument
 ",

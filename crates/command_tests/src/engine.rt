@@ -1,6 +1,6 @@
 //! Readers and writers that fail, and bytes that are no text. What is answered otherwise stands in files of cases.
 
-use driver::{Sink, SourceText, serial};
+use driver::{Sink, SourceText, Streams, serial};
 use failing_streams::{
     HISTORY, LOST_UPDATE, judge_answer, judge_read, judge_written, room, writer,
 };
@@ -21,7 +21,10 @@ fn a_failing_reader(rt: HostRuntime) -> Result<(), Fail> {
     }
     // However much was read.
     let long = vec![in alloc; b' '; 1_100_000]?;
-    judge_read(alloc, &long, 150_000, ErrorKind::BrokenPipe, UNREAD)
+    judge_read(alloc, &long, 149_796, ErrorKind::BrokenPipe, UNREAD)?;
+    // But no further than a byte past what a program may have, for which these calls are enough.
+    let too_long = "1 err\nF:1:1: E15 limit exceeded\n";
+    judge_read(alloc, &long, 149_797, ErrorKind::BrokenPipe, too_long)
 }
 
 #[test]
@@ -44,11 +47,13 @@ fn a_failing_writer(rt: HostRuntime) -> Result<(), Fail> {
 fn a_failing_standard_error(rt: HostRuntime) -> Result<(), Fail> {
     let alloc = rt.alloc();
     for calls in 0..8 {
-        let mut source = SourceText::new(b"lock G".as_slice());
-        let mut out = Sink::new(room(alloc, &[])?);
-        let mut err = Sink::new(writer(alloc, calls)?);
-        let status = serial(alloc, &mut source, "F", 0, &mut out, &mut err);
-        let out = out.into_writer();
+        let mut source = SourceText::new("F", b"lock G".as_slice());
+        let mut streams = Streams {
+            out: Sink::new(room(alloc, &[])?),
+            err: Sink::new(writer(alloc, calls)?),
+        };
+        let status = serial(alloc, 0, &mut source, &mut streams);
+        let out = streams.out.into_writer();
         judge_answer(alloc, status, out.as_slice(), &[], "1 out\n")?;
     }
     Ok(())
@@ -57,13 +62,15 @@ fn a_failing_standard_error(rt: HostRuntime) -> Result<(), Fail> {
 #[test]
 fn a_standard_error_that_failed_before(rt: HostRuntime) -> Result<(), Fail> {
     let alloc = rt.alloc();
-    let mut source = SourceText::new(LOST_UPDATE.as_bytes());
-    let mut out = Sink::new(room(alloc, &[])?);
-    let mut err = Sink::new(writer(alloc, 0)?);
-    err.put(b"a message".as_slice());
-    assert!(rt; err.has_failed());
-    let status = serial(alloc, &mut source, "F", 0, &mut out, &mut err);
-    let out = out.into_writer();
+    let mut source = SourceText::new("F", LOST_UPDATE.as_bytes());
+    let mut streams = Streams {
+        out: Sink::new(room(alloc, &[])?),
+        err: Sink::new(writer(alloc, 0)?),
+    };
+    streams.err.put(b"a message".as_slice());
+    assert!(rt; streams.err.has_failed());
+    let status = serial(alloc, 0, &mut source, &mut streams);
+    let out = streams.out.into_writer();
     let want = format!(in alloc; "0 out\n{HISTORY}")?;
     judge_answer(alloc, status, out.as_slice(), &[], want.as_str())
 }

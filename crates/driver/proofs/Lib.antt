@@ -2,5 +2,8 @@ pub mod CallLemmas
 pub mod RunningLemmas
 pub mod SerialLemmas
 pub mod WritingLemmas
-pub mod CheckLemmas
+pub mod ReadingLemmas
+pub mod ValueLemmas
+pub mod LongTexts
 pub mod ServingLemmas
+pub mod AnswerLemmas

@@ -1,19 +1,16 @@
 -- The text of a run is the one of its serial meaning.
-use Rattle.std.proofs.Common.{◌≡◌, ◌∙◌, ℕ, List, [], ◌∷◌, ◌++◌, ap, sym, subst, refl, append-nil, string_bytes}
+use Rattle.std.proofs.Common.{◌≡◌, ◌∙◌, ℕ, List, [], ◌∷◌, ◌++◌, ap, sym, subst, refl, append-nil}
 use Rattle.std.proofs.lemmas.List.{map-append, append_cancel_right}
 use Rattle.core_lang.specs.declared.value.Value.{Value}
 use Rattle.core_lang.specs.declared.typed.Typed.{Typed}
 use Rattle.core_lang.specs.Laws.{SettledAreSerial}
 use Rattle.core_lang.specs.Serial.{Scheduled, Ended, all_calls, opening_heap, serial_run, Serial, SerialFromOpening}
+use Rattle.recorded.specs.declared.format.Format.TheVariants.{One}
 use Rattle.report.specs.History.{history_of, unsettled_of}
-use Rattle.source.specs.declared.fault.Fault.{Fault}
-use Rattle.driver.specs.declared.answer.Answer.{Answer}
 use Rattle.driver.specs.declared.status.Status.{Status}
-use Rattle.driver.specs.declared.status.Status.TheVariants.{Done, Refused, BadWords, Failed, OutOfMemory, BadSteps, Unsettled}
-use Rattle.compiler.specs.Programs.{Accepts, IsOfFirstPass}
+use Rattle.driver.specs.declared.status.Status.TheVariants.{Done, Unsettled}
 use Rattle.driver.specs.Running.{StopsAt}
-use Rattle.driver.specs.Answers.{IsRunAnswer, IsFaultAnswer}
-use Rattle.driver.specs.Serial.{calls_of, entry, entries, IsHistory, StopsAtCall, RunAnswers, SerialAnswers}
+use Rattle.driver.specs.Serial.{calls_of, entry, entries, IsHistory, StopsAtCall}
 
 -- the calls ahead of those that the turns don't settle are run serially
 settled_ahead : SettledAreSerial → (turns : ℕ) (program : Typed) (before after : List Scheduled) →
@@ -38,22 +35,25 @@ entries_ahead program heap last (s ∷ before) after (e ∷ ends) ran =
     ap (λ es. entry s e ∷ es) (entries_ahead program ran.0.heap last before after ends ran.3)
 
 -- the turns settle all calls
-pub history_told : SettledAreSerial → (turns : ℕ) (program : Typed) (out err : List ℕ) → (serial_run program turns).unsettled ≡ [] →
-    out ≡ history_of program (entries (all_calls program) (serial_run program turns).ends) (serial_run program turns).heap → err ≡ [] →
-    IsHistory turns program out err
-history_told law turns program out err settled is none =
+pub history_told : SettledAreSerial → (turns : ℕ) (program : Typed) (status : Status) (out err : List ℕ) → status ≡ Done →
+    (serial_run program turns).unsettled ≡ [] →
+    out ≡ history_of One program (entries (all_calls program) (serial_run program turns).ends) (serial_run program turns).heap → err ≡ [] →
+    IsHistory turns program status out err
+history_told law turns program status out err done settled is none =
     record {
       settled = settled;
       serial = settled_ahead law turns program (all_calls program) [] (sym (append-nil (all_calls program))) settled;
+      ended = done;
       written = is;
       told = none;
     }
 
 -- the turns settle the calls up to one
-pub stop_told : SettledAreSerial → (turns : ℕ) (program : Typed) (thread step : ℕ) (out err : List ℕ) → StopsAt turns program (thread, step) →
+pub stop_told : SettledAreSerial → (turns : ℕ) (program : Typed) (thread step : ℕ) (status : Status) (out err : List ℕ) →
+    status ≡ Unsettled → StopsAt turns program (thread, step) →
     out ≡ unsettled_of program (entries (all_calls program) (serial_run program turns).ends) thread step → err ≡ [] →
-    StopsAtCall turns program out err
-stop_told law turns program thread step out err stops is none =
+    StopsAtCall turns program status out err
+stop_told law turns program thread step status out err ended stops is none =
     let ran = settled_ahead law turns program stops.before (stops.this ∷ stops.after) stops.parts stops.unsettled in
     let ends = (serial_run program turns).ends in
     let ahead : entries (all_calls program) ends ≡ entries stops.before ends =
@@ -66,28 +66,7 @@ stop_told law turns program thread step out err stops is none =
       unsettled = stops.unsettled;
       serial = ran;
       beyond = stops.beyond;
+      ended = ended;
       written = is ∙ ap (λ es. unsettled_of program es thread step) ahead ∙ ap (λ (p : ℕ × ℕ). unsettled_of program (entries stops.before ends) p.0 p.1) stops.here;
       told = none;
     }
-
-answers_status : (turns : ℕ) (file text : List ℕ) (program : Typed) (status : Status) (out err : List ℕ) → Accepts text program →
-    RunAnswers turns program status out err → SerialAnswers turns file text status out err
-answers_status turns file text program Done out err accepts run = (program, accepts, run)
-answers_status turns file text program BadSteps out err accepts run = absurd run
-answers_status turns file text program Unsettled out err accepts run = (program, accepts, run)
-answers_status turns file text program Refused out err accepts run = absurd run
-answers_status turns file text program BadWords out err accepts run = absurd run
-answers_status turns file text program Failed out err accepts run = absurd run
-answers_status turns file text program OutOfMemory out err accepts run = absurd run
-
--- a run is an answer
-pub run_answers : (turns : ℕ) (file text : List ℕ) (program : Typed) (answer : Answer) → Accepts text program → IsRunAnswer turns program answer →
-    SerialAnswers turns file text answer.status (string_bytes answer.out) (string_bytes answer.err)
-run_answers turns file text program answer accepts run =
-    answers_status turns file text program answer.status (string_bytes answer.out) (string_bytes answer.err) accepts run
-
--- so is the line of a fault
-pub fault_answers : (turns : ℕ) (file text : List ℕ) (fault : Fault) (answer : Answer) → IsOfFirstPass text fault → IsFaultAnswer file text fault answer →
-    SerialAnswers turns file text answer.status (string_bytes answer.out) (string_bytes answer.err)
-fault_answers turns file text fault answer given is =
-    rw is.0 (record { fault = fault; given = given; written = is.1; told = is.2 })

@@ -1,17 +1,15 @@
--- Where an answer went out, the engine has served its request.
-use Rattle.std.proofs.Common.{◌≡◌, ◌≢◌, ◌||◌, Bool, true, false, ℕ, List, Option, refl, sym, ap, subst, ◌∙◌, string_bytes}
+-- An engine that could not read, or had no memory, or whose answer went out, has served its request.
+use Rattle.std.proofs.Common.{◌≡◌, ◌≢◌, ◌⊎◌, ◌||◌, ◌<◌, ◌+◌, ◌^◌, Bool, true, false, ℕ, List, [], ◌∷◌, length, Option, Some, None, Result, Ok, Err, IfOk, zero, suc, arith, refl, sym, ap, subst, ◌∙◌, string_bytes}
+use Rattle.std.specs.List.{All}
 use Rattle.driver.specs.declared.answer.Answer.{Answer}
-use Rattle.driver.specs.declared.answer.Request.{Request}
-use Rattle.driver.specs.declared.answer.Request.TheVariants.{Check, Listing, Serial}
-use Rattle.driver.specs.declared.source_text.SourceText.{SourceText}
-use Rattle.driver.specs.declared.sink.Sink.{Sink}
+use Rattle.driver.specs.declared.streams.Streams.{Streams}
 use Rattle.driver.specs.declared.status.Status.{Status}
-use Rattle.driver.specs.declared.status.Status.TheVariants.{Done, Refused, BadWords, Failed, OutOfMemory, BadSteps, Unsettled}
-use Rattle.driver.specs.Answers.{GoesOut, RequestAnswers}
-use Rattle.driver.specs.Engines.{Serves, ServesBoth}
-use Rattle.driver.specs.Simulations.{SimulationAnswers}
-use Rattle.driver.specs.Messages.{cannot_write}
-use Rattle.driver.specs.Streams.{reading_failed, writing_failed, Reads, Writes, Tells}
+use Rattle.driver.specs.declared.status.Status.TheVariants.{Done, Refused, BadWords, Failed, OutOfMemory, Differs, BadInput, Unsettled, Strange}
+use Rattle.driver.specs.Engines.{Serves, Reading, Gave, first_unread, IsReadOut, IsReadOrLong}
+use Rattle.driver.specs.Messages.{cannot_read, cannot_write, no_memory}
+use Rattle.driver.specs.Serving.{IsOut, GoesOut, IsGiven, IsUnread, of_reader, of_memory}
+use Rattle.source.specs.declared.memory.NoMemory.{NoMemory}
+use Rattle.driver.specs.Streams.{writing_failed, Writes, Tells}
 
 -- statuses that no text is answered with
 pub record IsAnswered (status : Status) : Type 0 where
@@ -19,140 +17,132 @@ pub record IsAnswered (status : Status) : Type 0 where
   pub failed : status ≢ Failed
   pub memory : status ≢ OutOfMemory
 
-done : IsAnswered Done
-done = record { words = λ e. cc; failed = λ e. cc; memory = λ e. cc }
+pub done : {status : Status} → status ≡ Done → IsAnswered status
+done is = rw is (record { words = λ e. cc; failed = λ e. cc; memory = λ e. cc })
 
-refused : IsAnswered Refused
-refused = record { words = λ e. cc; failed = λ e. cc; memory = λ e. cc }
+pub refused : {status : Status} → status ≡ Refused → IsAnswered status
+refused is = rw is (record { words = λ e. cc; failed = λ e. cc; memory = λ e. cc })
 
-bad_steps : IsAnswered BadSteps
-bad_steps = record { words = λ e. cc; failed = λ e. cc; memory = λ e. cc }
+pub bad_input : {status : Status} → status ≡ BadInput → IsAnswered status
+bad_input is = rw is (record { words = λ e. cc; failed = λ e. cc; memory = λ e. cc })
 
-unsettled : IsAnswered Unsettled
-unsettled = record { words = λ e. cc; failed = λ e. cc; memory = λ e. cc }
+pub unsettled : {status : Status} → status ≡ Unsettled → IsAnswered status
+unsettled is = rw is (record { words = λ e. cc; failed = λ e. cc; memory = λ e. cc })
 
-pub requests_are_answered : (request : Request) (file text : List ℕ) (status : Status) (out err : List ℕ) →
-    RequestAnswers request file text status out err → IsAnswered status
-requests_are_answered Check file text Done out err is = done
-requests_are_answered Check file text Refused out err is = refused
-requests_are_answered Check file text BadWords out err is = absurd is
-requests_are_answered Check file text Failed out err is = absurd is
-requests_are_answered Check file text OutOfMemory out err is = absurd is
-requests_are_answered Check file text BadSteps out err is = absurd is
-requests_are_answered Check file text Unsettled out err is = unsettled
-requests_are_answered Listing file text Done out err is = done
-requests_are_answered Listing file text Refused out err is = refused
-requests_are_answered Listing file text BadWords out err is = absurd is
-requests_are_answered Listing file text Failed out err is = absurd is
-requests_are_answered Listing file text OutOfMemory out err is = absurd is
-requests_are_answered Listing file text BadSteps out err is = absurd is
-requests_are_answered Listing file text Unsettled out err is = unsettled
-requests_are_answered (Serial turns) file text Done out err is = done
-requests_are_answered (Serial turns) file text Refused out err is = refused
-requests_are_answered (Serial turns) file text BadWords out err is = absurd is.2
-requests_are_answered (Serial turns) file text Failed out err is = absurd is.2
-requests_are_answered (Serial turns) file text OutOfMemory out err is = absurd is.2
-requests_are_answered (Serial turns) file text BadSteps out err is = absurd is.2
-requests_are_answered (Serial turns) file text Unsettled out err is = unsettled
+-- all of one
+pub All_one : {A : Type 0} (P : A → Type 0) {x : A} → P x → All P (x ∷ [])
+All_one P {x = x} is zero d within = is
+All_one P {x = x} is (suc k) d within = absurd (omega arith)
 
-pub simulations_are_answered : (file steps_file text items : List ℕ) (status : Status) (out err : List ℕ) →
-    SimulationAnswers file steps_file text items status out err → IsAnswered status
-simulations_are_answered file steps_file text items Done out err is = done
-simulations_are_answered file steps_file text items Refused out err is = refused
-simulations_are_answered file steps_file text items BadWords out err is = absurd is.3
-simulations_are_answered file steps_file text items Failed out err is = absurd is.3
-simulations_are_answered file steps_file text items OutOfMemory out err is = absurd is.3
-simulations_are_answered file steps_file text items BadSteps out err is = bad_steps
-simulations_are_answered file steps_file text items Unsettled out err is = absurd is.3
+-- what is wanted of an answer: it answers texts that the files had to give
+pub record IsRight (Answers : List ℕ → List (List ℕ) → Status → List ℕ → List ℕ → Type 0) (program : Reading) (others : List Reading)
+    (answer : Answer) : Type 0 where
+  pub text : List ℕ
+  pub texts : List (List ℕ)
+  pub gave : Gave (program ∷ others) (text ∷ texts)
+  pub answers : Answers text texts answer.status (string_bytes answer.out) (string_bytes answer.err)
+  pub answered : IsAnswered answer.status
 
-module _ {R O E : Type 0} (Answers : List ℕ → Status → List ℕ → List ℕ → Type 0) (file : List ℕ)
-    (remaining : R → Option (List ℕ)) (source source' : SourceText R) (contents : O → Option (List ℕ)) (out out' : Sink O)
-    (told : E → Option (List ℕ)) (err err' : Sink E) (answer : Answer) (status : Status) (text : List ℕ)
-    (reads : Reads remaining source text) (unfailed : reading_failed source' ≡ false)
-    (answers : Answers text answer.status (string_bytes answer.out) (string_bytes answer.err)) (answered : IsAnswered answer.status) where
-  gone : (failed : Bool) → writing_failed out' ≡ failed → GoesOut answer status failed (Writes contents out out') (Tells told err err') →
-      Serves Answers file remaining source source' contents out out' told err err' status
-  gone true wrong g =
-      let marked : (reading_failed source' || writing_failed out') ≡ true = rw (unfailed, wrong) refl in
+pub differs : {status : Status} → status ≡ Differs → IsAnswered status
+differs is = rw is (record { words = λ e. cc; failed = λ e. cc; memory = λ e. cc })
+
+pub strange : {status : Status} → status ≡ Strange → IsAnswered status
+strange is = rw is (record { words = λ e. cc; failed = λ e. cc; memory = λ e. cc })
+
+module _ {O E : Type 0} (Answers : List ℕ → List (List ℕ) → Status → List ℕ → List ℕ → Type 0) (program : Reading)
+    (others : List Reading) (contents : O → Option (List ℕ)) (told : E → Option (List ℕ)) (old new : Streams O E) (status : Status) where
+  -- a file could not be read
+  pub unread_served : (file : Reading) → first_unread (program ∷ others) ≡ Some file → status ≡ Failed → new.out ≡ old.out →
+      Tells told old.err new.err (cannot_read file.name) → Serves Answers program others contents told old new status
+  unread_served file is failed same tells =
       record {
-        answers = λ unmarked memory. absurd (unmarked g.0);
+        answers = λ fine memory. absurd (fine failed);
+        read = λ fine memory. absurd (fine failed);
         words = λ e. cc;
-        failed = (λ e. marked, λ e. g.0);
-        unread = λ e. absurd cc;
-        unwritten = λ read written. g.1;
+        failed = (λ e. rw is refl, λ e. failed);
+        unread = λ f first. let e : f ≡ file = cc in (same, rw e tells);
+        unwritten = λ none e. absurd cc;
         memory = λ e. absurd cc;
       }
-  gone false right g =
-      let unmarked : (reading_failed source' || writing_failed out') ≡ false = rw (unfailed, right) refl in
-      record {
-        answers = λ fine memory. (
-          text,
-          string_bytes answer.out,
-          string_bytes answer.err,
-          reads,
-          subst (λ s. Answers text s (string_bytes answer.out) (string_bytes answer.err)) (sym g.0) answers,
-          g.1,
-          g.2,
-        );
-        words = λ e. answered.words (sym g.0 ∙ e);
-        failed = (λ e. absurd (answered.failed (sym g.0 ∙ e)), λ e. absurd cc);
-        unread = λ e. absurd cc;
-        unwritten = λ read written. absurd cc;
-        memory = λ e. absurd (answered.memory (sym g.0 ∙ e));
-      }
 
-  pub served : GoesOut answer status (writing_failed out') (Writes contents out out') (Tells told err err') →
-      Serves Answers file remaining source source' contents out out' told err err' status
-  served = gone (writing_failed out') refl
-
-module _ {R S O E : Type 0} (Answers : List ℕ → List ℕ → Status → List ℕ → List ℕ → Type 0) (file steps_file : List ℕ)
-    (remaining : R → Option (List ℕ)) (source source' : SourceText R) (remaining_steps : S → Option (List ℕ))
-    (steps steps' : SourceText S) (contents : O → Option (List ℕ)) (out out' : Sink O) (told : E → Option (List ℕ))
-    (err err' : Sink E) (answer : Answer) (status : Status) (text items : List ℕ) (reads : Reads remaining source text)
-    (reads_steps : Reads remaining_steps steps items) (unfailed : reading_failed source' ≡ false)
-    (unfailed_steps : reading_failed steps' ≡ false)
-    (answers : Answers text items answer.status (string_bytes answer.out) (string_bytes answer.err))
-    (answered : IsAnswered answer.status) where
-  gone_both : (failed : Bool) → writing_failed out' ≡ failed →
-      GoesOut answer status failed (Writes contents out out') (Tells told err err') →
-      ServesBoth Answers file steps_file remaining source source' remaining_steps steps steps' contents out out' told err
-      err' status
-  gone_both true wrong g =
-      let marked : (reading_failed source' || (reading_failed steps' || writing_failed out')) ≡ true =
-      rw (unfailed, unfailed_steps, wrong) refl in
+  -- memory ran out
+  pub unmade_served : first_unread (program ∷ others) ≡ None → status ≡ OutOfMemory → writing_failed old.out ≡ false →
+      new.out ≡ old.out → Tells told old.err new.err no_memory → Serves Answers program others contents told old new status
+  unmade_served none out_of writable same tells =
+      let unfailed : writing_failed new.out ≡ false = rw same writable in
       record {
-        answers = λ unmarked memory. absurd (unmarked g.0);
+        answers = λ fine memory. absurd (memory out_of);
+        read = λ fine memory. absurd (memory out_of);
         words = λ e. cc;
-        failed = (λ e. marked, λ e. g.0);
-        unread = λ e. absurd cc;
-        unread_steps = λ read e. absurd cc;
-        unwritten = λ read read_steps written. g.1;
-        memory = λ e. absurd cc;
-      }
-  gone_both false right g =
-      let unmarked : (reading_failed source' || (reading_failed steps' || writing_failed out')) ≡ false =
-      rw (unfailed, unfailed_steps, right) refl in
-      record {
-        answers = λ fine memory. (
-          text,
-          items,
-          string_bytes answer.out,
-          string_bytes answer.err,
-          reads,
-          reads_steps,
-          subst (λ s. Answers text items s (string_bytes answer.out) (string_bytes answer.err)) (sym g.0) answers,
-          g.1,
-          g.2,
-        );
-        words = λ e. answered.words (sym g.0 ∙ e);
-        failed = (λ e. absurd (answered.failed (sym g.0 ∙ e)), λ e. absurd cc);
-        unread = λ e. absurd cc;
-        unread_steps = λ read e. absurd cc;
-        unwritten = λ read read_steps written. absurd cc;
-        memory = λ e. absurd (answered.memory (sym g.0 ∙ e));
+        failed = (λ e. absurd cc, λ e. absurd (let f : false ≡ true = rw (none, unfailed) at e in cc));
+        unread = λ f first. absurd cc;
+        unwritten = λ e written. absurd cc;
+        memory = λ e. (same, tells);
       }
 
-  pub served_both : GoesOut answer status (writing_failed out') (Writes contents out out') (Tells told err err') →
-      ServesBoth Answers file steps_file remaining source source' remaining_steps steps steps' contents out out' told err
-      err' status
-  served_both = gone_both (writing_failed out') refl
+  -- an answer went out
+  module _ (answer : Answer) (text : List ℕ) (texts : List (List ℕ)) (none : first_unread (program ∷ others) ≡ None)
+      (gave : Gave (program ∷ others) (text ∷ texts)) (read : IsReadOrLong program × All IsReadOut others)
+      (answers : Answers text texts answer.status (string_bytes answer.out) (string_bytes answer.err))
+      (answered : IsAnswered answer.status) where
+    gone : (failed : Bool) → writing_failed new.out ≡ failed → IsOut contents told answer old new status failed →
+        Serves Answers program others contents told old new status
+    gone true wrong g =
+        record {
+          answers = λ fine memory. absurd (fine g.0);
+          read = λ fine memory. absurd (fine g.0);
+          words = λ e. cc;
+          failed = (λ e. rw (none, wrong) refl, λ e. g.0);
+          unread = λ f first. absurd cc;
+          unwritten = λ e written. g.1;
+          memory = λ e. absurd cc;
+        }
+    gone false right g =
+        record {
+          answers = λ fine memory. (
+            text,
+            texts,
+            string_bytes answer.out,
+            string_bytes answer.err,
+            gave,
+            subst (λ s. Answers text texts s (string_bytes answer.out) (string_bytes answer.err)) (sym g.0) answers,
+            g.1,
+            g.2,
+          );
+          read = λ fine memory. read;
+          words = λ e. answered.words (sym g.0 ∙ e);
+          failed = (λ e. absurd (answered.failed (sym g.0 ∙ e)), λ e. absurd (let f : false ≡ true = rw (none, right) at e in cc));
+          unread = λ f first. absurd cc;
+          unwritten = λ e written. absurd cc;
+          memory = λ e. absurd (answered.memory (sym g.0 ∙ e));
+        }
+
+    pub answer_served : GoesOut contents told answer old new status → Serves Answers program others contents told old new status
+    answer_served = gone (writing_failed new.out) refl
+
+  -- an answer was given, or memory ran out before there was one
+  pub given_served : (result : Result Answer NoMemory) → first_unread (program ∷ others) ≡ None → writing_failed old.out ≡ false →
+      IsReadOrLong program × All IsReadOut others → IfOk result (IsRight Answers program others) → IsGiven contents told result old new status →
+      Serves Answers program others contents told old new status
+  given_served (Ok answer) none writable read is given =
+      answer_served answer is.text is.texts none is.gave read is.answers is.answered given
+  given_served (Err e) none writable read is given = unmade_served none given.0 writable given.1 given.2
+
+  -- the program's file was not read
+  pub program_unread : writing_failed old.out ≡ false → new.out ≡ old.out → first_unread others ≡ None →
+      IsUnread program.name program.failed (Tells told old.err new.err) status →
+      Serves Answers program others contents told old new status
+  program_unread writable same none (of_reader failed marked tells) = unread_served program (rw marked refl) failed same tells
+  program_unread writable same none (of_memory out_of unmarked tells) =
+      unmade_served (rw unmarked none) out_of writable same tells
+
+-- the other file was not read
+pub other_unread : {O E : Type 0} (Answers : List ℕ → List (List ℕ) → Status → List ℕ → List ℕ → Type 0) (program other : Reading)
+    (contents : O → Option (List ℕ)) (told : E → Option (List ℕ)) (old new : Streams O E) (status : Status) →
+    program.failed ≡ false → writing_failed old.out ≡ false → new.out ≡ old.out →
+    IsUnread other.name other.failed (Tells told old.err new.err) status →
+    Serves Answers program (other ∷ []) contents told old new status
+other_unread Answers program other contents told old new status read writable same (of_reader failed marked tells) =
+    unread_served Answers program (other ∷ []) contents told old new status other (rw (read, marked) refl) failed same tells
+other_unread Answers program other contents told old new status read writable same (of_memory out_of unmarked tells) =
+    unmade_served Answers program (other ∷ []) contents told old new status (rw (read, unmarked) refl) out_of writable same tells

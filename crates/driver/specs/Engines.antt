@@ -1,48 +1,74 @@
--- What an engine does with the reader and the writers that it is lent.
-use Rattle.std.specs.Prelude.{◌≡◌, ◌≢◌, ◌||◌, ◌↔◌, ℕ, true, false, List, Option}
+-- What an engine does with the files and the outputs that it is lent.
+use Rattle.std.specs.Prelude.{◌≡◌, ◌≢◌, ◌⊎◌, ◌||◌, ◌↔◌, ◌<◌, ℕ, Bool, true, false, List, [], ◌∷◌, length, Option, Some, None, IfSome, ⊤, if◌then◌else◌}
+use Rattle.std.specs.List.{All}
+use Rattle.std.specs.Io.KnownBytes.{IsAtEnd}
+use Rattle.source.specs.Texts.{SOURCE_LIMIT}
 use Rattle.driver.specs.declared.source_text.SourceText.{SourceText}
-use Rattle.driver.specs.declared.sink.Sink.{Sink}
+use Rattle.driver.specs.declared.streams.Streams.{Streams}
 use Rattle.driver.specs.declared.status.Status.{Status}
 use Rattle.driver.specs.declared.status.Status.TheVariants.{BadWords, Failed, OutOfMemory}
 use Rattle.driver.specs.Messages.{cannot_read, cannot_write, no_memory}
-use Rattle.driver.specs.Streams.{reading_failed, writing_failed, Reads, Writes, Tells}
+use Rattle.driver.specs.Streams.{name_of, reader_of, reading_failed, writing_failed, Writes, Tells}
 
--- an engine ended like this, which answers texts as `Answers` says, and whose messages call its file by this name
-pub record Serves {R O E : Type 0} (Answers : List ℕ → Status → List ℕ → List ℕ → Type 0) (file : List ℕ)
-    (remaining : R → Option (List ℕ)) (source source' : SourceText R) (contents : O → Option (List ℕ)) (out out' : Sink O)
-    (told : E → Option (List ℕ)) (err err' : Sink E) (status : Status) : Type 0 where
-  -- what is written and told are the two texts that answer the text that was read
-  pub answers : status ≢ Failed → status ≢ OutOfMemory → (text : List ℕ) × (wrote : List ℕ) × (said : List ℕ)
-      × Reads remaining source text × Answers text status wrote said × Writes contents out out' wrote × Tells told err err' said
-  -- no word is its to judge
-  pub words : status ≢ BadWords
-  -- it fails where reading or writing failed, and nowhere else
-  pub failed : (status ≡ Failed) ↔ ((reading_failed source' || writing_failed out') ≡ true)
-  -- where reading failed nothing is written
-  pub unread : reading_failed source' ≡ true → (out' ≡ out) × Tells told err err' (cannot_read file)
-  pub unwritten : reading_failed source' ≡ false → writing_failed out' ≡ true → Tells told err err' cannot_write
-  -- where memory runs out nothing is written
-  pub memory : status ≡ OutOfMemory → (out' ≡ out) × Tells told err err' no_memory
+-- what became of a file: its name, what its reader had to give before and has after, where it tells that, and whether
+-- reading it failed
+pub record Reading : Type 0 where
+  pub name : List ℕ
+  pub had : Option (List ℕ)
+  pub left : Option (List ℕ)
+  pub failed : Bool
 
--- the same of an engine that reads two files: a program's text and a steps file
-pub record ServesBoth {R S O E : Type 0} (Answers : List ℕ → List ℕ → Status → List ℕ → List ℕ → Type 0)
-    (file steps_file : List ℕ) (remaining : R → Option (List ℕ)) (source source' : SourceText R)
-    (remaining_steps : S → Option (List ℕ)) (steps steps' : SourceText S) (contents : O → Option (List ℕ))
-    (out out' : Sink O) (told : E → Option (List ℕ)) (err err' : Sink E) (status : Status) : Type 0 where
-  -- what is written and told are the two texts that answer the texts that were read
+abbrev pub reading_of : {R : Type 0} → (R → Option (List ℕ)) → SourceText R → SourceText R → Reading
+reading_of remaining old new = record {
+  name = name_of old;
+  had = remaining (reader_of old);
+  left = remaining (reader_of new);
+  failed = reading_failed new;
+}
+
+-- the texts are what the files had to give; of a reader that doesn't tell its bytes nothing is said
+abbrev pub Gave : List Reading → List (List ℕ) → Type 0
+Gave [] [] = ⊤
+Gave [] (text ∷ texts) = ⊥
+Gave (file ∷ files) [] = ⊥
+Gave (file ∷ files) (text ∷ texts) = IfSome file.had (λ bytes. text ≡ bytes) × Gave files texts
+
+-- the first of the files that could not be read
+abbrev pub first_unread : List Reading → Option Reading
+first_unread [] = None
+first_unread (file ∷ files) = if file.failed then Some file else first_unread files
+
+abbrev pub is_there : Option Reading → Bool
+is_there None = false
+is_there (Some file) = true
+
+-- a file was read to its end
+abbrev pub IsReadOut : Reading → Type 0
+IsReadOut file = IsAtEnd file.left
+
+-- a program's file was, unless it is longer than a program may be
+abbrev pub IsReadOrLong : Reading → Type 0
+IsReadOrLong file = IsReadOut file ⊎ IfSome file.had (λ bytes. SOURCE_LIMIT < length bytes)
+
+-- an engine ended like this, which answers the program's text and the texts of its other files as `Answers` says
+pub record Serves {O E : Type 0} (Answers : List ℕ → List (List ℕ) → Status → List ℕ → List ℕ → Type 0)
+    (program : Reading) (others : List Reading) (contents : O → Option (List ℕ)) (told : E → Option (List ℕ))
+    (old new : Streams O E) (status : Status) : Type 0 where
+  -- what is written and told are the two texts that answer the texts that the files had to give
   pub answers : status ≢ Failed → status ≢ OutOfMemory →
-      (text : List ℕ) × (items : List ℕ) × (wrote : List ℕ) × (said : List ℕ)
-      × Reads remaining source text × Reads remaining_steps steps items × Answers text items status wrote said
-      × Writes contents out out' wrote × Tells told err err' said
+      (text : List ℕ) × (texts : List (List ℕ)) × (wrote : List ℕ) × (said : List ℕ)
+      × Gave (program ∷ others) (text ∷ texts) × Answers text texts status wrote said
+      × Writes contents old.out new.out wrote × Tells told old.err new.err said
+  -- before anything is judged, all files are read
+  pub read : status ≢ Failed → status ≢ OutOfMemory → IsReadOrLong program × All IsReadOut others
   -- no word is its to judge
   pub words : status ≢ BadWords
   -- it fails where reading or writing failed, and nowhere else
-  pub failed : (status ≡ Failed) ↔ ((reading_failed source' || (reading_failed steps' || writing_failed out')) ≡ true)
-  -- where reading failed nothing is written
-  pub unread : reading_failed source' ≡ true → (out' ≡ out) × Tells told err err' (cannot_read file)
-  pub unread_steps : reading_failed source' ≡ false → reading_failed steps' ≡ true →
-      (out' ≡ out) × Tells told err err' (cannot_read steps_file)
-  pub unwritten : reading_failed source' ≡ false → reading_failed steps' ≡ false → writing_failed out' ≡ true →
-      Tells told err err' cannot_write
+  pub failed : (status ≡ Failed) ↔ ((is_there (first_unread (program ∷ others)) || writing_failed new.out) ≡ true)
+  -- where a file could not be read nothing is written, and the first such file is told
+  pub unread : (file : Reading) → first_unread (program ∷ others) ≡ Some file →
+      (new.out ≡ old.out) × Tells told old.err new.err (cannot_read file.name)
+  pub unwritten : first_unread (program ∷ others) ≡ None → writing_failed new.out ≡ true →
+      Tells told old.err new.err cannot_write
   -- where memory runs out nothing is written
-  pub memory : status ≡ OutOfMemory → (out' ≡ out) × Tells told err err' no_memory
+  pub memory : status ≡ OutOfMemory → (new.out ≡ old.out) × Tells told old.err new.err no_memory

@@ -1,20 +1,28 @@
 pub mod Statuses
 pub mod Streams
 pub mod Messages
+pub mod Answers
 pub mod Serial
 pub mod Checks
 pub mod Listings
 pub mod Simulations
+pub mod Replays
+pub mod ThreadRuns
 pub mod Engines
 pub mod Running
-pub mod Answers
+pub mod Answering
+pub mod Serving
 -- what the public clauses cite
 pub use Rattle.driver.specs.Statuses.{exit_status}
-pub use Rattle.driver.specs.Streams.{reader_of, reading_failed, writer_of, writing_failed, Reads, Writes, Tells}
-pub use Rattle.driver.specs.Messages.{cannot_read, cannot_write, no_memory}
+pub use Rattle.driver.specs.Streams.{name_of, reader_of, reading_failed, writer_of, writing_failed, Writes, Tells}
+pub use Rattle.driver.specs.Messages.{cannot_read, cannot_write, no_memory, strange}
 pub use Rattle.compiler.specs.Programs.{Accepts}
+pub use Rattle.driver.specs.Answers.{TextAnswers, Alone, Beside}
 pub use Rattle.driver.specs.Serial.{SerialAnswers}
 pub use Rattle.driver.specs.Checks.{CheckAnswers}
 pub use Rattle.driver.specs.Listings.{ListingAnswers}
 pub use Rattle.driver.specs.Simulations.{SimulationAnswers}
-pub use Rattle.driver.specs.Engines.{Serves, ServesBoth}
+pub use Rattle.driver.specs.Replays.{ReplayAnswers}
+pub use Rattle.driver.specs.ThreadRuns.{ThreadsAnswers}
+pub use Rattle.driver.specs.Engines.{Serves, Reading, reading_of}
+pub use Rattle.driver.specs.Serving.{IsUnread, IsMissed}

@@ -3,21 +3,19 @@ use Rattle.std.specs.Prelude.{◌≡◌, ℕ, List, []}
 use Rattle.code.specs.declared.section_code.Code.{Code}
 use Rattle.code.specs.Listing.{listing_text}
 use Rattle.lowering.specs.Lowered.{IsCodeOf}
-use Rattle.lowering.specs.Plans.{Plan, IsCompiled}
-use Rattle.compiler.specs.Programs.{Accepts}
+use Rattle.lowering.specs.Plans.{Plan}
 use Rattle.driver.specs.declared.status.Status.{Status}
-use Rattle.driver.specs.declared.status.Status.TheVariants.{Done, Refused}
-use Rattle.driver.specs.Serial.{IsRefused}
+use Rattle.driver.specs.declared.status.Status.TheVariants.{Done}
+use Rattle.driver.specs.Answers.{TextAnswers}
 
 -- out lists the program's code, err is empty
-pub record IsListed (plan : Plan) (out err : List ℕ) : Type 0 where
+pub record IsListed (plan : Plan) (status : Status) (out err : List ℕ) : Type 0 where
   pub code : Code
   pub made : IsCodeOf plan.program plan.lists code
+  pub ended : status ≡ Done
   pub written : out ≡ listing_text code
   pub told : err ≡ []
 
 -- what `listing` answers for a text
 abbrev pub ListingAnswers : List ℕ → List ℕ → Status → List ℕ → List ℕ → Type 0
-ListingAnswers file text Done out err = (plan : Plan) × Accepts text plan.program × IsCompiled plan × IsListed plan out err
-ListingAnswers file text Refused out err = IsRefused file text out err
-ListingAnswers file text status out err = ⊥
+ListingAnswers file text = TextAnswers IsListed file text

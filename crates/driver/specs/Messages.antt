@@ -12,3 +12,7 @@ cannot_write = codes "autolock: cannot write" ++ 10 ∷ []
 -- what is told where memory ran out
 abbrev pub no_memory : List ℕ
 no_memory = codes "autolock: no memory" ++ 10 ∷ []
+
+-- what is told where a thread found another history than it had left
+abbrev pub strange : List ℕ
+strange = codes "autolock: strange" ++ 10 ∷ []

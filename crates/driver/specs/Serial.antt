@@ -3,24 +3,23 @@ use Rattle.std.specs.Prelude.{◌≡◌, ℕ, List, [], ◌∷◌, ◌++◌, map
 use Rattle.core_lang.specs.declared.typed.Typed.{Typed}
 use Rattle.core_lang.specs.Serial.{Scheduled, Invocation, Ended, all_calls, run_call, serial_run, SerialFromOpening}
 use Rattle.core_lang.specs.Whole.{Beyond_turns}
+use Rattle.recorded.specs.declared.format.Format.TheVariants.{One}
 use Rattle.report.specs.Entry.{Entry}
-use Rattle.code.specs.Listing.{line}
 use Rattle.report.specs.History.{history_of, unsettled_of}
-use Rattle.source.specs.declared.fault.Fault.{Fault}
-use Rattle.source.specs.Faults.{fault_text}
 use Rattle.driver.specs.declared.status.Status.{Status}
-use Rattle.driver.specs.declared.status.Status.TheVariants.{Done, Refused, Unsettled}
-use Rattle.compiler.specs.Programs.{Accepts, IsOfFirstPass}
+use Rattle.driver.specs.declared.status.Status.TheVariants.{Done, Unsettled}
+use Rattle.driver.specs.Answers.{TextAnswers}
 
 -- what is called
 abbrev pub calls_of : List Scheduled → List Invocation
 calls_of ss = map (λ (s : Scheduled). s.call) ss
 
--- a call of a script and how it ended, as an entry
+-- a call of a script and how it ended, as an entry of a text that doesn't tell when calls began
 abbrev pub entry : Scheduled → Ended → Entry
 entry s e = record {
   thread = s.thread;
   step = s.step;
+  begun = 0;
   section = s.call.section;
   arguments = s.call.arguments;
   outcome = e.outcome;
@@ -34,15 +33,16 @@ entries (s ∷ ss) [] = []
 entries (s ∷ ss) (e ∷ es) = entry s e ∷ entries ss es
 
 -- the turns settle all calls: out is the history text of their serial meaning, err is empty
-pub record IsHistory (turns : ℕ) (program : Typed) (out err : List ℕ) : Type 0 where
+pub record IsHistory (turns : ℕ) (program : Typed) (status : Status) (out err : List ℕ) : Type 0 where
   pub settled : (serial_run program turns).unsettled ≡ []
   pub serial : SerialFromOpening program (calls_of (all_calls program)) (serial_run program turns).ends (serial_run program turns).heap
-  pub written : out ≡ history_of program (entries (all_calls program) (serial_run program turns).ends) (serial_run program turns).heap
+  pub ended : status ≡ Done
+  pub written : out ≡ history_of One program (entries (all_calls program) (serial_run program turns).ends) (serial_run program turns).heap
   pub told : err ≡ []
 
 -- the turns settle the calls before this one, and this one meets a loop past them: out is the text of the serial meaning of
 -- those before, and names this one; err is empty
-pub record StopsAtCall (turns : ℕ) (program : Typed) (out err : List ℕ) : Type 0 where
+pub record StopsAtCall (turns : ℕ) (program : Typed) (status : Status) (out err : List ℕ) : Type 0 where
   pub before : List Scheduled
   pub this : Scheduled
   pub after : List Scheduled
@@ -50,23 +50,15 @@ pub record StopsAtCall (turns : ℕ) (program : Typed) (out err : List ℕ) : Ty
   pub unsettled : (serial_run program turns).unsettled ≡ calls_of (this ∷ after)
   pub serial : SerialFromOpening program (calls_of before) (serial_run program turns).ends (serial_run program turns).heap
   pub beyond : run_call program turns this.call (serial_run program turns).heap ≡ Beyond_turns
+  pub ended : status ≡ Unsettled
   pub written : out ≡ unsettled_of program (entries before (serial_run program turns).ends) this.thread this.step
   pub told : err ≡ []
 
--- the text has a fault: out is empty, err is the line of a true fault of the first pass that has one
-pub record IsRefused (file text out err : List ℕ) : Type 0 where
-  pub fault : Fault
-  pub given : IsOfFirstPass text fault
-  pub written : out ≡ []
-  pub told : err ≡ line (fault_text file text fault)
-
 -- what `serial` answers for a program
-abbrev pub RunAnswers : ℕ → Typed → Status → List ℕ → List ℕ → Type 0
-RunAnswers turns program Done out err = IsHistory turns program out err
-RunAnswers turns program Unsettled out err = StopsAtCall turns program out err
-RunAnswers turns program status out err = ⊥
+pub data IsRun (turns : ℕ) (program : Typed) (status : Status) (out err : List ℕ) : Type 0 where
+  all_settled : IsHistory turns program status out err → IsRun turns program status out err
+  stopped : StopsAtCall turns program status out err → IsRun turns program status out err
 
 -- what `serial` answers for a text
 abbrev pub SerialAnswers : ℕ → List ℕ → List ℕ → Status → List ℕ → List ℕ → Type 0
-SerialAnswers turns file text Refused out err = IsRefused file text out err
-SerialAnswers turns file text status out err = (program : Typed) × Accepts text program × RunAnswers turns program status out err
+SerialAnswers turns file text = TextAnswers (λ plan. IsRun turns plan.program) file text

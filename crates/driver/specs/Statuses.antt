@@ -1,7 +1,7 @@
 -- The exit statuses.
 use Rattle.std.specs.Prelude.{ℕ}
 use Rattle.driver.specs.declared.status.Status.{Status}
-use Rattle.driver.specs.declared.status.Status.TheVariants.{Done, Refused, BadWords, Failed, OutOfMemory, BadSteps, Unsettled}
+use Rattle.driver.specs.declared.status.Status.TheVariants.{Done, Refused, BadWords, Failed, OutOfMemory, Differs, BadInput, Unsettled, Strange}
 
 -- with which a process ends
 abbrev pub exit_status : Status → ℕ
@@ -10,5 +10,7 @@ exit_status Refused = 1
 exit_status BadWords = 2
 exit_status Failed = 3
 exit_status OutOfMemory = 4
-exit_status BadSteps = 6
+exit_status Differs = 5
+exit_status BadInput = 6
 exit_status Unsettled = 7
+exit_status Strange = 8

@@ -1,12 +1,17 @@
 -- What clauses say of the readers and writers that an engine is lent.
-use Rattle.std.specs.Prelude.{◌≡◌, ℕ, Bool, false, List, Option, IfSome}
+use Rattle.std.specs.Prelude.{◌≡◌, ℕ, Bool, false, List, Option}
 use Rattle.std.specs.Io.KnownBytes.{Appends}
+use Rattle.std.specs.Io.Take.{take_inner}
 use Rattle.driver.specs.declared.source_text.SourceText.{SourceText}
 use Rattle.driver.specs.declared.sink.Sink.{Sink}
 
+-- the file's name in messages
+abbrev pub name_of : {R : Type 0} → SourceText R → List ℕ
+name_of source = source.name.now
+
 -- the reader itself
 abbrev pub reader_of : {R : Type 0} → SourceText R → R
-reader_of source = source.reader
+reader_of source = take_inner source.reader
 
 -- whether reading it failed
 abbrev pub reading_failed : {R : Type 0} → SourceText R → Bool
@@ -20,11 +25,7 @@ writer_of sink = sink.writer
 abbrev pub writing_failed : {W : Type 0} → Sink W → Bool
 writing_failed sink = sink.failed
 
--- the text is what the reader had to give; of a reader that doesn't tell its bytes nothing is said
-abbrev pub Reads : {R : Type 0} → (R → Option (List ℕ)) → SourceText R → List ℕ → Type 0
-Reads remaining source text = IfSome (remaining (reader_of source)) (λ bytes. text ≡ bytes)
-
--- the bytes stand behind those that were written before; of a writer that doesn't tell its bytes nothing is said
+-- the bytes come after those that were written before; of a writer that doesn't tell its bytes nothing is said
 abbrev pub Writes : {W : Type 0} → (W → Option (List ℕ)) → Sink W → Sink W → List ℕ → Type 0
 Writes contents old new bytes = Appends (contents (writer_of old)) (contents (writer_of new)) bytes
 

@@ -1,39 +1,34 @@
 //! What an engine answers, as a function of the bytes that it read.
 
-ghost use Rattle.std.specs.Prelude.{IfOk};
+ghost use Rattle.std.specs.Prelude.{◌≡◌, IfOk};
 ghost use Rattle.core_lang.specs.WellFormed.{IsWellFormed};
-ghost use Rattle.driver.specs.Answers.{IsCheckAnswer, IsListingAnswer, IsRunAnswer, IsFaultAnswer, Meets, RequestAnswers};
-ghost use Rattle.driver.specs.Checks.{CheckAnswers};
-ghost use Rattle.driver.specs.Listings.{ListingAnswers};
-ghost use Rattle.driver.specs.Serial.{SerialAnswers};
+ghost use Rattle.driver.specs.Answering.{Meets, IsAccepted, IsFaultAnswer, RequestAnswers, PairWanted};
+ghost use Rattle.driver.specs.Answers.{TextAnswers};
+ghost use Rattle.driver.specs.Checks.{IsChecked};
+ghost use Rattle.driver.specs.Listings.{IsListed};
+ghost use Rattle.driver.specs.Serial.{IsRun};
+ghost use Rattle.driver.specs.ThreadRuns.{ThreadsAnswers};
 
+use crate::replaying::replayed;
+use crate::request::{Pair, PairRequest, Request};
 use crate::running::run_scripts;
+use crate::simulating::simulated;
 use crate::status::Status;
+use crate::threads_run::run_by_threads;
 use check_report::Check;
 use code::listing;
 use compiler::compile;
 use core_lang::laws;
 use core_lang::typed::Typed;
 use lowering::compiled::Program;
+use recorded::Format;
 use report::{history_text, unsettled_text};
 use source::fault::{Fault, Refusal};
 use source::line::fault_line;
 use source::memory::NoMemory;
 use std::alloc::Global;
-
-/// What is asked of a program's text.
-#[derive(Clone, Copy, Debug, PartialEq, Eq)]
-pub enum Request {
-    /// In which order it takes its locks, and which ones before each statement.
-    Check,
-    /// The instructions of its sections.
-    Listing,
-    /// The history of all its calls, run one after another.
-    Serial {
-        /// The most turns that each execution of a loop may make.
-        turns: u64,
-    },
-}
+use std::sync::Wait;
+use std::thread::Threads;
 
 /// The status, and what goes to the two outputs.
 #[derive(Debug, Drop)]
@@ -47,7 +42,7 @@ pub struct Answer {
 }
 
 /// The line of a fault.
-pub fn refused(alloc: Global, file: &str, text: &[u8], fault: &Fault) -> Result<Answer, NoMemory>
+fn refused(alloc: Global, file: &str, text: &[u8], fault: &Fault) -> Result<Answer, NoMemory>
     ensures { IfOk result (IsFaultAnswer file.now text.now fault.now) }
 {
     let mut err = fault_line(alloc, file, text, fault)?;
@@ -59,9 +54,20 @@ pub fn refused(alloc: Global, file: &str, text: &[u8], fault: &Fault) -> Result<
     })
 }
 
+/// The program of the text of the file of this name, or the answer to its fault.
+fn accepted(alloc: Global, file: &str, text: &[u8]) -> Result<Result<Program, Answer>, NoMemory>
+    ensures { IfOk result (IsAccepted file.now text.now) }
+{
+    match compile(alloc, text) {
+        Ok(program) => Ok(Ok(program)),
+        Err(Refusal::Fault(fault)) => Ok(Err(refused(alloc, file, text, &fault)?)),
+        Err(Refusal::NoMemory) => Err(NoMemory),
+    }
+}
+
 /// The text of what is found of a program.
 fn checked(alloc: Global, text: &[u8], program: &Program) -> Result<Answer, NoMemory>
-    ensures { IfOk result (IsCheckAnswer text.now program.now) }
+    ensures { IfOk result (Meets (IsChecked text.now program.now)) }
 {
     let check = Check {
         text,
@@ -77,20 +83,9 @@ fn checked(alloc: Global, text: &[u8], program: &Program) -> Result<Answer, NoMe
     })
 }
 
-/// What `check` answers for the text of the file of this name.
-fn check_answer(alloc: Global, file: &str, text: &[u8]) -> Result<Answer, NoMemory>
-    ensures { IfOk result (Meets (CheckAnswers file.now text.now)) }
-{
-    match compile(alloc, text) {
-        Ok(program) => checked(alloc, text, &program),
-        Err(Refusal::Fault(fault)) => refused(alloc, file, text, &fault),
-        Err(Refusal::NoMemory) => Err(NoMemory),
-    }
-}
-
 /// The text of a program's code.
 fn listed(alloc: Global, program: &Program) -> Result<Answer, NoMemory>
-    ensures { IfOk result (IsListingAnswer program.now) }
+    ensures { IfOk result (Meets (IsListed program.now)) }
 {
     Ok(Answer {
         status: Status::Done,
@@ -99,21 +94,10 @@ fn listed(alloc: Global, program: &Program) -> Result<Answer, NoMemory>
     })
 }
 
-/// What `listing` answers for the text of the file of this name.
-fn listing_answer(alloc: Global, file: &str, text: &[u8]) -> Result<Answer, NoMemory>
-    ensures { IfOk result (Meets (ListingAnswers file.now text.now)) }
-{
-    match compile(alloc, text) {
-        Ok(program) => listed(alloc, &program),
-        Err(Refusal::Fault(fault)) => refused(alloc, file, text, &fault),
-        Err(Refusal::NoMemory) => Err(NoMemory),
-    }
-}
-
 /// The text of a program's run.
 fn ran(alloc: Global, program: &Typed, turns: u64) -> Result<Answer, NoMemory>
     requires { IsWellFormed program.now }
-    ensures { IfOk result (IsRunAnswer turns program.now) }
+    ensures { IfOk result (Meets (IsRun turns program.now)) }
 {
     laws::settled_are_serial();
     let ran = run_scripts(alloc, program, turns)?;
@@ -121,7 +105,7 @@ fn ran(alloc: Global, program: &Typed, turns: u64) -> Result<Answer, NoMemory>
     match ran.unsettled {
         None => Ok(Answer {
             status: Status::Done,
-            out: history_text(alloc, program, &ran.records, ran.heap.cells())?,
+            out: history_text(alloc, Format::One, program, &ran.records, ran.heap.cells())?,
             err,
         }),
         Some((thread, step)) => Ok(Answer {
@@ -132,14 +116,34 @@ fn ran(alloc: Global, program: &Typed, turns: u64) -> Result<Answer, NoMemory>
     }
 }
 
-/// What `serial` answers for the text of the file of this name.
-fn serial_answer(alloc: Global, file: &str, text: &[u8], turns: u64) -> Result<Answer, NoMemory>
-    ensures { IfOk result (Meets (SerialAnswers turns file.now text.now)) }
+/// What is answered to a request for a program.
+fn of_program(
+    alloc: Global,
+    request: Request,
+    text: &[u8],
+    program: &Program,
+) -> Result<Answer, NoMemory>
+    ensures { IfOk result (Meets (RequestAnswers request text.now program.now)) }
 {
-    match compile(alloc, text) {
-        Ok(program) => ran(alloc, program.typed(), turns),
-        Err(Refusal::Fault(fault)) => refused(alloc, file, text, &fault),
-        Err(Refusal::NoMemory) => Err(NoMemory),
+    match request {
+        Request::Check => checked(alloc, text, program),
+        Request::Listing => listed(alloc, program),
+        Request::Serial { turns } => ran(alloc, program.typed(), turns),
+    }
+}
+
+/// What is answered for the text of the file of this name, where each script runs in a thread of its own.
+pub fn threads_answer<R: Threads + Wait + Sync>(
+    rt: &R,
+    alloc: Global,
+    file: &str,
+    text: &[u8],
+) -> Result<Answer, NoMemory>
+    ensures { IfOk result (Meets (ThreadsAnswers file.now text.now)) }
+{
+    match accepted(alloc, file, text)? {
+        Ok(program) => run_by_threads(rt, alloc, &program),
+        Err(answer) => Ok(answer),
     }
 }
 
@@ -150,11 +154,41 @@ pub fn answer_to(
     file: &str,
     text: &[u8],
 ) -> Result<Answer, NoMemory>
-    ensures { IfOk result (Meets (RequestAnswers request file.now text.now)) }
+    ensures { IfOk result (Meets (TextAnswers (RequestAnswers request text.now) file.now text.now)) }
+{
+    match accepted(alloc, file, text)? {
+        Ok(program) => of_program(alloc, request, text, &program),
+        Err(answer) => Ok(answer),
+    }
+}
+
+/// What is answered to a request for a program and the text of another file.
+fn of_pair(
+    alloc: Global,
+    request: PairRequest,
+    program: &Program,
+    other_file: &str,
+    other: &[u8],
+) -> Result<Answer, NoMemory>
+    ensures { IfOk result (Meets (PairWanted request other_file.now other.now program.now)) }
 {
     match request {
-        Request::Check => check_answer(alloc, file, text),
-        Request::Listing => listing_answer(alloc, file, text),
-        Request::Serial { turns } => serial_answer(alloc, file, text, turns),
+        PairRequest::Simulate => simulated(alloc, program, other_file, other),
+        PairRequest::Replay { turns } => replayed(alloc, program, turns, other_file, other),
+    }
+}
+
+/// What is answered to a request for two texts.
+pub fn pair_answer_to(
+    alloc: Global,
+    request: PairRequest,
+    pair: &Pair<'_>,
+) -> Result<Answer, NoMemory>
+    ensures { IfOk result (Meets (TextAnswers (PairWanted request pair.now.other_file.now pair.now.other.now)
+        pair.now.file.now pair.now.text.now)) }
+{
+    match accepted(alloc, pair.file, pair.text)? {
+        Ok(program) => of_pair(alloc, request, &program, pair.other_file, pair.other),
+        Err(answer) => Ok(answer),
     }
 }

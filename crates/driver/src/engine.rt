@@ -1,168 +1,240 @@
 //! The engines over readers and writers.
 
-ghost use Rattle.std.specs.Prelude.{◌≡◌, false};
-ghost use Rattle.driver.specs.Answers.{GoesOut, RequestAnswers};
+ghost use Rattle.std.specs.Prelude.{◌≡◌, [], ◌∷◌, false};
+ghost use Rattle.driver.specs.Answering.{PairWanted, RequestAnswers};
+ghost use Rattle.driver.specs.Answers.{Alone, Beside, TextAnswers};
 ghost use Rattle.driver.specs.Checks.{CheckAnswers};
-ghost use Rattle.driver.specs.Engines.{Serves};
+ghost use Rattle.driver.specs.Engines.{Serves, reading_of};
 ghost use Rattle.driver.specs.Listings.{ListingAnswers};
-ghost use Rattle.driver.specs.Messages.{cannot_read, cannot_write, no_memory};
+ghost use Rattle.driver.specs.Replays.{ReplayAnswers};
 ghost use Rattle.driver.specs.Serial.{SerialAnswers};
-ghost use Rattle.driver.specs.Streams.{reading_failed, writing_failed, Writes, Tells};
+ghost use Rattle.driver.specs.Simulations.{SimulationAnswers};
+ghost use Rattle.driver.specs.ThreadRuns.{ThreadsAnswers};
+ghost use Rattle.driver.specs.Serving.{IsMissed};
+ghost use Rattle.driver.specs.Streams.{name_of, reading_failed, writing_failed, Tells};
 
-use crate::answer::{Answer, Request, answer_to};
-use crate::sink::Sink;
-use crate::source_text::{ReadError, SourceText};
+use crate::answer::{answer_to, pair_answer_to, threads_answer};
+use crate::request::{Pair, PairRequest, Request};
+use crate::source_text::SourceText;
 use crate::status::Status;
-use source::memory::NoMemory;
+use crate::streams::Streams;
 use std::alloc::Global;
 use std::io::{Read, Write};
+use std::sync::Wait;
+use std::thread::Threads;
 
-/// Tells on `err` that the file of this name could not be opened or read: `autolock: cannot read
-/// NAME`.
-pub fn tell_cannot_read<E: Write>(err: &mut Sink<E>, file: &str)
-    ensures { Tells E.contents err.old err.new (cannot_read file.now) }
-{
-    err.put(b"autolock: cannot read ");
-    err.put(file.as_bytes());
-    err.put(b"\n");
-}
+/// How many bytes a program's text may have.
+const MOST_BYTES: u64 = 1_048_576;
 
-/// Tells on `err` that a growth was refused: `autolock: no memory`.
-pub fn tell_no_memory<E: Write>(err: &mut Sink<E>)
-    ensures { Tells E.contents err.old err.new no_memory }
-{
-    err.put(b"autolock: no memory\n");
-}
+/// More bytes than there are in any file.
+const ALL_BYTES: u64 = u64::MAX - 1;
 
-/// Tells on `err` that writing failed: `autolock: cannot write`.
-pub fn tell_cannot_write<E: Write>(err: &mut Sink<E>)
-    ensures { Tells E.contents err.old err.new cannot_write }
-{
-    err.put(b"autolock: cannot write\n");
-}
-
-/// Writes an answer: first its text to `out`, and, where that did not fail, its message to `err`.
-pub fn give<O: Write, E: Write>(answer: &Answer, out: &mut Sink<O>, err: &mut Sink<E>) -> Status
-    requires { writing_failed out.old ≡ false }
-    ensures { GoesOut answer.now result (writing_failed out.new) (Writes O.contents out.old out.new)
-        (Tells E.contents err.old err.new) }
-{
-    out.put(answer.out.as_bytes());
-    out.flush();
-    if out.has_failed() {
-        tell_cannot_write(err);
-        return Status::Failed;
-    }
-    err.put(answer.err.as_bytes());
-    answer.status
-}
-
-/// Answers a request for the text that `source` gives: writes the answer's text to `out` and its message to `err`. `file` is
-/// the name of the text in messages. Where reading fails or memory runs out, nothing is written to `out`.
+/// Answers a request for the text that `source` gives: writes the answer's text to `out` and its message to `err`. Where
+/// reading fails or memory runs out, nothing is written to `out`.
 fn serve<S: Read, O: Write, E: Write>(
     alloc: Global,
-    source: &mut SourceText<S>,
-    file: &str,
     request: Request,
-    out: &mut Sink<O>,
-    err: &mut Sink<E>,
+    source: &mut SourceText<'_, S>,
+    streams: &mut Streams<O, E>,
 ) -> Status
     requires readable { reading_failed source.old ≡ false }
-    requires writable { writing_failed out.old ≡ false }
-    ensures { Serves (RequestAnswers request file.now) file.now S.remaining source.old source.new O.contents out.old out.new
-        E.contents err.old err.new result }
+    requires writable { writing_failed streams.old.out ≡ false }
+    ensures { Serves (Alone (λ text. TextAnswers (RequestAnswers request text) (name_of source.old) text))
+        (reading_of S.remaining source.old source.new) [] O.contents E.contents streams.old streams.new result }
 {
-    let text = match source.read_whole(alloc) {
+    let text = match streams.read(alloc, source, MOST_BYTES) {
         Ok(text) => text,
-        Err(ReadError::Failed) => {
-            tell_cannot_read(err, file);
-            return Status::Failed;
-        }
-        Err(ReadError::OutOfMemory) => {
-            tell_no_memory(err);
-            return Status::OutOfMemory;
-        }
+        Err(status) => return status,
     };
-    match answer_to(alloc, request, file, &text) {
-        Ok(answer) => give(&answer, out, err),
-        Err(NoMemory) => {
-            tell_no_memory(err);
-            Status::OutOfMemory
-        }
-    }
+    let answer = answer_to(alloc, request, source.name(), &text);
+    streams.give(&answer)
+}
+
+/// The same for the texts that `source` and `other` give, both of which are read before either is judged.
+fn serve_pair<S: Read, T: Read, O: Write, E: Write>(
+    alloc: Global,
+    request: PairRequest,
+    source: &mut SourceText<'_, S>,
+    other: &mut SourceText<'_, T>,
+    streams: &mut Streams<O, E>,
+) -> Status
+    requires readable { reading_failed source.old ≡ false }
+    requires other_readable { reading_failed other.old ≡ false }
+    requires writable { writing_failed streams.old.out ≡ false }
+    ensures { Serves (Beside (λ text items. TextAnswers (PairWanted request (name_of other.old) items) (name_of source.old) text))
+        (reading_of S.remaining source.old source.new) (reading_of T.remaining other.old other.new ∷ [])
+        O.contents E.contents streams.old streams.new result }
+{
+    let text = match streams.read(alloc, source, MOST_BYTES) {
+        Ok(text) => text,
+        Err(status) => return status,
+    };
+    let items = match streams.read(alloc, other, ALL_BYTES) {
+        Ok(items) => items,
+        Err(status) => return status,
+    };
+    let pair = Pair {
+        file: source.name(),
+        text: &text,
+        other_file: other.name(),
+        other: &items,
+    };
+    let answer = pair_answer_to(alloc, request, &pair);
+    streams.give(&answer)
 }
 
 /// Says of the program that `source` gives in which order it takes its locks, and which ones before each statement. Answers
 /// how that ended:
 ///
 /// - `Done`: the program is accepted, and that was written to `out`.
-/// - `Refused`: the program has a fault, which is told on `err`; `file` is its name there.
+/// - `Refused`: the program has a fault, which is told on `err`.
 /// - `Failed`: reading or writing failed, which is told on `err`.
 /// - `OutOfMemory`: a growth was refused, which is told on `err`; nothing was written to `out`.
 ///
-/// Whether `err` fails changes no answer.
+/// Whether `err` fails changes no answer. Of a text that is longer than a program may be no more is read than one byte past
+/// that; so it is in all engines.
 pub fn check<S: Read, O: Write, E: Write>(
     alloc: Global,
-    source: &mut SourceText<S>,
-    file: &str,
-    out: &mut Sink<O>,
-    err: &mut Sink<E>,
+    source: &mut SourceText<'_, S>,
+    streams: &mut Streams<O, E>,
 ) -> Status
     requires readable { reading_failed source.old ≡ false }
-    requires writable { writing_failed out.old ≡ false }
-    ensures { Serves (CheckAnswers file.now) file.now S.remaining source.old source.new O.contents out.old out.new
-        E.contents err.old err.new result }
+    requires writable { writing_failed streams.old.out ≡ false }
+    ensures { Serves (Alone (CheckAnswers (name_of source.old))) (reading_of S.remaining source.old source.new) []
+        O.contents E.contents streams.old streams.new result }
 {
-    serve(alloc, source, file, Request::Check, out, err)
+    serve(alloc, Request::Check, source, streams)
 }
 
-/// Writes the instructions of each section of the program that `source` gives. Answers how that ended:
-///
-/// - `Done`: the program is accepted, and its listing was written to `out`.
-/// - `Refused`: the program has a fault, which is told on `err`; `file` is its name there.
-/// - `Failed`: reading or writing failed, which is told on `err`.
-/// - `OutOfMemory`: a growth was refused, which is told on `err`; nothing was written to `out`.
-///
-/// Whether `err` fails changes no answer.
+/// Writes the instructions of each section of the program that `source` gives. Answers how that ended, as [`check`] does:
+/// where it is `Done`, the listing was written to `out`.
 pub fn list<S: Read, O: Write, E: Write>(
     alloc: Global,
-    source: &mut SourceText<S>,
-    file: &str,
-    out: &mut Sink<O>,
-    err: &mut Sink<E>,
+    source: &mut SourceText<'_, S>,
+    streams: &mut Streams<O, E>,
 ) -> Status
     requires readable { reading_failed source.old ≡ false }
-    requires writable { writing_failed out.old ≡ false }
-    ensures { Serves (ListingAnswers file.now) file.now S.remaining source.old source.new O.contents out.old out.new
-        E.contents err.old err.new result }
+    requires writable { writing_failed streams.old.out ≡ false }
+    ensures { Serves (Alone (ListingAnswers (name_of source.old))) (reading_of S.remaining source.old source.new) []
+        O.contents E.contents streams.old streams.new result }
 {
-    serve(alloc, source, file, Request::Listing, out, err)
+    serve(alloc, Request::Listing, source, streams)
 }
 
-/// Runs all calls of the program that `source` gives one after another, thread 0's whole script
-/// first, then thread 1's, and so on; each execution of a loop makes at most `turns` turns. Writes
-/// the history text to `out`, and answers how that ended:
+/// Runs all calls of the program that `source` gives one after another, thread 0's whole script first, then thread 1's, and
+/// so on; each execution of a loop makes at most `turns` turns. Writes the history text to `out`, and answers how that
+/// ended, as [`check`] does, with besides:
 ///
-/// - `Done`: the text is that of all calls and all cells.
-/// - `Unsettled`: a call meets a loop past `turns`. The text is that of the calls before it, and a
-///   line that names it.
-/// - `Refused`: the program has a fault, which is told on `err`; `file` is its name there.
-/// - `Failed`: reading or writing failed, which is told on `err`.
-/// - `OutOfMemory`: a growth was refused, which is told on `err`; nothing was written to `out`.
-///
-/// Whether `err` fails changes no answer.
+/// - `Unsettled`: a call meets a loop past `turns`. The text is that of the calls before it, and a line that names it.
 pub fn serial<S: Read, O: Write, E: Write>(
     alloc: Global,
-    source: &mut SourceText<S>,
-    file: &str,
     turns: u64,
-    out: &mut Sink<O>,
-    err: &mut Sink<E>,
+    source: &mut SourceText<'_, S>,
+    streams: &mut Streams<O, E>,
 ) -> Status
     requires readable { reading_failed source.old ≡ false }
-    requires writable { writing_failed out.old ≡ false }
-    ensures { Serves (SerialAnswers turns file.now) file.now S.remaining source.old source.new O.contents out.old out.new
-        E.contents err.old err.new result }
+    requires writable { writing_failed streams.old.out ≡ false }
+    ensures { Serves (Alone (SerialAnswers turns (name_of source.old))) (reading_of S.remaining source.old source.new) []
+        O.contents E.contents streams.old streams.new result }
 {
-    serve(alloc, source, file, Request::Serial { turns }, out, err)
+    serve(alloc, Request::Serial { turns }, source, streams)
+}
+
+/// Runs the steps that `steps` gives over the threads of the program that `source` gives, and writes the text of the world
+/// after them to `out`. Answers how that ended, as [`check`] does, with besides:
+///
+/// - `BadInput`: an item of the steps file is faulty, which is told on `err`.
+///
+/// Both files are read before either is judged.
+pub fn simulate<S: Read, T: Read, O: Write, E: Write>(
+    alloc: Global,
+    source: &mut SourceText<'_, S>,
+    steps: &mut SourceText<'_, T>,
+    streams: &mut Streams<O, E>,
+) -> Status
+    requires readable { reading_failed source.old ≡ false }
+    requires steps_readable { reading_failed steps.old ≡ false }
+    requires writable { writing_failed streams.old.out ≡ false }
+    ensures { Serves (Beside (SimulationAnswers (name_of source.old) (name_of steps.old)))
+        (reading_of S.remaining source.old source.new) (reading_of T.remaining steps.old steps.new ∷ [])
+        O.contents E.contents streams.old streams.new result }
+{
+    serve_pair(alloc, PairRequest::Simulate, source, steps, streams)
+}
+
+/// Compares the history that `history` gives with what the calls of the program that `source` gives answer, one after
+/// another; each execution of a loop makes at most `turns` turns. Writes the verdict to `out`, and answers how that ended, as
+/// [`check`] does, with besides:
+///
+/// - `Differs`: a line is another than may come there.
+/// - `BadInput`: a line of the history file is faulty, which is told on `err`.
+/// - `Unsettled`: a line is of a call that meets a loop past `turns`.
+///
+/// Both files are read before either is judged.
+pub fn replay<S: Read, T: Read, O: Write, E: Write>(
+    alloc: Global,
+    turns: u64,
+    source: &mut SourceText<'_, S>,
+    history: &mut SourceText<'_, T>,
+    streams: &mut Streams<O, E>,
+) -> Status
+    requires readable { reading_failed source.old ≡ false }
+    requires history_readable { reading_failed history.old ≡ false }
+    requires writable { writing_failed streams.old.out ≡ false }
+    ensures { Serves (Beside (ReplayAnswers turns (name_of source.old) (name_of history.old)))
+        (reading_of S.remaining source.old source.new) (reading_of T.remaining history.old history.new ∷ [])
+        O.contents E.contents streams.old streams.new result }
+{
+    serve_pair(
+        alloc,
+        PairRequest::Replay { turns },
+        source,
+        history,
+        streams,
+    )
+}
+
+/// Runs the calls of each thread of the program that `source` gives in a thread of its own. Writes the history text to
+/// `out`, in the second format, and answers how that ended, as [`check`] does, with besides:
+///
+/// - `Strange`: a thread found another history than it had left, which is told on `err`.
+///
+/// It returns where all calls do. Threads that can't be started count as refused memory.
+pub fn run<R: Threads + Wait + Sync, S: Read, O: Write, E: Write>(
+    rt: &R,
+    alloc: Global,
+    source: &mut SourceText<'_, S>,
+    streams: &mut Streams<O, E>,
+) -> Status
+    requires readable { reading_failed source.old ≡ false }
+    requires writable { writing_failed streams.old.out ≡ false }
+    ensures { Serves (Alone (ThreadsAnswers (name_of source.old))) (reading_of S.remaining source.old source.new) []
+        O.contents E.contents streams.old streams.new result }
+{
+    let text = match streams.read(alloc, source, MOST_BYTES) {
+        Ok(text) => text,
+        Err(status) => return status,
+    };
+    let answer = threads_answer(rt, alloc, source.name(), &text);
+    streams.give(&answer)
+}
+
+/// Answers for two files of which the second can't be opened: the program is read first, so where that fails, this is told.
+pub fn miss_other<S: Read, O: Write, E: Write>(
+    alloc: Global,
+    source: &mut SourceText<'_, S>,
+    other_file: &str,
+    streams: &mut Streams<O, E>,
+) -> Status
+    requires { reading_failed source.old ≡ false }
+    ensures out { streams.new.out ≡ streams.old.out }
+    ensures missed { IsMissed (name_of source.old) other_file.now (reading_failed source.new) (Tells E.contents streams.old.err streams.new.err) result }
+{
+    match streams.read(alloc, source, MOST_BYTES) {
+        Ok(_) => {
+            streams.tell_cannot_read(other_file);
+            Status::Failed
+        }
+        Err(status) => status,
+    }
 }

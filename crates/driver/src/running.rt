@@ -35,6 +35,8 @@ fn record_of(alloc: Global, call: &ScheduledCall<'_>, end: End) -> Result<Record
     Ok(Record {
         thread: call.thread,
         step: call.step,
+        // (the first format, in which alone these are told, says nothing of it)
+        begun: 0,
         section: call.call.section,
         arguments: Vec::from_slice(alloc, &call.call.arguments)?,
         outcome,

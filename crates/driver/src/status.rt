@@ -16,10 +16,14 @@ pub enum Status {
     Failed,
     /// 4: a growth was refused.
     OutOfMemory,
-    /// 6: the steps file has a fault, which standard error names.
-    BadSteps,
+    /// 5: a line of the recorded history is another than may come there.
+    Differs,
+    /// 6: the steps file or the history file has a fault, which standard error names.
+    BadInput,
     /// 7: a call is not settled by the turns that were given.
     Unsettled,
+    /// 8: a thread found another history than it had left.
+    Strange,
 }
 
 impl Status {
@@ -33,8 +37,10 @@ impl Status {
             Status::BadWords => 2,
             Status::Failed => 3,
             Status::OutOfMemory => 4,
-            Status::BadSteps => 6,
+            Status::Differs => 5,
+            Status::BadInput => 6,
             Status::Unsettled => 7,
+            Status::Strange => 8,
         }
     }
 }

@@ -2,7 +2,7 @@
 
 use crate::streams::{FailingReader, FailingWriter, room, writer};
 use case_files::judging::compare;
-use driver::{Sink, SourceText, Status, serial};
+use driver::{Sink, SourceText, Status, Streams, serial};
 use source::memory::NoMemory;
 use std::alloc::Global;
 use std::io::ErrorKind;
@@ -61,14 +61,18 @@ pub fn judge_read(
     kind: ErrorKind,
     want: &str,
 ) -> Result<(), Fail> {
-    let mut source = SourceText::new(FailingReader {
+    let reader = FailingReader {
         bytes: text,
         calls,
         kind,
-    });
-    let mut out = Sink::new(room(alloc, text)?);
-    let mut err = Sink::new(room(alloc, text)?);
-    let status = serial(alloc, &mut source, "F", 0, &mut out, &mut err);
+    };
+    let mut source = SourceText::new("F", reader);
+    let mut streams = Streams {
+        out: Sink::new(room(alloc, text)?),
+        err: Sink::new(room(alloc, text)?),
+    };
+    let status = serial(alloc, 0, &mut source, &mut streams);
+    let Streams { out, err } = streams;
     let out = out.into_writer();
     let err = err.into_writer();
     judge_answer(alloc, status, out.as_slice(), err.as_slice(), want)
@@ -78,10 +82,13 @@ pub fn judge_read(
 /// standard output left out, ahead of that how many calls failed, whether what was taken is all of the history, and
 /// whether it begins it.
 pub fn judge_written(alloc: Global, calls: usize, want: &str) -> Result<(), Fail> {
-    let mut source = SourceText::new(LOST_UPDATE.as_bytes());
-    let mut out = Sink::new(writer(alloc, calls)?);
-    let mut err = Sink::new(room(alloc, &[])?);
-    let status = serial(alloc, &mut source, "F", 0, &mut out, &mut err);
+    let mut source = SourceText::new("F", LOST_UPDATE.as_bytes());
+    let mut streams = Streams {
+        out: Sink::new(writer(alloc, calls)?),
+        err: Sink::new(room(alloc, &[])?),
+    };
+    let status = serial(alloc, 0, &mut source, &mut streams);
+    let Streams { out, err } = streams;
     let FailingWriter {
         taken,
         failures,

@@ -2,36 +2,59 @@
 use Rattle.std.specs.Prelude.{ℕ, ℤ, List}
 use Rattle.core_lang.specs.declared.value.Value.{Value}
 use Rattle.core_lang.specs.declared.value.Outcome.{Outcome}
+use Rattle.core_lang.specs.Serial.{Scheduled}
 use Rattle.history.specs.Commits.{Commit}
 use Rattle.report.specs.declared.record.Record.{Record}
+use Rattle.report.specs.declared.record.Called.{Called}
 use Rattle.report.specs.declared.record.Said.{Said}
 
+-- a call: its thread and its number there, how long the history was when it began, what was called and with what; how
+-- it ended and what it printed
 pub record Entry : Type 0 where
   pub thread : ℕ
   pub step : ℕ
+  pub begun : ℕ
   pub section : ℕ
   pub arguments : List Value
   pub outcome : Outcome
   pub prints : List ℤ
+
+-- which call of a script it was
+abbrev pub scheduled_in : Entry → Scheduled
+scheduled_in entry = record {
+  thread = entry.thread;
+  step = entry.step;
+  call = record { section = entry.section; arguments = entry.arguments };
+}
 
 -- what a record says
 abbrev pub entry_of : Record → Entry
 entry_of call = record {
   thread = call.thread;
   step = call.step;
+  begun = call.begun;
   section = call.section;
   arguments = call.arguments.items;
   outcome = call.outcome;
   prints = call.prints.items;
 }
 
--- the same of what is lent
+-- the call of what is lent
+abbrev pub scheduled_called : Called → Scheduled
+scheduled_called call = record {
+  thread = call.thread;
+  step = call.step;
+  call = record { section = call.section; arguments = call.arguments.now };
+}
+
+-- and what it says
 abbrev pub entry_said : Said → Entry
 entry_said said = record {
-  thread = said.thread;
-  step = said.step;
-  section = said.section;
-  arguments = said.arguments.now;
+  thread = said.call.thread;
+  step = said.call.step;
+  begun = said.call.begun;
+  section = said.call.section;
+  arguments = said.call.arguments.now;
   outcome = said.outcome;
   prints = said.prints.now;
 }
@@ -41,6 +64,7 @@ abbrev pub entry_of_commit : Commit → Entry
 entry_of_commit c = record {
   thread = c.thread;
   step = c.step;
+  begun = c.begun;
   section = c.section;
   arguments = c.arguments;
   outcome = c.outcome;

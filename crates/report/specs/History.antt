@@ -1,46 +1,83 @@
--- The history text, as bytes: a line `history 1`, a line for each call with a line for each of its prints, a line
--- `cells`, a line for each cell, a line `end`.
-use Rattle.std.specs.Prelude.{ℕ, ℤ, List, [], ◌∷◌, ◌++◌, codes}
+-- The history text, as bytes: a first line that names the format, a line for each call with a line for each of its
+-- prints, a line `cells`, a line for each cell, a line `end`.
+use Rattle.std.specs.Prelude.{ℕ, ℤ, List, [], ◌∷◌, ◌++◌, map, codes}
 use Rattle.std.specs.List.{flat_map}
-use Rattle.std.specs.Fmt.{signed_decimal}
+use Rattle.std.specs.Fmt.{decimal, signed_decimal}
 use Rattle.core_lang.specs.declared.value.Value.{Value}
 use Rattle.core_lang.specs.declared.typed.Cell.{Cell}
 use Rattle.core_lang.specs.declared.typed.Typed.{Typed}
+use Rattle.core_lang.specs.Serial.{Scheduled}
 use Rattle.code.specs.Listing.{line}
+use Rattle.history.specs.Commits.{Commit}
+use Rattle.recorded.specs.declared.format.Format.{Format}
+use Rattle.recorded.specs.declared.format.Format.TheVariants.{One, Two}
+use Rattle.recorded.specs.Lines.{header_of}
 use Rattle.report.specs.Pieces.{place_text, invocation_text, value_text, outcome_text, owner_text}
-use Rattle.report.specs.Entry.{Entry}
+use Rattle.report.specs.Entry.{Entry, scheduled_in, entry_of_commit}
 
--- print N, for each print
+-- ---- single lines, without their line feeds
+
+-- print N
+abbrev pub print_line : ℤ → List ℕ
+print_line number = codes "print " ++ signed_decimal number
+
+-- how long the history was at a call's begin, which the second format tells
+abbrev pub begun_text : Format → ℕ → List ℕ
+begun_text One begun = []
+begun_text Two begun = decimal begun ++ codes " "
+
+-- the line of a call up to its end: call T K NAME(ARGUMENTS) , or call T K B NAME(ARGUMENTS) in the second format
+abbrev pub call_head : Format → Typed → Scheduled → ℕ → List ℕ
+call_head format typed s begun =
+    codes "call " ++ place_text s.thread s.step ++ codes " " ++ begun_text format begun
+    ++ invocation_text typed s.call.section s.call.arguments ++ codes " "
+
+-- call T K NAME(ARGUMENTS) OUTCOME, or call T K B NAME(ARGUMENTS) OUTCOME
+abbrev pub call_line : Format → Typed → Entry → List ℕ
+call_line format typed entry =
+    call_head format typed (scheduled_in entry) entry.begun ++ outcome_text typed.shape entry.outcome
+
+-- CELL VALUE
+abbrev pub cell_line : Typed → Cell → Value → List ℕ
+cell_line typed cell value = owner_text typed cell.owner ++ codes " " ++ value_text typed.shape value
+
+-- ---- the text
+
+-- a line for each print
 abbrev pub print_texts : List ℤ → List ℕ
-print_texts prints = flat_map (λ number. line (codes "print " ++ signed_decimal number)) prints
+print_texts prints = flat_map (λ number. line (print_line number)) prints
 
--- call T K NAME(ARGUMENTS) OUTCOME
-abbrev pub call_text : Typed → Entry → List ℕ
-call_text typed entry =
-    line (codes "call " ++ place_text entry.thread entry.step ++ codes " "
-    ++ invocation_text typed entry.section entry.arguments ++ codes " " ++ outcome_text typed.shape entry.outcome)
+-- a call's line
+abbrev pub call_text : Format → Typed → Entry → List ℕ
+call_text format typed entry = line (call_line format typed entry)
 
 -- a call's line, and its prints
-abbrev pub entry_text : Typed → Entry → List ℕ
-entry_text typed entry = call_text typed entry ++ print_texts entry.prints
+abbrev pub entry_text : Format → Typed → Entry → List ℕ
+entry_text format typed entry = call_text format typed entry ++ print_texts entry.prints
 
--- CELL VALUE, for each cell in order
+-- the same of each finished section
+abbrev pub commit_texts : Format → Typed → List Commit → List ℕ
+commit_texts format typed commits = flat_map (entry_text format typed) (map entry_of_commit commits)
+
+-- a line for each cell in order
 abbrev pub cell_texts : Typed → List Cell → List Value → List ℕ
 cell_texts typed [] values = []
 cell_texts typed (cell ∷ cells) [] = []
-cell_texts typed (cell ∷ cells) (value ∷ values) =
-    line (owner_text typed cell.owner ++ codes " " ++ value_text typed.shape value) ++ cell_texts typed cells values
+cell_texts typed (cell ∷ cells) (value ∷ values) = line (cell_line typed cell value) ++ cell_texts typed cells values
 
 -- the first line and the calls
-abbrev pub calls_of : Typed → List Entry → List ℕ
-calls_of typed entries = line (codes "history 1") ++ flat_map (entry_text typed) entries
+abbrev pub calls_of : Format → Typed → List Entry → List ℕ
+calls_of format typed entries = line (header_of format) ++ flat_map (entry_text format typed) entries
+
+-- the cells and the last line
+abbrev pub closing_of : Typed → List Value → List ℕ
+closing_of typed values = line (codes "cells") ++ cell_texts typed typed.cells.items values ++ line (codes "end")
 
 -- the whole text
-abbrev pub history_of : Typed → List Entry → List Value → List ℕ
-history_of typed entries values =
-    calls_of typed entries ++ line (codes "cells") ++ cell_texts typed typed.cells.items values ++ line (codes "end")
+abbrev pub history_of : Format → Typed → List Entry → List Value → List ℕ
+history_of format typed entries values = calls_of format typed entries ++ closing_of typed values
 
 -- the calls before one that is not settled, and the line of that one
 abbrev pub unsettled_of : Typed → List Entry → ℕ → ℕ → List ℕ
 unsettled_of typed entries thread step =
-    calls_of typed entries ++ line (codes "unsettled " ++ place_text thread step)
+    calls_of One typed entries ++ line (codes "unsettled " ++ place_text thread step)

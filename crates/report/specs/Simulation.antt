@@ -1,22 +1,20 @@
 -- The simulation text, as bytes: a line `simulation 1`, a line for each finished section with a line for each of its
 -- prints, a line `cells`, a line for each cell, a line `threads`, a line for each thread, a line `end`.
-use Rattle.std.specs.Prelude.{ℕ, zero, suc, ◌+◌, List, [], ◌∷◌, ◌++◌, length, map, codes, Option, Some, None}
-use Rattle.std.specs.List.{flat_map}
+use Rattle.std.specs.Prelude.{ℕ, zero, suc, ◌+◌, List, [], ◌∷◌, ◌++◌, length, codes, Option, Some, None}
 use Rattle.std.specs.Fmt.{decimal}
 use Rattle.core_lang.specs.declared.value.Value.{Value}
 use Rattle.core_lang.specs.declared.shape.Shape.{Shape}
 use Rattle.core_lang.specs.declared.typed.Cell.{Cell}
 use Rattle.core_lang.specs.declared.typed.Typed.{Typed}
-use Rattle.history.specs.Commits.{Commit}
 use Rattle.interleavings.specs.declared.status.Status.{Status}
 use Rattle.interleavings.specs.declared.status.Status.TheVariants.{Idle, Ready, Waits, Running}
 use Rattle.interleavings.specs.Threads.{cell_in}
 use Rattle.interleavings.specs.Statuses.{status_of}
 use Rattle.lowering.specs.Plans.{Plan}
 use Rattle.worlds.specs.Worlds.{World}
-use Rattle.report.specs.Entry.{entry_of_commit}
+use Rattle.recorded.specs.declared.format.Format.TheVariants.{One}
 use Rattle.code.specs.Listing.{line}
-use Rattle.report.specs.History.{entry_text}
+use Rattle.report.specs.History.{commit_texts}
 use Rattle.report.specs.Pieces.{owner_text, value_text, lock_text}
 
 -- what a cell holds, or that a section holds it
@@ -55,12 +53,8 @@ thread_texts plan w (suc n) = thread_texts plan w n ++ thread_text plan w n
 abbrev pub threads_text : Plan → World → List ℕ
 threads_text plan w = thread_texts plan w (length plan.program.threads.items)
 
--- the line of each finished section, with its prints
-abbrev pub commit_texts : Typed → List Commit → List ℕ
-commit_texts typed commits = flat_map (entry_text typed) (map entry_of_commit commits)
-
 -- the whole text
 abbrev pub simulation_of : Plan → World → List ℕ
 simulation_of plan w =
-    line (codes "simulation 1") ++ commit_texts plan.program w.history ++ line (codes "cells") ++ cells_text plan w
+    line (codes "simulation 1") ++ commit_texts One plan.program w.history ++ line (codes "cells") ++ cells_text plan w
     ++ line (codes "threads") ++ threads_text plan w ++ line (codes "end")

@@ -2,14 +2,20 @@
 
 ghost use Rattle.std.specs.Prelude.{◌≡◌, OnOk, IfOk, length, vec_len, string_bytes, map};
 ghost use Rattle.std.specs.List.{flat_map};
+ghost use Rattle.code.specs.Listing.{line};
 ghost use Rattle.locks.specs.Texts.{AddsText};
-ghost use Rattle.report.specs.History.{call_text, entry_text, print_texts, cell_texts, calls_of, history_of, unsettled_of};
-ghost use Rattle.report.specs.Entry.{entry_of, entry_said};
+ghost use Rattle.recorded.specs.Lines.{header_of};
+ghost use Rattle.recorded.specs.declared.format.Format.TheVariants.{One};
+ghost use Rattle.report.specs.History.{call_text, entry_text, print_texts, cell_texts, closing_of, commit_texts, calls_of, history_of, unsettled_of};
+ghost use Rattle.report.specs.Entry.{entry_of, entry_said, entry_of_commit};
 
-use crate::pieces::{push_invocation, push_outcome, push_owner, push_value};
-use crate::record::{Record, Said};
+use crate::lines::{push_call_head, push_cell, push_print};
+use crate::pieces::push_outcome;
+use crate::record::{Record, Said, said_of};
 use core_lang::typed::{Cell, Typed};
 use core_lang::value::Value;
+use history::entry::Entry;
+use recorded::Format;
 use source::memory::NoMemory;
 use std::alloc::{AllocError, Global};
 
@@ -18,36 +24,65 @@ fn push_prints(out: &mut String, prints: &[i64]) -> Result<(), AllocError>
     ensures { OnOk result (AddsText (print_texts prints.now) out.old out.new) }
 {
     for number in prints {
-        write!(out, "print {number}\n")?;
+        push_print(out, *number)?;
+        out.push_str("\n")?;
     }
     Ok(())
 }
 
 /// The line of a call.
-fn push_call(out: &mut String, typed: &Typed, call: &Said<'_>) -> Result<(), AllocError>
-    ensures { OnOk result (AddsText (call_text typed.now (entry_said call.now)) out.old out.new) }
+fn push_call(
+    out: &mut String,
+    format: Format,
+    typed: &Typed,
+    call: &Said<'_>,
+) -> Result<(), AllocError>
+    ensures { OnOk result (AddsText (call_text format typed.now (entry_said call.now)) out.old out.new) }
 {
-    write!(out, "call {} {} ", call.thread, call.step)?;
-    push_invocation(out, typed, call.section, call.arguments)?;
-    out.push_str(" ")?;
+    push_call_head(out, format, typed, &call.call)?;
     push_outcome(out, &typed.shape, call.outcome)?;
     out.push_str("\n")
 }
 
 /// The line of a call, with its prints.
-pub fn push_entry(out: &mut String, typed: &Typed, call: &Said<'_>) -> Result<(), AllocError>
-    ensures { OnOk result (AddsText (entry_text typed.now (entry_said call.now)) out.old out.new) }
+fn push_entry(
+    out: &mut String,
+    format: Format,
+    typed: &Typed,
+    call: &Said<'_>,
+) -> Result<(), AllocError>
+    ensures { OnOk result (AddsText (entry_text format typed.now (entry_said call.now)) out.old out.new) }
 {
-    push_call(out, typed, call)?;
+    push_call(out, format, typed, call)?;
     push_prints(out, call.prints)
 }
 
 /// The line of each call, with its prints.
-fn push_records(out: &mut String, typed: &Typed, calls: &[Record]) -> Result<(), AllocError>
-    ensures { OnOk result (AddsText (flat_map (entry_text typed.now) (map entry_of calls.now)) out.old out.new) }
+fn push_records(
+    out: &mut String,
+    format: Format,
+    typed: &Typed,
+    calls: &[Record],
+) -> Result<(), AllocError>
+    ensures { OnOk result (AddsText (flat_map (entry_text format typed.now) (map entry_of calls.now)) out.old out.new) }
 {
     for call in calls {
-        push_entry(out, typed, &call.said())?;
+        push_entry(out, format, typed, &call.said())?;
+    }
+    Ok(())
+}
+
+/// The line of each finished section, with its prints.
+pub(crate) fn push_entries(
+    out: &mut String,
+    format: Format,
+    typed: &Typed,
+    entries: &[Entry],
+) -> Result<(), AllocError>
+    ensures { OnOk result (AddsText (commit_texts format typed.now entries.now) out.old out.new) }
+{
+    for entry in entries {
+        push_entry(out, format, typed, &said_of(entry))?;
     }
     Ok(())
 }
@@ -63,20 +98,42 @@ fn push_cells(
     ensures { OnOk result (AddsText (cell_texts typed.now cells.now values.now) out.old out.new) }
 {
     for (i, cell) in cells.iter().enumerate() {
-        push_owner(out, typed, cell.owner)?;
-        out.push_str(" ")?;
-        push_value(out, &typed.shape, values[i])?;
+        push_cell(out, typed, cell, values[i])?;
         out.push_str("\n")?;
     }
     Ok(())
 }
 
-/// The first line, and the lines of the calls.
-fn calls_text(alloc: Global, typed: &Typed, calls: &[Record]) -> Result<String, NoMemory>
-    ensures { IfOk result (λ text. string_bytes text ≡ calls_of typed.now (map entry_of calls.now)) }
+/// The cells, and the last line.
+fn push_closing(out: &mut String, typed: &Typed, values: &[Value]) -> Result<(), AllocError>
+    requires { vec_len typed.now.cells ≡ length values.now }
+    ensures { OnOk result (AddsText (closing_of typed.now values.now) out.old out.new) }
 {
-    let mut out = String::from_str(alloc, "history 1\n")?;
-    push_records(&mut out, typed, calls)?;
+    out.push_str("cells\n")?;
+    push_cells(out, typed, &typed.cells, values)?;
+    out.push_str("end\n")
+}
+
+/// The first line.
+fn first_line(alloc: Global, format: Format) -> Result<String, AllocError>
+    ensures { IfOk result (λ text. string_bytes text ≡ line (header_of format)) }
+{
+    let mut out = String::from_str(alloc, format.header())?;
+    out.push_str("\n")?;
+    Ok(out)
+}
+
+/// The first line, and the lines of the calls.
+fn calls_text(
+    alloc: Global,
+    format: Format,
+    typed: &Typed,
+    calls: &[Record],
+) -> Result<String, NoMemory>
+    ensures { IfOk result (λ text. string_bytes text ≡ calls_of format typed.now (map entry_of calls.now)) }
+{
+    let mut out = first_line(alloc, format)?;
+    push_records(&mut out, format, typed, calls)?;
     Ok(out)
 }
 
@@ -84,17 +141,34 @@ fn calls_text(alloc: Global, typed: &Typed, calls: &[Record]) -> Result<String, 
 /// cells' numbers. The only error is a refused growth.
 pub fn history_text(
     alloc: Global,
+    format: Format,
     typed: &Typed,
     calls: &[Record],
     values: &[Value],
 ) -> Result<String, NoMemory>
     requires { vec_len typed.now.cells ≡ length values.now }
-    ensures { IfOk result (λ text. string_bytes text ≡ history_of typed.now (map entry_of calls.now) values.now) }
+    ensures { IfOk result (λ text. string_bytes text ≡ history_of format typed.now (map entry_of calls.now) values.now) }
 {
-    let mut out = calls_text(alloc, typed, calls)?;
-    out.push_str("cells\n")?;
-    push_cells(&mut out, typed, &typed.cells, values)?;
-    out.push_str("end\n")?;
+    let mut out = calls_text(alloc, format, typed, calls)?;
+    push_closing(&mut out, typed, values)?;
+    Ok(out)
+}
+
+/// The text of these finished sections of the program, in this order, and of the values of all its cells,
+/// by the cells' numbers: what [`history_text`] gives for what they say. The only error is a refused growth.
+pub fn entries_text(
+    alloc: Global,
+    format: Format,
+    typed: &Typed,
+    entries: &[Entry],
+    values: &[Value],
+) -> Result<String, NoMemory>
+    requires { vec_len typed.now.cells ≡ length values.now }
+    ensures { IfOk result (λ text. string_bytes text ≡ history_of format typed.now (map entry_of_commit entries.now) values.now) }
+{
+    let mut out = first_line(alloc, format)?;
+    push_entries(&mut out, format, typed, entries)?;
+    push_closing(&mut out, typed, values)?;
     Ok(out)
 }
 
@@ -110,7 +184,7 @@ pub fn unsettled_text(
 ) -> Result<String, NoMemory>
     ensures { IfOk result (λ text. string_bytes text ≡ unsettled_of typed.now (map entry_of calls.now) thread step) }
 {
-    let mut out = calls_text(alloc, typed, calls)?;
+    let mut out = calls_text(alloc, Format::One, typed, calls)?;
     write!(&mut out, "unsettled {thread} {step}\n")?;
     Ok(out)
 }

@@ -1,18 +1,21 @@
 //! The exact texts of what was run: histories and simulations.
 //!
-//! - [`Record`]: a call, how it ended and what it printed.
-//! - [`history_text`]: the calls and the values of all cells.
+//! - [`history_text`]: the calls and the values of all cells, in one of the two formats of [`recorded::Format`].
+//! - [`entries_text`]: the same of the entries of a history.
 //! - [`unsettled_text`]: the calls before one that is not settled, and that one.
 //! - [`simulation_text`]: the finished sections of a world, its cells and its threads.
+//! - [`Record`]: a call, how it ended and what it printed.
+//! - [`lines`] and [`pieces`]: single lines of a history, and what they are put together from.
 //!
 //! `specs/History.antt`, `specs/Simulation.antt` and `specs/Pieces.antt` define the texts byte for byte.
 #![tactic(auto)]
 
 mod histories;
-mod pieces;
-mod record;
+pub mod lines;
+pub mod pieces;
+pub mod record;
 mod simulation;
 
-pub use histories::{history_text, unsettled_text};
+pub use histories::{entries_text, history_text, unsettled_text};
 pub use record::Record;
 pub use simulation::simulation_text;

@@ -46,7 +46,7 @@ fn push_object(out: &mut String, shape: &Shape, object: usize) -> Result<(), All
 }
 
 /// A number, `null` or an object.
-pub fn push_value(out: &mut String, shape: &Shape, value: Value) -> Result<(), AllocError>
+pub(crate) fn push_value(out: &mut String, shape: &Shape, value: Value) -> Result<(), AllocError>
     ensures { OnOk result (AddsText (text.value_text shape.now value) out.old out.new) }
 {
     match value {
@@ -71,7 +71,7 @@ fn push_lock_owner(out: &mut String, program: &Typed, lock: Lock) -> Result<(), 
 }
 
 /// A lock, as `G` or `p[0].l`.
-pub fn push_lock(out: &mut String, program: &Typed, lock: Lock) -> Result<(), AllocError>
+pub(crate) fn push_lock(out: &mut String, program: &Typed, lock: Lock) -> Result<(), AllocError>
     ensures { OnOk result (AddsText (text.lock_text program.now lock) out.old out.new) }
 {
     push_lock_owner(out, program, lock)?;
@@ -94,7 +94,7 @@ fn push_values(out: &mut String, shape: &Shape, values: &[Value]) -> Result<(), 
 }
 
 /// What is called, as `inc(1, p[0])`.
-pub fn push_invocation(
+pub(crate) fn push_invocation(
     out: &mut String,
     typed: &Typed,
     section: usize,
@@ -108,7 +108,11 @@ pub fn push_invocation(
     out.push_str(")")
 }
 
-/// How a call ended.
+/// How a call ended: `ends`, `returns V` or `traps N`.
+///
+/// # Errors
+///
+/// Want of memory.
 pub fn push_outcome(out: &mut String, shape: &Shape, outcome: Outcome) -> Result<(), AllocError>
     ensures { OnOk result (AddsText (text.outcome_text shape.now outcome) out.old out.new) }
 {
@@ -167,7 +171,7 @@ fn push_field(
 }
 
 /// A cell as `n`, `a[0]` or `p[0].x`.
-pub fn push_owner(out: &mut String, typed: &Typed, owner: Owner) -> Result<(), AllocError>
+pub(crate) fn push_owner(out: &mut String, typed: &Typed, owner: Owner) -> Result<(), AllocError>
     ensures { OnOk result (AddsText (text.owner_text typed.now owner) out.old out.new) }
 {
     match owner {

@@ -1,10 +1,12 @@
 //! What a text says of a call.
 
-ghost use Rattle.std.specs.Prelude.{◌≡◌};
+ghost use Rattle.std.specs.Prelude.{◌≡◌, IfOk};
 ghost use Rattle.report.specs.Entry.{entry_of, entry_said, entry_of_commit};
 
 use core_lang::value::{Outcome, Value};
 use history::entry::Entry;
+use source::memory::NoMemory;
+use std::alloc::Global;
 
 /// A call, how it ended and what it printed.
 #[derive(Debug, Drop)]
@@ -13,6 +15,8 @@ pub struct Record {
     pub thread: usize,
     /// Which of its thread's calls it is, from 0.
     pub step: usize,
+    /// How long the history was when it began.
+    pub begun: usize,
     /// The section, an index into the program's sections.
     pub section: usize,
     /// A value for each parameter.
@@ -23,17 +27,26 @@ pub struct Record {
     pub prints: Vec<i64>,
 }
 
-/// The same, lent.
+/// A call that has not ended, lent.
 #[derive(Clone, Copy)]
-pub struct Said<'a> {
-    /// The thread.
+pub struct Called<'a> {
+    /// The thread, in order of declaration, from 0.
     pub thread: usize,
-    /// Which of its thread's calls it is.
+    /// Which of its thread's calls it is, from 0.
     pub step: usize,
-    /// The section.
+    /// How long the history was when it began.
+    pub begun: usize,
+    /// The section, an index into the program's sections.
     pub section: usize,
     /// A value for each parameter.
     pub arguments: &'a [Value],
+}
+
+/// A call, how it ended and what it printed, lent.
+#[derive(Clone, Copy)]
+pub struct Said<'a> {
+    /// The call.
+    pub call: Called<'a>,
     /// How the section ended.
     pub outcome: Outcome,
     /// What it printed.
@@ -41,15 +54,41 @@ pub struct Said<'a> {
 }
 
 impl Record {
+    /// What an entry of a history says of its call.
+    ///
+    /// # Errors
+    ///
+    /// Want of memory.
+    pub fn of(alloc: Global, entry: &Entry) -> Result<Record, NoMemory>
+        ensures { IfOk result (λ made. entry_of made ≡ entry_of_commit entry.now) }
+    {
+        let said = said_of(entry);
+        let arguments = Vec::from_slice(alloc, said.call.arguments)?;
+        let prints = Vec::from_slice(alloc, said.prints)?;
+        Ok(Record {
+            thread: said.call.thread,
+            step: said.call.step,
+            begun: said.call.begun,
+            section: said.call.section,
+            arguments,
+            outcome: said.outcome,
+            prints,
+        })
+    }
+
     /// Lends it.
     pub fn said(&self) -> Said<'_>
         ensures { entry_said result ≡ entry_of self.now }
     {
-        Said {
+        let call = Called {
             thread: self.thread,
             step: self.step,
+            begun: self.begun,
             section: self.section,
             arguments: &self.arguments,
+        };
+        Said {
+            call,
             outcome: self.outcome,
             prints: &self.prints,
         }
@@ -60,11 +99,15 @@ impl Record {
 pub fn said_of(entry: &Entry) -> Said<'_>
     ensures { entry_said result ≡ entry_of_commit entry.now }
 {
-    Said {
+    let call = Called {
         thread: entry.thread() as usize,
         step: entry.step(),
+        begun: entry.begun(),
         section: entry.section(),
         arguments: entry.arguments(),
+    };
+    Said {
+        call,
         outcome: entry.outcome(),
         prints: entry.prints(),
     }

@@ -2,29 +2,18 @@
 
 ghost use Rattle.std.specs.Prelude.{◌≡◌, OnOk, IfOk, string_bytes};
 ghost use Rattle.locks.specs.Texts.{AddsText};
-ghost use Rattle.report.specs.Simulation.{present_text, cells_text, status_text, thread_text, threads_text, commit_texts, simulation_of};
+ghost use Rattle.report.specs.Simulation.{present_text, cells_text, status_text, thread_text, threads_text, simulation_of};
 
-use crate::histories::push_entry;
+use crate::histories::push_entries;
 use crate::pieces::{push_lock, push_owner, push_value};
-use crate::record::said_of;
 use core_lang::shape::Shape;
 use core_lang::typed::Typed;
 use core_lang::value::Value;
-use history::entry::Entry;
 use interleavings::status::Status;
 use interleavings::world::World;
+use recorded::Format;
 use source::memory::NoMemory;
 use std::alloc::{AllocError, Global};
-
-/// The line of each finished section, with its prints.
-fn push_entries(out: &mut String, typed: &Typed, entries: &[Entry]) -> Result<(), AllocError>
-    ensures { OnOk result (AddsText (commit_texts typed.now entries.now) out.old out.new) }
-{
-    for entry in entries {
-        push_entry(out, typed, &said_of(entry))?;
-    }
-    Ok(())
-}
 
 /// What a cell holds, or that a section holds it.
 fn push_present(out: &mut String, shape: &Shape, value: Option<Value>) -> Result<(), AllocError>
@@ -96,7 +85,7 @@ pub fn simulation_text(alloc: Global, world: &World<'_>) -> Result<String, NoMem
 {
     let typed = world.program().typed();
     let mut out = String::from_str(alloc, "simulation 1\n")?;
-    push_entries(&mut out, typed, world.history())?;
+    push_entries(&mut out, Format::One, typed, world.history())?;
     out.push_str("cells\n")?;
     push_cells(&mut out, world)?;
     out.push_str("threads\n")?;

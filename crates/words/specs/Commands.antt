@@ -30,6 +30,10 @@ with_turns app = with_rule app turns_rule
 abbrev pub with_steps : App → App
 with_steps app = with_rule app (file_rule (codes "STEPS"))
 
+-- a command that takes a history file besides
+abbrev pub with_history : App → App
+with_history app = with_rule app (file_rule (codes "HISTORY"))
+
 -- a command that must have a subcommand
 abbrev pub needs_subcommand : App → App
 needs_subcommand app = record app { top = record app.top { subcommand_required = true } }
@@ -58,9 +62,17 @@ with_serial app = with_subcommand app (with_turns (with_file (codes "serial"))).
 abbrev pub with_simulate : App → App
 with_simulate app = with_subcommand app (with_steps (with_file (codes "simulate"))).top
 
+-- autolock run FILE
+abbrev pub with_run : App → App
+with_run app = with_subcommand app (with_file (codes "run")).top
+
+-- autolock replay [--turns N] FILE HISTORY
+abbrev pub with_replay : App → App
+with_replay app = with_subcommand app (with_turns (with_history (with_file (codes "replay")))).top
+
 -- the whole command line
 abbrev pub autolock : App
-autolock = with_simulate (with_serial (with_listing (with_check program)))
+autolock = with_replay (with_run (with_simulate (with_serial (with_listing (with_check program)))))
 
 -- the command is that one, and has no global argument
 abbrev pub IsCommand : App → Command → Type 0
@@ -70,3 +82,7 @@ IsCommand app command = (app_of command ≡ app) × ((out-Command command).has_g
 abbrev pub Adds : {E : Type 0} → Result Command E → Result Command E → Result Command E → Type 0
 Adds line command result =
     (a b : App) → IfOk line (IsCommand a) → IfOk command (IsCommand b) → IfOk result (IsCommand (with_subcommand a b.top))
+
+-- an argument that is added to a command, where that could be made
+abbrev pub AddsRule : {E : Type 0} → Result Command E → Rule → Result Command E → Type 0
+AddsRule command rule result = (a : App) → IfOk command (IsCommand a) → IfOk result (IsCommand (with_rule a rule))

@@ -7,7 +7,7 @@ use Rattle.clap.specs.declared.error.Error.{Error}
 use Rattle.clap.specs.declared.error.kind.ErrorKind.TheVariants.{MissingSubcommand}
 use Rattle.words.specs.Commands.{autolock}
 use Rattle.words.specs.declared.line.Line.{Line}
-use Rattle.words.specs.declared.line.Line.TheVariants.{Check, Listing, Serial, Simulate}
+use Rattle.words.specs.declared.line.Line.TheVariants.{Check, Listing, Serial, Simulate, Run, Replay}
 
 -- the value of a name, or nothing
 abbrev pub name_in : Text → List Row → Text
@@ -27,6 +27,10 @@ IsLine command rows (Serial file turns) =
     (command ≡ codes "serial") × (file.now ≡ name_in (codes "FILE") rows) × IsTurns rows turns
 IsLine command rows (Simulate file steps) =
     (command ≡ codes "simulate") × (file.now ≡ name_in (codes "FILE") rows) × (steps.now ≡ name_in (codes "STEPS") rows)
+IsLine command rows (Run file) = (command ≡ codes "run") × (file.now ≡ name_in (codes "FILE") rows)
+IsLine command rows (Replay file history turns) =
+    (command ≡ codes "replay") × (file.now ≡ name_in (codes "FILE") rows) × (history.now ≡ name_in (codes "HISTORY") rows)
+    × IsTurns rows turns
 
 -- the line is the subcommand that was met
 abbrev pub IsLineOf : Option (Text × List Row) → Line → Type 0
@@ -36,7 +40,8 @@ IsLineOf (Some (command, rows)) line = IsLine command rows line
 -- a name of the program's own subcommands
 abbrev pub IsOwnName : Text → Type 0
 IsOwnName command =
-    (command ≡ codes "check") ⊎ ((command ≡ codes "listing") ⊎ ((command ≡ codes "serial") ⊎ (command ≡ codes "simulate")))
+    (command ≡ codes "check") ⊎ ((command ≡ codes "listing") ⊎ ((command ≡ codes "serial")
+    ⊎ ((command ≡ codes "simulate") ⊎ ((command ≡ codes "run") ⊎ (command ≡ codes "replay")))))
 
 -- the subcommand that was met is one of the program's own
 abbrev pub IsOwn : Option (Text × List Row) → Type 0

@@ -2,7 +2,7 @@
 
 ghost use Rattle.std.specs.Prelude.{◌≡◌, IfOk, codes, false};
 ghost use Rattle.clap.specs.Words.{rule_of};
-ghost use Rattle.words.specs.Commands.{IsCommand, file_rule, turns_rule, with_file, with_turns, with_steps, Adds, autolock};
+ghost use Rattle.words.specs.Commands.{IsCommand, file_rule, turns_rule, with_file, with_turns, with_steps, with_history, Adds, AddsRule, autolock};
 
 use clap::builder::ValueParser;
 use clap::{Arg, Command};
@@ -65,6 +65,43 @@ fn simulate_command<'a>(alloc: Global) -> Result<Command<'a>, AllocError>
     file_command(alloc, "simulate", about)?.arg(steps_argument(alloc))
 }
 
+/// A history file.
+fn history_argument<'a>(alloc: Global) -> Arg<'a>
+    ensures rule { rule_of result ≡ file_rule (codes "HISTORY") }
+    ensures local { result.global ≡ false }
+{
+    file_argument(alloc, "HISTORY").help("The history that was recorded")
+}
+
+/// `run`.
+fn run_command<'a>(alloc: Global) -> Result<Command<'a>, AllocError>
+    ensures { IfOk result (IsCommand (with_file (codes "run"))) }
+{
+    let about = "Run the calls of each thread in a thread of its own, and write the history";
+    file_command(alloc, "run", about)
+}
+
+/// A command with one more argument, where it could be made.
+fn with_argument<'a>(
+    command: Result<Command<'a>, AllocError>,
+    argument: Arg<'a>,
+) -> Result<Command<'a>, AllocError>
+    requires { argument.global ≡ false }
+    ensures { AddsRule command.entry (rule_of argument.entry) result }
+{
+    command?.arg(argument)
+}
+
+/// `replay`.
+fn replay_command<'a>(alloc: Global) -> Result<Command<'a>, AllocError>
+    ensures { IfOk result (IsCommand (with_turns (with_history (with_file (codes "replay"))))) }
+{
+    let about = "Compare a recorded history with what its calls answer, one after another";
+    let command = file_command(alloc, "replay", about);
+    let command = with_argument(command, history_argument(alloc));
+    with_argument(command, turns_argument(alloc))
+}
+
 /// A command line with one more command, where both could be made.
 fn with_command<'a>(
     line: Result<Command<'a>, AllocError>,
@@ -88,5 +125,7 @@ pub fn command<'a>(alloc: Global) -> Result<Command<'a>, AllocError>
     let about = "Write the instructions of each section";
     let line = with_command(line, file_command(alloc, "listing", about));
     let line = with_command(line, serial_command(alloc));
-    with_command(line, simulate_command(alloc))
+    let line = with_command(line, simulate_command(alloc));
+    let line = with_command(line, run_command(alloc));
+    with_command(line, replay_command(alloc))
 }

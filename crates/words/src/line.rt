@@ -30,4 +30,18 @@ pub enum Line<'a> {
         /// The steps file.
         steps: &'a str,
     },
+    /// `run`: run the calls of each thread of a program in a thread of its own.
+    Run {
+        /// The file of the program's text.
+        file: &'a str,
+    },
+    /// `replay`: compare a recorded history with what its calls answer, one after another.
+    Replay {
+        /// The file of the program's text.
+        file: &'a str,
+        /// The history file.
+        history: &'a str,
+        /// The most turns that each execution of a loop may make.
+        turns: u64,
+    },
 }

@@ -42,6 +42,12 @@ fn line<'a>(command: &str, matches: &ArgMatches<'a>) -> Option<Line<'a>>
             file,
             steps: name(matches, "STEPS"),
         }),
+        "run" => Some(Line::Run { file }),
+        "replay" => Some(Line::Replay {
+            file,
+            history: name(matches, "HISTORY"),
+            turns: turns(matches),
+        }),
         _ => None,
     }
 }

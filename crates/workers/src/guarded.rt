@@ -115,10 +115,11 @@ impl<'p, J: Naming> Guarded<'p, J> {
         self.manager.keeps_its_rules();
         let position = self.manager.history().len();
         let begun = ended.entry().begun();
-        if begun < floor || position < begun || position == usize::MAX {
-            return Err(ended.give_up(&mut self.manager));
-        }
-        if !ended.fits(&self.manager) {
+        if begun < floor
+            || position < begun
+            || position == usize::MAX
+            || !ended.fits(&self.manager)
+        {
             return Err(ended.give_up(&mut self.manager));
         }
         Ok(ended.release(&mut self.manager))

@@ -76,8 +76,8 @@ impl<'p, J: Naming> Shared<'p, J> {
         Ok((shared, seats))
     }
 
-    // The program.
-    pub(crate) fn program(&self) -> &'p Program
+    /// The program.
+    pub fn program(&self) -> &'p Program
         ensures { result.now ≡ J.plan }
     {
         self.program

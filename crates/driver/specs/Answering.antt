@@ -1,0 +1,68 @@
+-- What this crate's functions compute of an answer. It mirrors the code: nobody has to believe it.
+use Rattle.std.specs.Prelude.{◌≡◌, ℕ, List, [], string_bytes, Result, Ok, Err}
+use Rattle.code.specs.Listing.{line}
+use Rattle.compiler.specs.Programs.{Accepts, IsOfFirstPass}
+use Rattle.lowering.specs.Plans.{Plan, IsCompiled}
+use Rattle.source.specs.declared.fault.Fault.{Fault}
+use Rattle.source.specs.Faults.{fault_text}
+use Rattle.steps.specs.declared.refusal.StepsFault.{StepsFault}
+use Rattle.steps.specs.Steps.{steps_fault_text}
+use Rattle.driver.specs.declared.answer.Answer.{Answer}
+use Rattle.driver.specs.declared.request.PairRequest.{PairRequest}
+use Rattle.driver.specs.declared.request.PairRequest.TheVariants.{Simulate, Replay}
+use Rattle.driver.specs.declared.request.Request.{Request}
+use Rattle.driver.specs.declared.request.Request.TheVariants.{Check, Listing, Serial}
+use Rattle.driver.specs.declared.status.Status.{Status}
+use Rattle.driver.specs.declared.status.Status.TheVariants.{Refused, BadInput}
+use Rattle.driver.specs.Answers.{IsRefused}
+use Rattle.driver.specs.Checks.{IsChecked}
+use Rattle.driver.specs.Listings.{IsListed}
+use Rattle.driver.specs.Replays.{IsReplayed, verdict_status, verdict_text}
+use Rattle.driver.specs.Serial.{IsRun}
+use Rattle.driver.specs.Simulations.{IsSimulated}
+use Rattle.driver.specs.ThreadRuns.{IsStrange}
+use Rattle.recorded.specs.declared.refusal.HistoryFault.{HistoryFault}
+use Rattle.recorded.specs.Refusals.{history_fault_text}
+use Rattle.replay.specs.declared.verdict.Verdict.{Verdict}
+
+-- the answer's status and outputs are what is wanted of them
+abbrev pub Meets : (Status → List ℕ → List ℕ → Type 0) → Answer → Type 0
+Meets Wanted answer = Wanted answer.status (string_bytes answer.out) (string_bytes answer.err)
+
+-- the answer to a fault
+abbrev pub IsFaultAnswer : List ℕ → List ℕ → Fault → Answer → Type 0
+IsFaultAnswer file text fault answer =
+    (answer.status ≡ Refused) × (string_bytes answer.out ≡ []) × (string_bytes answer.err ≡ line (fault_text file text fault))
+
+abbrev pub IsBadStepsAnswer : List ℕ → List ℕ → StepsFault → Answer → Type 0
+IsBadStepsAnswer steps_file items fault answer =
+    (answer.status ≡ BadInput) × (string_bytes answer.out ≡ []) × (string_bytes answer.err ≡ line (steps_fault_text steps_file items fault))
+
+abbrev pub IsBadHistoryAnswer : List ℕ → HistoryFault → Answer → Type 0
+IsBadHistoryAnswer history_file fault answer =
+    (answer.status ≡ BadInput) × (string_bytes answer.out ≡ []) × (string_bytes answer.err ≡ line (history_fault_text history_file fault))
+
+-- to a verdict
+abbrev pub IsVerdictAnswer : Verdict → Answer → Type 0
+IsVerdictAnswer verdict answer =
+    (answer.status ≡ verdict_status verdict) × (string_bytes answer.out ≡ line (verdict_text verdict)) × (string_bytes answer.err ≡ [])
+
+-- to threads that found another history than they had left
+abbrev pub IsStrangeAnswer : Answer → Type 0
+IsStrangeAnswer answer = Meets IsStrange answer
+
+-- a text was accepted, or this is the answer to its fault
+abbrev pub IsAccepted : List ℕ → List ℕ → Result Plan Answer → Type 0
+IsAccepted file text (Ok plan) = Accepts text plan.program × IsCompiled plan
+IsAccepted file text (Err answer) = Meets (IsRefused file text) answer
+
+-- what is answered to a request for a program
+abbrev pub RequestAnswers : Request → List ℕ → Plan → Status → List ℕ → List ℕ → Type 0
+RequestAnswers Check text plan = IsChecked text plan
+RequestAnswers Listing text plan = IsListed plan
+RequestAnswers (Serial turns) text plan = IsRun turns plan.program
+
+-- to one for a program and the text of another file
+abbrev pub PairWanted : PairRequest → List ℕ → List ℕ → Plan → Status → List ℕ → List ℕ → Type 0
+PairWanted Simulate other_file other = IsSimulated other_file other
+PairWanted (Replay turns) other_file other = IsReplayed turns other_file other

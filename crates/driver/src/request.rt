@@ -1,0 +1,40 @@
+//! What is asked of an engine.
+
+/// What is asked of a program's text.
+#[derive(Clone, Copy, Debug, PartialEq, Eq)]
+pub enum Request {
+    /// In which order it takes its locks, and which ones before each statement.
+    Check,
+    /// The instructions of its sections.
+    Listing,
+    /// The history of all its calls, run one after another.
+    Serial {
+        /// The most turns that each execution of a loop may make.
+        turns: u64,
+    },
+}
+
+/// What is asked of a program's text and that of another file.
+#[derive(Clone, Copy, Debug, PartialEq, Eq)]
+pub enum PairRequest {
+    /// The world after the steps of a steps file.
+    Simulate,
+    /// Whether a recorded history is one of the program's.
+    Replay {
+        /// The most turns that each execution of a loop may make.
+        turns: u64,
+    },
+}
+
+/// The text of a program and that of another file, with the names of their files.
+#[derive(Clone, Copy)]
+pub struct Pair<'a> {
+    /// The name of the program's file.
+    pub file: &'a str,
+    /// The program's text.
+    pub text: &'a [u8],
+    /// The name of the other file.
+    pub other_file: &'a str,
+    /// The other file's text.
+    pub other: &'a [u8],
+}

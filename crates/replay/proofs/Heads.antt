@@ -1,0 +1,78 @@
+-- What the head of a call's line tells.
+use Rattle.std.proofs.Common.{◌≡◌, ◌∙◌, ◌<◌, ◌^◌, ℕ, List, [], ◌∷◌, ◌++◌, drop, Some, ap, refl, append_assoc, true, false, get_or}
+use Rattle.std.specs.Prelude.{codes, ◌==◌}
+use Rattle.std.specs.Bool.{⊤}
+use Rattle.std.proofs.lemmas.Bool.{false≢true}
+use Rattle.std.specs.Fmt.{decimal}
+use Rattle.core_lang.specs.declared.typed.Typed.{Typed}
+use Rattle.core_lang.specs.Serial.{Scheduled}
+use Rattle.recorded.specs.declared.format.Format.{Format}
+use Rattle.recorded.specs.declared.format.Format.TheVariants.{One, Two}
+use Rattle.recorded.specs.Pieces.{before, behind, count_in}
+use Rattle.recorded.specs.Theory.Counts.{count_in-decimal, before-count, behind-count}
+use Rattle.report.specs.Pieces.{invocation_text}
+use Rattle.report.specs.History.{begun_text, call_head}
+use Rattle.replay.specs.Told.{begun_in, both, told_after, told_in}
+
+-- what comes after the numbers of a call
+abbrev pub invoked : Typed → Scheduled → List ℕ → List ℕ
+invoked program s end = invocation_text program s.call.section s.call.arguments ++ 32 ∷ end
+
+-- the words of a call's line
+pub head_words : (format : Format) (program : Typed) (s : Scheduled) (begun : ℕ) (end : List ℕ) →
+    call_head format program s begun ++ end
+    ≡ codes "call " ++ (decimal s.thread ++ 32 ∷ (decimal s.step ++ 32 ∷ (begun_text format begun ++ invoked program s end)))
+head_words format program s begun end = simp append_assoc
+
+-- what its begin is told as
+abbrev pub shown : Format → ℕ → ℕ
+shown One begun = 0
+shown Two begun = begun
+
+-- a begin that can be read, where it is told
+abbrev pub IsShort : Format → ℕ → Type 0
+IsShort One begun = ⊤
+IsShort Two begun = begun < 2 ^ 63
+
+begun_read : (format : Format) (begun : ℕ) (rest : List ℕ) → IsShort format begun →
+    begun_in format (begun_text format begun ++ rest) ≡ Some (shown format begun)
+begun_read One begun rest short = refl
+begun_read Two begun rest short =
+    ap (λ text. count_in (before 32 text)) (append_assoc (decimal begun) (32 ∷ []) rest)
+    ∙ ap count_in (before-count begun rest short) ∙ count_in-decimal begun short
+
+told_words : (format : Format) (thread step begun : ℕ) (rest : List ℕ) → thread < 2 ^ 63 → step < 2 ^ 63 → IsShort format begun →
+    told_after format (decimal thread ++ 32 ∷ (decimal step ++ 32 ∷ (begun_text format begun ++ rest)))
+    ≡ Some (record { thread = thread; begun = shown format begun })
+told_words format thread step begun rest small few short =
+    let more = begun_text format begun ++ rest in
+    let t = ap count_in (before-count thread (decimal step ++ 32 ∷ more) small) ∙ count_in-decimal thread small in
+    let past = ap (behind 32) (behind-count thread (decimal step ++ 32 ∷ more) small) ∙ behind-count step more few in
+    ap (λ x. both x (begun_in format (behind 32 (behind 32 (decimal thread ++ 32 ∷ (decimal step ++ 32 ∷ more)))))) t
+    ∙ ap (λ x. both (Some thread) x) (ap (begun_in format) past ∙ begun_read format begun rest short)
+
+-- a call's line tells its thread and its begin
+pub told_head : (format : Format) (program : Typed) (s : Scheduled) (begun : ℕ) (end : List ℕ) → s.thread < 2 ^ 63 → s.step < 2 ^ 63 →
+    IsShort format begun →
+    told_in format (call_head format program s begun ++ end) ≡ Some (record { thread = s.thread; begun = shown format begun })
+told_head format program s begun end small few short =
+    ap (told_in format) (head_words format program s begun end)
+    ∙ told_words format s.thread s.step begun (invoked program s end) small few short
+
+-- the thread alone
+pub thread_head : (format : Format) (program : Typed) (s : Scheduled) (begun : ℕ) (end : List ℕ) → s.thread < 2 ^ 63 →
+    count_in (before 32 (drop 5 (call_head format program s begun ++ end))) ≡ Some s.thread
+thread_head format program s begun end small =
+    ap (λ text. count_in (before 32 (drop 5 text))) (head_words format program s begun end)
+    ∙ ap count_in (before-count s.thread (decimal s.step ++ 32 ∷ (begun_text format begun ++ invoked program s end)) small)
+    ∙ count_in-decimal s.thread small
+
+-- a call's line is not `cells`
+pub head_not_cells : (format : Format) (program : Typed) (s : Scheduled) (begun : ℕ) (end : List ℕ) →
+    codes "cells" ≡ call_head format program s begun ++ end → ⊥
+head_not_cells format program s begun end is =
+    let words = is ∙ head_words format program s begun end in
+    second words
+  where
+    second : {xs ys : List ℕ} → (99 ∷ 101 ∷ xs) ≡ (99 ∷ 97 ∷ ys) → ⊥
+    second e = let t : false ≡ true = ap (λ bytes. get_or bytes 1 0 == 97) e in false≢true t

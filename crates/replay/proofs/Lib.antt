@@ -1,0 +1,13 @@
+pub mod Scripts
+pub mod Heads
+pub mod Seating
+pub mod Candidates
+pub mod Findings
+pub mod OneVerdict
+pub mod Following
+pub mod HistoryLemmas
+pub mod SerialHistories
+pub mod TextLemmas
+pub mod Steps
+pub mod Replays
+pub mod EntryHistories

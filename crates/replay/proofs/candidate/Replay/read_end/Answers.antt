@@ -1,0 +1,37 @@
+use Rattle.std.proofs.Common.{◌∙◌, ◌++◌, sym, ap, arith, subst, refl, List, ℕ}
+use Rattle.core_lang.specs.declared.typed.Typed.{Typed}
+use Rattle.core_lang.specs.Typing.{IsHeap}
+use Rattle.core_lang.specs.WellFormed.{IsWellFormed}
+use Rattle.report.specs.Pieces.{outcome_text}
+use Rattle.replay.proofs.Steps.{reads_so, reads_otherwise, call_beyond, call_otherwise, call_came}
+use Rattle.replay.proofs.candidate.Replay.read_end.Goals as goal
+
+pub overflow_add-call : goal.overflow_add-call
+overflow_add-call c = let few = c.requires.only.few in omega (arith, few)
+
+pub returns-in_default-clause-reads : goal.returns-in_default-clause-reads
+returns-in_default-clause-reads c reader is =
+    let same = c.requires.ready.prepared in
+    let beyond = rw (same, c.in_default.is) at
+    (c.in_ok-run.ensures.beyond (subst IsWellFormed (sym same) c.requires.ready.well_formed)
+    (subst (λ (p : Typed). IsHeap p c.args.at.now.heap) (sym same) c.requires.sound.typed)) in
+    call_beyond c.args.self.now.turns c.args.self.now.format c.args.self.now.typed.now c.args.at.now reader c.args.line.now _ c.args.call is c.requires.stage c.requires.none_due
+    c.requires.only c.requires.head beyond
+
+pub returns-then-not-is_told-clause-reads : goal.returns-then-not-is_told-clause-reads
+returns-then-not-is_told-clause-reads c reader is =
+    let over = rw (c.requires.ready.prepared, c.in-Some.is) at c.in_ok-run.ensures.answer in
+    let tail = outcome_text c.args.self.now.typed.now.shape c.in-Some.end.outcome in
+    let word = c.as_str.ensures.value ∙ c.in_ok-push_outcome.ensures ∙ ap (λ (b : List ℕ). b ++ tail) c.requires.head.is in
+    call_otherwise c.args.self.now.turns c.args.self.now.format c.args.self.now.typed.now c.args.at.now reader c.args.line.now _ c.args.call c.in-Some.end _ is c.requires.stage c.requires.none_due
+    c.requires.only c.requires.head over
+    (λ told. reads_otherwise c.args.line.now c.as_str.result.now (sym c.is-is_told.ensures ∙ c.if-not-is_told.true) (told ∙ sym word))
+
+pub returns-clause-reads : goal.returns-clause-reads
+returns-clause-reads c reader is =
+    let over = rw (c.requires.ready.prepared, c.in-Some.is) at c.in_ok-run.ensures.answer in
+    let tail = outcome_text c.args.self.now.typed.now.shape c.in-Some.end.outcome in
+    let word = c.as_str.ensures.value ∙ c.in_ok-push_outcome.ensures ∙ ap (λ (b : List ℕ). b ++ tail) c.requires.head.is in
+    call_came c.args.self.now.turns c.args.self.now.format c.args.self.now.typed.now c.args.at.now reader c.args.line.now c.args.call c.in-Some.end _ is c.requires.stage c.requires.none_due
+    c.requires.only over (reads_so c.args.line.now c.as_str.result.now (sym c.is-is_told.ensures ∙ c.if-not-is_told.false) ∙ word)
+    refl refl refl refl c.requires.stage

@@ -1,0 +1,131 @@
+-- Which line may come next where a history is read, given a program and how many turns each execution of a loop may make.
+use Rattle.std.specs.Prelude.{◌≡◌, ◌≤◌, ◌<◌, ℕ, ℤ, ◌==◌, Bool, true, false, List, [], ◌∷◌, ◌++◌, length, map, count_by, slice_get, codes, Option, Some, ⊤}
+use Rattle.std.specs.Option.{option_map_or}
+use Rattle.core_lang.specs.declared.value.Value.{Value}
+use Rattle.core_lang.specs.declared.typed.Cell.{Cell}
+use Rattle.core_lang.specs.declared.typed.Thread.{Thread}
+use Rattle.core_lang.specs.declared.typed.Typed.{Typed}
+use Rattle.core_lang.specs.Whole.{Finished, Over, Beyond_turns}
+use Rattle.core_lang.specs.Serial.{Scheduled, opening_heap, script_from, run_call}
+use Rattle.recorded.specs.declared.format.Format.{Format}
+use Rattle.recorded.specs.declared.format.Format.TheVariants.{One, Two}
+use Rattle.report.specs.Pieces.{outcome_text}
+use Rattle.report.specs.Entry.{Entry, scheduled_in}
+use Rattle.report.specs.History.{call_head, print_line, cell_line}
+
+-- ---- lines
+
+-- a line for each print
+abbrev pub print_lines : List ℤ → List (List ℕ)
+print_lines prints = map print_line prints
+
+-- a line for each cell
+abbrev pub cell_lines : Typed → List Cell → List Value → List (List ℕ)
+cell_lines program [] values = []
+cell_lines program (cell ∷ cells) [] = []
+cell_lines program (cell ∷ cells) (value ∷ values) = cell_line program cell value ∷ cell_lines program cells values
+
+-- the cells' lines and the last line
+abbrev pub closing_lines : Typed → List Value → List (List ℕ)
+closing_lines program heap = cell_lines program program.cells.items heap ++ codes "end" ∷ []
+
+-- ---- a reader
+
+-- how far a history was read: the threads of its calls so far, in order; the values of all cells after these; the lines
+-- that are due; and whether `cells` has come
+pub record Reader : Type 0 where
+  pub order : List ℕ
+  pub heap : List Value
+  pub due : List (List ℕ)
+  pub closed : Bool
+
+-- at the first line
+abbrev pub opened : Typed → Reader
+opened program = record { order = []; heap = opening_heap program; due = []; closed = false }
+
+-- ---- calls
+
+-- the calls of a thread, in order; none of a thread that there isn't
+abbrev pub script_of : Typed → ℕ → List Scheduled
+script_of program t = option_map_or (λ (thread : Thread). script_from t 0 thread.calls.items) (slice_get program.threads.items t) []
+
+-- how many calls of a thread there were
+abbrev pub calls_by : ℕ → List ℕ → ℕ
+calls_by t order = count_by (λ u. u == t) order
+
+-- the next call of a thread, if it has one
+abbrev pub next_call : Typed → List ℕ → ℕ → Option Scheduled
+next_call program order t = slice_get (script_of program t) (calls_by t order)
+
+-- a number greater than the position of each call of a thread
+abbrev pub IsAfter : List ℕ → ℕ → ℕ → Type 0
+IsAfter order t begun = (k : ℕ) → slice_get order k ≡ Some t → k < begun
+
+-- after these calls one of the thread may say that it began when the history was so long
+abbrev pub MayBegin : Format → List ℕ → ℕ → ℕ → Type 0
+MayBegin One order t begun = ⊤
+MayBegin Two order t begun = (begun ≤ length order) × IsAfter order t begun
+
+-- up to its end, the line is that of a thread's next call
+pub record IsNextCall (format : Format) (program : Typed) (order : List ℕ) (text : List ℕ) (call : Scheduled) (begun : ℕ) (end : List ℕ) : Type 0 where
+  pub scripted : next_call program order call.thread ≡ Some call
+  pub begins : MayBegin format order call.thread begun
+  pub told : text ≡ call_head format program call begun ++ end
+
+-- ---- which line may come
+
+-- no line is due, and the cells have not come
+pub record IsAmongCalls (reader : Reader) : Type 0 where
+  pub none_due : reader.due ≡ []
+  pub still_open : reader.closed ≡ false
+
+-- how a call ended, and the heap that it left
+abbrev pub finished_as : Entry → List Value → Finished
+finished_as entry heap = record { outcome = entry.outcome; prints = entry.prints; heap = heap }
+
+-- the line that is due
+pub record DueComes (before after : Reader) (text : List ℕ) : Type 0 where
+  pub more : List (List ℕ)
+  pub is_due : before.due ≡ text ∷ more
+  pub leads : after ≡ record before { due = more }
+
+-- the line of a thread's next call, as the turns settle it; then a line is due for each of its prints
+pub record CallComes (turns : ℕ) (format : Format) (program : Typed) (before after : Reader) (text : List ℕ) : Type 0 where
+  pub among : IsAmongCalls before
+  pub entry : Entry
+  pub heap : List Value
+  pub next : IsNextCall format program before.order text (scheduled_in entry) entry.begun (outcome_text program.shape entry.outcome)
+  pub settled : run_call program turns (scheduled_in entry).call before.heap ≡ Over (finished_as entry heap)
+  pub leads : after ≡ record { order = before.order ++ entry.thread ∷ []; heap = heap; due = print_lines entry.prints; closed = false }
+
+-- all calls of all scripts have come
+abbrev pub AllCalled : Typed → List ℕ → Type 0
+AllCalled program order = (t : ℕ) → calls_by t order ≡ length (script_of program t)
+
+-- the line `cells`, after all calls; then the cells and the last line are due
+pub record CellsCome (program : Typed) (before after : Reader) (text : List ℕ) : Type 0 where
+  pub among : IsAmongCalls before
+  pub all : AllCalled program before.order
+  pub is_cells : text ≡ codes "cells"
+  pub leads : after ≡ record before { due = closing_lines program before.heap; closed = true }
+
+-- a line that may come, and where it leads
+pub data Comes (turns : ℕ) (format : Format) (program : Typed) (before after : Reader) (text : List ℕ) : Type 0 where
+  due : DueComes before after text → Comes turns format program before after text
+  call : CallComes turns format program before after text → Comes turns format program before after text
+  cells : CellsCome program before after text → Comes turns format program before after text
+
+-- lines that come one after another
+abbrev pub Come : ℕ → Format → Typed → Reader → List (List ℕ) → Reader → Type 0
+Come turns format program before [] after = before ≡ after
+Come turns format program before (text ∷ more) after =
+    (middle : Reader) × Comes turns format program before middle text × Come turns format program middle more after
+
+-- up to its end, the line is that of a thread's next call, which the turns don't settle
+pub record IsUnsettled (turns : ℕ) (format : Format) (program : Typed) (reader : Reader) (text : List ℕ) : Type 0 where
+  pub among : IsAmongCalls reader
+  pub this : Scheduled
+  pub begun : ℕ
+  pub end : List ℕ
+  pub next : IsNextCall format program reader.order text this begun end
+  pub beyond : run_call program turns this.call reader.heap ≡ Beyond_turns

@@ -1,0 +1,56 @@
+-- What is said of a recorded history.
+use Rattle.std.specs.Prelude.{◌≡◌, ℕ, ◌+◌, true, List, [], ◌∷◌, ◌++◌, length}
+use Rattle.core_lang.specs.declared.typed.Typed.{Typed}
+use Rattle.recorded.specs.declared.format.Format.{Format}
+use Rattle.replay.specs.declared.verdict.Verdict.{Verdict}
+use Rattle.replay.specs.declared.verdict.Verdict.TheVariants.{Same, Differs, Unsettled}
+use Rattle.replay.specs.Readers.{Reader, opened, Comes, Come, IsUnsettled}
+
+-- nothing may come any more: `end` has come
+pub record HasEnded (reader : Reader) : Type 0 where
+  pub none_due : reader.due ≡ []
+  pub closed : reader.closed ≡ true
+
+-- neither may the line come, nor is it of a call that the turns don't settle
+pub record IsOther (turns : ℕ) (format : Format) (program : Typed) (reader : Reader) (text : List ℕ) : Type 0 where
+  pub not_coming : (after : Reader) → Comes turns format program reader after text → ⊥
+  pub not_unsettled : IsUnsettled turns format program reader text → ⊥
+
+-- the line with this number, where it is another than may come; or there is none, and the history has not ended
+abbrev pub Stops : ℕ → Format → Typed → Reader → List (List ℕ) → Type 0
+Stops turns format program reader [] = HasEnded reader → ⊥
+Stops turns format program reader (text ∷ more) = IsOther turns format program reader text
+
+-- the lines up to the one with this number came, which leaves these; the first line of the file has the number 1
+pub record Reaches (turns : ℕ) (format : Format) (program : Typed) (lines : List (List ℕ)) (number : ℕ) (reader : Reader) (rest : List (List ℕ)) : Type 0 where
+  pub first : List (List ℕ)
+  pub parts : lines ≡ first ++ rest
+  pub numbered : number ≡ length first + 2
+  pub came : Come turns format program (opened program) first reader
+
+-- all lines came, and with the last one the history has ended
+pub record IsSame (turns : ℕ) (format : Format) (program : Typed) (lines : List (List ℕ)) : Type 0 where
+  pub reader : Reader
+  pub came : Come turns format program (opened program) lines reader
+  pub ended : HasEnded reader
+
+-- the line with this number is the first that may not come
+pub record IsDiffering (turns : ℕ) (format : Format) (program : Typed) (lines : List (List ℕ)) (number : ℕ) : Type 0 where
+  pub reader : Reader
+  pub rest : List (List ℕ)
+  pub reached : Reaches turns format program lines number reader rest
+  pub stops : Stops turns format program reader rest
+
+-- the lines before the one with this number came, and that one is of a call that the turns don't settle
+pub record IsBeyond (turns : ℕ) (format : Format) (program : Typed) (lines : List (List ℕ)) (number : ℕ) : Type 0 where
+  pub reader : Reader
+  pub text : List ℕ
+  pub more : List (List ℕ)
+  pub reached : Reaches turns format program lines number reader (text ∷ more)
+  pub unsettled : IsUnsettled turns format program reader text
+
+-- the verdict holds of a history's lines after its first
+abbrev pub Holds : ℕ → Format → Typed → List (List ℕ) → Verdict → Type 0
+Holds turns format program lines Same = IsSame turns format program lines
+Holds turns format program lines (Differs number) = IsDiffering turns format program lines number
+Holds turns format program lines (Unsettled number) = IsBeyond turns format program lines number

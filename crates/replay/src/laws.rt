@@ -1,0 +1,46 @@
+//! What holds of every verdict: functions that do nothing, and whose contracts are the laws.
+
+ghost use Rattle.replay.specs.Laws.{AtMostOneVerdict, SameIsHistory, HistoryIsSame, TextIsOfLines, SerialIsSame, EntriesAreSame, OneOrderOneHistory};
+
+use core_lang::laws;
+
+/// Of one history one verdict holds at most.
+pub fn at_most_one_verdict()
+    ensures { AtMostOneVerdict }
+{}
+
+/// A recorded history is the same, with turns enough, exactly where its lines are those of calls that run whole one after
+/// another from the opening cells, each thread's its script's in order, and of the heap that they leave.
+pub fn same_is_history()
+    ensures same { SameIsHistory }
+    ensures history { HistoryIsSame }
+{
+    laws::whole_within_some_turns();
+    laws::more_turns_change_nothing();
+}
+
+/// These lines, after the first and each with its line feed, are the history text.
+pub fn text_is_of_lines()
+    ensures { TextIsOfLines }
+{}
+
+/// The history of all calls, run one after another, thread 0's whole script first, is the same.
+pub fn serial_is_same()
+    ensures { SerialIsSame }
+{}
+
+/// What a history's entries say is the same, with turns enough, where the history is legal, its entries are true, and each
+/// thread's calls are those of its script.
+pub fn entries_are_same()
+    ensures { EntriesAreSame }
+{
+    laws::more_turns_change_nothing();
+    history::laws::legal_is_serial();
+}
+
+/// Two histories with their calls in one order, each with one begin, are alike line by line.
+pub fn one_order_one_history()
+    ensures { OneOrderOneHistory }
+{
+    laws::at_most_one_serial();
+}

@@ -1,0 +1,51 @@
+//! How far a history was read.
+
+use tree_walk::heap::Heap;
+
+/// What came of a thread.
+#[derive(Clone, Copy, Debug)]
+pub(crate) struct Seat {
+    /// How many calls of it.
+    pub called: usize,
+    /// The least begin that its next call may tell: one more than the position of its last call, or 0.
+    pub least: usize,
+}
+
+/// Which lines may come.
+#[derive(Clone, Copy, Debug)]
+pub(crate) enum Stage {
+    /// The prints of the last call that are left, then a call or `cells`.
+    Calls,
+    /// The lines of the cells from this one on, then `end`.
+    Cells(usize),
+    /// None.
+    Ended,
+}
+
+/// How far a history was read.
+#[derive(Drop)]
+pub(crate) struct Progress {
+    /// The values of all cells after the calls that came.
+    pub heap: Heap,
+    /// What came of each thread.
+    pub seats: Vec<Seat>,
+    /// How many calls came.
+    pub position: usize,
+    /// What the last call printed.
+    pub prints: Vec<i64>,
+    /// How many of these came.
+    pub told: usize,
+    /// Which lines may come.
+    pub stage: Stage,
+}
+
+/// What is found of a line.
+#[derive(Clone, Copy, Debug)]
+pub(crate) enum Finding {
+    /// It may come.
+    Came,
+    /// It may not come.
+    Other,
+    /// Up to its end it is the line of a call that the turns don't settle.
+    Beyond,
+}

@@ -1,0 +1,231 @@
+//! One line of a history.
+
+ghost use Rattle.std.specs.Prelude.{◌≡◌, ◌+◌, ◌<◌, ◌≤◌, ◌^◌, IfOk, OnOk, length, string_bytes, codes};
+ghost use Rattle.std.specs.Bool.{Decides};
+ghost use Rattle.replay.specs.declared.progress.Stage.TheVariants.{Calls, Cells};
+ghost use Rattle.replay.specs.Readers.{script_of};
+ghost use Rattle.replay.specs.Reading.{IsReady, IsSound, Reads, IsOnlyCall, IsHead, SeatsAreFull, called_at};
+
+use crate::candidate::Replay;
+use crate::progress::{Finding, Progress, Seat, Stage};
+use meaning::run::End;
+use recorded::piece::is;
+use report::lines::{push_cell, push_print};
+use report::pieces::push_outcome;
+use report::record::Called;
+use source::memory::NoMemory;
+
+// How many calls of a thread came.
+fn called(at: &Progress, thread: usize) -> usize
+    ensures { result ≡ called_at at.now.seats.items thread }
+{
+    match at.seats.get(thread) {
+        Some(seat) => seat.called,
+        None => 0,
+    }
+}
+
+impl<'a> Replay<'a> {
+    // A line where a print is due.
+    fn read_print(
+        &self,
+        at: &mut Progress,
+        text: &mut String,
+        line: &[u8],
+    ) -> Result<Finding, NoMemory>
+        requires sound { IsSound self.now.typed.now at.old }
+        requires stage { at.old.stage ≡ Calls }
+        requires due { at.old.told < length at.old.prints.items }
+        ensures reads { IfOk result (Reads self.now.turns self.now.format self.now.typed.now line.now at.old at.new) }
+        ensures sound { OnOk result (IsSound self.now.typed.now at.new) }
+        ensures position { at.new.position ≡ at.old.position }
+    {
+        text.clear();
+        push_print(text, at.prints[at.told])?;
+        let is_print = is(line, text.as_str());
+        if !is_print {
+            return Ok(Finding::Other);
+        }
+        at.told += 1;
+        Ok(Finding::Came)
+    }
+
+    // The line after the last cell.
+    fn read_last(&self, at: &mut Progress, number: usize, line: &[u8]) -> Finding
+        requires sound { IsSound self.now.typed.now at.old }
+        requires stage { at.old.stage ≡ Cells number }
+        requires past { length self.now.typed.now.cells.items ≤ number }
+        ensures reads { Reads self.now.turns self.now.format self.now.typed.now line.now at.old at.new result }
+        ensures sound { IsSound self.now.typed.now at.new }
+        ensures position { at.new.position ≡ at.old.position }
+    {
+        if !is(line, "end") {
+            return Finding::Other;
+        }
+        at.stage = Stage::Ended;
+        Finding::Came
+    }
+
+    // A line after `cells`.
+    fn read_cell(
+        &self,
+        at: &mut Progress,
+        number: usize,
+        text: &mut String,
+        line: &[u8],
+    ) -> Result<Finding, NoMemory>
+        requires sound { IsSound self.now.typed.now at.old }
+        requires stage { at.old.stage ≡ Cells number }
+        ensures reads { IfOk result (Reads self.now.turns self.now.format self.now.typed.now line.now at.old at.new) }
+        ensures sound { OnOk result (IsSound self.now.typed.now at.new) }
+        ensures position { at.new.position ≡ at.old.position }
+    {
+        if number >= self.typed.cells.len() {
+            return Ok(self.read_last(at, number, line));
+        }
+        text.clear();
+        push_cell(
+            text,
+            self.typed,
+            &self.typed.cells[number],
+            at.heap.cells()[number],
+        )?;
+        let is_cell = is(line, text.as_str());
+        if !is_cell {
+            return Ok(Finding::Other);
+        }
+        at.stage = Stage::Cells(number + 1);
+        Ok(Finding::Came)
+    }
+
+    // How many calls a thread makes.
+    fn script_len(&self, thread: usize) -> usize
+        ensures { result ≡ length (script_of self.now.typed.now thread) }
+    {
+        match self.typed.threads.get(thread) {
+            Some(script) => script.calls.len(),
+            None => 0,
+        }
+    }
+
+    // Whether all calls of all scripts came.
+    fn all_called(&self, at: &Progress) -> bool
+        requires { IsSound self.now.typed.now at.now }
+        ensures { Decides result (SeatsAreFull self.now.typed.now at.now.seats.items) }
+    {
+        for thread in 0..self.typed.threads.len() {
+            if called(at, thread) != self.script_len(thread) {
+                return false;
+            }
+        }
+        true
+    }
+
+    // The line `cells`.
+    fn read_cells(&self, at: &mut Progress) -> Finding
+        requires sound { IsSound self.now.typed.now at.old }
+        requires stage { at.old.stage ≡ Calls }
+        requires none_due { at.old.told ≡ length at.old.prints.items }
+        ensures reads { Reads self.now.turns self.now.format self.now.typed.now (codes "cells") at.old at.new result }
+        ensures sound { IsSound self.now.typed.now at.new }
+        ensures position { at.new.position ≡ at.old.position }
+    {
+        if !self.all_called(at) {
+            return Finding::Other;
+        }
+        at.stage = Stage::Cells(0);
+        Finding::Came
+    }
+
+    // The line of the call, whose head is in `text`, from its end on.
+    fn read_end(
+        &self,
+        at: &mut Progress,
+        call: Called<'a>,
+        text: &mut String,
+        line: &[u8],
+    ) -> Result<Finding, NoMemory>
+        requires ready { IsReady self.now }
+        requires sound { IsSound self.now.typed.now at.old }
+        requires stage { at.old.stage ≡ Calls }
+        requires none_due { at.old.told ≡ length at.old.prints.items }
+        requires short { at.old.position < 2 ^ 63 }
+        requires only { IsOnlyCall self.now.format self.now.typed.now at.old line.now call }
+        requires head { IsHead self.now.format self.now.typed.now line.now (string_bytes text.old) call }
+        ensures reads { IfOk result (Reads self.now.turns self.now.format self.now.typed.now line.now at.old at.new) }
+        ensures sound { OnOk result (IsSound self.now.typed.now at.new) }
+        ensures position { at.new.position ≤ at.old.position + 1 }
+    {
+        let run = self.prepared.run_whole(
+            self.alloc,
+            call.section,
+            call.arguments,
+            &mut at.heap,
+            self.turns,
+        )?;
+        let Some(end) = run else {
+            return Ok(Finding::Beyond);
+        };
+        let End { outcome, prints } = end;
+        push_outcome(text, &self.typed.shape, outcome)?;
+        let is_told = is(line, text.as_str());
+        if !is_told {
+            return Ok(Finding::Other);
+        }
+        at.position += 1;
+        at.seats[call.thread] = Seat {
+            called: call.step + 1,
+            least: at.position,
+        };
+        at.prints = prints;
+        at.told = 0;
+        Ok(Finding::Came)
+    }
+
+    // A line where no print is due, before `cells`.
+    fn read_call(
+        &self,
+        at: &mut Progress,
+        text: &mut String,
+        line: &[u8],
+    ) -> Result<Finding, NoMemory>
+        requires ready { IsReady self.now }
+        requires sound { IsSound self.now.typed.now at.old }
+        requires stage { at.old.stage ≡ Calls }
+        requires none_due { at.old.told ≡ length at.old.prints.items }
+        requires short { at.old.position < 2 ^ 63 }
+        ensures reads { IfOk result (Reads self.now.turns self.now.format self.now.typed.now line.now at.old at.new) }
+        ensures sound { OnOk result (IsSound self.now.typed.now at.new) }
+        ensures position { at.new.position ≤ at.old.position + 1 }
+    {
+        if is(line, "cells") {
+            return Ok(self.read_cells(at));
+        }
+        match self.call_of(at, text, line)? {
+            Some(call) => self.read_end(at, call, text, line),
+            None => Ok(Finding::Other),
+        }
+    }
+
+    /// The next line. `text` holds lines to compare with.
+    pub(crate) fn read(
+        &self,
+        at: &mut Progress,
+        text: &mut String,
+        line: &[u8],
+    ) -> Result<Finding, NoMemory>
+        requires ready { IsReady self.now }
+        requires sound { IsSound self.now.typed.now at.old }
+        requires short { at.old.position < 2 ^ 63 }
+        ensures reads { IfOk result (Reads self.now.turns self.now.format self.now.typed.now line.now at.old at.new) }
+        ensures sound { OnOk result (IsSound self.now.typed.now at.new) }
+        ensures position { at.new.position ≤ at.old.position + 1 }
+    {
+        match at.stage {
+            Stage::Calls if at.told < at.prints.len() => self.read_print(at, text, line),
+            Stage::Calls => self.read_call(at, text, line),
+            Stage::Cells(number) => self.read_cell(at, number, text, line),
+            Stage::Ended => Ok(Finding::Other),
+        }
+    }
+}

@@ -1,0 +1,76 @@
+//! A whole history.
+
+ghost use Rattle.std.specs.Prelude.{◌≡◌, IfOk, length};
+ghost use Rattle.core_lang.specs.WellFormed.{IsWellFormed};
+ghost use Rattle.recorded.specs.Histories.{recorded_lines};
+ghost use Rattle.replay.specs.Readers.{opened};
+ghost use Rattle.replay.specs.Reading.{IsReady, IsSound, IsAt};
+ghost use Rattle.replay.specs.Verdicts.{Holds};
+
+use crate::candidate::Replay;
+use crate::progress::{Finding, Progress, Seat, Stage};
+use crate::verdict::Verdict;
+use core_lang::typed::Typed;
+use recorded::Recorded;
+use register_machine::prepared::Prepared;
+use source::memory::NoMemory;
+use std::alloc::Global;
+use tree_walk::heap::Heap;
+
+// The progress at the first line.
+fn start(alloc: Global, typed: &Typed) -> Result<Progress, NoMemory>
+    requires { IsWellFormed typed.now }
+    ensures at { IfOk result (λ at. IsAt typed.now at (opened typed.now)) }
+    ensures sound { IfOk result (IsSound typed.now) }
+    ensures position { IfOk result (λ at. at.position ≡ 0) }
+{
+    let seat = Seat {
+        called: 0,
+        least: 0,
+    };
+    Ok(Progress {
+        heap: Heap::open(alloc, typed)?,
+        seats: vec![in alloc; seat; typed.threads.len()]?,
+        position: 0,
+        prints: Vec::new(alloc),
+        told: 0,
+        stage: Stage::Calls,
+    })
+}
+
+/// The verdict on a recorded history of a program, where each execution of a loop may make at most so many turns.
+///
+/// # Errors
+///
+/// Want of memory.
+pub fn replay(
+    alloc: Global,
+    typed: &Typed,
+    recorded: &Recorded<'_>,
+    turns: u64,
+) -> Result<Verdict, NoMemory>
+    requires { IsWellFormed typed.now }
+    ensures { IfOk result (Holds turns recorded.now.format typed.now (recorded_lines recorded.now)) }
+{
+    let prepared = Prepared::new(alloc, typed)?;
+    let mut at = start(alloc, typed)?;
+    let replay = Replay {
+        alloc,
+        typed,
+        prepared,
+        format: recorded.format,
+        turns,
+    };
+    let mut text = String::new(alloc);
+    for (i, line) in recorded.lines.iter().enumerate() {
+        match replay.read(&mut at, &mut text, line)? {
+            Finding::Came => {}
+            Finding::Other => return Ok(Verdict::Differs(i + 2)),
+            Finding::Beyond => return Ok(Verdict::Unsettled(i + 2)),
+        }
+    }
+    match at.stage {
+        Stage::Ended => Ok(Verdict::Same),
+        _ => Ok(Verdict::Differs(recorded.lines.len() + 2)),
+    }
+}

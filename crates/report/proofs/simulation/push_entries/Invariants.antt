@@ -1,6 +1,0 @@
-use Rattle.std.proofs.Common.{◌≡◌, ◌++◌, string_bytes, take}
-use Rattle.report.specs.Simulation.{commit_texts}
-use Rattle.report.proofs.simulation.push_entries.Given as goal
-
-abbrev pub invariant-loop-entry : goal.invariant-loop-entry
-invariant-loop-entry l = string_bytes l.out ≡ string_bytes l.initial.out ++ commit_texts l.typed (take l.entry-index l.entries)

@@ -1,0 +1,16 @@
+//! Threads that run the sections of a text side by side, for tests: who is held where, and what is said of their answers.
+//!
+//! - [`in_turn`]: seats that call one after another.
+//! - [`side_by_side`]: seats that call from a thread each.
+//! - [`by_threads`]: the scripts of the text, each run by a thread.
+//! - [`Scene`]: what they are told: the text, what the seats call, who is held where.
+#![tactic(auto)]
+
+mod runs;
+mod scene;
+mod stage;
+mod told;
+mod turns;
+
+pub use runs::{by_threads, in_turn, side_by_side};
+pub use scene::{Hold, Mark, Scene, SeatCall};

@@ -1,0 +1,136 @@
+//! Runs of a scene.
+
+ghost use Rattle.std.specs.Prelude.{◌≡◌, ◌≤◌, IfOk};
+
+use crate::scene::Scene;
+use crate::stage::Stage;
+use crate::told::{say_done, say_history};
+use crate::turns::{Turn, all_at_once, one_by_one};
+use compiler::compile;
+use lowering::compiled::Program;
+use std::alloc::Global;
+use std::marker::Brand;
+use std::sync::Wait;
+use std::test::Fail;
+use std::thread::Threads;
+use workers::closed::Strange;
+use workers::naming::Naming;
+use workers::seat::Seat;
+use workers::shared::Shared;
+use workers::threads::run_threads;
+
+/// What is said where the scene's seats call one after another, and so many of them close.
+pub fn in_turn<R: Wait>(
+    rt: &R,
+    alloc: Global,
+    scene: &Scene<'_>,
+    closing: usize,
+) -> Result<String, Fail> {
+    let program = compile(alloc, scene.text.as_bytes())?;
+    said_in_turn::<Brand, R>(rt, alloc, &program, scene, closing)
+}
+
+/// What is said where the scene's seats call from a thread each.
+pub fn side_by_side<R: Threads + Wait + Sync>(
+    rt: &R,
+    alloc: Global,
+    scene: &Scene<'_>,
+) -> Result<String, Fail> {
+    let program = compile(alloc, scene.text.as_bytes())?;
+    said_side_by_side::<Brand, R>(rt, alloc, &program, scene)
+}
+
+/// What is said where a thread runs each script of the scene's text.
+pub fn by_threads<R: Threads + Wait + Sync>(
+    rt: &R,
+    alloc: Global,
+    scene: &Scene<'_>,
+) -> Result<String, Fail> {
+    let program = compile(alloc, scene.text.as_bytes())?;
+    let stage = Stage::new(scene);
+    let closed = run_threads(rt, alloc, &program, &stage)?;
+    let mut said = String::new(alloc);
+    say_history(&mut said, &program, &closed)?;
+    with_patience(said, &stage)
+}
+
+// What `in_turn` says of the program that `J` names.
+fn said_in_turn<J: Naming, R: Wait>(
+    rt: &R,
+    alloc: Global,
+    program: &Program,
+    scene: &Scene<'_>,
+    closing: usize,
+) -> Result<String, Fail>
+    requires { program.now ≡ J.plan }
+{
+    let count = seats_of(scene)?;
+    let (shared, seats): (Shared<'_, J>, Vec<Seat<J>>) = Shared::open(alloc, program, count)?;
+    let stage = Stage::new(scene);
+    let turns = one_by_one(rt, alloc, &shared, seats, &stage)?;
+    let said = said_of(alloc, program, shared, turns, closing)?;
+    with_patience(said, &stage)
+}
+
+// What `side_by_side` says of the program that `J` names.
+fn said_side_by_side<J: Naming + Send + Sync, R: Threads + Wait + Sync>(
+    rt: &R,
+    alloc: Global,
+    program: &Program,
+    scene: &Scene<'_>,
+) -> Result<String, Fail>
+    requires { program.now ≡ J.plan }
+{
+    let count = seats_of(scene)?;
+    let (shared, seats): (Shared<'_, J>, Vec<Seat<J>>) = Shared::open(alloc, program, count)?;
+    let stage = Stage::new(scene);
+    let turns = all_at_once(rt, alloc, &shared, seats, &stage)?;
+    let said = said_of(alloc, program, shared, turns, scene.calls.len())?;
+    with_patience(said, &stage)
+}
+
+// How many seats a scene has.
+fn seats_of(scene: &Scene<'_>) -> Result<u32, Fail>
+    ensures { IfOk result (λ count. count ≤ 64) }
+{
+    let count = scene.calls.len();
+    if count > 64 {
+        return Err(Fail::new("there are too many seats"));
+    }
+    Ok(count as u32)
+}
+
+// What is said of turns, and of the end where so many of the seats close.
+fn said_of<J: Naming>(
+    alloc: Global,
+    program: &Program,
+    shared: Shared<'_, J>,
+    turns: Vec<Turn<J>>,
+    closing: usize,
+) -> Result<String, Fail>
+    requires { program.now ≡ J.plan }
+{
+    let mut said = String::new(alloc);
+    let mut seats = Vec::new(alloc);
+    for turn in turns {
+        let Turn { seat, done } = turn;
+        say_done(&mut said, seat.thread(), done)?;
+        if seats.len() < closing {
+            seats.push(seat)?;
+        }
+    }
+    match shared.close(seats) {
+        Ok(closed) => say_history(&mut said, program, &closed)?,
+        Err(Strange) => said.push_str("strange\n")?,
+    }
+    Ok(said)
+}
+
+// What is said, and whether a thread waited in vain.
+fn with_patience(said: String, stage: &Stage<'_>) -> Result<String, Fail> {
+    let mut said = said;
+    if stage.gave_up() {
+        said.push_str("a thread waited in vain\n")?;
+    }
+    Ok(said)
+}
