@@ -20,6 +20,8 @@ use driver::{
 use std::alloc::{AllocError, Global};
 use std::io::{Read, Write};
 use std::process::ExitCode;
+use std::sync::Wait;
+use std::thread::Threads;
 use std::{env, fs, io};
 use words::{Line, words};
 
@@ -50,8 +52,9 @@ fn other_name<'a>(line: Line<'a>) -> Option<&'a str>
 }
 
 /// Runs the engine of a line's command over its one file, which is open.
-fn run_opened<S: Read, O: Write, E: Write>(
-    rt: &HostRuntime,
+fn run_opened<R: Threads + Wait + Sync, S: Read, O: Write, E: Write>(
+    threads: &R,
+    alloc: Global,
     line: Line<'_>,
     source: &mut SourceText<'_, S>,
     streams: &mut Streams<O, E>,
@@ -63,10 +66,10 @@ fn run_opened<S: Read, O: Write, E: Write>(
         O.contents E.contents streams.old streams.new result }
 {
     match line {
-        Line::Check { .. } => check(rt.alloc(), source, streams),
-        Line::Listing { .. } => list(rt.alloc(), source, streams),
-        Line::Serial { turns, .. } => serial(rt.alloc(), turns, source, streams),
-        Line::Run { .. } => run(rt, rt.alloc(), source, streams),
+        Line::Check { .. } => check(alloc, source, streams),
+        Line::Listing { .. } => list(alloc, source, streams),
+        Line::Serial { turns, .. } => serial(alloc, turns, source, streams),
+        Line::Run { .. } => run(threads, alloc, source, streams),
         Line::Simulate { .. } => unreachable!(),
         Line::Replay { .. } => unreachable!(),
     }
@@ -95,9 +98,10 @@ fn run_both_opened<S: Read, T: Read, O: Write, E: Write>(
     }
 }
 
-/// Opens the files of a line, and runs its engine.
-fn run_line<O: Write, E: Write>(
+/// Opens the files of a line, and runs its engine, with threads from `threads`.
+fn run_line<R: Threads + Wait + Sync, O: Write, E: Write>(
     rt: &HostRuntime,
+    threads: &R,
     line: Line<'_>,
     streams: &mut Streams<O, E>,
 ) -> Status
@@ -114,7 +118,7 @@ fn run_line<O: Write, E: Write>(
     };
     let mut source = SourceText::new(file, opened);
     let Some(other_file) = other_name(line) else {
-        return run_opened(rt, line, &mut source, streams);
+        return run_opened(threads, rt.alloc(), line, &mut source, streams);
     };
     let Ok(opened) = fs::open(rt, other_file) else {
         return miss_other(rt.alloc(), &mut source, other_file, streams);
@@ -177,7 +181,11 @@ fn slices(alloc: Global, arguments: &[String]) -> Result<Vec<&str>, AllocError>
 }
 
 /// Reads the words, and runs what they ask for.
-fn run_words<O: Write, E: Write>(rt: &HostRuntime, streams: &mut Streams<O, E>) -> Status
+fn run_words<R: Threads + Wait + Sync, O: Write, E: Write>(
+    rt: &HostRuntime,
+    threads: &R,
+    streams: &mut Streams<O, E>,
+) -> Status
     requires { writing_failed streams.old.out ≡ false }
 {
     let arguments = match arguments(rt) {
@@ -196,7 +204,7 @@ fn run_words<O: Write, E: Write>(rt: &HostRuntime, streams: &mut Streams<O, E>) 
         return Status::OutOfMemory;
     };
     match words(rt.alloc(), &slices) {
-        Ok(line) => run_line(rt, line, streams),
+        Ok(line) => run_line(rt, threads, line, streams),
         Err(error) => tell_words(rt, &error, streams),
     }
 }
@@ -206,5 +214,5 @@ fn main(rt: HostRuntime) -> ExitCode {
         out: Sink::new(rt.stdout()),
         err: Sink::new(rt.stderr()),
     };
-    ExitCode::from(run_words(&rt, &mut streams).code())
+    ExitCode::from(run_words(&rt, &rt, &mut streams).code())
 }
