@@ -287,5 +287,5 @@ judge_words() {
         shift
     done
     refuse $'\'autolock\' requires a subcommand but one was not provided
-  [subcommands: check, listing, serial, simulate, help]' "$(usage_of '')"
+  [subcommands: check, listing, serial, simulate, run, replay, help]' "$(usage_of '')"
 }

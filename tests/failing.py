@@ -5,20 +5,22 @@
     tests/failing.py --cases [--program BIN] [--every N] [FILE..]
     tests/failing.py --unit-tests [--program BIN] [--every N]
 
---commands      which of check, listing, serial and simulate, joined by commas; by default all
---turns N       of serial, by default 1000
+--commands      which of check, listing, serial, simulate, run and replay, joined by commas; by default all
+--turns N       of serial and replay, by default 1000
 --every N       only every N-th growth
 --cases         the program `cases` over each of its files, and of its calls the growths alone
 --unit-tests    the programs of the tests of `unit_tests`, `command_tests` and `thread_tests`, and of their calls the
                 growths alone; of each test of `thread_tests` some 300 growths, spread over all
 FILE..          programs, by default those of examples/; of `cases` files of crates/cases/data, by default all.
-                Where a file of steps lies beside a program, simulate takes it, else some steps of its threads in turn
+                Where a file of steps lies beside a program, simulate takes it, else some steps of its threads in turn.
+                replay takes what serial writes of the program; run and replay pass over those that don't end
 
 The program is run once to count its calls, and then once for each of them with this call failing, which
 tests/failing/failing.c does where it is preloaded. A refused growth must end with status 4, the line
 `autolock: no memory` and nothing written; a failed read with status 3 and `autolock: cannot read NAME`; a failed write
 of a text with status 3 and `autolock: cannot write`, and of a line of standard error with the status that the whole run
-has. `cases` must end with 4, or find all as wanted; a test must pass, or fail by an error that says that memory
+has. How many growths a run with threads makes differs from run to run: one that made fewer than the number that was to
+fail must end as it does when none fails. `cases` must end with 4, or find all as wanted; a test must pass, or fail by an error that says that memory
 was refused. The last line is 'N runs, M failed'; exit status 1 where M is not 0.
 """
 import argparse
@@ -55,6 +57,12 @@ def wrong_growth(_whole, ended, _names):
     """What is wrong with a run that was refused a growth, or nothing."""
     is_right = ended.returncode == 4 and not ended.stdout and ended.stderr == b"autolock: no memory\n"
     return None if is_right else "a refused growth is no status 4 with its line alone"
+
+
+def wrong_growth_of_run(_whole, ended, _names):
+    """The same of a run with threads, where the growth came."""
+    is_whole = ended.returncode == 0 and ended.stdout.startswith(b"history 2\n") and ended.stdout.endswith(b"\nend\n")
+    return None if is_whole and not ended.stderr else wrong_growth(_whole, ended, _names)
 
 
 def wrong_read(_whole, ended, names):
@@ -101,6 +109,9 @@ def fail_each(part):
             for number in range(1, numbers[kind] + 1, every):
                 ended = run(library, subject.words, counts.name, **{kind: number})
                 wrong = judge(whole, ended, subject.names)
+                came = int(pathlib.Path(counts.name).read_text().split()[0]) >= number
+                if judge is wrong_growth_of_run and came and ended.returncode == 0:
+                    wrong = "a refused growth was passed over"
                 runs += 1
                 if wrong:
                     line = f"{' '.join(subject.words)}: {kind} {number}: {wrong}: {ended.returncode}"
@@ -114,11 +125,19 @@ def of_autolock(a, room):
     drawn.write_text("0*7 0*40 0 0*300\n")
     judges = {"growth": wrong_growth, "read": wrong_read, "write": wrong_write}
     for command in a.commands.split(","):
-        for file in a.files or sorted((TOP / "examples").glob("*.al")):
+        for number, file in enumerate(a.files or sorted((TOP / "examples").glob("*.al"))):
             steps = file.with_suffix(".steps")
             names = [str(file)] + [str(steps if steps.exists() else drawn)] * (command == "simulate")
-            turns = ["--turns", str(a.turns)] * (command == "serial")
-            yield Subject([program, command, *turns, *names], names, judges, a.every)
+            if command in ("run", "replay"):
+                told = subprocess.run([program, "serial", str(file)], capture_output=True)
+                if told.returncode:
+                    continue
+                history = pathlib.Path(room, f"history-{number}")
+                history.write_bytes(told.stdout)
+                names += [str(history)] * (command == "replay")
+            turns = ["--turns", str(a.turns)] * (command in ("serial", "replay"))
+            judged = {**judges, "growth": wrong_growth_of_run} if command == "run" else judges
+            yield Subject([program, command, *turns, *names], names, judged, a.every)
 
 
 def of_cases(a):
@@ -140,7 +159,7 @@ def of_unit_tests(a):
 def main():
     p = argparse.ArgumentParser(formatter_class=argparse.RawDescriptionHelpFormatter, description=__doc__)
     p.add_argument("--program", type=pathlib.Path)
-    p.add_argument("--commands", default="check,listing,serial,simulate")
+    p.add_argument("--commands", default="check,listing,serial,simulate,run,replay")
     p.add_argument("--turns", type=int, default=1000)
     p.add_argument("--every", type=int, default=1)
     p.add_argument("--cases", action="store_true")

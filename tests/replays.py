@@ -45,13 +45,13 @@ def is_form(pattern, line):
     """Whether a line has this form, its names are no keywords, and its numbers are in range."""
     if not pattern.fullmatch(line) or re.search(r"(?<![0-9A-Za-z_])-0(?![0-9])", line):
         return False
-    head, _, rest = line.partition(" ")
-    counted = rest if head in ("call", "print") else line
+    rest = line.partition(" ")[2]
+    counted = line if pattern is CELL else rest
     for number in re.findall(r"(?<![A-Za-z0-9_])-?[0-9]+", counted):
         if not -(2**63) <= int(number) < 2**63:
             return False
-    ends = {"ends", "returns", "traps"} if head == "call" else set()
-    if re.search(r"(?<![A-Za-z0-9_])null[\[(.]", counted) or (head not in ("call", "print") and re.match("null ", line)):
+    ends = set() if pattern is CELL else {"ends", "returns", "traps"}
+    if re.search(r"(?<![A-Za-z0-9_])null[\[(.]", counted) or (pattern is CELL and line.startswith("null ")):
         return False
     words = set(re.findall(rf"(?<![A-Za-z0-9_]){NAME}", counted)) - ends - {"null"}
     return not words & KEYWORDS

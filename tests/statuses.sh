@@ -134,14 +134,14 @@ run "a folder, of check" 3 none no_folder check folder
 # A program's file is read no further than a byte past what a program may have.
 head -c 209715200 /dev/zero >long.al
 for name in long.al /dev/zero; do echo "$name:1:1: E15 limit exceeded" >"too_long_${name##*/}"; done
-most=$(ulimit -v)
-ulimit -v 65536
+most=$(ulimit -S -v)
+ulimit -S -v 65536
 for command in check listing serial run; do
     run "a file of 200 MB, of $command" 1 none too_long_long.al $command long.al
     run "a file without an end, of $command" 1 none too_long_zero $command /dev/zero
 done
 run "a file without an end, of simulate" 1 none too_long_zero simulate /dev/zero two_steps
-ulimit -v "$most"
+ulimit -S -v "$most"
 rm long.al
 
 : >out

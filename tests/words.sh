@@ -166,7 +166,7 @@ same serial --turns 3 missing.al
 # The completions and the manual page name what the help names.
 commands=$(sed -n '/^Commands:/,/^$/s/^  \([a-z]*\) .*/\1/p' "$top/script/help/autolock.txt")
 options=$(sed -n 's/^ *\(-[a-zA-Z], \)\{0,1\}--\([a-z]*\).*/\2/p' "$top"/script/help/*.txt | sort -u)
-[ "$(echo $commands)" = "check listing serial simulate help" ] || fail "the commands of the help: $commands"
+[ "$(echo $commands)" = "check listing serial simulate run replay help" ] || fail "the commands of the help: $commands"
 [ "$(echo $options)" = "help turns version" ] || fail "the options of the help: $options"
 for file in completions/autolock.bash completions/_autolock completions/autolock.fish docs/autolock.1; do
     for word in $commands $options; do
@@ -193,10 +193,10 @@ completes() {
 }
 . "$top/completions/autolock.bash"
 : >x.steps
-completes "check help listing serial simulate" ''
+completes "check help listing replay run serial simulate" ''
 completes "serial simulate" s
 completes "--build --help --unproved --version -V -h" -
-completes "check help listing serial simulate" --unproved ''
+completes "check help listing replay run serial simulate" --unproved ''
 completes "--turns" serial --t
 completes "folder right.al" check ''
 completes "right.al" check r
