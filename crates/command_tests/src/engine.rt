@@ -21,10 +21,10 @@ fn a_failing_reader(rt: HostRuntime) -> Result<(), Fail> {
     }
     // However much was read.
     let long = vec![in alloc; b' '; 1_100_000]?;
-    judge_read(alloc, &long, 149_796, ErrorKind::BrokenPipe, UNREAD)?;
+    judge_read(alloc, &long, 140_000, ErrorKind::BrokenPipe, UNREAD)?;
     // But no further than a byte past what a program may have, for which these calls are enough.
     let too_long = "1 err\nF:1:1: E15 limit exceeded\n";
-    judge_read(alloc, &long, 149_797, ErrorKind::BrokenPipe, too_long)
+    judge_read(alloc, &long, 150_000, ErrorKind::BrokenPipe, too_long)
 }
 
 #[test]
