@@ -32,7 +32,8 @@ _autolock() {
         /-*) mapfile -t COMPREPLY < <(compgen -W "-h --help -V --version --unproved --build" -- "$word") ;;
         /*) mapfile -t COMPREPLY < <(compgen -W "$commands" -- "$word") ;;
         help/*) mapfile -t COMPREPLY < <(compgen -W "$commands" -- "$word") ;;
-        serial/-* | replay/-*) mapfile -t COMPREPLY < <(compgen -W "--turns -h --help" -- "$word") ;;
+        serial/-*) mapfile -t COMPREPLY < <(compgen -W "--turns -h --help" -- "$word") ;;
+        replay/-*) mapfile -t COMPREPLY < <(compgen -W "--turns --why -h --help" -- "$word") ;;
         check/-* | listing/-* | simulate/-* | run/-*) mapfile -t COMPREPLY < <(compgen -W "-h --help" -- "$word") ;;
         simulate/*) if [ $at -gt 0 ]; then _autolock_files "$word" .steps; else _autolock_files "$word" .al; fi ;;
         replay/*)

@@ -15,6 +15,7 @@ complete -c autolock -n __fish_use_subcommand -l build -d 'Prove and build the p
 complete -c autolock -s h -l help -d 'Print help'
 complete -c autolock -n '__fish_seen_subcommand_from help' -a 'check listing serial simulate run replay help'
 complete -c autolock -n '__fish_seen_subcommand_from serial replay' -l turns -x -d 'How many turns an execution of a loop may take'
+complete -c autolock -n '__fish_seen_subcommand_from replay' -l why -d 'Say what may stand where the history differs'
 complete -c autolock -n '__fish_seen_subcommand_from check listing serial run' -k -a '(__fish_complete_suffix .al)'
 complete -c autolock -n '__fish_seen_subcommand_from simulate' -k -a '(__fish_complete_suffix .al; __fish_complete_suffix .steps)'
 complete -c autolock -n '__fish_seen_subcommand_from replay' -k -a '(__fish_complete_suffix .al; __fish_complete_suffix .history)'

@@ -42,6 +42,7 @@ tell_progress() {
     while IFS= read -r line; do
         printf '%s\n' "$line" >>"$log"
         case $line in
+            "== summary") ;;
             "== "*)
                 finished=$((finished + 1))
                 say "$finished of $count done, $((count - finished)) left, $(so_far): ${line#== }"

@@ -5,7 +5,8 @@
 # for each FILE; what it says of a copy is told of the file.
 unproved() {
     need_rt
-    local room data=() i worst=0 status
+    local room data=() i worst=0 status other
+    other=$(other_of "$command")
     room=$(mktemp -d) || exit 3
     trap 'rm -rf "$room"' EXIT
     mkdir "$room/cases" "$room/said" || exit 3
@@ -20,16 +21,16 @@ unproved() {
         printf '%s\n' "$command" ${turns:+--turns "$turns"} "file$i" >"$room/cases/$i.args"
         : >"$room/cases/$i"
     done
-    if [ "$command" = simulate ]; then
-        printf '%s\n' simulate file0 file1 >"$room/cases/0.args"
+    if [ -n "$other" ]; then
+        printf '%s\n' "$command" ${turns:+--turns "$turns"} ${why:+--why} file0 file1 >"$room/cases/0.args"
         rm "$room"/cases/1*
     fi
     say "nothing is proved of this run; it takes one to two minutes, and can write 1 MiB"
     (cd -- "$top/crates/autolock" && rt try "${data[@]}" --cases "$room/cases") >"$room/out" 2>"$room/err" </dev/null
     split_cases "$room"
     for i in "${!files[@]}"; do
-        [ "$command$i" != simulate1 ] || break
-        [ "$command" = simulate ] || [ ${#files[@]} -eq 1 ] || echo "== ${files[i]}"
+        [ -z "$other" ] || [ "$i" = 0 ] || break
+        [ -n "$other" ] || [ ${#files[@]} -eq 1 ] || echo "== ${files[i]}"
         tell_run "$i"
         status=$?
         [ $status -le "$worst" ] || worst=$status
@@ -37,11 +38,11 @@ unproved() {
     exit "$worst"
 }
 
-# Copies a program, or the steps of a simulation, which go second. A program of more than 1 MiB is refused as one of a
-# byte more than that is.
+# Copies a program, or the other file of a command that takes two, which goes second. A program of more than 1 MiB is
+# refused as one of a byte more than that is.
 copy_file() {
     [ ! -d "${files[$1]}" ] || return 1
-    if [ "$command$1" = simulate1 ]; then
+    if [ -n "$other" ] && [ "$1" = 1 ]; then
         cat <"${files[$1]}" >"$2"
     else
         head -c 1048577 <"${files[$1]}" >"$2"
@@ -89,7 +90,7 @@ told_of_files() {
     local line i
     while IFS= read -r line; do
         case $line in
-            file[0-9]*:*:*:*)
+            file[0-9]*:[0-9]*:*)
                 i=${line%%:*}
                 i=${i#file}
                 line=${files[i]}:${line#*:}

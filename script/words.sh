@@ -1,7 +1,8 @@
 # What `autolock` says of its words, said without the program: help, the version, and what is wrong with the words.
 # ./autolock uses it where the program isn't built; tests/words.sh compares each answer with the program's.
 #
-#     judge_words WORDS..     answers and exits, or sets `command`, `turns` (the N of --turns, or nothing) and `files`
+#     judge_words WORDS..     answers and exits, or sets `command`, `turns` (the N of --turns, or nothing), `why` (1 or nothing)
+#                             and `files`
 #
 # Where `many` is 1, a command over one FILE takes several. `top` is the folder of the repository.
 # shellcheck disable=SC2154,SC2016
@@ -9,6 +10,8 @@
 many=0
 command=
 turns=
+why=
+used=
 files=()
 
 # Writes a text of script/help, and exits.
@@ -65,6 +68,14 @@ usage_of() {
     esac
 }
 
+# The options that were used with one more, in the order in which they came.
+used_with() {
+    case " $used " in
+        *" $1 "*) echo "$used" ;;
+        *) echo "${used:+$used }$1" ;;
+    esac
+}
+
 # How alike two words are, from 0 to 1000000: Jaro's measure.
 likeness() {
     local a=$1 b=$2 i j range kept='' taken='' matches=0 differing=0 found=''
@@ -114,18 +125,18 @@ refuse_command() {
 
 # An option `--NAME` that the command doesn't have; the words after it follow.
 refuse_long() {
-    local name=$1 near='' options=(help) word used=${turns:+--turns <N>}
+    local name=$1 near='' options=(help) word used=$used
     shift
     case $command in
-        serial | replay) options=(turns help) ;;
+        serial) options=(turns help) ;;
+        replay) options=(turns why help) ;;
         '') options=(help version) ;;
     esac
     near=$(similar "$name" "${options[@]}" | tail -n 1)
-    if [ "$near" = turns ]; then
-        used="--turns <N>"
-    elif [ -n "$near" ]; then
-        used="${used:+$used }--$near"
-    fi
+    case $near in
+        turns) used=$(used_with '--turns <N>') ;;
+        ?*) used=$(used_with "--$near") ;;
+    esac
     if [ -n "$near" ]; then
         refuse "unexpected argument '--$name' found" "$(usage_of "$command" "$used")" \
             "a similar argument exists: '--$near'"
@@ -139,7 +150,8 @@ refuse_long() {
     for word in "$@"; do
         case $word in
             check | listing | simulate | run) near=$(similar "$name" help) ;;
-            serial | replay) near=$(similar "$name" turns help | tail -n 1) ;;
+            serial) near=$(similar "$name" turns help | tail -n 1) ;;
+            replay) near=$(similar "$name" turns why help | tail -n 1) ;;
         esac
         [ -z "$near" ] || refuse "unexpected argument '--$name' found" "$(usage_of '')" "'$word --$near' exists"
     done
@@ -178,6 +190,7 @@ judge_turns() {
     fi
     [ -z "$turns" ] || refuse "the argument '--turns <N>' cannot be used multiple times" "$(usage_of "$command")"
     turns=$least
+    used=$(used_with '--turns <N>')
 }
 
 # The words from `--turns` on.
@@ -204,6 +217,10 @@ judge_long() {
                 "$(usage_of "$command" "--$name")"
             [ "$name" = help ] || show_version
             show_help "${command:-autolock}"
+            ;;
+        why)
+            [ "$command" = replay ] || refuse_long "$name" "$@"
+            refuse "unexpected value '${word#*=}' for '--why' found; no more were expected" "$(usage_of replay --why)"
             ;;
         *) refuse_long "$name" "$@" ;;
     esac
@@ -238,6 +255,13 @@ judge_arguments() {
                 shift 2
                 continue
                 ;;
+            0replay--why)
+                [ -z "$why" ] || refuse "the argument '--why' cannot be used multiple times" "$(usage_of replay)"
+                why=1
+                used=$(used_with --why)
+                shift
+                continue
+                ;;
             0serial--turns=* | 0replay--turns=*)
                 judge_turns "${1#--turns=}"
                 shift
@@ -257,8 +281,8 @@ judge_arguments() {
     [ -z "$other" ] || [ ${#files[@]} -gt 1 ] || missing+=$'\n  '$other
     [ -n "$missing" ] || return 0
     missing="the following required arguments were not provided:$missing"
-    ! takes_turns || [ -n "$turns" ] || refuse "$missing" "$command $(names_of "$command")"
-    refuse "$missing" "$(usage_of "$command" "${turns:+--turns <N>}")"
+    ! takes_turns || [ -n "$used" ] || refuse "$missing" "$command $(names_of "$command")"
+    refuse "$missing" "$(usage_of "$command" "$used")"
 }
 
 judge_words() {

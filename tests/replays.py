@@ -9,7 +9,8 @@ order; what `serial` tells of a program with these calls in one thread is their 
 drawn for the second. `replay` has to answer `same` to each. Then each history is changed: every beginning of it, each
 byte replaced by each of a few, lines doubled, dropped and exchanged, at every N-th place (7 by default), and beginnings
 that may not be. What `replay` has to answer is found here: the fault of a text that is no history; else the first line
-that may not come.
+that may not come. Of a line that differs `--why` has to name a line with which the first wrong line comes later, or the
+next calls of all threads.
 
 Exits with 1 where anything differs, and prints the program, the history and both answers.
 """
@@ -186,6 +187,47 @@ class Replays:
         out, err = ("", line) if status == 6 else (line, "")
         if (done.returncode, done.stdout.decode("latin-1"), done.stderr.decode("latin-1")) != (status, out, err):
             raise Differs(f"{words} answers {done}\nwanted {status} {line}\nof\n{text.decode('latin-1')}")
+        words.append("--why")
+        told = subprocess.run(words, capture_output=True, timeout=60)
+        rest = told.stdout[len(done.stdout) :].decode("latin-1")
+        alike = told.returncode == status and told.stderr == done.stderr and told.stdout.startswith(done.stdout)
+        if not alike or (rest != "" if status != 5 else not self.is_why(text, int(line.split(" ")[-1]), rest)):
+            raise Differs(f"{words} answers {told}\nof\n{text.decode('latin-1')}")
+
+    def is_why(self, text, number, told):
+        """Whether this is what has to be told of a line that differs: that line; and one that may stand there, or the next
+        call of each thread where the line is that of none."""
+        lines = text.decode("latin-1").split("\n")[:-1]
+        found = lines[number - 1]
+        *wanted, last = told.removesuffix("\n").split("\n")
+        if last != f"found: {found}" or not wanted or not all(line.startswith("wanted: ") for line in wanted):
+            return False
+        wanted = [line.removeprefix("wanted: ") for line in wanted]
+        if not wanted[0].endswith(" .."):
+            wrong = self.first_wrong([*lines[: number - 1], wanted[0], *["?"] * 5000])
+            return len(wanted) == 1 and wanted[0] != found and (wrong is None or wrong > number)
+        calls = [int(line.split(" ")[1]) for line in lines[: number - 1] if line.startswith("call ")]
+        begun = f"{len(calls)} " if lines[0] == "history 2" else ""
+        heads = []
+        for thread, script in enumerate(self.scripts):
+            step = calls.count(thread)
+            if step < len(script):
+                heads.append(f"call {thread} {step} {begun}{script[step]} ")
+        return wanted == [f"{head}.." for head in heads] and not self.is_named(found, calls, lines[0])
+
+    def is_named(self, line, calls, header):
+        """Whether a line is up to its end that of a next call, as far as it says its begin."""
+        parts = 5 if header == "history 2" else 4
+        words = line.split(" ", parts - 1)
+        if words[0] != "call" or len(words) < parts or int(words[1]) >= len(self.scripts):
+            return False
+        thread, step = int(words[1]), int(words[2])
+        least = max([at + 1 for at, t in enumerate(calls) if t == thread], default=0)
+        if step != calls.count(thread) or step >= len(self.scripts[thread]):
+            return False
+        if parts == 5 and not least <= int(words[3]) <= len(calls):
+            return False
+        return words[-1].startswith(self.scripts[thread][step] + " ")
 
 
 def an_order(chance, scripts):

@@ -62,5 +62,9 @@ autolock: an unproved run can write 1 MiB; this one would have written more" \
     serial --turns 3 ../in/right.al ../in/loop.al ../in/long.al
 run "two files of one run" 0 "$(cat "$top/examples/lost_update.simulation")" "$said" \
     simulate ../in/right.al ../in/right.steps
+sed 's/^n 2$/n 1/' "$top/examples/lost_update.out" >../in/right.history
+run "a program and a history" 5 "differs at line $(grep -n '^n 1$' ../in/right.history | cut -d: -f1)
+wanted: n 2
+found: n 1" "$said" replay --why ../in/right.al ../in/right.history
 
 exit $failed

@@ -121,6 +121,22 @@ same replay --turns=3 right.al --foo
 same replay --turns 3 --turns 4 right.al missing.al
 same replay --turns 1000000001 right.al missing.al
 same --turn 3 replay right.al
+same replay --why
+same replay --why right.al
+same replay --why right.al missing.al
+same replay --turns 3 --why right.al
+same replay --why --turns 3 right.al
+same replay --why --why right.al missing.al
+same replay --why=x right.al missing.al
+same replay --turns 3 --why=x right.al missing.al
+same replay --wy right.al missing.al
+same replay --turns 3 --wh right.al missing.al
+same replay --why --turn right.al missing.al
+same replay --why right.al --foo
+same replay --why --hel
+same replay --why a b c
+same serial --why right.al
+same --why replay right.al
 
 # Arguments of `serial`.
 for turns in -1 --x -h --help -- - '' x 0x10 1_000 ' 5' +5 1000000001 01000000001 18446744073709551615 \
@@ -167,7 +183,7 @@ same serial --turns 3 missing.al
 commands=$(sed -n '/^Commands:/,/^$/s/^  \([a-z]*\) .*/\1/p' "$top/script/help/autolock.txt")
 options=$(sed -n 's/^ *\(-[a-zA-Z], \)\{0,1\}--\([a-z]*\).*/\2/p' "$top"/script/help/*.txt | sort -u)
 [ "$(echo $commands)" = "check listing serial simulate run replay help" ] || fail "the commands of the help: $commands"
-[ "$(echo $options)" = "help turns version" ] || fail "the options of the help: $options"
+[ "$(echo $options)" = "help turns version why" ] || fail "the options of the help: $options"
 for file in completions/autolock.bash completions/_autolock completions/autolock.fish docs/autolock.1; do
     for word in $commands $options; do
         sed 's/\\-/-/g' "$top/$file" | grep -qw -- "$word" || fail "$file lacks $word"
@@ -198,6 +214,7 @@ completes "serial simulate" s
 completes "--build --help --unproved --version -V -h" -
 completes "check help listing replay run serial simulate" --unproved ''
 completes "--turns" serial --t
+completes "--why" replay --w
 completes "folder right.al" check ''
 completes "right.al" check r
 completes "folder x.steps" simulate right.al ''

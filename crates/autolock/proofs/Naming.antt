@@ -50,7 +50,7 @@ one_file (Listing file) over = refl
 one_file (Serial file turns) over = refl
 one_file (Run file) over = refl
 one_file (Simulate file steps) over = absurd over
-one_file (Replay file history turns) over = absurd over
+one_file (Replay file history turns why) over = absurd over
 
 pub two_files : (line : Line) → IsOverTwo line → files_of line ≡ file_of line ∷ other_of line ∷ []
 two_files (Check file) over = absurd over
@@ -58,7 +58,7 @@ two_files (Listing file) over = absurd over
 two_files (Serial file turns) over = absurd over
 two_files (Run file) over = absurd over
 two_files (Simulate file steps) over = refl
-two_files (Replay file history turns) over = refl
+two_files (Replay file history turns why) over = refl
 
 -- the program's file is named first
 pub first_named : (line : Line) (Told : List ℕ → Type 0) → Told (cannot_read (file_of line)) → NamesOneOf Told (files_of line)
@@ -67,7 +67,7 @@ first_named (Listing file) Told told = inl told
 first_named (Serial file turns) Told told = inl told
 first_named (Run file) Told told = inl told
 first_named (Simulate file steps) Told told = inl told
-first_named (Replay file history turns) Told told = inl told
+first_named (Replay file history turns why) Told told = inl told
 
 -- a file that can't be opened
 pub missed_named : {file other : List ℕ} {unread : Bool} {Told : List ℕ → Type 0} {status : Status} →

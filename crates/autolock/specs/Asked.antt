@@ -14,18 +14,18 @@ file_of (Listing file) = file.now
 file_of (Serial file turns) = file.now
 file_of (Simulate file steps) = file.now
 file_of (Run file) = file.now
-file_of (Replay file history turns) = file.now
+file_of (Replay file history turns why) = file.now
 
 -- the name of the other file, where there is one
 abbrev pub other_of : Line → List ℕ
 other_of (Simulate file steps) = steps.now
-other_of (Replay file history turns) = history.now
+other_of (Replay file history turns why) = history.now
 other_of line = []
 
 -- the names of the files that a line names
 abbrev pub files_of : Line → List (List ℕ)
 files_of (Simulate file steps) = file.now ∷ steps.now ∷ []
-files_of (Replay file history turns) = file.now ∷ history.now ∷ []
+files_of (Replay file history turns why) = file.now ∷ history.now ∷ []
 files_of line = file_of line ∷ []
 
 -- a message names one of these files as one that can't be read
@@ -36,12 +36,12 @@ NamesOneOf Told (file ∷ files) = Told (cannot_read file) ⊎ NamesOneOf Told f
 -- the line names one file alone; or two
 abbrev pub IsOverOne : Line → Type 0
 IsOverOne (Simulate file steps) = ⊥
-IsOverOne (Replay file history turns) = ⊥
+IsOverOne (Replay file history turns why) = ⊥
 IsOverOne line = ⊤
 
 abbrev pub IsOverTwo : Line → Type 0
 IsOverTwo (Simulate file steps) = ⊤
-IsOverTwo (Replay file history turns) = ⊤
+IsOverTwo (Replay file history turns why) = ⊤
 IsOverTwo line = ⊥
 
 -- what the engine of the line's command, which reads one file of this name, answers for a text: the status, and what is
@@ -52,12 +52,12 @@ LineAnswers (Listing file) = ListingAnswers
 LineAnswers (Serial file turns) = SerialAnswers turns
 LineAnswers (Run file) = ThreadsAnswers
 LineAnswers (Simulate file steps) = λ name text status out err. ⊥
-LineAnswers (Replay file history turns) = λ name text status out err. ⊥
+LineAnswers (Replay file history turns why) = λ name text status out err. ⊥
 
 -- the same of one that reads two
 abbrev pub PairAnswers : Line → List ℕ → List ℕ → List ℕ → List ℕ → Status → List ℕ → List ℕ → Type 0
 PairAnswers (Simulate file steps) = SimulationAnswers
-PairAnswers (Replay file history turns) = ReplayAnswers turns
+PairAnswers (Replay file history turns why) = ReplayAnswers (record { turns = turns; why = why })
 PairAnswers line = λ name other_name text other status out err. ⊥
 
 -- help or the version is asked for

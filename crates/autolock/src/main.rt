@@ -15,7 +15,8 @@ ghost use Rattle.driver.specs.{Alone, Beside, Serves, Tells, IsMissed, cannot_re
 use clap::Error;
 use clap::error::ErrorKind;
 use driver::{
-    Sink, SourceText, Status, Streams, check, list, miss_other, replay, run, serial, simulate,
+    Judging, Sink, SourceText, Status, Streams, check, list, miss_other, replay, run, serial,
+    simulate,
 };
 use std::alloc::{AllocError, Global};
 use std::io::{Read, Write};
@@ -93,7 +94,9 @@ fn run_both_opened<S: Read, T: Read, O: Write, E: Write>(
 {
     match line {
         Line::Simulate { .. } => simulate(alloc, source, other, streams),
-        Line::Replay { turns, .. } => replay(alloc, turns, source, other, streams),
+        Line::Replay { turns, why, .. } => {
+            replay(alloc, Judging { turns, why }, source, other, streams)
+        }
         _ => unreachable!(),
     }
 }

@@ -51,8 +51,9 @@ autolock serial --turns=0 F => Serial { file: \"F\", turns: 0 }
 autolock serial --turns 1000000000 F => Serial { file: \"F\", turns: 1000000000 }
 autolock simulate F S => Simulate { file: \"F\", steps: \"S\" }
 autolock run F => Run { file: \"F\" }
-autolock replay F H => Replay { file: \"F\", history: \"H\", turns: 1000000 }
-autolock replay F --turns 7 H => Replay { file: \"F\", history: \"H\", turns: 7 }
+autolock replay F H => Replay { file: \"F\", history: \"H\", turns: 1000000, why: false }
+autolock replay F --turns 7 H => Replay { file: \"F\", history: \"H\", turns: 7, why: false }
+autolock replay --why F H => Replay { file: \"F\", history: \"H\", turns: 1000000, why: true }
 ",
     )
 }

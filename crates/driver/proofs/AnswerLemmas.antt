@@ -38,8 +38,8 @@ of_pair : (request : PairRequest) (other_file other : List ℕ) (plan : Plan) (s
     PairWanted request other_file other plan status out err → IsAnswered status
 of_pair Simulate other_file other plan status out err (ran is) = serving.done is.ended
 of_pair Simulate other_file other plan status out err (bad_steps is) = serving.bad_input is.ended
-of_pair (Replay turns) other_file other plan status out err (judged is) = of_verdict is.verdict is.ended
-of_pair (Replay turns) other_file other plan status out err (bad_history is) = serving.bad_input is.ended
+of_pair (Replay judging) other_file other plan status out err (judged is) = of_verdict is.verdict is.ended
+of_pair (Replay judging) other_file other plan status out err (bad_history is) = serving.bad_input is.ended
 
 pub threads_are_answered : (file text : List ℕ) (status : Status) (out err : List ℕ) → ThreadsAnswers file text status out err →
     IsAnswered status

@@ -1,5 +1,5 @@
 -- What this crate's functions compute of an answer. It mirrors the code: nobody has to believe it.
-use Rattle.std.specs.Prelude.{◌≡◌, ℕ, List, [], string_bytes, Result, Ok, Err}
+use Rattle.std.specs.Prelude.{◌≡◌, ℕ, Bool, List, [], string_bytes, Result, Ok, Err}
 use Rattle.code.specs.Listing.{line}
 use Rattle.compiler.specs.Programs.{Accepts, IsOfFirstPass}
 use Rattle.lowering.specs.Plans.{Plan, IsCompiled}
@@ -17,13 +17,13 @@ use Rattle.driver.specs.declared.status.Status.TheVariants.{Refused, BadInput}
 use Rattle.driver.specs.Answers.{IsRefused}
 use Rattle.driver.specs.Checks.{IsChecked}
 use Rattle.driver.specs.Listings.{IsListed}
-use Rattle.driver.specs.Replays.{IsReplayed, verdict_status, verdict_text}
+use Rattle.driver.specs.Replays.{IsReplayed, verdict_status, judgement_text}
 use Rattle.driver.specs.Serial.{IsRun}
 use Rattle.driver.specs.Simulations.{IsSimulated}
 use Rattle.driver.specs.ThreadRuns.{IsStrange}
 use Rattle.recorded.specs.declared.refusal.HistoryFault.{HistoryFault}
 use Rattle.recorded.specs.Refusals.{history_fault_text}
-use Rattle.replay.specs.declared.verdict.Verdict.{Verdict}
+use Rattle.replay.specs.declared.verdict.Judgement.{Judgement}
 
 -- the answer's status and outputs are what is wanted of them
 abbrev pub Meets : (Status → List ℕ → List ℕ → Type 0) → Answer → Type 0
@@ -42,10 +42,11 @@ abbrev pub IsBadHistoryAnswer : List ℕ → HistoryFault → Answer → Type 0
 IsBadHistoryAnswer history_file fault answer =
     (answer.status ≡ BadInput) × (string_bytes answer.out ≡ []) × (string_bytes answer.err ≡ line (history_fault_text history_file fault))
 
--- to a verdict
-abbrev pub IsVerdictAnswer : Verdict → Answer → Type 0
-IsVerdictAnswer verdict answer =
-    (answer.status ≡ verdict_status verdict) × (string_bytes answer.out ≡ line (verdict_text verdict)) × (string_bytes answer.err ≡ [])
+-- to a judgement on these lines
+abbrev pub IsJudgementAnswer : Bool → Judgement → List (List ℕ) → Answer → Type 0
+IsJudgementAnswer why judgement lines answer =
+    (answer.status ≡ verdict_status judgement.verdict)
+    × (string_bytes answer.out ≡ judgement_text why judgement.verdict judgement.wanted lines) × (string_bytes answer.err ≡ [])
 
 -- to threads that found another history than they had left
 abbrev pub IsStrangeAnswer : Answer → Type 0
@@ -65,4 +66,4 @@ RequestAnswers (Serial turns) text plan = IsRun turns plan.program
 -- to one for a program and the text of another file
 abbrev pub PairWanted : PairRequest → List ℕ → List ℕ → Plan → Status → List ℕ → List ℕ → Type 0
 PairWanted Simulate other_file other = IsSimulated other_file other
-PairWanted (Replay turns) other_file other = IsReplayed turns other_file other
+PairWanted (Replay judging) other_file other = IsReplayed judging other_file other

@@ -1,6 +1,9 @@
 -- What `replay` answers.
-use Rattle.std.specs.Prelude.{◌≡◌, ℕ, List, [], ◌++◌, codes, Ok, Err}
+use Rattle.std.specs.Prelude.{◌≡◌, ℕ, ◌-◌, Bool, List, [], ◌∷◌, ◌++◌, slice_get, codes, string_bytes, Option, Some, None, Ok, Err, if◌then◌else◌}
 use Rattle.std.specs.Fmt.{decimal}
+use Rattle.std.specs.List.{flat_map}
+use Rattle.std.specs.Option.{option_map_or}
+use Rattle.std.specs.Str.Lossy.{utf8_lossy}
 use Rattle.code.specs.Listing.{line}
 use Rattle.lowering.specs.Plans.{Plan}
 use Rattle.recorded.specs.declared.format.Format.{Format}
@@ -9,7 +12,11 @@ use Rattle.recorded.specs.Histories.{history_in}
 use Rattle.recorded.specs.Refusals.{history_fault_text}
 use Rattle.replay.specs.declared.verdict.Verdict.{Verdict}
 use Rattle.replay.specs.declared.verdict.Verdict.TheVariants as verdict
+use Rattle.replay.specs.declared.wanted.Wanted.{Wanted}
+use Rattle.replay.specs.declared.wanted.Wanted.TheVariants as wanted
 use Rattle.replay.specs.Verdicts.{Holds}
+use Rattle.replay.specs.Wanted.{Explains}
+use Rattle.driver.specs.declared.request.Judging.{Judging}
 use Rattle.driver.specs.declared.status.Status.{Status}
 use Rattle.driver.specs.declared.status.Status.TheVariants.{Done, Differs, BadInput, Unsettled}
 use Rattle.driver.specs.Answers.{TextAnswers}
@@ -25,15 +32,43 @@ verdict_status verdict.Same = Done
 verdict_status (verdict.Differs number) = Differs
 verdict_status (verdict.Unsettled number) = Unsettled
 
--- the text is a history: out is the verdict that holds of it, err is empty
-pub record IsJudged (turns : ℕ) (text : List ℕ) (plan : Plan) (status : Status) (out err : List ℕ) : Type 0 where
+-- a call that may come, of which this is the line up to its end
+abbrev pub call_wanted : List ℕ → List ℕ
+call_wanted head = line (codes "wanted: " ++ head ++ codes "..")
+
+-- what may come at a line: the line, or for each call that may come the line up to its end
+abbrev pub wanted_text : Wanted → List ℕ
+wanted_text (wanted.Line text) = line (codes "wanted: " ++ string_bytes text)
+wanted_text (wanted.Calls heads) = flat_map (λ head. call_wanted (string_bytes head)) heads.items
+wanted_text wanted.Nothing = line (codes "wanted: no line")
+
+-- what stands at the line with this number of a file, of which these are the lines after the first; in place of bytes that
+-- are no text the sign for such
+abbrev pub found_text : List (List ℕ) → ℕ → List ℕ
+found_text lines number = line (codes "found: " ++ option_map_or utf8_lossy (slice_get lines (number - 2)) (codes "no line"))
+
+-- why a history differs
+abbrev pub why_text : Verdict → Option Wanted → List (List ℕ) → List ℕ
+why_text (verdict.Differs number) (Some wanted) lines = wanted_text wanted ++ found_text lines number
+why_text (verdict.Differs number) None lines = []
+why_text verdict.Same wanted lines = []
+why_text (verdict.Unsettled number) wanted lines = []
+
+-- what is written of a verdict on these lines, and of why, where that is asked for
+abbrev pub judgement_text : Bool → Verdict → Option Wanted → List (List ℕ) → List ℕ
+judgement_text why verdict wanted lines = line (verdict_text verdict) ++ (if why then why_text verdict wanted lines else [])
+
+-- the text is a history: out is the verdict that holds of it, and why, where that is asked for; err is empty
+pub record IsJudged (judging : Judging) (text : List ℕ) (plan : Plan) (status : Status) (out err : List ℕ) : Type 0 where
   pub format : Format
   pub lines : List (List ℕ)
   pub said : history_in text ≡ Ok (format, lines)
   pub verdict : Verdict
-  pub holds : Holds turns format plan.program lines verdict
+  pub holds : Holds judging.turns format plan.program lines verdict
+  pub wanted : Option Wanted
+  pub explains : Explains judging.turns format plan.program lines verdict wanted
   pub ended : status ≡ verdict_status verdict
-  pub written : out ≡ line (verdict_text verdict)
+  pub written : out ≡ judgement_text judging.why verdict wanted lines
   pub told : err ≡ []
 
 -- the text is none: out is empty, err is the line of its first fault
@@ -45,10 +80,10 @@ pub record HasBadHistory (history_file text : List ℕ) (status : Status) (out e
   pub told : err ≡ line (history_fault_text history_file fault)
 
 -- what `replay` answers for a program and a history file's text
-pub data IsReplayed (turns : ℕ) (history_file text : List ℕ) (plan : Plan) (status : Status) (out err : List ℕ) : Type 0 where
-  judged : IsJudged turns text plan status out err → IsReplayed turns history_file text plan status out err
-  bad_history : HasBadHistory history_file text status out err → IsReplayed turns history_file text plan status out err
+pub data IsReplayed (judging : Judging) (history_file text : List ℕ) (plan : Plan) (status : Status) (out err : List ℕ) : Type 0 where
+  judged : IsJudged judging text plan status out err → IsReplayed judging history_file text plan status out err
+  bad_history : HasBadHistory history_file text status out err → IsReplayed judging history_file text plan status out err
 
 -- and for a program's text and a history file's
-abbrev pub ReplayAnswers : ℕ → List ℕ → List ℕ → List ℕ → List ℕ → Status → List ℕ → List ℕ → Type 0
-ReplayAnswers turns file history_file text history = TextAnswers (IsReplayed turns history_file history) file text
+abbrev pub ReplayAnswers : Judging → List ℕ → List ℕ → List ℕ → List ℕ → Status → List ℕ → List ℕ → Type 0
+ReplayAnswers judging file history_file text history = TextAnswers (IsReplayed judging history_file history) file text

@@ -174,7 +174,7 @@ fn of_pair(
 {
     match request {
         PairRequest::Simulate => simulated(alloc, program, other_file, other),
-        PairRequest::Replay { turns } => replayed(alloc, program, turns, other_file, other),
+        PairRequest::Replay(judging) => replayed(alloc, program, judging, other_file, other),
     }
 }
 

@@ -14,7 +14,7 @@ ghost use Rattle.driver.specs.Serving.{IsMissed};
 ghost use Rattle.driver.specs.Streams.{name_of, reading_failed, writing_failed, Tells};
 
 use crate::answer::{answer_to, pair_answer_to, threads_answer};
-use crate::request::{Pair, PairRequest, Request};
+use crate::request::{Judging, Pair, PairRequest, Request};
 use crate::source_text::SourceText;
 use crate::status::Status;
 use crate::streams::Streams;
@@ -163,17 +163,16 @@ pub fn simulate<S: Read, T: Read, O: Write, E: Write>(
 }
 
 /// Compares the history that `history` gives with what the calls of the program that `source` gives answer, one after
-/// another; each execution of a loop makes at most `turns` turns. Writes the verdict to `out`, and answers how that ended, as
-/// [`check`] does, with besides:
+/// another. Writes the verdict to `out`, and answers how that ended, as [`check`] does, with besides:
 ///
 /// - `Differs`: a line is another than may come there.
 /// - `BadInput`: a line of the history file is faulty, which is told on `err`.
-/// - `Unsettled`: a line is of a call that meets a loop past `turns`.
+/// - `Unsettled`: a line is of a call that meets a loop past the turns.
 ///
 /// Both files are read before either is judged.
 pub fn replay<S: Read, T: Read, O: Write, E: Write>(
     alloc: Global,
-    turns: u64,
+    judging: Judging,
     source: &mut SourceText<'_, S>,
     history: &mut SourceText<'_, T>,
     streams: &mut Streams<O, E>,
@@ -181,13 +180,13 @@ pub fn replay<S: Read, T: Read, O: Write, E: Write>(
     requires readable { reading_failed source.old ≡ false }
     requires history_readable { reading_failed history.old ≡ false }
     requires writable { writing_failed streams.old.out ≡ false }
-    ensures { Serves (Beside (ReplayAnswers turns (name_of source.old) (name_of history.old)))
+    ensures { Serves (Beside (ReplayAnswers judging (name_of source.old) (name_of history.old)))
         (reading_of S.remaining source.old source.new) (reading_of T.remaining history.old history.new ∷ [])
         O.contents E.contents streams.old streams.new result }
 {
     serve_pair(
         alloc,
-        PairRequest::Replay { turns },
+        PairRequest::Replay(judging),
         source,
         history,
         streams,

@@ -11,7 +11,7 @@
 //! - [`simulate`]: the world after the steps of a steps file. `specs/Simulations.antt` says what it answers.
 //! - [`run`]: a history of the program's scripts, each run by a thread of its own. `specs/ThreadRuns.antt` says what it
 //!   answers.
-//! - [`replay`]: the verdict on a recorded history. `specs/Replays.antt` says what it answers.
+//! - [`replay`]: the verdict on a recorded history, and why it differs. `specs/Replays.antt` says what it answers.
 //! - [`Status`]: how a command ended, which is the exit status.
 //! - [`SourceText`]: a file that is read. [`Streams`]: the two outputs, each a [`Sink`].
 //! - [`miss_other`]: what is answered where the second of two files can't be opened.
@@ -29,8 +29,10 @@ mod source_text;
 mod status;
 mod streams;
 mod threads_run;
+mod why;
 
 pub use engine::{check, list, miss_other, replay, run, serial, simulate};
+pub use request::Judging;
 pub use sink::Sink;
 pub use source_text::{ReadError, SourceText};
 pub use status::Status;

@@ -2,15 +2,18 @@
 
 ghost use Rattle.std.specs.Prelude.{◌≡◌, IfOk, string_bytes};
 ghost use Rattle.code.specs.Listing.{line};
-ghost use Rattle.driver.specs.Answering.{Meets, IsBadHistoryAnswer, IsVerdictAnswer};
-ghost use Rattle.driver.specs.Replays.{IsReplayed, verdict_text};
+ghost use Rattle.recorded.specs.Histories.{recorded_lines};
+ghost use Rattle.driver.specs.Answering.{Meets, IsBadHistoryAnswer, IsJudgementAnswer};
+ghost use Rattle.driver.specs.Replays.{IsReplayed, verdict_status, verdict_text};
 
 use crate::answer::Answer;
+use crate::request::Judging;
 use crate::status::Status;
+use crate::why::push_why;
 use lowering::compiled::Program;
 use recorded::refusal::{HistoryFault, HistoryRefusal};
-use recorded::{history_fault_line, read_history};
-use replay::{Verdict, replay};
+use recorded::{Recorded, history_fault_line, read_history};
+use replay::{Judgement, Verdict, replay};
 use source::memory::NoMemory;
 use std::alloc::{AllocError, Global};
 
@@ -38,18 +41,32 @@ fn verdict_line(alloc: Global, verdict: Verdict) -> Result<String, AllocError>
     }
 }
 
-/// What is written of a verdict, and the status.
-fn judged(alloc: Global, verdict: Verdict) -> Result<Answer, NoMemory>
-    ensures { IfOk result (IsVerdictAnswer verdict) }
+/// The status of a verdict.
+fn status_of(verdict: Verdict) -> Status
+    ensures { result ≡ verdict_status verdict }
 {
-    let out = verdict_line(alloc, verdict)?;
-    let status = match verdict {
+    match verdict {
         Verdict::Same => Status::Done,
         Verdict::Differs(_) => Status::Differs,
         Verdict::Unsettled(_) => Status::Unsettled,
-    };
+    }
+}
+
+/// What is written of a judgement on a history, and of why, where that is asked for; and the status.
+fn judged(
+    alloc: Global,
+    why: bool,
+    judgement: &Judgement,
+    recorded: &Recorded<'_>,
+) -> Result<Answer, NoMemory>
+    ensures { IfOk result (IsJudgementAnswer why judgement.now (recorded_lines recorded.now)) }
+{
+    let mut out = verdict_line(alloc, judgement.verdict)?;
+    if why {
+        push_why(alloc, &mut out, judgement, recorded)?;
+    }
     Ok(Answer {
-        status,
+        status: status_of(judgement.verdict),
         out,
         err: String::new(alloc),
     })
@@ -59,17 +76,17 @@ fn judged(alloc: Global, verdict: Verdict) -> Result<Answer, NoMemory>
 pub fn replayed(
     alloc: Global,
     program: &Program,
-    turns: u64,
+    judging: Judging,
     history_file: &str,
     text: &[u8],
 ) -> Result<Answer, NoMemory>
-    ensures { IfOk result (Meets (IsReplayed turns history_file.now text.now program.now)) }
+    ensures { IfOk result (Meets (IsReplayed judging history_file.now text.now program.now)) }
 {
     let recorded = match read_history(alloc, text) {
         Ok(recorded) => recorded,
         Err(HistoryRefusal::Fault(fault)) => return bad_history(alloc, history_file, fault),
         Err(HistoryRefusal::NoMemory) => return Err(NoMemory),
     };
-    let verdict = replay(alloc, program.typed(), &recorded, turns)?;
-    judged(alloc, verdict)
+    let judgement = replay(alloc, program.typed(), &recorded, judging.turns)?;
+    judged(alloc, judging.why, &judgement, &recorded)
 }

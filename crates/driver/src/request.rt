@@ -20,10 +20,16 @@ pub enum PairRequest {
     /// The world after the steps of a steps file.
     Simulate,
     /// Whether a recorded history is one of the program's.
-    Replay {
-        /// The most turns that each execution of a loop may make.
-        turns: u64,
-    },
+    Replay(Judging),
+}
+
+/// How a recorded history is judged.
+#[derive(Clone, Copy, Debug, PartialEq, Eq)]
+pub struct Judging {
+    /// The most turns that each execution of a loop may make.
+    pub turns: u64,
+    /// Whether what may come at a line that differs is told.
+    pub why: bool,
 }
 
 /// The text of a program and that of another file, with the names of their files.

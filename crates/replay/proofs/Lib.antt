@@ -9,5 +9,7 @@ pub mod HistoryLemmas
 pub mod SerialHistories
 pub mod TextLemmas
 pub mod Steps
+pub mod NextHeads
+pub mod Naming
 pub mod Replays
 pub mod EntryHistories

@@ -1,5 +1,5 @@
 -- A history that was read up to one of its lines.
-use Rattle.std.proofs.Common.{◌≡◌, ◌∙◌, ◌<◌, ◌≤◌, ◌+◌, ℕ, zero, suc, List, [], ◌∷◌, ◌++◌, length, take, drop, map, get_or, arith, sym, ap, refl, subst}
+use Rattle.std.proofs.Common.{◌≡◌, ◌∙◌, ◌<◌, ◌≤◌, ◌+◌, ℕ, zero, suc, List, [], ◌∷◌, ◌++◌, length, take, drop, map, get_or, arith, sym, ap, refl, subst, Option, Some}
 use Rattle.std.specs.Prelude.{codes}
 use Rattle.std.proofs.lemmas.Bool.{false≢true}
 use Rattle.std.proofs.lemmas.List.{take_more, drop_more, take_all, get_or_default, take-append-drop, length-take-le, length-map, append-nil}
@@ -8,9 +8,13 @@ use Rattle.recorded.specs.declared.format.Format.{Format}
 use Rattle.replay.specs.declared.progress.Progress.{Progress}
 use Rattle.replay.specs.declared.progress.Stage.{Stage}
 use Rattle.replay.specs.declared.progress.Stage.TheVariants.{Calls, Cells, Ended}
-use Rattle.replay.specs.declared.progress.Finding.TheVariants.{Came, Other, Beyond}
+use Rattle.replay.specs.declared.progress.Finding.TheVariants.{Came, Beyond}
 use Rattle.replay.specs.Readers.{Reader, opened, Comes, Come}
-use Rattle.replay.specs.Verdicts.{HasEnded, IsSame, IsDiffering, IsBeyond}
+use Rattle.replay.specs.declared.wanted.Wanted.{Wanted}
+use Rattle.replay.specs.Verdicts.{HasEnded, Reaches, IsOther, IsSame, IsDiffering, IsBeyond}
+use Rattle.replay.specs.declared.verdict.Verdict.{Verdict}
+use Rattle.replay.specs.declared.verdict.Verdict.TheVariants.{Differs}
+use Rattle.replay.specs.Wanted.{IsWanted, IsWantedAt, Explains}
 use Rattle.replay.specs.Reading.{IsAt, IsSound, Reads}
 use Rattle.replay.proofs.Steps.{at_stage, closed_at}
 
@@ -67,12 +71,24 @@ module _ (turns : ℕ) (format : Format) (program : Typed) where
           short = omega (arith, short, more);
         }
 
-    pub read_other : (new : Progress) → Reads turns format program (f (get_or items i d)) old new Other → IsDiffering turns format program (map f items) (i + 2)
-    read_other new reads = record {
+    reached_here : Reaches turns format program (map f items) (i + 2) read.reader (f (get_or items i d) ∷ drop (i + 1) (map f items))
+    reached_here = record { first = take i (map f items); parts = parts; numbered = numbered; came = read.came }
+
+    pub read_other : IsOther turns format program read.reader (f (get_or items i d)) → IsDiffering turns format program (map f items) (i + 2)
+    read_other other = record {
       reader = read.reader;
       rest = f (get_or items i d) ∷ drop (i + 1) (map f items);
-      reached = record { first = take i (map f items); parts = parts; numbered = numbered; came = read.came };
-      stops = reads read.reader read.is;
+      reached = reached_here;
+      stops = other;
+    }
+
+    pub wanted_here : (wanted : Wanted) → IsWanted turns format program read.reader (f (get_or items i d) ∷ drop (i + 1) (map f items)) wanted →
+        IsWantedAt turns format program (map f items) (i + 2) wanted
+    wanted_here wanted may = record {
+      reader = read.reader;
+      rest = f (get_or items i d) ∷ drop (i + 1) (map f items);
+      reached = reached_here;
+      may_come = may;
     }
 
     pub read_beyond : (new : Progress) → Reads turns format program (f (get_or items i d)) old new Beyond → IsBeyond turns format program (map f items) (i + 2)
@@ -80,9 +96,14 @@ module _ (turns : ℕ) (format : Format) (program : Typed) where
       reader = read.reader;
       text = f (get_or items i d);
       more = drop (i + 1) (map f items);
-      reached = record { first = take i (map f items); parts = parts; numbered = numbered; came = read.came };
+      reached = reached_here;
       unsettled = reads read.reader read.is;
     }
+
+  -- a line differs, and this is told of it
+  pub explained : (lines : List (List ℕ)) (number : ℕ) (wanted : Wanted) (verdict : Verdict) (told : Option Wanted) → verdict ≡ Differs number →
+      told ≡ Some wanted → IsWantedAt turns format program lines number wanted → Explains turns format program lines verdict told
+  explained lines number wanted verdict told is has at = rw (is, has) at
 
   -- ---- after the last line
 
@@ -107,16 +128,29 @@ module _ (turns : ℕ) (format : Format) (program : Typed) where
       some_due _ (codes "end") (sym (at_stage program at reader is (Cells number) here) ∙ ended.none_due)
   not_ended at reader Ended is here other ended = other refl
 
+  reached_end : (lines : List (List ℕ)) (read : ℕ) (at : Progress) (has : HasRead turns format program lines read at) → read ≡ length lines →
+      Reaches turns format program lines (length lines + 2) has.reader []
+  reached_end lines read at has all = record {
+    first = lines;
+    parts = sym (append-nil lines);
+    numbered = refl;
+    came = subst (λ xs. Come turns format program (opened program) xs has.reader) (take_all read lines (omega (arith, all))) has.came;
+  }
+
+  pub wanted_short : (lines : List (List ℕ)) (read : ℕ) (at : Progress) (has : HasRead turns format program lines read at) → read ≡ length lines →
+      (wanted : Wanted) → IsWanted turns format program has.reader [] wanted → IsWantedAt turns format program lines (length lines + 2) wanted
+  wanted_short lines read at has all wanted may = record {
+    reader = has.reader;
+    rest = [];
+    reached = reached_end lines read at has all;
+    may_come = may;
+  }
+
   pub read_short : (lines : List (List ℕ)) (read : ℕ) (at : Progress) → HasRead turns format program lines read at → read ≡ length lines →
       (at.stage ≡ Ended → ⊥) → IsDiffering turns format program lines (length lines + 2)
   read_short lines read at has all other = record {
     reader = has.reader;
     rest = [];
-    reached = record {
-      first = lines;
-      parts = sym (append-nil lines);
-      numbered = refl;
-      came = subst (λ xs. Come turns format program (opened program) xs has.reader) (take_all read lines (omega (arith, all))) has.came;
-    };
+    reached = reached_end lines read at has all;
     stops = not_ended at has.reader at.stage has.is refl other;
   }

@@ -203,14 +203,14 @@ module _ (turns : ℕ) (format : Format) (program : Typed) where
       (λ other begun tail next. only.only reader other begun tail is next)
       (ap (run_call program turns (scheduled_called this).call) (sym is.heap) ∙ over) never
 
-  pub call_came : (at : Progress) (reader : Reader) (text : List ℕ) (this : Called) (end : End) (after : Progress) →
-      IsAt program at reader → at.stage ≡ Calls → at.told ≡ length at.prints.items → IsOnlyCall format program at text this →
-      run_call program turns (scheduled_called this).call at.heap ≡ Over (record { outcome = end.outcome; prints = end.prints.items; heap = after.heap }) →
+  -- the line of the only call that a line can be of, with the end that the call has, may come
+  pub call_comes : (at : Progress) (reader : Reader) (line text : List ℕ) (this : Called) (end : End) (heap : List Value) →
+      IsAt program at reader → at.stage ≡ Calls → at.told ≡ length at.prints.items → IsOnlyCall format program at line this →
+      run_call program turns (scheduled_called this).call at.heap ≡ Over (record { outcome = end.outcome; prints = end.prints.items; heap = heap }) →
       text ≡ call_head format program (scheduled_called this) this.begun ++ outcome_text program.shape end.outcome →
-      after.seats.items ≡ slice_set at.seats.items this.thread (record { called = this.step + 1; least = at.position + 1 }) →
-      after.position ≡ at.position + 1 → after.prints.items ≡ end.prints.items → after.told ≡ 0 → after.stage ≡ Calls →
-      Further reader text after
-  call_came at reader text this end after is stage all only over told seats position prints none same_stage =
+      Comes turns format program reader
+      (record { order = reader.order ++ this.thread ∷ []; heap = heap; due = print_lines end.prints.items; closed = false }) text
+  call_comes at reader line text this end heap is stage all only over told =
       let entry : Entry = record {
         thread = this.thread;
         step = this.step;
@@ -220,18 +220,28 @@ module _ (turns : ℕ) (format : Format) (program : Typed) where
         outcome = end.outcome;
         prints = end.prints.items;
       } in
+      call (record {
+        among = record { none_due = none_due program at reader is stage all; still_open = closed_at program at reader is Calls stage };
+        entry = entry;
+        heap = heap;
+        next = record { scripted = only.scripted reader is; begins = only.begins reader is; told = told };
+        settled = ap (run_call program turns (scheduled_called this).call) (sym is.heap) ∙ over;
+        leads = refl;
+      })
+
+  pub call_came : (at : Progress) (reader : Reader) (text : List ℕ) (this : Called) (end : End) (after : Progress) →
+      IsAt program at reader → at.stage ≡ Calls → at.told ≡ length at.prints.items → IsOnlyCall format program at text this →
+      run_call program turns (scheduled_called this).call at.heap ≡ Over (record { outcome = end.outcome; prints = end.prints.items; heap = after.heap }) →
+      text ≡ call_head format program (scheduled_called this) this.begun ++ outcome_text program.shape end.outcome →
+      after.seats.items ≡ slice_set at.seats.items this.thread (record { called = this.step + 1; least = at.position + 1 }) →
+      after.position ≡ at.position + 1 → after.prints.items ≡ end.prints.items → after.told ≡ 0 → after.stage ≡ Calls →
+      Further reader text after
+  call_came at reader text this end after is stage all only over told seats position prints none same_stage =
       let counted = only.counted in
       let long = is.position in
       let pushed = length_push reader.order this.thread in (
         record { order = reader.order ++ this.thread ∷ []; heap = after.heap; due = print_lines end.prints.items; closed = false },
-        call (record {
-          among = record { none_due = none_due program at reader is stage all; still_open = closed_at program at reader is Calls stage };
-          entry = entry;
-          heap = after.heap;
-          next = record { scripted = only.scripted reader is; begins = only.begins reader is; told = told };
-          settled = ap (run_call program turns (scheduled_called this).call) (sym is.heap) ∙ over;
-          leads = refl;
-        }),
+        call_comes at reader text text this end after.heap is stage all only over told,
         record {
           heap = refl;
           position = omega (arith, position, long, pushed);

@@ -1,10 +1,12 @@
 pub mod Readers
 pub mod Verdicts
+pub mod Wanted
 pub mod Histories
 pub mod Laws
 pub mod Told
 pub mod Reading
 -- what the public clauses cite
 pub use Rattle.replay.specs.Verdicts.{IsSame, IsDiffering, IsBeyond, Holds}
+pub use Rattle.replay.specs.Wanted.{MayCome, IsWanted, IsWantedAt, Explains}
 pub use Rattle.replay.specs.Histories.{IsHistory, history_lines, text_of}
 pub use Rattle.replay.specs.Laws.{AtMostOneVerdict, SameIsHistory, HistoryIsSame, TextIsOfLines, SerialIsSame, EntriesAreSame, OneOrderOneHistory}

@@ -19,9 +19,11 @@ use Rattle.replay.specs.declared.progress.Stage.{Stage}
 use Rattle.replay.specs.declared.progress.Stage.TheVariants.{Calls, Cells, Ended}
 use Rattle.replay.specs.declared.progress.Progress.{Progress}
 use Rattle.replay.specs.declared.progress.Finding.{Finding}
-use Rattle.replay.specs.declared.progress.Finding.TheVariants.{Came, Other, Beyond}
+use Rattle.replay.specs.declared.progress.Finding.TheVariants.{Came, Other, EndsOtherwise, Beyond}
 use Rattle.replay.specs.Readers.{Reader, Comes, IsUnsettled, IsNextCall, MayBegin, calls_by, next_call, script_of, IsAfter, print_lines, cell_lines}
 use Rattle.replay.specs.Verdicts.{IsOther}
+use Rattle.replay.specs.declared.wanted.Wanted.{Wanted}
+use Rattle.replay.specs.Wanted.{MayCome, NamesNone, KeepsCall, IsWanted}
 
 -- ---- how far
 
@@ -71,12 +73,35 @@ abbrev pub Found : ℕ → Format → Typed → Reader → List ℕ → Progress
 Found turns format program reader text after Came =
     (next : Reader) × Comes turns format program reader next text × IsAt program after next
 Found turns format program reader text after Other = IsOther turns format program reader text
+Found turns format program reader text after EndsOtherwise = IsOther turns format program reader text
 Found turns format program reader text after Beyond = IsUnsettled turns format program reader text
 
 -- the line was read: whatever reader is there, it is found of it
 abbrev pub Reads : ℕ → Format → Typed → List ℕ → Progress → Progress → Finding → Type 0
 Reads turns format program text old new finding =
     (reader : Reader) → IsAt program old reader → Found turns format program reader text new finding
+
+-- a line that may not come is of no next call up to its end, and the progress is as it was
+pub record IsLeft (format : Format) (program : Typed) (text : List ℕ) (old new : Progress) : Type 0 where
+  pub same : new ≡ old
+  pub names : (reader : Reader) → IsAt program old reader → NamesNone format program reader (text ∷ [])
+
+-- or it ends otherwise than its call, whose line was written
+abbrev pub EndsSo : ℕ → Format → Typed → List ℕ → Progress → List ℕ → Type 0
+EndsSo turns format program text old written = (reader : Reader) → IsAt program old reader →
+    MayCome turns format program reader written × KeepsCall format program reader (text ∷ []) written
+
+-- what is left where the line may not come, and what was written
+abbrev pub Leaves : ℕ → Format → Typed → List ℕ → Progress → Progress → List ℕ → Finding → Type 0
+Leaves turns format program text old new written Came = ⊤
+Leaves turns format program text old new written Other = IsLeft format program text old new
+Leaves turns format program text old new written EndsOtherwise = EndsSo turns format program text old written
+Leaves turns format program text old new written Beyond = ⊤
+
+-- what may come at the progress, where the lines that are left begin with none of a next call
+abbrev pub Suggests : ℕ → Format → Typed → Progress → Wanted → Type 0
+Suggests turns format program at wanted = (reader : Reader) (lines : List (List ℕ)) → IsAt program at reader →
+    NamesNone format program reader lines → IsWanted turns format program reader lines wanted
 
 -- ---- the call of a line
 

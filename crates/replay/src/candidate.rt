@@ -45,8 +45,8 @@ fn seat_at(at: &Progress, thread: usize) -> Option<Seat>
 }
 
 impl<'a> Replay<'a> {
-    // The call of a thread with this number.
-    fn call_in(&self, thread: usize, step: usize) -> Option<&'a Call>
+    /// The call of a thread with this number.
+    pub(crate) fn call_in(&self, thread: usize, step: usize) -> Option<&'a Call>
         ensures { option_copied result ≡ call_in self.now.typed.now thread step }
     {
         let typed: &'a Typed = self.typed;

@@ -1,10 +1,12 @@
 //! Replays recorded histories: what a file tells of a program's run is judged line by line.
 //!
-//! - [`replay`]: the verdict on a recorded history.
+//! - [`replay`]: the verdict on a recorded history, and why.
 //! - [`Verdict`]: that it is the same, or the first line that differs or is not settled.
+//! - [`Wanted`]: what may come at a line that differs.
 //! - [`laws`]: what holds of every verdict.
 //!
-//! `specs/Readers.antt` says which line may come where, and `specs/Verdicts.antt` what each verdict claims.
+//! `specs/Readers.antt` says which line may come where, `specs/Verdicts.antt` what each verdict claims, and
+//! `specs/Wanted.antt` what is told of a line that differs.
 #![tactic(auto)]
 
 mod candidate;
@@ -14,6 +16,8 @@ mod reading;
 mod replaying;
 mod told;
 pub mod verdict;
+pub mod wanted;
 
 pub use replaying::replay;
-pub use verdict::Verdict;
+pub use verdict::{Judgement, Verdict};
+pub use wanted::Wanted;

@@ -46,6 +46,8 @@ pub(crate) enum Finding {
     Came,
     /// It may not come.
     Other,
+    /// It may not come: up to its end it is the line of a call, which ends otherwise.
+    EndsOtherwise,
     /// Up to its end it is the line of a call that the turns don't settle.
     Beyond,
 }

@@ -1,10 +1,10 @@
 //! One line of a history.
 
-ghost use Rattle.std.specs.Prelude.{◌≡◌, ◌+◌, ◌<◌, ◌≤◌, ◌^◌, IfOk, OnOk, length, string_bytes, codes};
+ghost use Rattle.std.specs.Prelude.{◌≡◌, ◌+◌, ◌<◌, ◌≤◌, ◌^◌, ℕ, List, IfOk, OnOk, length, string_bytes, codes};
 ghost use Rattle.std.specs.Bool.{Decides};
 ghost use Rattle.replay.specs.declared.progress.Stage.TheVariants.{Calls, Cells};
 ghost use Rattle.replay.specs.Readers.{script_of};
-ghost use Rattle.replay.specs.Reading.{IsReady, IsSound, Reads, IsOnlyCall, IsHead, SeatsAreFull, called_at};
+ghost use Rattle.replay.specs.Reading.{IsReady, IsSound, Reads, Leaves, IsOnlyCall, IsHead, SeatsAreFull, called_at};
 
 use crate::candidate::Replay;
 use crate::progress::{Finding, Progress, Seat, Stage};
@@ -15,8 +15,8 @@ use report::pieces::push_outcome;
 use report::record::Called;
 use source::memory::NoMemory;
 
-// How many calls of a thread came.
-fn called(at: &Progress, thread: usize) -> usize
+/// How many calls of a thread came.
+pub(crate) fn called(at: &Progress, thread: usize) -> usize
     ensures { result ≡ called_at at.now.seats.items thread }
 {
     match at.seats.get(thread) {
@@ -39,6 +39,8 @@ impl<'a> Replay<'a> {
         ensures reads { IfOk result (Reads self.now.turns self.now.format self.now.typed.now line.now at.old at.new) }
         ensures sound { OnOk result (IsSound self.now.typed.now at.new) }
         ensures position { at.new.position ≡ at.old.position }
+        ensures leaves { IfOk result
+            (Leaves self.now.turns self.now.format self.now.typed.now line.now at.old at.new (string_bytes text.new)) }
     {
         text.clear();
         push_print(text, at.prints[at.told])?;
@@ -58,6 +60,8 @@ impl<'a> Replay<'a> {
         ensures reads { Reads self.now.turns self.now.format self.now.typed.now line.now at.old at.new result }
         ensures sound { IsSound self.now.typed.now at.new }
         ensures position { at.new.position ≡ at.old.position }
+        ensures leaves { (written : List ℕ) →
+            Leaves self.now.turns self.now.format self.now.typed.now line.now at.old at.new written result }
     {
         if !is(line, "end") {
             return Finding::Other;
@@ -79,6 +83,8 @@ impl<'a> Replay<'a> {
         ensures reads { IfOk result (Reads self.now.turns self.now.format self.now.typed.now line.now at.old at.new) }
         ensures sound { OnOk result (IsSound self.now.typed.now at.new) }
         ensures position { at.new.position ≡ at.old.position }
+        ensures leaves { IfOk result
+            (Leaves self.now.turns self.now.format self.now.typed.now line.now at.old at.new (string_bytes text.new)) }
     {
         if number >= self.typed.cells.len() {
             return Ok(self.read_last(at, number, line));
@@ -108,8 +114,8 @@ impl<'a> Replay<'a> {
         }
     }
 
-    // Whether all calls of all scripts came.
-    fn all_called(&self, at: &Progress) -> bool
+    /// Whether all calls of all scripts came.
+    pub(crate) fn all_called(&self, at: &Progress) -> bool
         requires { IsSound self.now.typed.now at.now }
         ensures { Decides result (SeatsAreFull self.now.typed.now at.now.seats.items) }
     {
@@ -129,6 +135,8 @@ impl<'a> Replay<'a> {
         ensures reads { Reads self.now.turns self.now.format self.now.typed.now (codes "cells") at.old at.new result }
         ensures sound { IsSound self.now.typed.now at.new }
         ensures position { at.new.position ≡ at.old.position }
+        ensures leaves { (written : List ℕ) →
+            Leaves self.now.turns self.now.format self.now.typed.now (codes "cells") at.old at.new written result }
     {
         if !self.all_called(at) {
             return Finding::Other;
@@ -155,6 +163,8 @@ impl<'a> Replay<'a> {
         ensures reads { IfOk result (Reads self.now.turns self.now.format self.now.typed.now line.now at.old at.new) }
         ensures sound { OnOk result (IsSound self.now.typed.now at.new) }
         ensures position { at.new.position ≤ at.old.position + 1 }
+        ensures leaves { IfOk result
+            (Leaves self.now.turns self.now.format self.now.typed.now line.now at.old at.new (string_bytes text.new)) }
     {
         let run = self.prepared.run_whole(
             self.alloc,
@@ -170,7 +180,7 @@ impl<'a> Replay<'a> {
         push_outcome(text, &self.typed.shape, outcome)?;
         let is_told = is(line, text.as_str());
         if !is_told {
-            return Ok(Finding::Other);
+            return Ok(Finding::EndsOtherwise);
         }
         at.position += 1;
         at.seats[call.thread] = Seat {
@@ -197,6 +207,8 @@ impl<'a> Replay<'a> {
         ensures reads { IfOk result (Reads self.now.turns self.now.format self.now.typed.now line.now at.old at.new) }
         ensures sound { OnOk result (IsSound self.now.typed.now at.new) }
         ensures position { at.new.position ≤ at.old.position + 1 }
+        ensures leaves { IfOk result
+            (Leaves self.now.turns self.now.format self.now.typed.now line.now at.old at.new (string_bytes text.new)) }
     {
         if is(line, "cells") {
             return Ok(self.read_cells(at));
@@ -220,6 +232,8 @@ impl<'a> Replay<'a> {
         ensures reads { IfOk result (Reads self.now.turns self.now.format self.now.typed.now line.now at.old at.new) }
         ensures sound { OnOk result (IsSound self.now.typed.now at.new) }
         ensures position { at.new.position ≤ at.old.position + 1 }
+        ensures leaves { IfOk result
+            (Leaves self.now.turns self.now.format self.now.typed.now line.now at.old at.new (string_bytes text.new)) }
     {
         match at.stage {
             Stage::Calls if at.told < at.prints.len() => self.read_print(at, text, line),

@@ -1,15 +1,18 @@
 //! A whole history.
 
-ghost use Rattle.std.specs.Prelude.{◌≡◌, IfOk, length};
+ghost use Rattle.std.specs.Prelude.{◌≡◌, IfOk, Some, None, length};
 ghost use Rattle.core_lang.specs.WellFormed.{IsWellFormed};
 ghost use Rattle.recorded.specs.Histories.{recorded_lines};
 ghost use Rattle.replay.specs.Readers.{opened};
 ghost use Rattle.replay.specs.Reading.{IsReady, IsSound, IsAt};
+ghost use Rattle.replay.specs.declared.verdict.Verdict.TheVariants.{Differs};
 ghost use Rattle.replay.specs.Verdicts.{Holds};
+ghost use Rattle.replay.specs.Wanted.{Explains};
 
 use crate::candidate::Replay;
 use crate::progress::{Finding, Progress, Seat, Stage};
-use crate::verdict::Verdict;
+use crate::verdict::{Judgement, Verdict};
+use crate::wanted::Wanted;
 use core_lang::typed::Typed;
 use recorded::Recorded;
 use register_machine::prepared::Prepared;
@@ -38,7 +41,30 @@ fn start(alloc: Global, typed: &Typed) -> Result<Progress, NoMemory>
     })
 }
 
-/// The verdict on a recorded history of a program, where each execution of a loop may make at most so many turns.
+// A verdict that needs no reason.
+fn settled(verdict: Verdict) -> Judgement
+    ensures verdict { result.verdict ≡ verdict }
+    ensures wanted { result.wanted ≡ None }
+{
+    Judgement {
+        verdict,
+        wanted: None,
+    }
+}
+
+// That a line differs, where this may come.
+fn differing(number: usize, wanted: Wanted) -> Judgement
+    ensures verdict { result.verdict ≡ Differs number }
+    ensures wanted { result.wanted ≡ Some wanted }
+{
+    Judgement {
+        verdict: Verdict::Differs(number),
+        wanted: Some(wanted),
+    }
+}
+
+/// The verdict on a recorded history of a program, where each execution of a loop may make at most so many turns; and where it
+/// differs, what may come there.
 ///
 /// # Errors
 ///
@@ -48,9 +74,11 @@ pub fn replay(
     typed: &Typed,
     recorded: &Recorded<'_>,
     turns: u64,
-) -> Result<Verdict, NoMemory>
+) -> Result<Judgement, NoMemory>
     requires { IsWellFormed typed.now }
-    ensures { IfOk result (Holds turns recorded.now.format typed.now (recorded_lines recorded.now)) }
+    ensures holds { IfOk result (λ judgement. Holds turns recorded.now.format typed.now (recorded_lines recorded.now) judgement.verdict) }
+    ensures why { IfOk result (λ judgement. Explains turns recorded.now.format typed.now (recorded_lines recorded.now)
+        judgement.verdict judgement.wanted) }
 {
     let prepared = Prepared::new(alloc, typed)?;
     let mut at = start(alloc, typed)?;
@@ -65,12 +93,19 @@ pub fn replay(
     for (i, line) in recorded.lines.iter().enumerate() {
         match replay.read(&mut at, &mut text, line)? {
             Finding::Came => {}
-            Finding::Other => return Ok(Verdict::Differs(i + 2)),
-            Finding::Beyond => return Ok(Verdict::Unsettled(i + 2)),
+            Finding::Other => {
+                let wanted = replay.wanted(&at)?;
+                return Ok(differing(i + 2, wanted));
+            }
+            Finding::EndsOtherwise => return Ok(differing(i + 2, Wanted::Line(text))),
+            Finding::Beyond => return Ok(settled(Verdict::Unsettled(i + 2))),
         }
     }
     match at.stage {
-        Stage::Ended => Ok(Verdict::Same),
-        _ => Ok(Verdict::Differs(recorded.lines.len() + 2)),
+        Stage::Ended => Ok(settled(Verdict::Same)),
+        _ => {
+            let wanted = replay.wanted(&at)?;
+            Ok(differing(recorded.lines.len() + 2, wanted))
+        }
     }
 }

@@ -1,6 +1,7 @@
 -- The commands, as clap's definitions see them.
 use Rattle.std.specs.Prelude.{◌≡◌, [], ◌∷◌, Some, true, false, codes, Result, IfOk}
 use Rattle.clap.specs.Words.{App, Rule, Text, app_of, new_app, new_rule, with_rule, with_subcommand}
+use Rattle.clap.specs.declared.builder.action.ArgAction.TheVariants.{SetTrue}
 use Rattle.clap.specs.declared.builder.command.Command.{Command}
 use Rattle.clap.specs.declared.builder.command.Command.TheViews.{out-Command}
 use Rattle.clap.specs.declared.builder.value_parser.ValueParser.TheVariants as vp
@@ -18,6 +19,10 @@ turns_rule = record (new_rule (codes "turns")) {
   parser = Some (vp.Unsigned 0 1000000000);
 }
 
+-- --why
+abbrev pub why_rule : Rule
+why_rule = record (new_rule (codes "why")) { long = Some (codes "why"); action = Some SetTrue }
+
 -- a command over one file
 abbrev pub with_file : Text → App
 with_file name = with_rule (new_app name) (file_rule (codes "FILE"))
@@ -33,6 +38,10 @@ with_steps app = with_rule app (file_rule (codes "STEPS"))
 -- a command that takes a history file besides
 abbrev pub with_history : App → App
 with_history app = with_rule app (file_rule (codes "HISTORY"))
+
+-- a command that takes --why besides
+abbrev pub with_why : App → App
+with_why app = with_rule app why_rule
 
 -- a command that must have a subcommand
 abbrev pub needs_subcommand : App → App
@@ -66,9 +75,9 @@ with_simulate app = with_subcommand app (with_steps (with_file (codes "simulate"
 abbrev pub with_run : App → App
 with_run app = with_subcommand app (with_file (codes "run")).top
 
--- autolock replay [--turns N] FILE HISTORY
+-- autolock replay [--turns N] [--why] FILE HISTORY
 abbrev pub with_replay : App → App
-with_replay app = with_subcommand app (with_turns (with_history (with_file (codes "replay")))).top
+with_replay app = with_subcommand app (with_why (with_turns (with_history (with_file (codes "replay"))))).top
 
 -- the whole command line
 abbrev pub autolock : App

@@ -1,5 +1,5 @@
 -- What a line says of the matches.
-use Rattle.std.specs.Prelude.{◌≡◌, ◌⊎◌, ℕ, ◌^◌, ◌<◌, List, [], Option, Some, None, codes, unwrap_or}
+use Rattle.std.specs.Prelude.{◌≡◌, ◌⊎◌, ℕ, ◌^◌, ◌<◌, Bool, true, false, List, [], Option, Some, None, codes, unwrap_or}
 use Rattle.std.specs.Str.Parse.{IsNumeral, digits_value, without_leading_plus}
 use Rattle.clap.specs.Words.{HasKind, Row, Text, fault_of, first_of, one_of, subcommand_of}
 use Rattle.clap.specs.Values.{kind_of}
@@ -19,6 +19,12 @@ pub record IsTurns (rows : List Row) (turns : ℕ) : Type 0 where
       → digits_value 10 (without_leading_plus text) < 2 ^ 64 → turns ≡ digits_value 10 (without_leading_plus text)
   pub default : one_of (codes "turns") rows ≡ None → turns ≡ 1000000
 
+-- whether `why` stands among the words, as clap tells it
+pub record IsWhy (rows : List Row) (why : Bool) : Type 0 where
+  pub given : one_of (codes "why") rows ≡ Some (codes "true") → why ≡ true
+  pub withheld : one_of (codes "why") rows ≡ Some (codes "false") → why ≡ false
+  pub default : one_of (codes "why") rows ≡ None → why ≡ false
+
 -- the line is that command, with the values of its arguments
 abbrev pub IsLine : Text → List Row → Line → Type 0
 IsLine command rows (Check file) = (command ≡ codes "check") × (file.now ≡ name_in (codes "FILE") rows)
@@ -28,9 +34,9 @@ IsLine command rows (Serial file turns) =
 IsLine command rows (Simulate file steps) =
     (command ≡ codes "simulate") × (file.now ≡ name_in (codes "FILE") rows) × (steps.now ≡ name_in (codes "STEPS") rows)
 IsLine command rows (Run file) = (command ≡ codes "run") × (file.now ≡ name_in (codes "FILE") rows)
-IsLine command rows (Replay file history turns) =
+IsLine command rows (Replay file history turns why) =
     (command ≡ codes "replay") × (file.now ≡ name_in (codes "FILE") rows) × (history.now ≡ name_in (codes "HISTORY") rows)
-    × IsTurns rows turns
+    × IsTurns rows turns × IsWhy rows why
 
 -- the line is the subcommand that was met
 abbrev pub IsLineOf : Option (Text × List Row) → Line → Type 0

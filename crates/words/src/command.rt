@@ -2,10 +2,10 @@
 
 ghost use Rattle.std.specs.Prelude.{◌≡◌, IfOk, codes, false};
 ghost use Rattle.clap.specs.Words.{rule_of};
-ghost use Rattle.words.specs.Commands.{IsCommand, file_rule, turns_rule, with_file, with_turns, with_steps, with_history, Adds, AddsRule, autolock};
+ghost use Rattle.words.specs.Commands.{IsCommand, file_rule, turns_rule, why_rule, with_file, with_turns, with_steps, with_history, with_why, Adds, AddsRule, autolock};
 
 use clap::builder::ValueParser;
-use clap::{Arg, Command};
+use clap::{Arg, ArgAction, Command};
 use std::alloc::{AllocError, Global};
 
 /// The version that `--version` prints behind the program's name.
@@ -30,6 +30,17 @@ fn turns_argument<'a>(alloc: Global) -> Arg<'a>
         .help("How many turns an execution of a loop may take")
         .value_parser(ValueParser::unsigned(0, 1_000_000_000))
         .default_value("1000000")
+}
+
+/// `--why`.
+fn why_argument<'a>(alloc: Global) -> Arg<'a>
+    ensures rule { rule_of result ≡ why_rule }
+    ensures local { result.global ≡ false }
+{
+    Arg::new(alloc, "why")
+        .long("why")
+        .action(ArgAction::SetTrue)
+        .help("Say what may stand where the history differs")
 }
 
 /// A command over one file.
@@ -94,12 +105,13 @@ fn with_argument<'a>(
 
 /// `replay`.
 fn replay_command<'a>(alloc: Global) -> Result<Command<'a>, AllocError>
-    ensures { IfOk result (IsCommand (with_turns (with_history (with_file (codes "replay"))))) }
+    ensures { IfOk result (IsCommand (with_why (with_turns (with_history (with_file (codes "replay")))))) }
 {
     let about = "Compare a recorded history with what its calls answer, one after another";
     let command = file_command(alloc, "replay", about);
     let command = with_argument(command, history_argument(alloc));
-    with_argument(command, turns_argument(alloc))
+    let command = with_argument(command, turns_argument(alloc));
+    with_argument(command, why_argument(alloc))
 }
 
 /// A command line with one more command, where both could be made.

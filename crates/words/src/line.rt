@@ -43,5 +43,7 @@ pub enum Line<'a> {
         history: &'a str,
         /// The most turns that each execution of a loop may make.
         turns: u64,
+        /// Whether to say what may come at a line that differs.
+        why: bool,
     },
 }

@@ -3,7 +3,7 @@
 ghost use Rattle.std.specs.Prelude.{◌≡◌, IfOk, IfErr, IfSome, OnOk, None, [], map};
 ghost use Rattle.clap.specs.Words.{fault_of, found_of, rows_of, subcommand_of};
 ghost use Rattle.words.specs.Commands.{autolock};
-ghost use Rattle.words.specs.Lines.{name_in, IsTurns, IsLine, IsLineOf, IsOwnName, IsRefused};
+ghost use Rattle.words.specs.Lines.{name_in, IsTurns, IsWhy, IsLine, IsLineOf, IsOwnName, IsRefused};
 
 use crate::command::command;
 use crate::line::{DEFAULT_TURNS, Line};
@@ -23,6 +23,13 @@ fn turns(matches: &ArgMatches<'_>) -> u64
     ensures { IsTurns (rows_of (found_of matches.now)) result }
 {
     matches.get_one::<u64>("turns").unwrap_or(DEFAULT_TURNS)
+}
+
+/// Whether `--why` is given.
+fn why(matches: &ArgMatches<'_>) -> bool
+    ensures { IsWhy (rows_of (found_of matches.now)) result }
+{
+    matches.get_flag("why")
 }
 
 /// The line of a command, or `None` where there is no such command.
@@ -47,6 +54,7 @@ fn line<'a>(command: &str, matches: &ArgMatches<'a>) -> Option<Line<'a>>
             file,
             history: name(matches, "HISTORY"),
             turns: turns(matches),
+            why: why(matches),
         }),
         _ => None,
     }

@@ -3,7 +3,7 @@ use Rattle.core_lang.specs.declared.typed.Typed.{Typed}
 use Rattle.core_lang.specs.Typing.{IsHeap}
 use Rattle.core_lang.specs.WellFormed.{IsWellFormed}
 use Rattle.report.specs.Pieces.{outcome_text}
-use Rattle.replay.proofs.Steps.{reads_so, reads_otherwise, call_beyond, call_otherwise, call_came}
+use Rattle.replay.proofs.Steps.{reads_so, reads_otherwise, call_beyond, call_otherwise, call_comes, call_came}
 use Rattle.replay.proofs.candidate.Replay.read_end.Goals as goal
 
 pub overflow_add-call : goal.overflow_add-call
@@ -35,3 +35,18 @@ returns-clause-reads c reader is =
     call_came c.args.self.now.turns c.args.self.now.format c.args.self.now.typed.now c.args.at.now reader c.args.line.now c.args.call c.in-Some.end _ is c.requires.stage c.requires.none_due
     c.requires.only over (reads_so c.args.line.now c.as_str.result.now (sym c.is-is_told.ensures ∙ c.if-not-is_told.false) ∙ word)
     refl refl refl refl c.requires.stage
+
+pub returns-then-not-is_told-clause-leaves : goal.returns-then-not-is_told-clause-leaves
+returns-then-not-is_told-clause-leaves c reader is =
+    let over = rw (c.requires.ready.prepared, c.in-Some.is) at c.in_ok-run.ensures.answer in
+    let tail = outcome_text c.args.self.now.typed.now.shape c.in-Some.end.outcome in
+    let word = c.in_ok-push_outcome.ensures ∙ ap (λ (b : List ℕ). b ++ tail) c.requires.head.is in (
+      (
+        _,
+        call_comes c.args.self.now.turns c.args.self.now.format c.args.self.now.typed.now c.args.at.now reader c.args.line.now _ c.args.call c.in-Some.end _ is
+            c.requires.stage c.requires.none_due c.requires.only over word,
+      ),
+      λ call begun names.
+          let same = c.requires.only.only reader call begun names.1 is names.2 in
+          (tail, word ∙ ap (λ (b : List ℕ). b ++ tail) (sym same.1)),
+    )

@@ -1,7 +1,8 @@
-use Rattle.std.proofs.Common.{rules, arith, ◌≡◌, ◌∙◌, ◌++◌, sym, ap, List, ℕ, to_z, of_z, w64}
+use Rattle.std.proofs.Common.{rules, arith, ◌≡◌, ◌∙◌, ◌++◌, sym, ap, refl, List, ℕ, to_z, of_z, w64}
 use Rattle.std.proofs.lemmas.Int.{ints, to_z-of_z}
 use Rattle.report.specs.History.{print_line}
 use Rattle.replay.proofs.Findings.{other_due}
+use Rattle.replay.proofs.Naming.{due_names_none}
 use Rattle.replay.proofs.Steps.{reads_so, reads_otherwise, print_due, print_came}
 use Rattle.replay.proofs.candidate.Replay.read_print.Goals as goal
 
@@ -25,3 +26,11 @@ returns-clause-reads c reader is =
     ∙ ap print_line same in
     print_came c.args.self.now.turns c.args.self.now.format c.args.self.now.typed.now c.args.at.now reader number c.args.line.now is c.requires.stage c.requires.due c.index.ensures
     (reads_so c.args.line.now c.as_str.result.now (sym c.is-is_print.ensures ∙ c.if-not-is_print.false) ∙ word)
+
+pub returns-then-not-is_print-clause-leaves : goal.returns-then-not-is_print-clause-leaves
+returns-then-not-is_print-clause-leaves c = record {
+  same = refl;
+  names = λ reader is.
+      due_names_none c.args.self.now.format c.args.self.now.typed.now reader c.args.line.now (print_line c.index.result.now) _
+      (print_due c.args.self.now.typed.now c.args.at.now reader is c.index.result.now c.requires.stage c.requires.due c.index.ensures);
+}

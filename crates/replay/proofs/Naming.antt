@@ -1,0 +1,26 @@
+-- Lines that are of no next call.
+use Rattle.std.proofs.Common.{◌≡◌, ◌∙◌, ℕ, true, List, [], ◌∷◌, sym}
+use Rattle.std.specs.Prelude.{codes}
+use Rattle.core_lang.specs.declared.typed.Typed.{Typed}
+use Rattle.recorded.specs.declared.format.Format.{Format}
+use Rattle.replay.specs.declared.progress.Progress.{Progress}
+use Rattle.replay.specs.Readers.{Reader}
+use Rattle.replay.specs.Reading.{IsAt, IsNoCall}
+use Rattle.replay.specs.Wanted.{NamesNone}
+use Rattle.replay.proofs.Heads.{head_not_cells}
+
+module _ (format : Format) (program : Typed) (reader : Reader) where
+  -- where a line is due
+  pub due_names_none : (text line : List ℕ) (more : List (List ℕ)) → reader.due ≡ line ∷ more → NamesNone format program reader (text ∷ [])
+  due_names_none text line more is call begun names = let e = sym names.0.none_due ∙ is in absurd (cc)
+
+  -- after `cells`
+  pub closed_names_none : (text : List ℕ) → reader.closed ≡ true → NamesNone format program reader (text ∷ [])
+  closed_names_none text closed call begun names = let e = sym closed ∙ names.0.still_open in absurd (cc)
+
+  pub cells_name_none : NamesNone format program reader (codes "cells" ∷ [])
+  cells_name_none call begun names = head_not_cells format program call begun names.1 names.2.told
+
+  pub no_call_names_none : (at : Progress) (text : List ℕ) → IsAt program at reader → IsNoCall format program at text →
+      NamesNone format program reader (text ∷ [])
+  no_call_names_none at text is never call begun names = never reader call begun names.1 is names.2
