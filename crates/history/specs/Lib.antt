@@ -1,6 +1,8 @@
 pub mod Commits
 pub mod Histories
+pub mod Arrays
+pub mod Lists
 pub mod Laws
 pub use Rattle.code.specs.Memory.{overwritten, Agrees}
 pub use Rattle.history.specs.Commits.{Commit, call_of, answer_of, finished_on, script_call, committed, IsLegal, IsTrueCommit, AreTrue, WritesNot, NoneWrites}
-pub use Rattle.history.specs.Histories.{HistoryOf}
+pub use Rattle.history.specs.Histories.{HistoryOf, PromisedOf, nothing_promised, with_promise, IsPromised}

@@ -1,77 +1,86 @@
 //! The entries of a history.
 
-ghost use Rattle.std.specs.Prelude.{◌≡◌, ◌<◌, ◌^◌, ◌+◌, zero, suc, [], ◌∷◌, ◌++◌, length, slice_get, Some, IfOk, OnOk, OnErr};
+ghost use Rattle.std.specs.Prelude.{◌≡◌, ◌<◌, ◌+◌, [], ◌∷◌, ◌++◌, length, slice_get, Some, OnOk, OnErr};
+ghost use Rattle.history.specs.Histories.{IsPromised, nothing_promised, with_promise};
 
 use crate::entry::Entry;
+use crate::kept::Kept;
+use crate::lists::{Lists, Stored};
 use source::memory::NoMemory;
 use std::alloc::Global;
 use std::marker::Model;
 
 /// The entries in the order in which their sections ended. Room for an entry is made before its section begins, so
 /// that the entry itself is never refused.
+///
+/// The lists of all entries stand in a few arrays that grow by doubling: an entry takes what its lists are long, and
+/// mostly no memory is taken for one.
 #[derive(Drop)]
 pub struct History {
-    entries: Vec<Entry>,
-    // For how many more entries there is room in any case.
-    promised: usize,
+    entries: Vec<Stored>,
+    lists: Lists,
 }
 
 impl Model for History {
     ghost use Rattle.std.specs.Prelude.{◌+◌, ◌≤◌, vec_len, vec_capacity};
+    ghost use Rattle.std.specs.List.{All};
     ghost use Rattle.history.specs.Histories.{HistoryOf};
 
     ghost Value = { HistoryOf };
 
-    ghost view = { λ h. record { commits = h.entries.items; promised = h.promised } };
+    ghost use Rattle.history.specs.Lists.{commits_in, IsStored};
 
-    ghost invariant = { λ h. vec_len h.entries + h.promised ≤ vec_capacity h.entries };
+    ghost view = { λ h. record { commits = commits_in h.lists h.entries.items; promised = h.lists.promised } };
+
+    ghost invariant = { λ h.
+        All (IsStored h.lists) h.entries.items
+        × (vec_len h.entries + h.lists.promised.entries ≤ vec_capacity h.entries) };
 }
 
 impl History {
     /// No entries.
     pub fn empty(alloc: Global) -> History
-        ensures { result ≡ record { commits = []; promised = 0 } }
+        ensures { result ≡ record { commits = []; promised = nothing_promised } }
     {
         History {
             entries: Vec::new(alloc),
-            promised: 0,
+            lists: Lists::empty(alloc),
         }
     }
 
-    /// Makes room for one entry more.
+    /// Makes room for one entry more, of a section that can touch so many cells.
     ///
     /// # Errors
     ///
     /// Want of memory; the history is as it was.
-    pub fn promise(&mut self) -> Result<(), NoMemory>
-        ensures ok { OnOk result (self.new ≡ record self.old { promised = suc self.old.promised }) }
+    pub fn promise(&mut self, cells: usize) -> Result<(), NoMemory>
+        ensures ok { OnOk result (self.new ≡ record self.old { promised = with_promise self.old.promised cells }) }
         ensures err { OnErr result (self.new ≡ self.old) }
     {
-        self.entries.reserve(self.promised + 1)?;
-        self.promised += 1;
-        Ok(())
+        self.entries.reserve(self.lists.promised() + 1)?;
+        self.lists.promise(cells)
     }
 
     /// Enters a section that has ended, into room that was made for it.
-    pub fn enter(&mut self, entry: Entry)
-        requires { 0 < self.old.promised }
-        ensures promised { self.old.promised ≡ suc self.new.promised }
+    pub fn enter(&mut self, cells: usize, entry: Entry)
+        requires { IsPromised self.old.promised cells }
+        ensures promised { self.old.promised ≡ with_promise self.new.promised cells }
         ensures commits { self.new.commits ≡ self.old.commits ++ entry ∷ [] }
     {
-        self.promised -= 1;
-        match self.entries.push(entry) {
+        let stored = self.lists.store(cells, entry);
+        match self.entries.push(stored) {
             Ok(()) => {}
             Err(_) => unreachable!(),
         }
     }
 
     /// Forgoes room that was made for a section.
-    pub fn forgo(&mut self)
-        requires { 0 < self.old.promised }
-        ensures promised { self.old.promised ≡ suc self.new.promised }
+    pub fn forgo(&mut self, cells: usize)
+        requires { IsPromised self.old.promised cells }
+        ensures promised { self.old.promised ≡ with_promise self.new.promised cells }
         ensures commits { self.new.commits ≡ self.old.commits }
     {
-        self.promised -= 1;
+        self.lists.forgo(cells);
     }
 
     /// How many entries there are.
@@ -84,18 +93,10 @@ impl History {
 
     /// The entry at a position.
     #[inline]
-    pub fn get(&self, position: usize) -> &Entry
+    pub fn get(&self, position: usize) -> Kept<'_>
         requires { position < length self.now.commits }
-        ensures { slice_get self.now.commits position ≡ Some result.now }
+        ensures { slice_get self.now.commits position ≡ Some result }
     {
-        &self.entries[position]
-    }
-
-    /// The entries, the first one first.
-    #[inline]
-    pub fn entries(&self) -> &[Entry]
-        ensures { result.now ≡ self.now.commits }
-    {
-        self.entries.as_slice()
+        self.lists.entry(&self.entries[position])
     }
 }

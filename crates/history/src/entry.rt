@@ -1,12 +1,13 @@
-//! A finished section.
+//! A finished section with lists of its own.
 
+use crate::kept::Kept;
 use core_lang::value::{Outcome, Value};
 use std::marker::Model;
 
 /// A cell, and a value of it.
 pub type CellValue = (u32, Value);
 
-/// A finished section.
+/// A finished section, with lists of its own.
 #[derive(Drop)]
 pub struct Entry {
     /// The thread that ran it.
@@ -120,5 +121,23 @@ impl Entry {
         ensures { result.now ≡ self.now.prints }
     {
         self.prints.as_slice()
+    }
+
+    /// It, as a history lends its entries.
+    #[inline]
+    pub fn lent(&self) -> Kept<'_>
+        ensures { result ≡ self.now }
+    {
+        Kept {
+            thread: self.thread(),
+            step: self.step(),
+            section: self.section(),
+            arguments: self.arguments(),
+            begun: self.begun(),
+            reads: self.reads(),
+            writes: self.writes(),
+            outcome: self.outcome(),
+            prints: self.prints(),
+        }
     }
 }

@@ -3,13 +3,16 @@
 //! - [`laws::legal_is_serial`]: where each entry is true and read what the ones before it left, the calls, run whole
 //!   one after another, end, print and leave the cells as the entries say.
 //! - [`laws::commuting`]: entries that don't write a cell leave its value.
-//! - [`entry::Entry`]: a finished section.
-//! - [`entries::History`]: the entries, in order.
+//! - [`entries::History`]: the entries, in order, with their lists in a few arrays.
+//! - [`entry::Entry`], [`kept::Kept`]: a finished section with lists of its own, and one that a history lends.
 //!
 //! `specs/` defines finished sections as data, which lists of them are legal and when one is true (`Commits`), what the
-//! laws claim (`Laws`), and a history as a value (`Histories`).
+//! laws claim (`Laws`), and a history as a value (`Histories`). `Arrays` and `Lists` only say what the code relies on;
+//! nobody has to believe them.
 #![tactic(auto)]
 
 pub mod entries;
 pub mod entry;
+pub mod kept;
 pub mod laws;
+mod lists;

@@ -12,7 +12,7 @@ use crate::state::State;
 use crate::status::Status;
 use crate::stepping::{all_ready, put, state_of, status, step};
 use core_lang::value::Value;
-use history::entry::Entry;
+use history::entries::History;
 use lock_manager::manager::Manager;
 use lowering::compiled::Program;
 use source::memory::NoMemory;
@@ -165,10 +165,10 @@ impl<'p> World<'p> {
     }
 
     /// The entries of the sections that ended, in the order in which they did.
-    pub fn history(&self) -> &[Entry]
-        ensures { result.now ≡ self.now.world.history }
+    pub fn history(&self) -> &History
+        ensures { result.now.commits ≡ self.now.world.history }
     {
-        self.manager.history().entries()
+        self.manager.history()
     }
 
     /// What a cell holds, unless a section holds it.

@@ -14,7 +14,7 @@ use Rattle.code.specs.Memory.{value_at}
 use Rattle.layout.specs.LockCells.{cells_of}
 use Rattle.layout.specs.Layouts.{LayoutOf}
 use Rattle.moved_cells.specs.Grants.{GrantOf, numbered, values_on}
-use Rattle.history.specs.Histories.{HistoryOf}
+use Rattle.history.specs.Histories.{HistoryOf, nothing_promised}
 use Rattle.history.specs.Laws.{CommittedKeepsSize}
 use Rattle.lock_manager.specs.declared.places.Place.{Place}
 use Rattle.lock_manager.specs.declared.places.Place.TheVariants.{Free, Taken}
@@ -23,7 +23,7 @@ use Rattle.lock_manager.specs.Committed.{CommittedOf, at_opening, lock_values}
 use Rattle.lock_manager.specs.Sessions.{SessionOf, TicketOf}
 use Rattle.lock_manager.specs.Managers.{Managed, managed, IsKept, IsLayout, Holds, place_of, session_of, session_in, holder_of, taker, cell_of, value_in, number_from, ComesAfter, asker_of, askers_of, opened, threads}
 use Rattle.lock_manager.specs.Calls.{AreOf, IsOwnWrite, Knows}
-use Rattle.lock_manager.specs.Ties.{sum_over, one_if_open}
+use Rattle.lock_manager.specs.Ties.{sum_over, one_if_open, cells_if_open}
 use Rattle.lock_manager.proofs.Lists.{all_contained, all_from, map_at, map_back, some_same}
 use Rattle.lock_manager.proofs.Numbers.{number_at}
 use Rattle.lock_manager.proofs.Heaps.{value_among}
@@ -122,6 +122,10 @@ sum_none : (n : ℕ) → sum_over one_if_open (replicate n None) ≡ 0
 sum_none zero = refl
 sum_none (suc n) = omega (arith, sum_none n)
 
+cells_none : (n : ℕ) → sum_over cells_if_open (replicate n None) ≡ 0
+cells_none zero = refl
+cells_none (suc n) = omega (arith, cells_none n)
+
 first_place : (layout : LayoutOf) (ranks : List ℕ) (lock : Lock) (p : Place) → place_of (opened layout ranks) lock ≡ Some p → Free (values_on layout.opening (cells_of layout.cell_locks lock)) ≡ p
 first_place layout ranks lock p e =
     let f : Lock → Place = λ l. Free (values_on layout.opening (cells_of layout.cell_locks l)) in
@@ -130,7 +134,7 @@ first_place layout ranks lock p e =
     let same : n.0 ≡ i.0 = omega (arith, i.1) in
     some_same (f lock) p (sym (map_at f layout.locks i.0 lock i.2) ∙ ap (slice_get (map f layout.locks)) (sym same) ∙ n.2)
 
-pub sound_opened : (layout : LayoutOf) (ranks : List ℕ) → IsLayout layout → Sound (opened layout ranks) 0
+pub sound_opened : (layout : LayoutOf) (ranks : List ℕ) → IsLayout layout → Sound (opened layout ranks) nothing_promised
 sound_opened layout ranks l = (
   record {
     legal = tt;
@@ -147,7 +151,7 @@ sound_opened layout ranks l = (
     cell_count = ap length l.1.opening ∙ length-map l.0.cells.items (λ (c : Cell). c.opening) ∙ sym l.1.cells;
     thread_count = length-replicate {A = Option SessionOf} threads None;
   },
-  record { promised = sym (sum_none threads); waiting = omega arith },
+  record { promised = sym (sum_none threads); cells = sym (cells_none threads); waiting = omega arith },
 )
   where
     free_same : (a b : List Value) → Free a ≡ Free b → b ≡ a
@@ -158,15 +162,15 @@ sound_opened layout ranks l = (
 
 pub opened_from : (layout : LayoutOf) (ranks : List ℕ) (committed : CommittedOf) (places : List Place) (waiters : List Waiter) (slots : List (Option SessionOf)) (history : HistoryOf) →
     committed ≡ at_opening layout → places ≡ map (λ (l : Lock). Free (lock_values committed l)) committed.layout.locks → waiters ≡ [] → slots ≡ replicate threads None →
-    history ≡ record { commits = []; promised = 0 } → managed committed ranks places waiters slots history.commits ≡ opened layout ranks
+    history ≡ record { commits = []; promised = nothing_promised } → managed committed ranks places waiters slots history.commits ≡ opened layout ranks
 opened_from layout ranks committed places waiters slots history is places_are none closed empty =
     let all : places ≡ (opened layout ranks).places = places_are ∙ ap (λ (c : CommittedOf). map (λ (x : Lock). Free (lock_values c x)) c.layout.locks) is in
     λ i. managed (is i) ranks (all i) (none i) (closed i) (empty i).commits
 
 pub sound_from : (layout : LayoutOf) (ranks : List ℕ) (committed : CommittedOf) (places : List Place) (waiters : List Waiter) (slots : List (Option SessionOf)) (history : HistoryOf) →
     IsLayout layout → committed ≡ at_opening layout → places ≡ map (λ (l : Lock). Free (lock_values committed l)) committed.layout.locks → waiters ≡ [] → slots ≡ replicate threads None →
-    history ≡ record { commits = []; promised = 0 } → Sound (managed committed ranks places waiters slots history.commits) history.promised
+    history ≡ record { commits = []; promised = nothing_promised } → Sound (managed committed ranks places waiters slots history.commits) history.promised
 sound_from layout ranks committed places waiters slots history l is places_are none closed empty =
     let same = sym (opened_from layout ranks committed places waiters slots history is places_are none closed empty) in
-    let promised : 0 ≡ history.promised = sym (ap (λ (h : HistoryOf). h.promised) empty) in
-    subst (Sound (managed committed ranks places waiters slots history.commits)) promised (subst (λ (m : Managed). Sound m 0) same (sound_opened layout ranks l))
+    let promised : nothing_promised ≡ history.promised = sym (ap (λ (h : HistoryOf). h.promised) empty) in
+    subst (Sound (managed committed ranks places waiters slots history.commits)) promised (subst (λ (m : Managed). Sound m nothing_promised) same (sound_opened layout ranks l))

@@ -5,6 +5,7 @@ use Rattle.core_lang.specs.declared.value.Value.{Value}
 use Rattle.locks.specs.declared.lock.Lock.{Lock}
 use Rattle.code.specs.Memory.{overwritten, Agrees}
 use Rattle.moved_cells.specs.Grants.{GrantOf, cells_in, locks_of}
+use Rattle.history.specs.Histories.{PromisedOf}
 use Rattle.lock_manager.specs.declared.places.Place.{Place}
 use Rattle.lock_manager.specs.Committed.{CommittedOf, restored}
 use Rattle.lock_manager.specs.Sessions.{SessionOf}
@@ -65,7 +66,13 @@ abbrev pub sum_over : (Option SessionOf → ℕ) → List (Option SessionOf) →
 sum_over f [] = 0
 sum_over f (s ∷ ss) = f s + sum_over f ss
 
+-- the cells that an open section can touch
+abbrev pub cells_if_open : Option SessionOf → ℕ
+cells_if_open None = 0
+cells_if_open (Some s) = s.room.cells
+
 -- there is room for an entry of each open section, and no more wait than asked
-pub record IsTied (m : Managed) (promises : ℕ) : Type 0 where
-  pub promised : promises ≡ sum_over one_if_open m.slots
+pub record IsTied (m : Managed) (promises : PromisedOf) : Type 0 where
+  pub promised : promises.entries ≡ sum_over one_if_open m.slots
+  pub cells : promises.cells ≡ sum_over cells_if_open m.slots
   pub waiting : length m.waiters ≤ sum_over one_if_asking m.slots

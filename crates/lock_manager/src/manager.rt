@@ -100,7 +100,7 @@ impl<'p> Manager<'p> {
         let session = Session::new(alloc, begun, room)?;
         let slot = Session::new(alloc, begun, room)?;
         let wake = Vec::with_capacity(alloc, room.locks)?;
-        self.history.promise()?;
+        self.history.promise(room.cells)?;
         self.sections.open(thread, slot);
         Ok(Ticket {
             thread,
@@ -145,7 +145,8 @@ impl<'p> Manager<'p> {
         let position = self.history.len();
         let (thread, wake) = ticket.woken(&self.queue);
         self.committed.overwrite(entry.writes());
-        self.history.enter(entry);
+        let cells = self.sections.cells(thread);
+        self.history.enter(cells, entry);
         self.committed.put_back(&mut self.places, grants);
         self.sections.close(thread);
         Receipt { position, wake }
@@ -157,10 +158,11 @@ impl<'p> Manager<'p> {
     {
         let thread = ticket.into_thread();
         if self.are_its_grants(thread, &grants) {
+            let cells = self.sections.cells(thread);
             self.committed.restore(&mut self.places, grants);
             self.queue.leave(thread);
             self.sections.close(thread);
-            self.history.forgo();
+            self.history.forgo(cells);
         } else {
             let_go(grants);
         }

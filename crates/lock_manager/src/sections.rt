@@ -4,7 +4,7 @@ ghost use Rattle.std.specs.Prelude.{◌≡◌, ◌≢◌, ◌↔◌, ◌<◌, �
 ghost use Rattle.std.specs.List.{Contains};
 ghost use Rattle.lock_manager.specs.Sessions.{SessionOf, with_lock, with_ask};
 ghost use Rattle.lock_manager.specs.Managers.{session_in, Holds};
-ghost use Rattle.lock_manager.specs.Ties.{HasRoom, IsChanged};
+ghost use Rattle.lock_manager.specs.Ties.{HasRoom, IsChanged, cells_if_open};
 
 use crate::fitting::holds;
 use crate::session::Session;
@@ -49,6 +49,16 @@ impl Sections {
         match self.slots.get(thread as usize)? {
             Some(session) => Some(session),
             None => None,
+        }
+    }
+
+    /// How many cells a thread's section can touch; none where no section is open.
+    pub fn cells(&self, thread: u32) -> usize
+        ensures { result ≡ cells_if_open (session_in self.now thread) }
+    {
+        match self.of(thread) {
+            Some(session) => session.cells(),
+            None => 0,
         }
     }
 

@@ -67,6 +67,13 @@ impl Session {
         self.begun
     }
 
+    /// How many cells it can touch.
+    pub fn cells(&self) -> usize
+        ensures { result ≡ self.now.room.cells }
+    {
+        self.room.cells
+    }
+
     /// The locks that it holds, the oldest first.
     pub fn held(&self) -> &[Lock]
         ensures { result.now ≡ self.now.held }

@@ -14,7 +14,7 @@ use crate::pieces::push_outcome;
 use crate::record::{Record, Said, said_of};
 use core_lang::typed::{Cell, Typed};
 use core_lang::value::Value;
-use history::entry::Entry;
+use history::entries::History;
 use recorded::Format;
 use source::memory::NoMemory;
 use std::alloc::{AllocError, Global};
@@ -77,12 +77,12 @@ pub(crate) fn push_entries(
     out: &mut String,
     format: Format,
     typed: &Typed,
-    entries: &[Entry],
+    history: &History,
 ) -> Result<(), AllocError>
-    ensures { OnOk result (AddsText (commit_texts format typed.now entries.now) out.old out.new) }
+    ensures { OnOk result (AddsText (commit_texts format typed.now history.now.commits) out.old out.new) }
 {
-    for entry in entries {
-        push_entry(out, format, typed, &said_of(entry))?;
+    for position in 0..history.len() {
+        push_entry(out, format, typed, &said_of(&history.get(position)))?;
     }
     Ok(())
 }
@@ -160,14 +160,14 @@ pub fn entries_text(
     alloc: Global,
     format: Format,
     typed: &Typed,
-    entries: &[Entry],
+    history: &History,
     values: &[Value],
 ) -> Result<String, NoMemory>
     requires { vec_len typed.now.cells ≡ length values.now }
-    ensures { IfOk result (λ text. string_bytes text ≡ history_of format typed.now (map entry_of_commit entries.now) values.now) }
+    ensures { IfOk result (λ text. string_bytes text ≡ history_of format typed.now (map entry_of_commit history.now.commits) values.now) }
 {
     let mut out = first_line(alloc, format)?;
-    push_entries(&mut out, format, typed, entries)?;
+    push_entries(&mut out, format, typed, history)?;
     push_closing(&mut out, typed, values)?;
     Ok(out)
 }

@@ -4,7 +4,7 @@ ghost use Rattle.std.specs.Prelude.{◌≡◌, IfOk};
 ghost use Rattle.report.specs.Entry.{entry_of, entry_said, entry_of_commit};
 
 use core_lang::value::{Outcome, Value};
-use history::entry::Entry;
+use history::kept::Kept;
 use source::memory::NoMemory;
 use std::alloc::Global;
 
@@ -59,7 +59,7 @@ impl Record {
     /// # Errors
     ///
     /// Want of memory.
-    pub fn of(alloc: Global, entry: &Entry) -> Result<Record, NoMemory>
+    pub fn of(alloc: Global, entry: &Kept<'_>) -> Result<Record, NoMemory>
         ensures { IfOk result (λ made. entry_of made ≡ entry_of_commit entry.now) }
     {
         let said = said_of(entry);
@@ -96,7 +96,7 @@ impl Record {
 }
 
 /// What a text says of a finished section.
-pub fn said_of(entry: &Entry) -> Said<'_>
+pub fn said_of<'h>(entry: &Kept<'h>) -> Said<'h>
     ensures { entry_said result ≡ entry_of_commit entry.now }
 {
     let call = Called {

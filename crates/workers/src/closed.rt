@@ -4,7 +4,7 @@ ghost use Rattle.std.specs.Prelude.{◌≡◌, ◌<◌, length, slice_get, Some}
 ghost use Rattle.lock_manager.specs.Managers.{IsQuiet};
 
 use core_lang::value::Value;
-use history::entry::Entry;
+use history::entries::History;
 use lock_manager::manager::Manager;
 use std::marker::Model;
 
@@ -26,10 +26,10 @@ impl<'p> Model for Closed<'p> {
 
 impl<'p> Closed<'p> {
     /// The entries, the first one first.
-    pub fn history(&self) -> &[Entry]
-        ensures { result.now ≡ self.now.history }
+    pub fn history(&self) -> &History
+        ensures { result.now.commits ≡ self.now.history }
     {
-        self.manager.history().entries()
+        self.manager.history()
     }
 
     /// What the entries leave in a cell.

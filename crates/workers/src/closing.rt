@@ -7,28 +7,29 @@ ghost use Rattle.workers.specs.Answers.{IsSeated, AnswersAreIn, reply_at, replie
 use crate::naming::Naming;
 use crate::seat::{Reply, Seat};
 use core_lang::value::Value;
-use history::entry::Entry;
+use history::entries::History;
+use history::kept::Kept;
 
 /// Whether each seat's answers are its thread's entries.
-pub fn all_answered<J: Naming>(seats: &[Seat<J>], log: &[Entry]) -> bool
-    ensures { IsTrue result → All (AnswersAreIn log.now) seats.now }
+pub fn all_answered<J: Naming>(seats: &[Seat<J>], log: &History) -> bool
+    ensures { IsTrue result → All (AnswersAreIn log.now.commits) seats.now }
 {
     seats.iter().all(|s| is_answered(s, log))
 }
 
 /// Whether each entry's thread has a seat.
-pub fn are_seated<J: Naming>(seats: &[Seat<J>], log: &[Entry]) -> bool
-    ensures { IsTrue result → All (IsSeated seats.now) log.now }
+pub fn are_seated<J: Naming>(seats: &[Seat<J>], log: &History) -> bool
+    ensures { IsTrue result → All (IsSeated seats.now) log.now.commits }
 {
-    for e in log {
-        if !is_seated(seats, e) {
+    for position in 0..log.len() {
+        if !is_seated(seats, &log.get(position)) {
             return false;
         }
     }
     true
 }
 
-fn is_seated<J: Naming>(seats: &[Seat<J>], e: &Entry) -> bool
+fn is_seated<J: Naming>(seats: &[Seat<J>], e: &Kept<'_>) -> bool
     ensures { IsTrue result → IsSeated seats.now e.now }
 {
     for s in seats {
@@ -39,19 +40,20 @@ fn is_seated<J: Naming>(seats: &[Seat<J>], e: &Entry) -> bool
     false
 }
 
-fn is_answered<J: Naming>(seat: &Seat<J>, log: &[Entry]) -> bool
-    ensures { IsTrue result → AnswersAreIn log.now seat.now }
+fn is_answered<J: Naming>(seat: &Seat<J>, log: &History) -> bool
+    ensures { IsTrue result → AnswersAreIn log.now.commits seat.now }
 {
     are_entries(seat.thread(), seat.answers.as_slice(), log)
 }
 
-fn are_entries(thread: u32, answers: &[Reply], log: &[Entry]) -> bool
-    ensures { IsTrue result → (answers.now ≡ replies_of thread 0 log.now) × (in_step thread 0 log.now ≡ true) }
+fn are_entries(thread: u32, answers: &[Reply], log: &History) -> bool
+    ensures { IsTrue result → (answers.now ≡ replies_of thread 0 log.now.commits) × (in_step thread 0 log.now.commits ≡ true) }
 {
     let mut at = 0;
-    for (position, e) in log.iter().enumerate() {
+    for position in 0..log.len() {
+        let e = log.get(position);
         if e.thread() == thread {
-            if at >= answers.len() || e.step() != at || !is_answer(&answers[at], position, e) {
+            if at >= answers.len() || e.step() != at || !is_answer(&answers[at], position, &e) {
                 return false;
             }
             at += 1;
@@ -60,7 +62,7 @@ fn are_entries(thread: u32, answers: &[Reply], log: &[Entry]) -> bool
     at == answers.len()
 }
 
-fn is_answer(reply: &Reply, position: usize, e: &Entry) -> bool
+fn is_answer(reply: &Reply, position: usize, e: &Kept<'_>) -> bool
     ensures { IsTrue result → reply.now ≡ reply_at position e.now }
 {
     if reply.position != position || reply.begun != e.begun() || reply.section != e.section() {

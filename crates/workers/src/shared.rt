@@ -277,7 +277,7 @@ impl<'p, J: Naming> Shared<'p, J> {
             return Err(Strange);
         };
         manager.keeps_its_rules();
-        let history = manager.history().entries();
+        let history = manager.history();
         if !all_answered(seats.as_slice(), history) {
             return Err(Strange);
         }

@@ -27,7 +27,7 @@ forgo-requires c =
     let x = c.self.inside in
     let m = managed x.committed x.ranks.now x.places.items x.queue x.sections x.history.commits in
     let its = subst (λ (v : Managed). AreItsGrants v c.into_thread-thread.result c.deref.result.now) (sym c.self.view_is) (c.are_its_grants.ensures.0 c.if-are_its_grants.true) in
-    promised_one m x.history.promised c.into_thread-thread.result its.session c.self.invariant its.is
+    promised_one m x.history.promised c.into_thread-thread.result c.cells-cells.result its.session c.self.invariant its.is c.cells-cells.ensures
 
 pub invariant_of-self : goal.invariant_of-self
 invariant_of-self c =
@@ -35,8 +35,8 @@ invariant_of-self c =
     let m = managed x.committed x.ranks.now x.places.items x.queue x.sections x.history.commits in
     let its = subst (λ (gs : List GrantOf). AreItsGrants m c.into_thread-thread.result gs) c.deref.ensures.value
     (subst (λ (v : Managed). AreItsGrants v c.into_thread-thread.result c.deref.result.now) (sym c.self.view_is) (c.are_its_grants.ensures.0 c.if-are_its_grants.true)) in
-    (sound_give_up m x.history.promised c.into_thread-thread.result c.args.grants.items c.restore.new.places.items c.leave.new.self c.close.new.self c.forgo.new.self.commits c.forgo.new.self.promised
-    c.self.invariant its c.restore.ensures c.leave.ensures c.close.ensures c.forgo.ensures.commits c.forgo.ensures.promised).1
+    (sound_give_up m x.history.promised c.into_thread-thread.result c.args.grants.items c.restore.new.places.items c.leave.new.self c.close.new.self c.forgo.new.self.commits c.forgo.new.self.promised c.cells-cells.result
+    c.self.invariant its c.restore.ensures c.leave.ensures c.close.ensures c.forgo.ensures.commits c.forgo.ensures.promised c.cells-cells.ensures).1
 
 pub restore-requires-clause-whole : goal.restore-requires-clause-whole
 restore-requires-clause-whole c =

@@ -3,7 +3,8 @@ use Rattle.std.specs.List.{All, Contains}
 use Rattle.code.specs.Memory.{overwritten}
 use Rattle.moved_cells.specs.Grants.{GrantOf}
 use Rattle.lock_manager.specs.Committed.{CommittedOf, IsWithin, with_writes}
-use Rattle.lock_manager.specs.Managers.{Managed, managed, given_back, threads}
+use Rattle.lock_manager.specs.Managers.{Managed, managed, given_back, threads, session_in}
+use Rattle.lock_manager.specs.Ties.{cells_if_open}
 use Rattle.lock_manager.specs.Calls.{Knows, Fits, after_release, first_waiters}
 use Rattle.lock_manager.proofs.Rules.{listed_held, listed_grants, thread_within, writes_within}
 use Rattle.lock_manager.proofs.Sound.{Sound, promised_one, sound_release}
@@ -20,7 +21,8 @@ pub enter-requires : goal.enter-requires
 enter-requires c =
     let x = c.self.inside in
     let m = managed x.committed x.ranks.now x.places.items x.queue x.sections x.history.commits in
-    promised_one m x.history.promised c.args.ticket.thread c.args.ticket.session c.self.invariant (subst (λ (v : Managed). Knows v c.args.ticket) (sym c.self.view_is) c.requires.known)
+    promised_one m x.history.promised c.args.ticket.thread c.cells-cells.result c.args.ticket.session c.self.invariant (subst (λ (v : Managed). Knows v c.args.ticket) (sym c.self.view_is) c.requires.known)
+    (c.cells-cells.ensures ∙ ap (λ (t : ℕ). cells_if_open (session_in x.sections t)) c.woken-thread.ensures.thread)
 
 pub put_back-requires-clause-listed : goal.put_back-requires-clause-listed
 put_back-requires-clause-listed c =
@@ -46,13 +48,14 @@ invariant_of-self c =
     let fits = subst (λ (v : Managed). Fits v c.args.ticket c.args.grants.items c.args.entry) (sym c.self.view_is) c.requires.fits in
     subst (λ (v : CommittedOf). Sound (managed v x.ranks.now c.put_back.new.places.items x.queue c.close.new.self c.enter.new.self.commits) c.enter.new.self.promised) (sym c.overwrite.ensures)
     (sound_release m x.history.promised c.args.ticket c.args.grants.items c.args.entry c.put_back.new.places.items c.close.new.self c.enter.new.self.commits
-    (overwritten x.committed.values c.writes.result.now) c.enter.new.self.promised c.self.invariant known fits
+    (overwritten x.committed.values c.writes.result.now) c.enter.new.self.promised c.cells-cells.result c.self.invariant known fits
     c.commuting.ensures.writes c.one_entry_more.ensures.heap c.one_entry_more.ensures.legal
     (c.put_back.ensures ∙ ap (λ (v : CommittedOf). given_back v.layout.locks x.places.items c.args.grants.items) c.overwrite.ensures)
     (c.close.ensures ∙ ap (λ (t : ℕ). set x.sections t None) c.woken-thread.ensures.thread)
     c.enter.ensures.commits
     (ap (overwritten x.committed.values) c.writes.ensures)
-    c.enter.ensures.promised)
+    c.enter.ensures.promised
+    (c.cells-cells.ensures ∙ ap (λ (t : ℕ). cells_if_open (session_in x.sections t)) c.woken-thread.ensures.thread))
 
 pub put_back-requires-clause-count : goal.put_back-requires-clause-count
 put_back-requires-clause-count c = c.self.invariant.0.lock_count ∙ sym (ap (λ (v : CommittedOf). length v.layout.locks) c.overwrite.ensures)
