@@ -18,9 +18,11 @@ python3 - "$program" "$work" "$rounds" <<'PYTHON'
 import os, subprocess, sys, time
 program, work, rounds = sys.argv[1], sys.argv[2], int(sys.argv[3])
 
-def write(name, text):
+# A run's peak counts what this process had when it started it, so no large text is made here.
+def write(name, text, times=1):
     with open(f"{work}/{name}", "w") as file:
-        file.write(text)
+        for _ in range(times):
+            file.write(text)
     return f"{work}/{name}"
 
 def run(words):
@@ -43,7 +45,7 @@ INC = "atomic inc() { n = n + 1; }\n"
 one = write("one.al", HEAD + COUNT + "thread t { repeat 100000 { count(6); } }\n")
 two = write("two.al", HEAD + COUNT + "thread t { repeat 50000 { count(6); } }\nthread u { repeat 50000 { count(6); } }\n")
 at_once = write("at_once.steps", "0*10000000\n")
-in_turn = write("in_turn.steps", "0 1\n" * 5000000)
+in_turn = write("in_turn.steps", "0 1\n" * 1000, 5000)
 for name, words in [
     ("one thread, 0*10000000", ["simulate", one, at_once]),
     ("one thread, serial", ["serial", one]),
