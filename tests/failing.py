@@ -13,7 +13,8 @@
                 growths alone; of each test of `thread_tests` some 300 growths, spread over all
 FILE..          programs, by default those of examples/; of `cases` files of crates/cases/data, by default all.
                 Where a file of steps lies beside a program, simulate takes it, else some steps of its threads in turn.
-                replay takes what serial writes of the program; run and replay pass over those that don't end
+                replay takes what serial writes of the program, and with --why that with another value of the first cell;
+                run and replay pass over those that don't end
 
 The program is run once to count its calls, and then once for each of them with this call failing, which
 tests/failing/failing.c does where it is preloaded. A refused growth must end with status 4, the line
@@ -119,6 +120,15 @@ def fail_each(part):
     return runs, failed
 
 
+def with_other_cell(history):
+    """A history whose first cell holds another number."""
+    lines = history.split(b"\n")
+    at = lines.index(b"cells") + 1
+    if lines[at] != b"end":
+        lines[at] = lines[at].rsplit(b" ", 1)[0] + b" 7771"
+    return b"\n".join(lines)
+
+
 def of_autolock(a, room):
     program = str((a.program or TOP / "crates/autolock/out/autolock").resolve())
     drawn = pathlib.Path(room, "steps")
@@ -138,6 +148,11 @@ def of_autolock(a, room):
             turns = ["--turns", str(a.turns)] * (command in ("serial", "replay"))
             judged = {**judges, "growth": wrong_growth_of_run} if command == "run" else judges
             yield Subject([program, command, *turns, *names], names, judged, a.every)
+            if command == "replay":
+                other = pathlib.Path(room, f"other-{number}")
+                other.write_bytes(with_other_cell(told.stdout))
+                names = [str(file), str(other)]
+                yield Subject([program, command, *turns, "--why", *names], names, judged, a.every)
 
 
 def of_cases(a):
