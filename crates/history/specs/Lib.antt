@@ -3,6 +3,8 @@ pub mod Histories
 pub mod Arrays
 pub mod Lists
 pub mod Laws
+pub mod Copies
 pub use Rattle.code.specs.Memory.{overwritten, Agrees}
 pub use Rattle.history.specs.Commits.{Commit, call_of, answer_of, finished_on, script_call, committed, IsLegal, IsTrueCommit, AreTrue, WritesNot, NoneWrites}
 pub use Rattle.history.specs.Histories.{HistoryOf, PromisedOf, nothing_promised, with_promise, IsPromised}
+pub use Rattle.history.specs.Copies.{CopyRoomOf, HasRoom}

@@ -5,12 +5,14 @@
 //! - [`laws::commuting`]: entries that don't write a cell leave its value.
 //! - [`entries::History`]: the entries, in order, with their lists in a few arrays.
 //! - [`entry::Entry`], [`kept::Kept`]: a finished section with lists of its own, and one that a history lends.
+//! - [`copies::CopyRoom`]: room for a copy of a finished section, made before.
 //!
 //! `specs/` defines finished sections as data, which lists of them are legal and when one is true (`Commits`), what the
-//! laws claim (`Laws`), and a history as a value (`Histories`). `Arrays` and `Lists` only say what the code relies on;
-//! nobody has to believe them.
+//! laws claim (`Laws`), a history as a value (`Histories`), and for what a copy has room (`Copies`). `Arrays` and `Lists`
+//! only say what the code relies on; nobody has to believe them.
 #![tactic(auto)]
 
+pub mod copies;
 pub mod entries;
 pub mod entry;
 pub mod kept;
