@@ -4,6 +4,7 @@ ghost use Rattle.std.specs.Prelude.{◌≡◌, ◌≤◌, ◌+◌, ◌++◌, ◌
 ghost use Rattle.history.specs.Copies.{HasRoom};
 
 use crate::entry::{CellValue, Entry};
+use crate::kept::Kept;
 use core_lang::value::Value;
 use source::memory::NoMemory;
 use std::alloc::Global;
@@ -104,8 +105,8 @@ impl Entry {
         }
     }
 
-    /// Whether both are the same.
-    pub fn is_same(&self, other: &Entry) -> bool
+    /// Whether an entry of a history is the same.
+    pub fn is_same(&self, other: &Kept<'_>) -> bool
         ensures { IsTrue result → self.now ≡ other.now }
     {
         if self.thread != other.thread || self.step != other.step || self.section != other.section {
@@ -114,16 +115,16 @@ impl Entry {
         if self.begun != other.begun || self.outcome != other.outcome {
             return false;
         }
-        if !same_values(&self.arguments, &other.arguments) {
+        if !same_values(&self.arguments, other.arguments) {
             return false;
         }
-        if !same_cells(&self.reads, &other.reads) {
+        if !same_cells(&self.reads, other.reads) {
             return false;
         }
-        if !same_cells(&self.writes, &other.writes) {
+        if !same_cells(&self.writes, other.writes) {
             return false;
         }
-        same_numbers(&self.prints, &other.prints)
+        same_numbers(&self.prints, other.prints)
     }
 }
 
@@ -158,20 +159,20 @@ fn fill_numbers(into: &mut Vec<i64>, from: &Vec<i64>)
     }
 }
 
-fn same_values(a: &Vec<Value>, b: &Vec<Value>) -> bool
-    ensures { IsTrue result → a.now.items ≡ b.now.items }
+fn same_values(a: &Vec<Value>, b: &[Value]) -> bool
+    ensures { IsTrue result → a.now.items ≡ b.now }
 {
-    a.as_slice() == b.as_slice()
+    a.as_slice() == b
 }
 
-fn same_cells(a: &Vec<CellValue>, b: &Vec<CellValue>) -> bool
-    ensures { IsTrue result → a.now.items ≡ b.now.items }
+fn same_cells(a: &Vec<CellValue>, b: &[CellValue]) -> bool
+    ensures { IsTrue result → a.now.items ≡ b.now }
 {
-    a.as_slice() == b.as_slice()
+    a.as_slice() == b
 }
 
-fn same_numbers(a: &Vec<i64>, b: &Vec<i64>) -> bool
-    ensures { IsTrue result → a.now.items ≡ b.now.items }
+fn same_numbers(a: &Vec<i64>, b: &[i64]) -> bool
+    ensures { IsTrue result → a.now.items ≡ b.now }
 {
-    a.as_slice() == b.as_slice()
+    a.as_slice() == b
 }

@@ -1,18 +1,17 @@
 -- What a hold of the lock leaves under it.
-use Rattle.std.proofs.Common.{◌≡◌, ◌<◌, ◌≤◌, ◌+◌, ℕ, zero, suc, false, List, [], ◌∷◌, length, Option, Some, None, is_some, refl, sym, ap, ◌∙◌, subst, arith, true≢false}
-use Rattle.std.specs.Prelude.{slice_get}
+use Rattle.std.proofs.Common.{◌≡◌, ◌≤◌, ℕ, suc, List, [], ◌∷◌, length, refl, sym, ap, ◌∙◌, subst}
 use Rattle.std.proofs.lemmas.List.{length-map}
 use Rattle.core_lang.specs.declared.value.Value.{Value}
 use Rattle.core_lang.specs.declared.value.ValueType.{ValueType}
 use Rattle.core_lang.specs.declared.shape.Shape.{Shape}
 use Rattle.core_lang.specs.declared.typed.Typed.{Typed}
 use Rattle.core_lang.specs.declared.typed.Cell.{Cell}
-use Rattle.core_lang.specs.Typing.{HaveTypes, IsHeap, HasCells, lookup, cell_types}
+use Rattle.core_lang.specs.Typing.{HaveTypes, IsHeap, HasCells, cell_types}
 use Rattle.layout.specs.Layouts.{LayoutOf}
 use Rattle.code.specs.Memory.{Agrees}
 use Rattle.history.specs.Commits.{committed, IsLegal, AreTrue}
 use Rattle.history.specs.Laws.{TrueOfOneMore}
-use Rattle.lock_manager.specs.Sessions.{SessionOf, ReceiptOf}
+use Rattle.lock_manager.specs.Sessions.{ReceiptOf}
 use Rattle.lock_manager.specs.Managers.{Managed, IsKept}
 use Rattle.lock_manager.specs.Calls.{KeepsEntries}
 use Rattle.lowering.specs.Plans.{Plan}

@@ -2,4 +2,5 @@ pub mod Passing
 pub mod Scripts
 pub mod Guarding
 pub mod Seats
-pub mod Crossing
+pub mod Rows
+pub mod CellValues

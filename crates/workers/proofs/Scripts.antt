@@ -1,5 +1,5 @@
 -- Where the seats are those of all threads, the history has their scripts.
-use Rattle.std.proofs.Common.{◌≡◌, ℕ, ◌+◌, ◌<◌, List, [], ◌∷◌, ◌++◌, length, sym, ◌∙◌, ap, map, take, get_or, rules, arith, Some, Option, None, slice_get, option_map}
+use Rattle.std.proofs.Common.{◌≡◌, ℕ, ◌+◌, ◌<◌, List, [], ◌∷◌, ◌++◌, length, sym, ◌∙◌, ap, map, take, get_or, arith, Some, Option, None, slice_get, option_map}
 use Rattle.std.proofs.lemmas.Option.{slice_get-map, slice_get_within, get_or_from_slice_get}
 use Rattle.std.specs.Option.{option_map_or}
 use Rattle.std.proofs.lemmas.List.{length-map, map-append, take_all, take_more}
@@ -16,7 +16,7 @@ use Rattle.workers.specs.Answers.{AnswersAreIn, HasScript, call_in, replies_of, 
 
 pub has_script : (plan : Plan) (count : ℕ) (seats : List SeatOf) (log : List Commit) → AreInOrder plan count seats → All (AnswersAreIn log) seats → (t : ℕ) → t < count → HasScript plan log t
 has_script plan count seats log order sit t below =
-    let d : SeatOf = record { thread = 0; answers = [] } in
+    let d : SeatOf = record { thread = 0; answers = []; row = []; seen = [] } in
     let s = get_or seats t d in
     let k : t < length seats = omega (arith, order.long) in
     let is : s.thread ≡ t = order.threads t d k in

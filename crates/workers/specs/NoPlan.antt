@@ -1,5 +1,5 @@
 -- The program that a marker names where no call picks one: nothing.
-use Rattle.std.specs.Prelude.{ℕ, ◌^◌, List, []}
+use Rattle.std.specs.Prelude.{◌^◌, []}
 use Rattle.std.proofs.Common.{refl, lit<, lit≤, Vec, Global}
 use denote.RawPtr.{null_ptr}
 use Rattle.lowering.specs.Plans.{Plan}

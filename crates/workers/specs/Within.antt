@@ -1,6 +1,6 @@
 -- What the parts of a call, and of a run of all scripts, tell each other. It mirrors the code: nobody has to believe
 -- it.
-use Rattle.std.specs.Prelude.{◌≡◌, ◌≤◌, ◌<◌, ◌+◌, ◌^◌, ℕ, List, length, map, Some, None, slice_get, slice_index_or}
+use Rattle.std.specs.Prelude.{◌≡◌, ◌≤◌, ◌<◌, ◌+◌, ◌^◌, ℕ, List, length, map, Some, None, slice_index_or}
 use Rattle.core_lang.specs.declared.value.Value.{Value}
 use Rattle.core_lang.specs.declared.value.Outcome.{Outcome}
 use Rattle.core_lang.specs.declared.typed.Call.{Call}
@@ -13,16 +13,17 @@ use Rattle.lowering.specs.Plans.{Plan}
 use Rattle.worlds.specs.Worlds.{call_at}
 use Rattle.runner.specs.Opens.{ReadyOf, PoisedOf, OpenOf, entry_of}
 use Rattle.workers.specs.Seats.{ReplyOf, SeatOf, AllBelow, reply}
-use Rattle.workers.specs.Answers.{IsSound, IsAnswer, call_in, script_at}
+use Rattle.workers.specs.Answers.{IsSound, IsAnswer, reply_at, call_in, script_at}
+use Rattle.workers.specs.Rows.{SeenOf, SeesOwn}
 use Rattle.workers.specs.declared.seat.Done.{Done}
 
 -- ---- a seat
 
--- its next call has the number of its answers, and these stand below a floor
-pub record IsSeat (thread step floor : ℕ) (answers : List ReplyOf) : Type 0 where
+-- its next call has the number of its answers, and these stand among the copies that it has seen
+pub record IsSeat (thread step : ℕ) (answers : List ReplyOf) (log : List Commit) : Type 0 where
   pub few : thread < 64
   pub step_is : step ≡ length answers
-  pub below : AllBelow floor answers
+  pub below : AllBelow (length log) answers
 
 -- ---- the parts of a call
 
@@ -32,6 +33,15 @@ pub record IsBegun (p : PoisedOf) (o : OpenOf) : Type 0 where
   pub thread : o.thread ≡ p.thread
   pub step : o.step ≡ p.step
   pub call : o.activation.call ≡ p.call
+
+-- a call of a thread has begun, and there is room for its answer
+pub record HasBegun (plan : Plan) (call : Invocation) (ready : ReadyOf) (arguments : List Value) (o : OpenOf) : Type 0
+  where
+    pub room : arguments ≡ call.arguments
+    pub plan_is : o.plan ≡ plan
+    pub thread : o.thread ≡ ready.thread
+    pub step : o.step ≡ ready.step
+    pub call_is : o.activation.call ≡ call
 
 -- its entry stands behind a sound log of this length, is true, and read what that log left; it began at a floor or
 -- above
@@ -56,11 +66,13 @@ noted arguments entry = record {
   prints = entry.prints;
 }
 
--- what is kept and what is told of it
-pub record IsNotedOf (arguments : List Value) (entry : Commit) (kept : ReplyOf) (told : Done) : Type 0 where
-  pub kept_is : kept ≡ noted arguments entry
-  pub outcome : told.outcome ≡ entry.outcome
-  pub prints : told.prints.items ≡ entry.prints
+-- what is kept and what is told of it, and its copy
+pub record IsNotedOf (arguments : List Value) (entry : Commit) (kept : ReplyOf) (told : Done) (copy : Commit) : Type 0
+  where
+    pub kept_is : kept ≡ noted arguments entry
+    pub outcome : told.outcome ≡ entry.outcome
+    pub prints : told.prints.items ≡ entry.prints
+    pub copy_is : copy ≡ entry
 
 -- an answered call: what is kept and what is told of it, and the thread, with the number of its next call
 pub record HasAnswer (plan : Plan) (call : Invocation) (floor : ℕ) (ready ready' : ReadyOf) (kept : ReplyOf)
@@ -71,6 +83,16 @@ pub record HasAnswer (plan : Plan) (call : Invocation) (floor : ℕ) (ready read
   pub at_most : kept.begun ≤ told.position
   pub small : told.position + 1 < 2 ^ 64
   pub ready_is : ready' ≡ record { thread = ready.thread; step = ready.step + 1 }
+
+-- and what its seat has seen then
+pub record HasSeen (plan : Plan) (ready : ReadyOf) (position : ℕ) (old new : SeenOf) (kept : ReplyOf) : Type 0 where
+  pub row : new.known.row ≡ old.known.row
+  pub entry : Commit
+  pub own : entry.thread ≡ ready.thread
+  pub step : entry.step ≡ ready.step
+  pub kept_is : kept ≡ reply_at position entry
+  pub seen : SeesOwn ready.thread position entry old.log new.log
+  pub sound : IsSound plan new.log
 
 -- ---- scripts
 

@@ -1,21 +1,23 @@
 //! Room for an answer.
 
-ghost use Rattle.std.specs.Prelude.{◌≡◌, ◌≤◌, ◌+◌, ◌++◌, length, IfOk, vec_len, vec_capacity};
+ghost use Rattle.std.specs.Prelude.{◌≡◌, ◌≤◌, ◌+◌, ◌++◌, length, IfOk, IfSome, vec_len, vec_capacity};
 
 use crate::seat::{Done, Reply};
 use core_lang::value::Value;
+use history::copies::CopyRoom;
 use history::entry::Entry;
 use source::memory::NoMemory;
 use std::alloc::Global;
 use std::marker::Model;
 
-/// Room for an answer, and for what the seat keeps of it: made before a call begins, so that its answer is never
-/// refused. As a value it is the call's arguments.
+/// Room for an answer, for what the seat keeps of it, and for a copy of its entry: made before a call begins, so that its
+/// answer is never refused. As a value it is the call's arguments.
 #[derive(Drop)]
 pub(crate) struct AnswerRoom {
     arguments: Vec<Value>,
     kept: Vec<i64>,
     told: Vec<i64>,
+    copy: CopyRoom,
 }
 
 impl Model for AnswerRoom {
@@ -34,14 +36,15 @@ impl Model for AnswerRoom {
 impl AnswerRoom {
     ghost use Rattle.workers.specs.Within.{IsNotedOf};
 
-    /// For a call with these arguments.
+    /// For a call with these arguments, which reads and writes at most so many cells.
     ///
     /// # Errors
     ///
     /// Want of memory.
-    pub fn new(alloc: Global, arguments: &[Value]) -> Result<AnswerRoom, NoMemory>
+    pub fn new(alloc: Global, arguments: &[Value], cells: usize) -> Result<AnswerRoom, NoMemory>
         ensures { IfOk result (λ room. room ≡ arguments.now) }
     {
+        let copy = CopyRoom::new(alloc, arguments.len(), cells, 256)?;
         let arguments = Vec::from_slice(alloc, arguments)?;
         let kept = Vec::with_capacity(alloc, 256)?;
         let told = Vec::with_capacity(alloc, 256)?;
@@ -49,22 +52,27 @@ impl AnswerRoom {
             arguments,
             kept,
             told,
+            copy,
         })
     }
 
-    /// The answer that an entry gives. Its position is still to come.
-    pub fn of(self, entry: &Entry) -> (Reply, Done)
+    /// The answer that an entry gives, with the entry's copy, where there is room for this. Its position is still to come.
+    pub fn of(self, entry: &Entry) -> Option<(Reply, Done, Entry)>
         requires { length entry.now.prints ≤ 256 }
-        ensures { IsNotedOf self entry.now result.0 result.1 }
+        ensures { IfSome result (λ r. IsNotedOf self entry.now r.0 r.1 r.2) }
     {
         let AnswerRoom {
             arguments,
             mut kept,
             mut told,
+            copy,
         } = self;
+        if !copy.holds(entry) {
+            return None;
+        }
         append(&mut kept, entry.prints());
         append(&mut told, entry.prints());
-        (
+        Some((
             Reply {
                 position: 0,
                 begun: entry.begun(),
@@ -78,7 +86,8 @@ impl AnswerRoom {
                 outcome: entry.outcome(),
                 prints: told,
             },
-        )
+            entry.copy_into(copy),
+        ))
     }
 }
 

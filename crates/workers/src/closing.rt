@@ -1,8 +1,9 @@
-//! Whether the seats' answers are just the history's entries.
+//! Whether the seats' answers are just the history's entries, and whether they have seen these.
 
 ghost use Rattle.std.specs.Prelude.{◌≡◌, true, IsTrue, map};
 ghost use Rattle.std.specs.List.{All};
 ghost use Rattle.workers.specs.Answers.{IsSeated, AnswersAreIn, reply_at, replies_of, in_step};
+ghost use Rattle.workers.specs.Seen.{SeenIsIn};
 
 use crate::naming::Naming;
 use crate::seat::{Reply, Seat};
@@ -11,14 +12,27 @@ use history::entries::History;
 use history::kept::Kept;
 
 /// Whether each seat's answers are its thread's entries.
-pub fn all_answered<J: Naming>(seats: &[Seat<J>], log: &History) -> bool
+pub fn all_answered<J: Naming>(seats: &[Seat<'_, J>], log: &History) -> bool
     ensures { IsTrue result → All (AnswersAreIn log.now.commits) seats.now }
 {
     seats.iter().all(|s| is_answered(s, log))
 }
 
+/// Whether what each seat has seen begins the entries.
+pub fn all_seen<J: Naming>(seats: &[Seat<'_, J>], log: &History) -> bool
+    ensures { IsTrue result → All (SeenIsIn log.now.commits) seats.now }
+{
+    seats.iter().all(|s| has_seen(s, log))
+}
+
+fn has_seen<J: Naming>(seat: &Seat<'_, J>, log: &History) -> bool
+    ensures { IsTrue result → SeenIsIn log.now.commits seat.now }
+{
+    seat.seen.begins(log)
+}
+
 /// Whether each entry's thread has a seat.
-pub fn are_seated<J: Naming>(seats: &[Seat<J>], log: &History) -> bool
+pub fn are_seated<J: Naming>(seats: &[Seat<'_, J>], log: &History) -> bool
     ensures { IsTrue result → All (IsSeated seats.now) log.now.commits }
 {
     for position in 0..log.len() {
@@ -29,7 +43,7 @@ pub fn are_seated<J: Naming>(seats: &[Seat<J>], log: &History) -> bool
     true
 }
 
-fn is_seated<J: Naming>(seats: &[Seat<J>], e: &Kept<'_>) -> bool
+fn is_seated<J: Naming>(seats: &[Seat<'_, J>], e: &Kept<'_>) -> bool
     ensures { IsTrue result → IsSeated seats.now e.now }
 {
     for s in seats {
@@ -40,7 +54,7 @@ fn is_seated<J: Naming>(seats: &[Seat<J>], e: &Kept<'_>) -> bool
     false
 }
 
-fn is_answered<J: Naming>(seat: &Seat<J>, log: &History) -> bool
+fn is_answered<J: Naming>(seat: &Seat<'_, J>, log: &History) -> bool
     ensures { IsTrue result → AnswersAreIn log.now.commits seat.now }
 {
     are_entries(seat.thread(), seat.answers.as_slice(), log)

@@ -1,15 +1,20 @@
 //! What lies under the Mutex.
 
-ghost use Rattle.std.specs.Prelude.{◌≡◌, ◌<◌, ◌+◌, ◌^◌, IfOk, IfErr, IfSome};
+ghost use Rattle.std.specs.Prelude.{◌≡◌, ◌<◌, ◌+◌, ◌^◌, IfOk, IfErr, OnOk, IfSome};
 ghost use Rattle.locks.specs.Waiting.{HasNoCycle};
 ghost use Rattle.lock_manager.specs.Managers.{opened, askers_of, IsKept, IsQuiet};
-ghost use Rattle.runner.specs.Opens.{ready_of, ready_again};
+ghost use Rattle.runner.specs.Opens.{IsItsEntry, ready_of, ready_again};
 ghost use Rattle.runner.specs.Answers.{GoesOnSame};
 ghost use Rattle.workers.specs.Guarding.{IsManagerOf};
+ghost use Rattle.workers.specs.Answers.{IsSound};
 ghost use Rattle.workers.specs.Within.{IsBegun, IsEntered};
+ghost use Rattle.workers.specs.Rows.{IsSameSeen, SeesMore, SeesOwn};
 
 use crate::naming::Naming;
+use crate::row::TrueCopy;
 use crate::seat::CallRefusal;
+use crate::seen::Seen;
+use history::entry::Entry;
 use lock_manager::manager::Manager;
 use lock_manager::ticket::Receipt;
 use lowering::compiled::Program;
@@ -17,6 +22,7 @@ use runner::states::{Asked, Asking, Ended, Poised, Ready, Running};
 use source::memory::NoMemory;
 use std::alloc::Global;
 use std::marker::{Model, PhantomData};
+use std::sync::Wait;
 
 /// What the Mutex guards: a manager of the program that `J` names, whose entries are true. As a value it is the
 /// manager.
@@ -58,22 +64,30 @@ impl<'p, J: Naming> Guarded<'p, J> {
         })
     }
 
-    /// Begins a call.
+    /// Begins a call, with a place in the row for the copy of its entry.
     ///
     /// # Errors
     ///
     /// Want of memory, or the thread has a section open; nothing has begun.
-    pub fn begin(
+    pub fn begin<R: Wait>(
         &mut self,
+        rt: &R,
         alloc: Global,
         poised: Poised<'p>,
+        seen: &mut Seen<'_, J>,
     ) -> Result<Running<'p>, (Ready, CallRefusal)>
         requires thread { poised.thread < 64 }
         ensures ok { IfOk result (λ running. IsBegun poised.entry running) }
         ensures err { IfErr result (λ e. e.0 ≡ ready_of poised.entry) }
+        ensures same { IsSameSeen seen.old seen.new }
     {
         if self.manager.is_open(poised.thread()) {
             return Err((poised.let_go(), CallRefusal::Strange));
+        }
+        // Until it ends, no more than one section of each thread that is open now can end without having made its own.
+        let places = self.manager.history().len().saturating_add(64);
+        if seen.make(rt, alloc, places).is_err() {
+            return Err((poised.let_go(), CallRefusal::NoMemory));
         }
         match poised.begin(alloc, &mut self.manager) {
             Ok(running) => Ok(running),
@@ -97,14 +111,25 @@ impl<'p, J: Naming> Guarded<'p, J> {
         Ok(asking.ask(&mut self.manager))
     }
 
-    /// Enters the entry of a section that began when the history was at least as long as the floor.
+    /// Enters the entry of a section that began when the history was at least as long as the floor. Ahead of that its
+    /// thread has seen the copies of all entries, and has set its own's copy.
     ///
     /// # Errors
     ///
-    /// It doesn't fit; the section has ended without an entry.
-    pub fn finish(&mut self, floor: usize, ended: Ended<'p>) -> Result<(Ready, Receipt), Ready>
-        requires { ended.plan ≡ J.plan }
+    /// It doesn't fit, or a copy isn't there, or isn't what it should be; the section has ended without an entry.
+    pub fn finish(
+        &mut self,
+        floor: usize,
+        ended: Ended<'p>,
+        copy: Entry,
+        seen: &mut Seen<'_, J>,
+    ) -> Result<(Ready, Receipt), Ready>
+        requires plan { ended.plan ≡ J.plan }
+        requires copy { IsItsEntry ended copy }
         ensures entered { IfOk result (λ r. IsEntered J.plan floor ended.entry r.1.position) }
+        ensures more { SeesMore seen.old seen.new }
+        ensures own { IfOk result (λ r. SeesOwn ended.entry.thread r.1.position copy seen.old.log seen.new.log) }
+        ensures sound { OnOk result (IsSound J.plan seen.new.log) }
         ensures small { IfOk result (λ r. r.1.position + 1 < 2 ^ 64) }
         ensures ok { IfOk result (λ r. r.0 ≡ record { thread = ended.entry.thread; step = ended.entry.step + 1 }) }
         ensures err { IfErr result (λ ready. ready ≡ ready_again ended.entry) }
@@ -120,9 +145,19 @@ impl<'p, J: Naming> Guarded<'p, J> {
             || position == usize::MAX
             || !ended.fits(&self.manager)
         {
-            return Err(ended.give_up(&mut self.manager));
+            return Err(self.give_up(ended));
+        }
+        if !seen.extend(copy.thread(), position, TrueCopy::new(copy)) {
+            return Err(self.give_up(ended));
         }
         Ok(ended.release(&mut self.manager))
+    }
+
+    /// Ends a section without an entry.
+    pub fn give_up(&mut self, ended: Ended<'p>) -> Ready
+        ensures { result ≡ ready_again ended.entry }
+    {
+        ended.give_up(&mut self.manager)
     }
 
     /// The manager, where no section is open.

@@ -3,15 +3,19 @@
 //! - [`shared::Shared::call`]: the answer of a call is that of a legal history after which the call, run whole, ends
 //!   and prints so.
 //! - [`shared::Shared::close`]: one history has every answer of every seat at its position, and nothing else.
+//! - [`shared::Shared::agree`]: of what two seats have seen one begins the other, so what two callers were told can't
+//!   contradict.
 //! - [`threads::run_threads`]: one thread for each script of a program; its script's calls are in the history, in order
 //!   and each once.
-//! - [`seat::Seat`]: a thread's place at a [`shared::Shared`], with the answers to its calls.
+//! - [`seat::Seat`]: a thread's place at a [`shared::Shared`], with the answers to its calls and what it has seen.
+//! - [`row::Row`]: where calls leave copies of their entries; [`seen::Seen`]: what a seat has seen of one.
 //! - [`closed::Closed`]: a history that is over.
 //! - [`guarded::Guarded`]: what lies under the Mutex; whenever this is free, nobody waits in a circle.
 //! - [`gate::Gate`]: is told, with no lock held, how far each call has come.
 //!
-//! `specs/` defines a seat as data (`Seats`), what answers and a closed history say (`Answers`) and what the Mutex
-//! guards (`Guarding`). `Within` mirrors the code, and `NoPlan` names the empty program: nobody has to believe them.
+//! `specs/` defines a seat as data (`Seats`), what answers and a closed history say (`Answers`), what a call adds to what
+//! its seat has seen (`Seen`) and what the Mutex guards (`Guarding`). `Within` and `Rows` mirror the code, and `NoPlan`
+//! names the empty program: nobody has to believe them.
 #![tactic(auto)]
 
 mod answer_room;
@@ -19,8 +23,12 @@ pub mod closed;
 mod closing;
 pub mod gate;
 pub mod guarded;
+mod known;
 pub mod naming;
 mod parking;
+pub mod row;
 pub mod seat;
+pub mod seen;
 pub mod shared;
 pub mod threads;
+mod values;

@@ -2,14 +2,16 @@
 
 ghost use Rattle.std.specs.Prelude.{◌≡◌, ◌<◌, [], IsTrue};
 ghost use Rattle.workers.specs.Seats.{new_seat};
+ghost use Rattle.workers.specs.Answers.{IsSound};
 
 use crate::naming::Naming;
 use crate::parking::Parking;
+use crate::seen::Seen;
 use core_lang::value::{Outcome, Value};
 use runner::states::Ready;
 use source::memory::NoMemory;
 use std::alloc::{AllocError, Global};
-use std::marker::{Model, PhantomData};
+use std::marker::Model;
 
 /// What a call answers.
 #[derive(Drop)]
@@ -69,41 +71,52 @@ impl Model for Reply {
     } };
 }
 
-/// A thread's place at a [`crate::shared::Shared`]. As a value it is the thread and the answers to its calls, in order.
+/// A thread's place at a [`crate::shared::Shared`]. As a value it is the thread, the answers to its calls, in order, and
+/// what it has seen of the row.
 #[derive(Drop)]
-pub struct Seat<J: Naming> {
+pub struct Seat<'r, J: Naming> {
     // The number of its next call is that of its answers: only a release raises it.
     pub(crate) ready: Ready,
-    // Above the positions of all answers.
-    pub(crate) floor: usize,
     pub(crate) parking: Parking,
     pub(crate) answers: Vec<Reply>,
-    pub(crate) of: PhantomData<J>,
+    pub(crate) seen: Seen<'r, J>,
 }
 
-impl<J: Naming> Model for Seat<J> {
+impl<'r, J: Naming> Model for Seat<'r, J> {
     ghost use Rattle.workers.specs.Seats.{SeatOf};
     ghost use Rattle.workers.specs.Within.{IsSeat};
 
     ghost Value = { SeatOf };
 
-    ghost view = { λ s. record { thread = s.ready.thread; answers = s.answers.items } };
+    ghost view = { λ s. record {
+      thread = s.ready.thread;
+      answers = s.answers.items;
+      row = s.seen.known.row;
+      seen = s.seen.log;
+    } };
 
-    ghost invariant = { λ s. IsSeat s.ready.thread s.ready.step s.floor s.answers.items };
+    ghost invariant = { λ s. IsSeat s.ready.thread s.ready.step s.answers.items s.seen.log };
 }
 
-impl<J: Naming> Seat<J> {
+impl<'r, J: Naming> Seat<'r, J> {
+    ghost use Rattle.std.specs.Prelude.{◌≡◌, ◌<◌, []};
+
     // A thread's place before its first call.
-    pub(crate) fn new(alloc: Global, thread: u32, parking: Parking) -> Seat<J>
-        requires { thread < 64 }
-        ensures { result ≡ new_seat thread }
+    pub(crate) fn new(
+        alloc: Global,
+        thread: u32,
+        parking: Parking,
+        seen: Seen<'r, J>,
+    ) -> Seat<'r, J>
+        requires few { thread < 64 }
+        requires none { seen.log ≡ [] }
+        ensures { result ≡ new_seat seen.entry.known.row thread }
     {
         Seat {
             ready: Ready::new(thread),
-            floor: 0,
             parking,
             answers: Vec::new(alloc),
-            of: PhantomData,
+            seen,
         }
     }
 
@@ -120,5 +133,12 @@ impl<J: Naming> Seat<J> {
         ensures { IsTrue result → self.now.answers ≡ [] }
     {
         self.answers.is_empty()
+    }
+
+    /// What it has seen is a legal list of true entries.
+    pub fn keeps_its_rules(&self)
+        ensures { IsSound J.plan self.now.seen }
+    {
+        self.seen.keeps_its_rules();
     }
 }

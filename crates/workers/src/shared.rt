@@ -1,23 +1,28 @@
 //! A program whose sections threads run.
 
-ghost use Rattle.std.specs.Prelude.{◌≡◌, ◌<◌, ◌≤◌, ◌+◌, ◌^◌, IfOk, IfErr, OnErr};
+ghost use Rattle.std.specs.Prelude.{◌≡◌, ◌<◌, ◌≤◌, ◌+◌, ◌^◌, ◌↔◌, length, IsTrue, MatchBool, IfOk, IfErr, OnOk, OnErr};
 ghost use Rattle.std.specs.List.{All};
 ghost use Rattle.core_lang.specs.WellFormed.{CanCall};
 ghost use Rattle.lock_manager.specs.Managers.{IsQuiet};
-ghost use Rattle.runner.specs.Opens.{IsSame, ready_again};
+ghost use Rattle.runner.specs.Opens.{IsItsEntry, IsSame, ready_again};
 ghost use Rattle.workers.specs.Seats.{AllBelow, Gains, new_seats};
-ghost use Rattle.workers.specs.Answers.{IsAnswer, IsSeated, IsHistoryOf, AnswersAreIn, as_call};
-ghost use Rattle.workers.specs.Within.{HasAnswer, IsEntered};
+ghost use Rattle.workers.specs.Answers.{IsAnswer, IsSeated, IsHistoryOf, IsSound, AnswersAreIn, as_call};
+ghost use Rattle.workers.specs.Seen.{Begins, Sees, SeenIsIn};
+ghost use Rattle.workers.specs.Within.{HasAnswer, HasBegun, HasSeen, IsEntered};
+ghost use Rattle.workers.specs.Rows.{IsSameSeen, SeesOwn};
 
 use crate::answer_room::AnswerRoom;
 use crate::closed::{Closed, Strange};
-use crate::closing::{all_answered, are_seated};
+use crate::closing::{all_answered, all_seen, are_seated};
 use crate::gate::Gate;
 use crate::guarded::Guarded;
 use crate::naming::Naming;
 use crate::parking::{Parking, Wakings};
+use crate::row::Row;
 use crate::seat::{CallRefusal, Done, Reply, Seat};
+use crate::seen::Seen;
 use core_lang::value::Value;
+use history::entry::Entry;
 use lock_manager::ticket::Receipt;
 use lowering::compiled::Program;
 use runner::states::{Asked, Ended, Next, Ready, Running};
@@ -36,28 +41,30 @@ pub struct Shared<'p, J: Naming> {
     ghost is: { program.now ≡ J.plan },
 }
 
-// A call of a section, which is to begin when the history is at least as long as the floor.
+// A call of a section, which is to begin when the history is at least as long as the floor, and where its thread waits.
 #[derive(Clone, Copy)]
 struct Request<'a> {
     section: usize,
     arguments: &'a [Value],
     floor: usize,
+    parking: &'a Parking,
 }
 
 impl<'p, J: Naming> Shared<'p, J> {
-    /// Before any call, with so many seats, of the threads from 0 on.
+    /// Before any call, with so many seats, of the threads from 0 on, which see what there is in the row.
     ///
     /// # Errors
     ///
     /// Want of memory.
-    pub fn open(
+    pub fn open<'r>(
+        row: &'r Row<J>,
         alloc: Global,
         program: &'p Program,
         count: u32,
-    ) -> Result<(Shared<'p, J>, Vec<Seat<J>>), NoMemory>
+    ) -> Result<(Shared<'p, J>, Vec<Seat<'r, J>>), NoMemory>
         requires named { program.now ≡ J.plan }
         requires few { count ≤ 64 }
-        ensures { IfOk result (λ r. r.1.items ≡ new_seats count) }
+        ensures { IfOk result (λ r. r.1.items ≡ new_seats row.entry.now count) }
     {
         let guarded = Guarded::open(alloc, program)?;
         let mut wakings = Vec::new(alloc);
@@ -65,7 +72,8 @@ impl<'p, J: Naming> Shared<'p, J> {
         for thread in 0..count {
             let parking = Parking::new(alloc)?;
             wakings.push(parking.waking()?)?;
-            seats.push(Seat::new(alloc, thread, parking))?;
+            let seen = Seen::none(alloc, row, program)?;
+            seats.push(Seat::new(alloc, thread, parking, seen))?;
         }
         let shared = Shared {
             alloc,
@@ -86,13 +94,16 @@ impl<'p, J: Naming> Shared<'p, J> {
     /// Runs a section from a seat, and enters it into the history. Other threads may run sections meanwhile. The gate
     /// is told how far it has come.
     ///
+    /// Ahead of that the seat sees the copies of all entries before it, and leaves the copy of its own in the row.
+    ///
     /// # Errors
     ///
-    /// Want of memory, or the manager isn't the one that the seat left: nothing is entered, and the seat is as it was.
+    /// Want of memory; or the manager isn't the one that the seat left, or a copy of an entry isn't there, or isn't what
+    /// it should be: nothing is entered, and the seat is as it was.
     pub fn call<R: Wait, G: Gate>(
         &self,
         rt: &R,
-        seat: &mut Seat<J>,
+        seat: &mut Seat<'_, J>,
         section: usize,
         arguments: &[Value],
         gate: &G,
@@ -103,6 +114,8 @@ impl<'p, J: Naming> Shared<'p, J> {
         ensures gained { let call = as_call section arguments.now in
             IfOk result (λ d. Gains seat.old seat.new d.position call d.outcome d.prints.items) }
         ensures above { IfOk result (λ d. AllBelow d.position seat.old.answers) }
+        ensures seen { OnOk result (Sees J.plan seat.old seat.new) }
+        ensures row { seat.new.row ≡ seat.old.row }
         ensures err { OnErr result (seat.new ≡ seat.old) }
     {
         seat.answers.reserve(1)?;
@@ -111,12 +124,12 @@ impl<'p, J: Naming> Shared<'p, J> {
         let request = Request {
             section,
             arguments,
-            floor: seat.floor,
+            floor: seat.seen.len(),
+            parking: &seat.parking,
         };
-        match self.run(rt, ready, request, &seat.parking, gate) {
+        match self.run(rt, ready, request, &mut seat.seen, gate) {
             Ok((ready, reply, done)) => {
                 seat.ready = ready;
-                seat.floor = reply.position + 1;
                 seat.answers.push_reserved(reply);
                 Ok(done)
             }
@@ -133,42 +146,65 @@ impl<'p, J: Naming> Shared<'p, J> {
         rt: &R,
         ready: Ready,
         request: Request<'_>,
-        parking: &Parking,
+        seen: &mut Seen<'_, J>,
         gate: &G,
     ) -> Result<(Ready, Reply, Done), (Ready, CallRefusal)>
         requires thread { ready.thread < 64 }
         requires fits { CanCall J.plan.program request.section request.arguments.now }
         ensures answer { let call = as_call request.entry.section request.entry.arguments.now in
             IfOk result (λ r. HasAnswer J.plan call request.entry.floor ready r.0 r.1 r.2) }
+        ensures seen { IfOk result (λ r. HasSeen J.plan ready r.2.position seen.old seen.new r.1) }
         ensures err { IfErr result (λ r. r.0 ≡ ready) }
+        ensures same { OnErr result (IsSameSeen seen.old seen.new) }
     {
-        let alloc = self.alloc;
-        let Ok(room) = AnswerRoom::new(alloc, request.arguments) else {
-            return Err((ready, CallRefusal::NoMemory));
-        };
         let thread = ready.thread();
-        let poised = match ready.prepare(alloc, self.program, request.section, request.arguments) {
-            Ok(poised) => poised,
-            Err(ready) => return Err((ready, CallRefusal::NoMemory)),
-        };
-        let begun = self.guarded.lock(rt).begin(alloc, poised);
-        let running = match begun {
-            Ok(running) => running,
-            Err(refused) => return Err(refused),
-        };
+        let (room, running) = self.begin(rt, ready, request, seen)?;
         gate.pass(thread, 0);
-        let ended = match self.go_on(rt, thread, running, parking, gate) {
+        let ended = match self.go_on(rt, thread, running, request.parking, gate) {
             Ok(ended) => ended,
             Err(ready) => return Err((ready, CallRefusal::Strange)),
         };
-        let (mut reply, mut done) = room.of(ended.entry());
-        match self.finish(rt, request.floor, ended) {
+        let Some((mut reply, mut done, copy)) = room.of(ended.entry()) else {
+            return Err((self.give_up(rt, ended), CallRefusal::Strange));
+        };
+        match self.finish(rt, request.floor, ended, copy, seen) {
             Ok((ready, position)) => {
                 reply.position = position;
                 done.position = position;
                 Ok((ready, reply, done))
             }
             Err(ready) => Err((ready, CallRefusal::Strange)),
+        }
+    }
+
+    // Makes ready all that a call can need, and begins it.
+    fn begin<R: Wait>(
+        &self,
+        rt: &R,
+        ready: Ready,
+        request: Request<'_>,
+        seen: &mut Seen<'_, J>,
+    ) -> Result<(AnswerRoom, Running<'p>), (Ready, CallRefusal)>
+        requires thread { ready.thread < 64 }
+        requires fits { CanCall J.plan.program request.section request.arguments.now }
+        ensures ok { let call = as_call request.entry.section request.entry.arguments.now in
+            IfOk result (λ r. HasBegun J.plan call ready r.0 r.1) }
+        ensures err { IfErr result (λ r. r.0 ≡ ready) }
+        ensures same { IsSameSeen seen.old seen.new }
+    {
+        let alloc = self.alloc;
+        let cells = self.program.room(request.section).cells;
+        let Ok(room) = AnswerRoom::new(alloc, request.arguments, cells) else {
+            return Err((ready, CallRefusal::NoMemory));
+        };
+        let poised = match ready.prepare(alloc, self.program, request.section, request.arguments) {
+            Ok(poised) => poised,
+            Err(ready) => return Err((ready, CallRefusal::NoMemory)),
+        };
+        let begun = self.guarded.lock(rt).begin(rt, alloc, poised, seen);
+        match begun {
+            Ok(running) => Ok((room, running)),
+            Err(refused) => Err(refused),
         }
     }
 
@@ -215,31 +251,51 @@ impl<'p, J: Naming> Shared<'p, J> {
         unreachable!()
     }
 
-    // Enters the entry of a section, and wakes who waits first for each of its locks. Errors: it doesn't fit; the
-    // section has ended without an entry.
+    // Enters the entry of a section, and wakes who waits first for each of its locks. Errors: it doesn't fit, or a copy
+    // isn't there, or isn't what it should be; the section has ended without an entry.
     fn finish<R: Wait>(
         &self,
         rt: &R,
         floor: usize,
         ended: Ended<'p>,
+        copy: Entry,
+        seen: &mut Seen<'_, J>,
     ) -> Result<(Ready, usize), Ready>
-        requires { ended.plan ≡ J.plan }
+        requires plan { ended.plan ≡ J.plan }
+        requires copy { IsItsEntry ended copy }
         ensures entered { IfOk result (λ r. IsEntered J.plan floor ended.entry r.1) }
+        ensures row { seen.new.known.row ≡ seen.old.known.row }
+        ensures own { IfOk result (λ r. SeesOwn ended.entry.thread r.1 copy seen.old.log seen.new.log) }
+        ensures sound { OnOk result (IsSound J.plan seen.new.log) }
         ensures small { IfOk result (λ r. r.1 + 1 < 2 ^ 64) }
         ensures ok { IfOk result (λ r. r.0 ≡ record { thread = ended.entry.thread; step = ended.entry.step + 1 }) }
         ensures err { IfErr result (λ ready. ready ≡ ready_again ended.entry) }
+        ensures same { OnErr result (seen.new.log ≡ seen.old.log) }
     {
-        let finished = self.guarded.lock(rt).finish(floor, ended);
+        let count = seen.len();
+        // What is there is seen while other threads may go on, so that little is left to see under the Mutex.
+        seen.catch_up(copy.thread());
+        let finished = self.guarded.lock(rt).finish(floor, ended, copy, seen);
         match finished {
             Ok((ready, receipt)) => {
                 self.wake(&receipt);
                 Ok((ready, receipt.position()))
             }
             Err(ready) => {
+                seen.go_back(self.program, count);
                 self.wakings.wake_all();
                 Err(ready)
             }
         }
+    }
+
+    // Ends a section without an entry.
+    fn give_up<R: Wait>(&self, rt: &R, ended: Ended<'p>) -> Ready
+        ensures { result ≡ ready_again ended.entry }
+    {
+        let ready = self.guarded.lock(rt).give_up(ended);
+        self.wakings.wake_all();
+        ready
     }
 
     // Wakes those that a receipt names.
@@ -252,18 +308,28 @@ impl<'p, J: Naming> Shared<'p, J> {
         }
     }
 
-    /// The history with the values that it leaves, where no section is open and the seats' answers are just its
-    /// entries.
+    /// Of what two seats of one row have seen one begins the other: whether the first's begins the second's.
+    pub fn agree<'r>(one: &Seat<'r, J>, other: &Seat<'r, J>) -> bool
+        requires { one.now.row ≡ other.now.row }
+        ensures one_begins { MatchBool result (Begins one.now.seen other.now.seen) (Begins other.now.seen one.now.seen) }
+        ensures exact { IsTrue result ↔ Begins one.now.seen other.now.seen }
+    {
+        one.seen.agrees(&other.seen)
+    }
+
+    /// The history with the values that it leaves, where no section is open, the seats' answers are just its entries, and
+    /// what they have seen begins it.
     ///
     /// # Errors
     ///
-    /// A section is open, or the answers aren't just the entries.
+    /// A section is open, the answers aren't just the entries, or a seat has seen something else.
     #[tactic(auto, using(crate::proofs::Guarding::has_cells))]
-    pub fn close(self, seats: Vec<Seat<J>>) -> Result<Closed<'p>, Strange>
+    pub fn close(self, seats: Vec<Seat<'_, J>>) -> Result<Closed<'p>, Strange>
         ensures history { IfOk result (λ c. IsHistoryOf J.plan c.history c.values) }
         ensures quiet { IfOk result IsQuiet }
-        ensures answers { IfOk result (λ c. All (AnswersAreIn c.history) seats.items) }
-        ensures no_other { IfOk result (λ c. All (IsSeated seats.items) c.history) }
+        ensures answers { IfOk result (λ c. All (AnswersAreIn c.history) seats.entry.items) }
+        ensures no_other { IfOk result (λ c. All (IsSeated seats.entry.items) c.history) }
+        ensures seen { IfOk result (λ c. All (SeenIsIn c.history) seats.entry.items) }
     {
         history::laws::legal_is_serial();
         let Shared {
@@ -282,6 +348,9 @@ impl<'p, J: Naming> Shared<'p, J> {
             return Err(Strange);
         }
         if !are_seated(seats.as_slice(), history) {
+            return Err(Strange);
+        }
+        if !all_seen(seats.as_slice(), history) {
             return Err(Strange);
         }
         Ok(Closed { manager })

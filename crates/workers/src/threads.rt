@@ -1,6 +1,6 @@
 //! The scripts of a program, each run by a thread of its own.
 
-ghost use Rattle.std.specs.Prelude.{◌≡◌, ◌<◌, ℕ, Some, IfOk, IfSome, MatchOption, length, map};
+ghost use Rattle.std.specs.Prelude.{◌≡◌, ◌<◌, ℕ, true, Some, IfOk, IfSome, OnOk, MatchOption, length, map};
 ghost use denote.Param.Send.{IsSend, IsSync};
 ghost use Rattle.lowering.specs.contracts.compiled.Program as program;
 ghost use Rattle.workers.specs.Answers.{HasScript, IsHistoryOf, call_in, script_at};
@@ -9,6 +9,7 @@ ghost use Rattle.workers.specs.Within.{AreInOrder, HasCalls, NoCall, IsCall};
 use crate::closed::{Closed, Strange};
 use crate::gate::Gate;
 use crate::naming::Naming;
+use crate::row::Row;
 use crate::seat::{CallRefusal, Seat};
 use crate::shared::Shared;
 use core_lang::typed::Call;
@@ -55,9 +56,13 @@ fn run_named<'p, J: Naming + Send + Sync, R: Threads + Wait + Sync, G: Gate>(
     if count > 64 {
         return Err(CallRefusal::Strange);
     }
-    let (shared, seats): (Shared<'p, J>, Vec<Seat<J>>) = Shared::open(alloc, program, count)?;
-    let ran = run_all(rt, alloc, &shared, seats, gate)?;
-    let Some(seats) = in_order(alloc, ran, count)? else {
+    let row = Row::new(alloc)?;
+    let (shared, seats): (Shared<'p, J>, Vec<Seat<'_, J>>) = Shared::open(
+        &row, alloc, program, count,
+    )?;
+    let places = places_of(alloc, seats)?;
+    let places = run_all(rt, alloc, &shared, places, gate)?;
+    let Some(seats) = in_order(alloc, places, count)? else {
         return Err(CallRefusal::Strange);
     };
     match shared.close(seats) {
@@ -66,88 +71,95 @@ fn run_named<'p, J: Naming + Send + Sync, R: Threads + Wait + Sync, G: Gate>(
     }
 }
 
-/// A seat whose answers are to just the calls of its thread's script, in order.
+/// A seat, and whether its thread's script has run: its answers are to just the calls of that, in order.
 #[derive(Drop)]
-pub(crate) struct Ran<J: Naming> {
-    seat: Seat<J>,
-    ghost calls: { Some (map call_in seat.answers) ≡ script_at J.plan seat.thread },
+pub(crate) struct Place<'r, J: Naming> {
+    seat: Seat<'r, J>,
+    ran: bool,
+    ghost calls: { ran ≡ true → Some (map call_in seat.answers) ≡ script_at J.plan seat.thread },
 }
 
-// Runs the script of each seat's thread in a thread of its own.
-fn run_all<J: Naming + Send + Sync, R: Threads + Wait + Sync, G: Gate>(
+// A seat before its thread's script has run.
+fn place_of<'r, J: Naming>(seat: Seat<'r, J>) -> Place<'r, J> {
+    Place { seat, ran: false }
+}
+
+// The seats before any script has run.
+fn places_of<'r, J: Naming>(
+    alloc: Global,
+    seats: Vec<Seat<'r, J>>,
+) -> Result<Vec<Place<'r, J>>, NoMemory> {
+    let mut places = Vec::with_capacity(alloc, seats.len())?;
+    for seat in seats {
+        places.push(place_of(seat))?;
+    }
+    Ok(places)
+}
+
+// Runs the script of each seat's thread in a thread of its own. Errors: the worst refusal.
+fn run_all<'r, J: Naming + Send + Sync, R: Threads + Wait + Sync, G: Gate>(
     rt: &R,
     alloc: Global,
     shared: &Shared<'_, J>,
-    seats: Vec<Seat<J>>,
+    places: Vec<Place<'r, J>>,
     gate: &G,
-) -> Result<Vec<Ran<J>>, CallRefusal> {
+) -> Result<Vec<Place<'r, J>>, CallRefusal> {
     lowering::laws::programs_are_shared();
-    thread::scope(
+    let mut places = places;
+    let lent = &mut places;
+    let ran = thread::scope(
         thread::scope_env(),
         rt,
-        move |scope| -> Result<Vec<Ran<J>>, CallRefusal>
+        move |scope| -> Result<(), CallRefusal>
             requires { IsSync R.row × IsSync G.row × IsSync J.row × IsSend J.row × IsSync program.the_row }
         {
             let mut handles = Vec::new(alloc);
-            let mut all = AllRan::none(alloc);
-            for seat in seats {
-                let started = scope.spawn(move || -> Result<Ran<J>, CallRefusal> {
-                    run_script(rt, shared, seat, gate)
+            let mut worst = Worst { refusal: None };
+            let each = lent.iter_mut();
+            for place in each {
+                let started = scope.spawn(move || -> Result<(), CallRefusal> {
+                    run_place(rt, shared, place, gate)
                 });
                 match started {
                     Ok(handle) => {
                         if handles.push(handle).is_err() {
-                            all.refuse(CallRefusal::NoMemory);
+                            worst.note(Err(CallRefusal::NoMemory));
                         }
                     }
-                    Err(_) => all.refuse(CallRefusal::NoMemory),
+                    Err(_) => worst.note(Err(CallRefusal::NoMemory)),
                 }
             }
             for handle in handles {
-                all.take(handle.join(rt));
+                worst.note(handle.join(rt));
             }
-            all.into_result()
+            worst.into_result()
         },
-    )
+    );
+    match ran {
+        Ok(()) => Ok(places),
+        Err(refusal) => Err(refusal),
+    }
 }
 
-// The seats that have run so far, and the worst refusal.
+// The worst refusal so far.
 #[derive(Drop)]
-struct AllRan<J: Naming> {
-    ran: Vec<Ran<J>>,
+struct Worst {
     refusal: Option<CallRefusal>,
 }
 
-impl<J: Naming> AllRan<J> {
-    fn none(alloc: Global) -> AllRan<J> {
-        AllRan {
-            ran: Vec::new(alloc),
-            refusal: None,
-        }
-    }
-
-    fn take(&mut self, joined: Result<Ran<J>, CallRefusal>) {
-        match joined {
-            Ok(ran) => {
-                if self.ran.push(ran).is_err() {
-                    self.refuse(CallRefusal::NoMemory);
-                }
-            }
-            Err(refusal) => self.refuse(refusal),
-        }
-    }
-
+impl Worst {
     // What is strange stays so, whatever else is refused.
-    fn refuse(&mut self, refusal: CallRefusal) {
-        if self.refusal != Some(CallRefusal::Strange) {
-            self.refusal = Some(refusal);
+    fn note(&mut self, joined: Result<(), CallRefusal>) {
+        if let Err(refusal) = joined {
+            if self.refusal != Some(CallRefusal::Strange) {
+                self.refusal = Some(refusal);
+            }
         }
     }
 
-    fn into_result(self) -> Result<Vec<Ran<J>>, CallRefusal> {
-        let AllRan { ran, refusal } = self;
-        match refusal {
-            None => Ok(ran),
+    fn into_result(self) -> Result<(), CallRefusal> {
+        match self.refusal {
+            None => Ok(()),
             Some(refusal) => Err(refusal),
         }
     }
@@ -170,12 +182,27 @@ fn calls_of(program: &Program, thread: u32) -> Option<usize>
 }
 
 // Runs the script of a seat's thread.
+fn run_place<J: Naming, R: Wait, G: Gate>(
+    rt: &R,
+    shared: &Shared<'_, J>,
+    place: &mut Place<'_, J>,
+    gate: &G,
+) -> Result<(), CallRefusal> {
+    place.ran = false;
+    run_script(rt, shared, &mut place.seat, gate)?;
+    place.ran = true;
+    Ok(())
+}
+
+// Runs the script of a seat's thread.
 fn run_script<J: Naming, R: Wait, G: Gate>(
     rt: &R,
     shared: &Shared<'_, J>,
-    mut seat: Seat<J>,
+    seat: &mut Seat<'_, J>,
     gate: &G,
-) -> Result<Ran<J>, CallRefusal> {
+) -> Result<(), CallRefusal>
+    ensures { OnOk result (Some (map call_in seat.new.answers) ≡ script_at J.plan seat.new.thread) }
+{
     if !seat.is_new() {
         return Err(CallRefusal::Strange);
     }
@@ -188,22 +215,25 @@ fn run_script<J: Naming, R: Wait, G: Gate>(
         let Some(call) = call_at(program, thread, step) else {
             return Err(CallRefusal::Strange);
         };
-        shared.call(rt, &mut seat, call.section, &call.arguments, gate)?;
+        shared.call(rt, seat, call.section, &call.arguments, gate)?;
     }
-    Ok(Ran { seat })
+    Ok(())
 }
 
-// The seats, where they are those of all threads, in order.
-fn in_order<J: Naming>(
+// The seats, where all scripts have run and they are those of all threads, in order.
+fn in_order<'r, J: Naming>(
     alloc: Global,
-    ran: Vec<Ran<J>>,
+    places: Vec<Place<'r, J>>,
     count: u32,
-) -> Result<Option<Vec<Seat<J>>>, NoMemory>
+) -> Result<Option<Vec<Seat<'r, J>>>, NoMemory>
     ensures { IfOk result (λ r. IfSome r (λ seats. AreInOrder J.plan count seats.items)) }
 {
     let mut seats = Vec::new(alloc);
-    for one in ran {
-        let Ran { seat } = one;
+    for place in places {
+        let Place { seat, ran } = place;
+        if !ran {
+            return Ok(None);
+        }
         if seat.thread() as usize != seats.len() {
             return Ok(None);
         }

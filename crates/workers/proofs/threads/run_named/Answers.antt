@@ -1,4 +1,4 @@
-use Rattle.std.proofs.Common.{rules, arith, ◌≡◌, ◌<◌, length}
+use Rattle.std.proofs.Common.{arith, ◌≡◌, length}
 use Rattle.workers.specs.Within.{AreInOrder}
 use Rattle.workers.proofs.Scripts.{has_script}
 use Rattle.workers.proofs.threads.run_named.Goals as goal

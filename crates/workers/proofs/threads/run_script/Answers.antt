@@ -1,4 +1,4 @@
-use Rattle.std.proofs.Common.{rules, ◌≡◌, ◌∙◌, sym, ap, subst, refl, ℕ, ◌+◌, List, map, Some, arith, take}
+use Rattle.std.proofs.Common.{rules, ◌≡◌, ◌∙◌, sym, ap, subst, ℕ, List, map, Some, arith, take}
 use Rattle.core_lang.specs.Serial.{Invocation}
 use Rattle.workers.specs.Within.{HasCalls, IsCall}
 use Rattle.workers.specs.Answers.{call_in, script_at, as_call}
@@ -7,8 +7,8 @@ use Rattle.core_lang.specs.Serial.{invocation}
 use Rattle.workers.proofs.Scripts.{all_ran, one_more_ran}
 use Rattle.workers.proofs.threads.run_script.Goals as goal
 
-pub invariant_of-result : goal.invariant_of-result
-invariant_of-result g c =
+pub returns : goal.returns
+returns g c =
     let plan = g.J.Naming.plan in
     let t = c.thread-thread.result in
     let has : HasCalls plan t c.in-Some.count = search rules in
@@ -16,7 +16,7 @@ invariant_of-result g c =
     let calls = map call_in c.loop-step.seat.answers in
     let ran : (script : List Invocation) → script_at plan t ≡ Some script → calls ≡ take c.in-Some.count script =
     subst (λ (n : ℕ). (script : List Invocation) → script_at plan t ≡ Some script → calls ≡ take n script) over c.loop-step.invariant.ran in
-    record { calls = all_ran plan t c.in-Some.count calls has ran ∙ ap (script_at plan) (sym c.loop-step.invariant.same) }
+    all_ran plan t c.in-Some.count calls has ran ∙ ap (script_at plan) (sym c.loop-step.invariant.same)
 
 pub loop-step-preserved : goal.loop-step-preserved
 loop-step-preserved g c =

@@ -3,4 +3,4 @@ use Rattle.workers.specs.Seats.{new_seats}
 use Rattle.workers.proofs.shared.Shared.open.Given as goal
 
 abbrev pub invariant-loop-thread : goal.invariant-loop-thread
-invariant-loop-thread g l = l.seats.items ≡ new_seats l.thread
+invariant-loop-thread g l = l.seats.items ≡ new_seats l.row l.thread

@@ -1,0 +1,5 @@
+use Rattle.workers.proofs.Guarding.{manager_kept}
+use Rattle.workers.proofs.guarded.Guarded.give_up.Goals as goal
+
+pub invariant_of-self : goal.invariant_of-self
+invariant_of-self g c = manager_kept g.J.Naming.plan _ _ c.self.invariant c.give_up.ensures.given_up.gives_up.entries
