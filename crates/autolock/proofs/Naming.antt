@@ -1,5 +1,5 @@
 -- Where an engine fails, it tells a file that its line names, or that writing failed.
-use Rattle.std.proofs.Common.{◌≡◌, ◌∙◌, ◌||◌, Bool, true, false, ℕ, List, [], ◌∷◌, map, Option, Some, None, inl, inr, refl, subst, if◌then◌else◌}
+use Rattle.std.proofs.Common.{◌≡◌, Bool, true, false, ℕ, List, [], ◌∷◌, map, Option, Some, None, inl, inr, refl, subst, if◌then◌else◌}
 use Rattle.std.specs.Prelude.{◌⊎◌}
 use Rattle.driver.specs.{Serves, Reading, Tells, IsMissed, cannot_read, cannot_write, writing_failed}
 use Rattle.driver.specs.Engines.{first_unread}

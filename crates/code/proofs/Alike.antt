@@ -8,9 +8,9 @@ use Rattle.core_lang.specs.declared.value.Failure.{Failure}
 use Rattle.core_lang.specs.declared.value.Failure.TheVariants.{Trap, Wrong}
 use Rattle.core_lang.specs.declared.shape.Shape.{Shape}
 use Rattle.core_lang.specs.Arithmetic.{on_values, negated, compared}
-use Rattle.core_lang.specs.Cells.{found, element_cell, member_of, field_cell, final_value, not_null}
+use Rattle.core_lang.specs.Cells.{with, found, element_cell, member_of, field_cell, final_value, owned, not_null}
 use Rattle.code.specs.declared.instr.Instr.{Instr}
-use Rattle.code.specs.declared.instr.Instr.TheVariants.{PushNumber, PushNull, GetLocal, PutLocal, LoadGlobal, PutGlobal, LoadElement, Bound, PutElement, GetMember, LoadFinal, LoadField, NonNull, PutField, NegateTop, NotTop, Operate, Test, Jump, JumpBack, JumpIfFalse, JumpIfTrue, PrintTop, Acquire, Return, End}
+use Rattle.code.specs.declared.instr.Instr.TheVariants.{PushNumber, PushNull, GetLocal, PutLocal, LoadGlobal, PutGlobal, LoadElement, Bound, PutElement, GetMember, LoadFinal, LoadField, NonNull, PutField, Where, NegateTop, NotTop, Operate, Test, Jump, JumpBack, JumpIfFalse, JumpIfTrue, PrintTop, Acquire, Return, End}
 use Rattle.code.specs.Machine.{Machine, Effect, Moves, Asks, Finishes, Undefined, Standing, At, Halted, Stuck, passed, advances, jumps_if, or_trap, on_top, on_two, if_there, is_true, negation, printed, loads, stores, act, proceed, exec}
 use Rattle.code.specs.Memory.{HeldCells, value_at, with_value, with_changed, beside, load_from, written_where, store_to, noted, read_if_held, load_held, write_if_held, store_held, overwritten, Agrees, IsCovered, IsConsistent, IsPartOf, Keeps}
 use Rattle.code.specs.Laws.{on_heap}
@@ -203,6 +203,8 @@ module _ (heap : List Value) (shape : Shape) where
   act_beside (Some NonNull) m = top_beside m.stack m _ _ (λ r rest. trap_beside (not_null r) m _ _ (λ same. moves_beside m _ refl))
   act_beside (Some (PutField f structure)) m =
       two_beside m.stack m _ _ (λ r v rest. trap_beside (field_cell shape r f) m _ _ (λ cell. store_beside m cell v rest))
+  act_beside (Some (Where f structure k)) m =
+      top_beside m.stack m _ _ (λ v rest. trap_beside (with (found (slice_get m.locals k)) (λ owner. owned shape v f owner)) m _ _ (λ w. moves_beside m _ refl))
   act_beside (Some NegateTop) m = top_beside m.stack m _ _ (λ v rest. trap_beside (negated v) m _ _ (λ w. moves_beside m _ refl))
   act_beside (Some NotTop) m = top_beside m.stack m _ _ (λ v rest. trap_beside (negation v) m _ _ (λ w. moves_beside m _ refl))
   act_beside (Some (Operate o)) m = two_beside m.stack m _ _ (λ a b rest. trap_beside (on_values o a b) m _ _ (λ w. moves_beside m _ refl))

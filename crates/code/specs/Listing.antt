@@ -8,7 +8,7 @@ use Rattle.core_lang.specs.declared.tree.Operator.TheVariants.{Plus, Minus, Time
 use Rattle.core_lang.specs.declared.tree.Comparison.{Comparison}
 use Rattle.core_lang.specs.declared.tree.Comparison.TheVariants.{Equal, Unequal, Less, LessEqual, Greater, GreaterEqual}
 use Rattle.code.specs.declared.instr.Instr.{Instr}
-use Rattle.code.specs.declared.instr.Instr.TheVariants.{PushNumber, PushNull, GetLocal, PutLocal, LoadGlobal, PutGlobal, LoadElement, Bound, PutElement, GetMember, LoadFinal, LoadField, NonNull, PutField, NegateTop, NotTop, Operate, Test, Jump, JumpBack, JumpIfFalse, JumpIfTrue, PrintTop, Acquire, Return, End}
+use Rattle.code.specs.declared.instr.Instr.TheVariants.{PushNumber, PushNull, GetLocal, PutLocal, LoadGlobal, PutGlobal, LoadElement, Bound, PutElement, GetMember, LoadFinal, LoadField, NonNull, PutField, Where, NegateTop, NotTop, Operate, Test, Jump, JumpBack, JumpIfFalse, JumpIfTrue, PrintTop, Acquire, Return, End}
 use Rattle.code.specs.declared.names.GlobalName.{GlobalName}
 use Rattle.code.specs.declared.names.StructNames.{StructNames}
 use Rattle.code.specs.declared.names.Names.{Names}
@@ -32,6 +32,10 @@ abbrev pub final_text : Names → ℕ → ℕ → List ℕ
 final_text names structure f =
     option_map_or (λ (s : StructNames). string_bytes s.name ++ codes "." ++ named s.finals.items f)
     (slice_get names.structs.items structure) []
+
+-- a final reference and a local
+abbrev pub where_text : Names → ℕ → ℕ → ℕ → List ℕ
+where_text names structure f k = final_text names structure f ++ codes " " ++ decimal k
 
 abbrev pub field_text : Names → ℕ → ℕ → List ℕ
 field_text names structure f =
@@ -80,6 +84,7 @@ instr_text names section place (LoadFinal f structure) = codes "final " ++ final
 instr_text names section place (LoadField f structure) = codes "field " ++ field_text names structure f
 instr_text names section place NonNull = codes "nonnull"
 instr_text names section place (PutField f structure) = codes "putfield " ++ field_text names structure f
+instr_text names section place (Where f structure k) = codes "where " ++ where_text names structure f k
 instr_text names section place NegateTop = codes "neg"
 instr_text names section place NotTop = codes "not"
 instr_text names section place (Operate operator) = operator_text operator

@@ -3,15 +3,15 @@ use Rattle.std.specs.Prelude.{ℕ, ◌+◌, pos, List, [], ◌∷◌, ◌++◌, 
 use Rattle.core_lang.specs.declared.tree.FieldStep.{FieldStep}
 use Rattle.core_lang.specs.declared.tree.FieldStep.TheVariants.{Final, Field}
 use Rattle.core_lang.specs.declared.tree.Path.{Path}
-use Rattle.core_lang.specs.declared.tree.Expr.{Expr, Number, Null, Place, Global, Element', Member', Negate', Chain', Row_of-Operation, end_of-Operation, more_of-Operation}
+use Rattle.core_lang.specs.declared.tree.Expr.{Expr, Number, Null, Place, Global, Element', Member', Negate', Owned', Chain', Row_of-Operation, end_of-Operation, more_of-Operation}
 use Rattle.core_lang.specs.declared.tree.Condition.{Condition, Compare, Not', And', Or', Row_of-Condition, end_of-Condition, more_of-Condition}
 use Rattle.core_lang.specs.declared.tree.Stmt.{Stmt}
-use Rattle.core_lang.specs.declared.tree.Action.{Action, Bind, SetLocal, SetGlobal, SetElement, SetField, Print, If', IfElse', While', Row_of-Stmt, end_of-Stmt, more_of-Stmt}
+use Rattle.core_lang.specs.declared.tree.Action.{Action, Bind, SetLocal, SetGlobal, SetElement, SetField, Call, Print, If', IfElse', While', Row_of-Stmt, end_of-Stmt, more_of-Stmt}
 use Rattle.core_lang.specs.declared.tree.Return.{Return as Result_of}
 use Rattle.core_lang.specs.declared.tree.Section.{Section}
 use Rattle.flow.specs.Skeletons.{Nil, count, in_front, block_skeleton}
 use Rattle.code.specs.declared.instr.Instr.{Instr}
-use Rattle.code.specs.declared.instr.Instr.TheVariants.{PushNumber, PushNull, GetLocal, PutLocal, LoadGlobal, PutGlobal, LoadElement, Bound, PutElement, GetMember, LoadFinal, LoadField, NonNull, PutField, NegateTop, NotTop, Operate, Test, Jump, JumpBack, JumpIfFalse, JumpIfTrue, PrintTop, Acquire, Return, End}
+use Rattle.code.specs.declared.instr.Instr.TheVariants.{PushNumber, PushNull, GetLocal, PutLocal, LoadGlobal, PutGlobal, LoadElement, Bound, PutElement, GetMember, LoadFinal, LoadField, NonNull, PutField, Where, NegateTop, NotTop, Operate, Test, Jump, JumpBack, JumpIfFalse, JumpIfTrue, PrintTop, Acquire, Return, End}
 
 -- ---- expressions and conditions
 
@@ -33,6 +33,7 @@ abbrev mutual
   expr_code (Element' start array p index) = expr_code index ++ LoadElement array ∷ []
   expr_code (Member' pool p index) = expr_code index ++ GetMember pool ∷ []
   expr_code (Negate' p e) = expr_code e ++ NegateTop ∷ []
+  expr_code (Owned' p e structure final start local) = expr_code e ++ Where final structure local ∷ []
   expr_code (Chain' p first m rest) = expr_code first ++ chain_code rest
 
   -- each further operand, followed by its operator
@@ -109,6 +110,8 @@ module _ {P : Type 0} (lists : List (List P)) where
         acquire_code point ++ (expr_code i ++ (Bound array ∷ (expr_code e ++ PutElement array ∷ [])))
     stmt_code (SetField path structure f e) point =
         acquire_code point ++ (path_code path ++ (NonNull ∷ (expr_code e ++ PutField f structure ∷ [])))
+    -- a call has no code that means it: a section's helpers are written out before. This gets stuck
+    stmt_code (Call helper arguments result) point = acquire_code point ++ (PushNull ∷ (PrintTop ∷ []))
     stmt_code (Print e) point = acquire_code point ++ (expr_code e ++ PrintTop ∷ [])
     stmt_code (If' c m block) point = if_code (acquire_code point ++ test_code c) (block_code block (point + 1))
     stmt_code (IfElse' c m block k otherwise) point =

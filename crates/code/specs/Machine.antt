@@ -9,9 +9,9 @@ use Rattle.core_lang.specs.declared.value.Outcome.{Outcome}
 use Rattle.core_lang.specs.declared.value.Outcome.TheVariants.{Ends, Returns, Traps}
 use Rattle.core_lang.specs.declared.shape.Shape.{Shape}
 use Rattle.core_lang.specs.Arithmetic.{on_values, negated, compared}
-use Rattle.core_lang.specs.Cells.{with, found, element_cell, member_of, field_cell, final_value, not_null}
+use Rattle.core_lang.specs.Cells.{with, found, element_cell, member_of, field_cell, final_value, owned, not_null}
 use Rattle.code.specs.declared.instr.Instr.{Instr}
-use Rattle.code.specs.declared.instr.Instr.TheVariants.{PushNumber, PushNull, GetLocal, PutLocal, LoadGlobal, PutGlobal, LoadElement, Bound, PutElement, GetMember, LoadFinal, LoadField, NonNull, PutField, NegateTop, NotTop, Operate, Test, Jump, JumpBack, JumpIfFalse, JumpIfTrue, PrintTop, Acquire, Return, End}
+use Rattle.code.specs.declared.instr.Instr.TheVariants.{PushNumber, PushNull, GetLocal, PutLocal, LoadGlobal, PutGlobal, LoadElement, Bound, PutElement, GetMember, LoadFinal, LoadField, NonNull, PutField, Where, NegateTop, NotTop, Operate, Test, Jump, JumpBack, JumpIfFalse, JumpIfTrue, PrintTop, Acquire, Return, End}
 
 -- a machine: its place in the code, its operand stack, locals and memory, and what it has printed
 pub record Machine (M : Type 0) : Type 0 where
@@ -132,6 +132,8 @@ module _ {M : Type 0} (load : M → ℕ → Option (Value × M)) (store : M → 
   act (Some NonNull) m = on_top m.stack (λ r rest. or_trap (not_null r) (λ same. advances m m.stack))
   act (Some (PutField f structure)) m =
       on_two m.stack (λ r v rest. or_trap (field_cell shape r f) (λ cell. stores m cell v rest))
+  act (Some (Where f structure k)) m =
+      on_top m.stack (λ r rest. or_trap (with (found (slice_get m.locals k)) (λ owner. owned shape r f owner)) (λ w. advances m (w ∷ rest)))
   act (Some NegateTop) m = on_top m.stack (λ v rest. or_trap (negated v) (λ w. advances m (w ∷ rest)))
   act (Some NotTop) m = on_top m.stack (λ v rest. or_trap (negation v) (λ w. advances m (w ∷ rest)))
   act (Some (Operate o)) m = on_two m.stack (λ a b rest. or_trap (on_values o a b) (λ w. advances m (w ∷ rest)))

@@ -6,11 +6,11 @@ use Rattle.std.specs.Option.{option_copied}
 use Rattle.std.specs.Borrow.{Bor}
 use Rattle.indexmap.specs.IndexMap.{IndexMap, get}
 use Rattle.code.specs.declared.instr.Instr.{Instr}
-use Rattle.code.specs.declared.instr.Instr.TheVariants.{PushNumber, GetLocal, PutLocal, LoadGlobal, PutGlobal, LoadElement, Bound, PutElement, GetMember, LoadFinal, LoadField, PutField, Jump, JumpBack, JumpIfFalse, JumpIfTrue, Acquire}
+use Rattle.code.specs.declared.instr.Instr.TheVariants.{PushNumber, GetLocal, PutLocal, LoadGlobal, PutGlobal, LoadElement, Bound, PutElement, GetMember, LoadFinal, LoadField, PutField, Where, Jump, JumpBack, JumpIfFalse, JumpIfTrue, Acquire}
 use Rattle.code.specs.declared.names.GlobalName.{GlobalName}
 use Rattle.code.specs.declared.names.Names.{Names}
 use Rattle.code.specs.declared.section_code.SectionCode.{SectionCode}
-use Rattle.code.specs.Listing.{named, global_text, final_text, field_text, acquired_text, instr_text}
+use Rattle.code.specs.Listing.{named, global_text, final_text, where_text, field_text, acquired_text, instr_text}
 
 -- the index has for each cell the first global that has it
 abbrev pub IsIndexOf : {S : Type 0} → List GlobalName → IndexMap ℕ (Bor GlobalName) S → Type 0
@@ -31,6 +31,7 @@ operand_text names section place (GetMember pool) = named names.pools.items pool
 operand_text names section place (LoadFinal f structure) = final_text names structure f
 operand_text names section place (LoadField f structure) = field_text names structure f
 operand_text names section place (PutField f structure) = field_text names structure f
+operand_text names section place (Where f structure k) = where_text names structure f k
 operand_text names section place (Jump over) = decimal (place + 1 + over)
 operand_text names section place (JumpBack back) = decimal (place - back)
 operand_text names section place (JumpIfFalse over) = decimal (place + 1 + over)

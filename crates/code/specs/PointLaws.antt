@@ -7,6 +7,7 @@ use Rattle.core_lang.specs.declared.typed.Typed.{Typed}
 use Rattle.core_lang.specs.Meaning.{State}
 use Rattle.core_lang.specs.Whole.{opening}
 use Rattle.core_lang.specs.Typing.{IsHeap, Fit}
+use Rattle.core_lang.specs.Helpers.{CallsNothing}
 use Rattle.core_lang.specs.WellFormed.{IsWellFormed}
 use Rattle.flow.specs.Skeletons.{skeleton}
 use Rattle.flow.specs.Flow.{head}
@@ -21,14 +22,14 @@ use Rattle.code.specs.Ahead.{Steps, between_points, CanExecute, MayEnd, HasComeO
 
 -- ---- from point to point
 
--- over memories of a type, and lock paths of any: where the code of a point stands behind what is acquired before it,
+-- over memories of a type, and lock paths of any, in a section that calls nothing: where the code of a point stands behind what is acquired before it,
 -- with room for the section's operands, and the point can be executed from a state, the machine steps, and is safe
 -- until it has come to a point that follows, or is at an outcome that the section has there
 abbrev pub PointsGoOn : (P M : Type 0) → (M → ℕ → Option (Value × M)) → (M → ℕ → Value → Option M) →
     (M → ℕ → Option Value) → Type 0
 PointsGoOn P M load store view =
     (shape : Shape) (lists : List (List P)) (section : Section) (spot : Spot) (s : State) (memory : M) (room : ℕ) →
-    InSection lists section spot → operand_need section ≤ room → CanExecute shape spot.point s (view memory) →
+    CallsNothing section → InSection lists section spot → operand_need section ≤ room → CanExecute shape spot.point s (view memory) →
     Steps load store shape (section_code lists section) (MayEnd shape spot.point s)
     (HasComeOn view shape lists section spot s (view memory)) room
     (between_points (spot.place + length (acquire_code lists spot.number)) s memory)

@@ -5,26 +5,27 @@ use Rattle.core_lang.specs.declared.shape.Shape.{Shape}
 use Rattle.core_lang.specs.declared.tree.Section.{Section}
 use Rattle.core_lang.specs.Whole.{Finished, Whole, opening}
 use Rattle.core_lang.specs.declared.typed.Typed.{Typed}
+use Rattle.core_lang.specs.Helpers.{CallsNothing}
 use Rattle.core_lang.specs.WellFormed.{IsWellFormed}
 use Rattle.locks.specs.Faults.{HasSection}
 use Rattle.code.specs.Alone.{alone, halted, Behaves}
 use Rattle.code.specs.Lowering.{section_code}
 use Rattle.code.specs.Needs.{operand_need}
 
--- where a section, run whole, is over, its code alone comes to the same outcome, prints and heap after some number of
+-- where a section that calls nothing, run whole, is over, its code alone comes to the same outcome, prints and heap after some number of
 -- instructions; whatever lock paths stand before its points
 abbrev pub EndsAsSection : Type 0 → Type 0
 EndsAsSection P =
     (lists : List (List P)) (section : Section) (shape : Shape) (arguments heap : List Value) (finished : Finished) →
-    Whole section shape arguments heap finished →
+    CallsNothing section → Whole section shape arguments heap finished →
     (n : ℕ) ×
     (alone shape (section_code lists section) n (opening section arguments heap).locals heap ≡ halted finished)
 
--- where the code comes to an outcome, the section, run whole, is over, and like this
+-- where the code of such a section comes to an outcome, the section, run whole, is over, and like this
 abbrev pub EndsOnlyAsSection : Type 0 → Type 0
 EndsOnlyAsSection P =
     (lists : List (List P)) (section : Section) (shape : Shape) (arguments heap : List Value) (n : ℕ)
-    (finished : Finished) →
+    (finished : Finished) → CallsNothing section →
     alone shape (section_code lists section) n (opening section arguments heap).locals heap ≡ halted finished →
     Whole section shape arguments heap finished
 

@@ -3,7 +3,7 @@
 ghost use Rattle.std.specs.Prelude.{◌≡◌, ◌+◌, ◌++◌, codes, OnOk, IfOk, string_bytes};
 ghost use Rattle.std.specs.Fmt.{decimal};
 ghost use Rattle.std.proofs.Props.{props};
-ghost use Rattle.code.specs.Listing.{named, global_text, final_text, field_text, operator_text, comparison_text, paths_text, acquired_text, instr_text, code_text, section_text, listing_text};
+ghost use Rattle.code.specs.Listing.{named, global_text, final_text, where_text, field_text, operator_text, comparison_text, paths_text, acquired_text, instr_text, code_text, section_text, listing_text};
 ghost use Rattle.locks.specs.Texts.{AddsText};
 ghost use Rattle.code.specs.Naming.{IsIndexOf, IsMnemonic, operand_text};
 
@@ -101,6 +101,7 @@ fn mnemonic(instr: Instr) -> &'static str
         Instr::LoadField { .. } => "field ",
         Instr::NonNull => "nonnull",
         Instr::PutField { .. } => "putfield ",
+        Instr::Where { .. } => "where ",
         Instr::NegateTop => "neg",
         Instr::NotTop => "not",
         Instr::Operate(operator) => operator_word(operator),
@@ -192,6 +193,21 @@ impl<'a> Lister<'a> {
         }
     }
 
+    // A final reference of a struct and a local, as `S.f 3`.
+    fn push_where(
+        &self,
+        out: &mut String,
+        structure: u32,
+        number: u32,
+        local: u32,
+    ) -> Result<(), AllocError>
+        ensures { OnOk result (AddsText (where_text self.now.names.now structure number local) out.old out.new) }
+    {
+        self.push_final(out, structure as usize, number)?;
+        out.push_str(" ")?;
+        push_number(out, local as usize)
+    }
+
     // A field of a struct, as `S.f`.
     fn push_field(&self, out: &mut String, structure: usize, number: u32) -> Result<(), AllocError>
         ensures { OnOk result (AddsText (field_text self.now.names.now structure number) out.old out.new) }
@@ -224,6 +240,11 @@ impl<'a> Lister<'a> {
             Instr::LoadField { structure, number } | Instr::PutField { structure, number } => {
                 self.push_field(out, structure, number)
             }
+            Instr::Where {
+                number,
+                structure,
+                local,
+            } => self.push_where(out, structure, number, local),
             Instr::Jump(over) | Instr::JumpIfFalse(over) | Instr::JumpIfTrue(over) => {
                 push_target(out, place, over)
             }

@@ -1,16 +1,16 @@
 -- Programs that stand for one resolved program have the same accesses, lock paths and faults of these, wherever they lie in memory.
-use Rattle.std.proofs.Common.{◌≡◌, ℕ, zero, suc, List, [], ◌∷◌, ◌++◌, length, Option, Some, None, if◌then◌else◌, refl, sym, ap, subst, ◌∙◌}
+use Rattle.std.proofs.Common.{◌≡◌, ℕ, zero, suc, List, [], ◌∷◌, ◌++◌, length, Option, Some, None, if◌then◌else◌, refl, sym, ap, subst, ◌∙◌, arith}
 use Rattle.std.specs.Prelude.{map, option_map, slice_get, ◌==◌}
 use Rattle.std.specs.List.{Contains, filter_map, flat_map, cons_option}
 use Rattle.source.specs.declared.fault.Code.{Code}
 use Rattle.core_lang.specs.declared.tree.FieldStep.{FieldStep}
 use Rattle.core_lang.specs.declared.tree.Expr as e
-use Rattle.core_lang.specs.declared.tree.Expr.{Number, Null, Place, Global, Element', Member', Negate', Chain', Row_of-Operation, end_of-Operation, more_of-Operation}
+use Rattle.core_lang.specs.declared.tree.Expr.{Number, Null, Place, Global, Element', Member', Negate', Owned', Chain', Row_of-Operation, end_of-Operation, more_of-Operation}
 use Rattle.core_lang.specs.declared.tree.Condition as c
 use Rattle.core_lang.specs.declared.tree.Condition.{Compare, Not', And', Or', Row_of-Condition, end_of-Condition, more_of-Condition}
 use Rattle.core_lang.specs.declared.tree.Stmt as s
 use Rattle.core_lang.specs.declared.tree.Action as a
-use Rattle.core_lang.specs.declared.tree.Action.{Bind, SetLocal, SetGlobal, SetElement, SetField, Print, If', IfElse', While', Row_of-Stmt, end_of-Stmt, more_of-Stmt}
+use Rattle.core_lang.specs.declared.tree.Action.{Bind, SetLocal, SetGlobal, SetElement, SetField, Call as CallOf, Print, If', IfElse', While', Row_of-Stmt, end_of-Stmt, more_of-Stmt}
 use Rattle.core_lang.specs.declared.tree.Return as the_return
 use Rattle.core_lang.specs.declared.tree.Section as the_section
 use Rattle.core_lang.specs.declared.typed.Owner.{Owner}
@@ -23,14 +23,14 @@ use Rattle.core_lang.specs.declared.typed.Field as the_field
 use Rattle.core_lang.specs.declared.typed.Struct as the_struct
 use Rattle.core_lang.specs.declared.typed.Typed.{Typed}
 use Rattle.core_lang.specs.Typing.{lookup}
-use Rattle.resolution.specs.Core.{Expr, number, null, place, global, element, member, negate, chain, Operations, no_operations, operation, Condition, compare, negation, all_of, any_of, Conditions, no_conditions, condition, Action, bind, set_local, set_global, set_element, set_field, print, if_true, if_else, while_true, Stmts, no_stmts, stmt, Return, Local, Section, LockClass, global_lock, lock_field, Protection, Field, Struct, GlobalVariable, Array, Program}
+use Rattle.resolution.specs.Core.{Expr, number, null, place, global, element, member, negate, owned, chain, Operations, no_operations, operation, Condition, compare, negation, all_of, any_of, Conditions, no_conditions, condition, Action, bind, set_local, set_global, set_element, set_field, call, print, if_true, if_else, while_true, Stmts, no_stmts, stmt, Return, Local, Section, LockClass, global_lock, lock_field, Protection, Field, Struct, GlobalVariable, Array, Program}
 use Rattle.resolution.specs.CoreViews.{core_expr, core_operations_row, core_condition, core_conditions_row, core_action, core_stmts_row, core_stmts, core_return, core_local, core_section, core_class, core_protection, core_field, core_struct, core_global, core_array, core_of}
 use Rattle.flow.specs.Points.{Point, statement, result, inner_points, points_in, points_of_all, point_of_return, points}
 use Rattle.locks.specs.declared.path.Root.TheVariants as root
-use Rattle.locks.specs.Accesses.{Access, Target, global as at_global, element as at_element, field as at_field, along, access, in_path, in_expr, in_operations, in_condition, in_conditions, in_action, accesses_at, accesses}
+use Rattle.locks.specs.Accesses.{Access, Target, global as at_global, element as at_element, field as at_field, along, access, in_path, in_expr, in_exprs, in_operations, in_condition, in_conditions, in_action, accesses_at, accesses}
 use Rattle.locks.specs.Locks.{protection_of}
-use Rattle.locks.specs.LockPaths.{StablePath, is_fixed, all_final, stable, stable_value, Binding, binding_at, bindings, behind, replaced, all_replaced, normal_form, LockPath, global_path, under, class_if_global, target_path, lock_path, paths_of, each_once}
-use Rattle.locks.specs.Faults.{HasSection, IsFault, IsUnstable, IsOverLimit, unstable, one_too_many, unstable_base, over_limit}
+use Rattle.locks.specs.LockPaths.{StablePath, OwnerPath, is_fixed, all_final, stable, stable_value, owner_of, owned_path, Binding, binding_at, bindings, or_behind, replaced, all_replaced, normal_form, extended, normal_base, LockPath, global_path, under, class_if_global, target_path, lock_path, paths_of, each_once}
+use Rattle.locks.specs.Faults.{HasSection, IsFault, Named, where_at, IsUnstable, IsUnstableOwner, IsOverLimit, unstable, unstable_owner, one_too_many, unstable_base, unstable_owner_base, over_limit}
 
 -- ---- lists and lookups seen by a view
 
@@ -74,6 +74,7 @@ abbrev mutual
   of_expr (element start array index) = access start (at_element array) ∷ of_expr index
   of_expr (member pool index) = of_expr index
   of_expr (negate x) = of_expr x
+  of_expr (owned x k f start owner) = of_expr x
   of_expr (chain first rest) = of_expr first ++ of_operations rest
 
   of_operations : Operations → List Access
@@ -89,11 +90,16 @@ mutual
   expr_alike (Element' start array _ index) = ap (λ xs. access start (at_element array) ∷ xs) (expr_alike index)
   expr_alike (Member' pool _ index) = expr_alike index
   expr_alike (Negate' _ x) = expr_alike x
+  expr_alike (Owned' _ x k f start owner) = expr_alike x
   expr_alike (Chain' _ first _ rest) = both (expr_alike first) (operations_alike rest)
 
   operations_alike : {m : _} (row : Row_of-Operation m) → in_operations row ≡ of_operations (core_operations_row row)
   operations_alike end_of-Operation = refl
   operations_alike (more_of-Operation operator x rest) = both (expr_alike x) (operations_alike rest)
+
+exprs_alike : (xs : List e.Expr) → in_exprs xs ≡ flat_map of_expr (map core_expr xs)
+exprs_alike [] = refl
+exprs_alike (x ∷ xs) = both (expr_alike x) (exprs_alike xs)
 
 abbrev mutual
   of_condition : Condition → List Access
@@ -124,6 +130,7 @@ of_action start (set_global cell x) = access start (at_global cell) ∷ of_expr 
 of_action start (set_element array index x) = access start (at_element array) ∷ (of_expr index ++ of_expr x)
 of_action start (set_field p structure field x) =
     along p.start p.local [] p.fields ++ access p.start (at_field p.local p.fields structure field) ∷ of_expr x
+of_action start (call helper xs r) = flat_map of_expr xs
 of_action start (print x) = of_expr x
 of_action start (if_true x block) = of_condition x
 of_action start (if_else x block otherwise) = of_condition x
@@ -136,6 +143,7 @@ action_alike start (SetGlobal cell x) = ap (λ xs. access start (at_global cell)
 action_alike start (SetElement array index x) = ap (λ xs. access start (at_element array) ∷ xs) (both (expr_alike index) (expr_alike x))
 action_alike start (SetField base structure field x) =
     ap (λ xs. in_path base ++ access base.start (at_field base.local base.fields.items structure field) ∷ xs) (expr_alike x)
+action_alike start (CallOf helper xs r) = exprs_alike xs.items
 action_alike start (Print x) = expr_alike x
 action_alike start (If' x _ block) = condition_alike x
 action_alike start (IfElse' x _ block _ otherwise) = condition_alike x
@@ -169,6 +177,7 @@ mutual
   within_alike (SetGlobal cell x) = refl
   within_alike (SetElement array index x) = refl
   within_alike (SetField base structure field x) = refl
+  within_alike (CallOf helper xs r) = refl
   within_alike (Print x) = refl
   within_alike (If' x _ block) = block_alike block
   within_alike (IfElse' x _ block _ otherwise) =
@@ -232,6 +241,7 @@ stable_alike x k fields = sym (looked_at core_local x.locals.items k (λ (l : Lo
 
 abbrev value_of : List Local → Expr → Option StablePath
 value_of locals (place p) = if p.in_parentheses then None else stable_of locals p.local p.fields
+value_of locals (owned x k f start owner) = value_of locals x
 value_of locals _ = None
 
 value_alike : (x : the_section.Section) (v : e.Expr) → stable_value x v ≡ value_of (core_section x).locals (core_expr v)
@@ -242,22 +252,49 @@ value_alike x (Global start cell) = refl
 value_alike x (Element' start array _ index) = refl
 value_alike x (Member' pool _ index) = refl
 value_alike x (Negate' _ v) = refl
+value_alike x (Owned' _ v k f start owner) = value_alike x v
 value_alike x (Chain' _ first _ rest) = refl
 
--- a local that is bound, and the stable path that it is bound to, if it is
-abbrev bound_to : the_section.Section → Binding → ℕ × Option StablePath
-bound_to x b = (b.local, stable_value x b.value)
+abbrev named_owner : ℕ → StablePath → OwnerPath
+named_owner f path = record { final = f; path = path }
 
-abbrev bound_by : List Local → Spot → Option (ℕ × Option StablePath)
-bound_by locals (at_statement start (bind local v)) = Some (local, value_of locals v)
+abbrev owner_by : List Local → Expr → Option OwnerPath
+owner_by locals (owned v k f start owner) = option_map (named_owner f) (stable_of locals owner [])
+owner_by locals _ = None
+
+owner_alike : (x : the_section.Section) (v : e.Expr) → owner_of x v ≡ owner_by (core_section x).locals (core_expr v)
+owner_alike x (Number n) = refl
+owner_alike x Null = refl
+owner_alike x (Place p) = refl
+owner_alike x (Global start cell) = refl
+owner_alike x (Element' start array _ index) = refl
+owner_alike x (Member' pool _ index) = refl
+owner_alike x (Negate' _ v) = refl
+owner_alike x (Owned' _ v k f start owner) = ap (option_map (named_owner f)) (stable_alike x owner [])
+owner_alike x (Chain' _ first _ rest) = refl
+
+-- a local that is bound, and what stands for its owner and for itself
+record Standing : Type 0 where
+  local : ℕ
+  owner : Option OwnerPath
+  value : Option StablePath
+
+abbrev bound_to : the_section.Section → Binding → Standing
+bound_to x b = record { local = b.local; owner = owner_of x b.value; value = stable_value x b.value }
+
+abbrev bound_by : List Local → Spot → Option Standing
+bound_by locals (at_statement start (bind local v)) = Some (record { local = local; owner = owner_by locals v; value = value_of locals v })
+bound_by locals (at_statement start (call helper xs (Some local))) = Some (record { local = local; owner = None; value = None })
 bound_by locals _ = None
 
 bound_alike : (x : the_section.Section) (p : Point) → option_map (bound_to x) (binding_at p) ≡ bound_by (core_section x).locals (spot p)
-bound_alike x (statement start (Bind local v)) = ap (λ o. Some (local, o)) (value_alike x v)
+bound_alike x (statement start (Bind local v)) = λ i. Some (record { local = local; owner = owner_alike x v i; value = value_alike x v i })
 bound_alike x (statement start (SetLocal local v)) = refl
 bound_alike x (statement start (SetGlobal cell v)) = refl
 bound_alike x (statement start (SetElement array index v)) = refl
 bound_alike x (statement start (SetField base structure field v)) = refl
+bound_alike x (statement start (CallOf helper xs None)) = refl
+bound_alike x (statement start (CallOf helper xs (Some local))) = refl
 bound_alike x (statement start (Print v)) = refl
 bound_alike x (statement start (If' v _ block)) = refl
 bound_alike x (statement start (IfElse' v _ block _ otherwise)) = refl
@@ -275,15 +312,16 @@ each_bound_alike x (p ∷ ps) =
     cons_mapped (bound_to x) (binding_at p) (filter_map binding_at ps)
     ∙ (λ i. cons_option (bound_alike x p i) (each_bound_alike x ps i))
 
-abbrev all_bound : Section → List (ℕ × Option StablePath)
+abbrev all_bound : Section → List Standing
 all_bound x = filter_map (bound_by x.locals) (spots x)
 
 bindings_alike : (x : the_section.Section) → map (bound_to x) (bindings x) ≡ all_bound (core_section x)
 bindings_alike x = each_bound_alike x (points x) ∙ ap (filter_map (bound_by (core_section x).locals)) (points_alike x)
 
-abbrev replaced_by : List (ℕ × Option StablePath) → StablePath → StablePath
+abbrev replaced_by : List Standing → StablePath → StablePath
 replaced_by [] path = path
-replaced_by (b ∷ bs) path = let rest = replaced_by bs path in if b.0 == rest.root then behind b.1 rest else rest
+replaced_by (b ∷ bs) path =
+    let rest = replaced_by bs path in if b.local == rest.root then or_behind (owned_path b.owner rest) b.value rest else rest
 
 replaced_alike : (x : the_section.Section) (bs : List Binding) (path : StablePath) → all_replaced x bs path ≡ replaced_by (map (bound_to x) bs) path
 replaced_alike x [] path = refl
@@ -317,7 +355,7 @@ protection_alike program k f =
 abbrev under_class : LockClass → Protection → Option StablePath → Option LockPath
 under_class (global_lock name) p base = Some (global_path p.class)
 under_class (lock_field k l) p base =
-    option_map (λ (b : StablePath). record { root = root.Local b.root; finals = b.finals ++ p.through; class = p.class }) base
+    option_map (λ (b : StablePath). record { root = root.Local b.root; finals = b.finals; class = p.class }) base
 
 under_alike : (x : the_class.LockClass) (p : the_protection.Protection) (base : Option StablePath) → under x p base ≡ under_class (core_class x) (core_protection p) base
 under_alike (class_case.Global name) p base = refl
@@ -334,21 +372,23 @@ class_alike program (owner.Element array index) = refl
 class_alike program (owner.Field o f) = refl
 
 module _ (program : Program) (section : Section) where
-  abbrev base_by : ℕ → List FieldStep → Option StablePath
-  base_by local base = option_map (normal_form_of section) (stable_of section.locals local base)
+  abbrev base_by : Protection → ℕ → List FieldStep → Option StablePath
+  base_by p local base =
+      option_map (λ (b : StablePath). normal_form_of section (record { root = b.root; finals = b.finals ++ p.through }))
+      (stable_of section.locals local base)
 
   abbrev path_by : Target → Option LockPath
   path_by (at_global cell) = lookup (slice_get program.cells cell) (λ (x : Cell). option_map global_path (class_by program x.owner))
   path_by (at_element array) = lookup (slice_get program.arrays array) (λ (x : Array). Some (global_path x.class))
   path_by (at_field local base k f) =
       lookup (protection_by program k f) (λ (p : Protection). lookup (slice_get program.classes p.class) (λ (x : LockClass).
-      under_class x p (base_by local base)))
+      under_class x p (base_by p local base)))
 
 module _ (program : Typed) (section : the_section.Section) where
-  base_alike : (local : ℕ) (base : List FieldStep) →
-      option_map (normal_form section) (stable section local base) ≡ base_by (core_of program) (core_section section) local base
-  base_alike local base =
-      (λ i. option_map (λ (path : StablePath). normal_form_alike section path i) (stable_alike section local base i))
+  base_alike : (p : the_protection.Protection) (local : ℕ) (base : List FieldStep) →
+      option_map (normal_base section p) (stable section local base) ≡ base_by (core_of program) (core_section section) (core_protection p) local base
+  base_alike p local base =
+      (λ i. option_map (λ (path : StablePath). normal_form_alike section (extended path p) i) (stable_alike section local base i))
 
   path_alike : (t : Target) → target_path program section t ≡ path_by (core_of program) (core_section section) t
   path_alike (at_global cell) =
@@ -358,21 +398,66 @@ module _ (program : Typed) (section : the_section.Section) where
   path_alike (at_field local base k f) =
       (λ i. lookup (protection_of program k f) (λ (p : the_protection.Protection). by_class p i))
       ∙ sym (looked core_protection (protection_of program k f) (λ (p : Protection). lookup (slice_get (core_of program).classes p.class) (λ (x : LockClass).
-      under_class x p (base_by (core_of program) (core_section section) local base))))
+      under_class x p (base_by (core_of program) (core_section section) p local base))))
       ∙ ap (λ o. lookup o (λ (p : Protection). lookup (slice_get (core_of program).classes p.class) (λ (x : LockClass).
-      under_class x p (base_by (core_of program) (core_section section) local base)))) (protection_alike program k f)
+      under_class x p (base_by (core_of program) (core_section section) p local base)))) (protection_alike program k f)
     where
       by_class : (p : the_protection.Protection) →
-          lookup (slice_get program.classes.items p.class) (λ (x : the_class.LockClass). under x p (option_map (normal_form section) (stable section local base)))
-          ≡ lookup (slice_get (core_of program).classes p.class) (λ (x : LockClass). under_class x (core_protection p) (base_by (core_of program) (core_section section) local base))
+          lookup (slice_get program.classes.items p.class) (λ (x : the_class.LockClass). under x p (option_map (normal_base section p) (stable section local base)))
+          ≡ lookup (slice_get (core_of program).classes p.class) (λ (x : LockClass). under_class x (core_protection p) (base_by (core_of program) (core_section section) (core_protection p) local base))
       by_class p =
-          (λ i. lookup (slice_get program.classes.items p.class) (λ (x : the_class.LockClass). under x p (base_alike local base i)))
+          (λ i. lookup (slice_get program.classes.items p.class) (λ (x : the_class.LockClass). under x p (base_alike p local base i)))
           ∙ (λ i. lookup (slice_get program.classes.items p.class) (λ (x : the_class.LockClass).
-          under_alike x p (base_by (core_of program) (core_section section) local base) i))
+          under_alike x p (base_by (core_of program) (core_section section) (core_protection p) local base) i))
           ∙ sym (looked_at core_class program.classes.items p.class (λ (x : LockClass).
-          under_class x (core_protection p) (base_by (core_of program) (core_section section) local base)))
+          under_class x (core_protection p) (base_by (core_of program) (core_section section) (core_protection p) local base)))
 
 -- ---- faults
+
+-- the local that a `where` names
+abbrev where_in : Expr → Option Named
+where_in (owned v k f start owner) = Some (record { start = start; local = owner })
+where_in _ = None
+
+abbrev where_of : Spot → Option Named
+where_of (at_statement start (bind local v)) = where_in v
+where_of _ = None
+
+value_where : (start local : ℕ) (v : e.Expr) → where_at (statement start (Bind local v)) ≡ where_in (core_expr v)
+value_where start local (Number n) = refl
+value_where start local Null = refl
+value_where start local (Place p) = refl
+value_where start local (Global at cell) = refl
+value_where start local (Element' at array _ index) = refl
+value_where start local (Member' pool _ index) = refl
+value_where start local (Negate' _ v) = refl
+value_where start local (Owned' _ v k f at owner) = refl
+value_where start local (Chain' _ first _ rest) = refl
+
+where_alike : (p : Point) → where_at p ≡ where_of (spot p)
+where_alike (statement start (Bind local v)) = value_where start local v
+where_alike (statement start (SetLocal local v)) = refl
+where_alike (statement start (SetGlobal cell v)) = refl
+where_alike (statement start (SetElement array index v)) = refl
+where_alike (statement start (SetField base structure field v)) = refl
+where_alike (statement start (CallOf helper xs r)) = refl
+where_alike (statement start (Print v)) = refl
+where_alike (statement start (If' v _ block)) = refl
+where_alike (statement start (IfElse' v _ block _ otherwise)) = refl
+where_alike (statement start (While' v _ body)) = refl
+where_alike (result r) = refl
+
+-- what a list contains, its view does too, and the other way round
+in_view : {A B : Type 0} (f : A → B) (xs : List A) (x : A) → Contains xs x → Contains (map f xs) (f x)
+in_view f [] x c = absurd (omega (arith, c.1))
+in_view f (y ∷ xs) x (zero, lt, e) = (0, omega arith, ap f e)
+in_view f (y ∷ xs) x (suc k, lt, e) = let r = in_view f xs x (k, omega (arith, lt), e) in (suc r.0, omega (arith, r.1), r.2)
+
+from_view : {A B : Type 0} (f : A → B) (xs : List A) (b : B) → Contains (map f xs) b → (x : A) × Contains xs x × (f x ≡ b)
+from_view f [] b c = absurd (omega (arith, c.1))
+from_view f (y ∷ xs) b (zero, lt, e) = (y, (0, omega arith, refl), e)
+from_view f (y ∷ xs) b (suc k, lt, e) =
+    let r = from_view f xs b (k, omega (arith, lt), e) in (r.0, (suc r.1.0, omega (arith, r.1.1), r.1.2), r.2)
 
 module _ (program other : Typed) (same : core_of program ≡ core_of other) where
   -- a section of the one is one of the other, wherever that lies
@@ -412,6 +497,18 @@ module _ (program other : Typed) (same : core_of program ≡ core_of other) wher
       (ap (λ list. length (each_once list)) (sym paths) ∙ full) (sym (path_same x found.0 found.2 a) ∙ is)
       (λ among. new (subst (λ list. Contains list path) (sym paths) among))
 
+  unstable_owner_alike : (start : ℕ) → IsUnstableOwner program start → IsUnstableOwner other start
+  unstable_owner_alike start (unstable_owner {section = x} {point = point} {owner = named} has among at none) =
+      let found = section_alike x has in
+      let y = found.0 in
+      let seen : Contains (map spot (points y)) (spot point) =
+      subst (λ list. Contains list (spot point)) (points_alike x ∙ ap spots found.2 ∙ sym (points_alike y)) (in_view spot (points x) point among) in
+      let there = from_view spot (points y) (spot point) seen in
+      let stable_too : stable y named.local [] ≡ stable x named.local [] =
+      stable_alike y named.local [] ∙ ap (λ (z : Section). stable_of z.locals named.local []) (sym found.2) ∙ sym (stable_alike x named.local []) in
+      unstable_owner found.1 there.1 (where_alike there.0 ∙ ap where_of there.2 ∙ sym (where_alike point) ∙ at) (stable_too ∙ none)
+
   pub fault_alike : (code : Code) (start : ℕ) → IsFault program code start → IsFault other code start
   fault_alike code start (unstable_base h) = unstable_base (unstable_alike start h)
+  fault_alike code start (unstable_owner_base h) = unstable_owner_base (unstable_owner_alike start h)
   fault_alike code start (over_limit h) = over_limit (over_limit_alike start h)

@@ -5,7 +5,7 @@ use Rattle.std.specs.List.{Contains}
 use Rattle.source.specs.declared.fault.Fault.{Fault}
 use Rattle.core_lang.specs.declared.tree.Stmt as s
 use Rattle.core_lang.specs.declared.tree.Action as a
-use Rattle.core_lang.specs.declared.tree.Action.{Bind, SetLocal, SetGlobal, SetElement, SetField, Print, If', IfElse', While', Row_of-Stmt, end_of-Stmt, more_of-Stmt}
+use Rattle.core_lang.specs.declared.tree.Action.{Bind, SetLocal, SetGlobal, SetElement, SetField, Call as CallOf, Print, If', IfElse', While', Row_of-Stmt, end_of-Stmt, more_of-Stmt}
 use Rattle.core_lang.specs.declared.tree.Return as the_return
 use Rattle.core_lang.specs.declared.tree.Section as the_section
 use Rattle.core_lang.specs.declared.typed.LockClass as the_class
@@ -14,7 +14,7 @@ use Rattle.core_lang.specs.declared.typed.LockField as the_lock
 use Rattle.core_lang.specs.declared.typed.Struct as the_struct
 use Rattle.core_lang.specs.declared.typed.Typed.{Typed}
 use Rattle.core_lang.specs.Typing.{lookup}
-use Rattle.resolution.specs.Core.{Action, bind, if_true, if_else, while_true, Stmts, no_stmts, stmt, Return, Section, LockClass, global_lock, lock_field, LockField, Struct, Program}
+use Rattle.resolution.specs.Core.{Action, bind, call, if_true, if_else, while_true, Stmts, no_stmts, stmt, Return, Section, LockClass, global_lock, lock_field, LockField, Struct, Program}
 use Rattle.resolution.specs.CoreViews.{core_action, core_stmts_row, core_stmts, core_return, core_section, core_class, core_lock, core_struct, core_of}
 use Rattle.flow.specs.Points.{Point, statement, result, points, start_of, bound_at, Binds}
 use Rattle.flow.specs.Skeletons.{Skeleton, Nil, Step, Fork, Loop, in_front, block_skeleton, all_in_front, return_skeleton, skeleton}
@@ -47,6 +47,7 @@ mutual
   front_alike (SetGlobal cell x) rest = refl
   front_alike (SetElement array index x) rest = refl
   front_alike (SetField base structure field x) rest = refl
+  front_alike (CallOf helper xs r) rest = refl
   front_alike (Print x) rest = refl
   front_alike (If' x _ block) rest = λ i. Fork (block_alike block i) Nil rest
   front_alike (IfElse' x _ block _ otherwise) rest = λ i. Fork (block_alike block i) (block_alike otherwise i) rest
@@ -82,6 +83,7 @@ skeleton_alike x = all_alike x.body.items (return_skeleton x.result) ∙ ap (all
 
 abbrev bound_of : Spot → Option ℕ
 bound_of (at_statement start (bind local x)) = Some local
+bound_of (at_statement start (call helper xs (Some local))) = Some local
 bound_of _ = None
 
 bound_alike : (p : Point) → bound_at p ≡ bound_of (spot p)
@@ -90,6 +92,8 @@ bound_alike (statement start (SetLocal local x)) = refl
 bound_alike (statement start (SetGlobal cell x)) = refl
 bound_alike (statement start (SetElement array index x)) = refl
 bound_alike (statement start (SetField base structure field x)) = refl
+bound_alike (statement start (CallOf helper xs None)) = refl
+bound_alike (statement start (CallOf helper xs (Some local))) = refl
 bound_alike (statement start (Print x)) = refl
 bound_alike (statement start (If' x _ block)) = refl
 bound_alike (statement start (IfElse' x _ block _ otherwise)) = refl

@@ -1,6 +1,5 @@
 -- A program may be lent to many threads: it is made of numbers, names and lists of these.
 use denote.Param.Send.{IsSync, IsSend, sendable, recorded_sync, struct_sync, AllSync}
-use denote.Struct.Struct.{Struct}
 use denote.Struct.Declared.{shape}
 use Rattle.std.proofs.Crossing.{crosses}
 use Rattle.core_lang.specs.contracts.tree.Section as section
@@ -8,6 +7,7 @@ use Rattle.core_lang.specs.contracts.tree.Stmt as stmt
 use Rattle.core_lang.specs.contracts.tree.Return as ret
 use Rattle.core_lang.specs.contracts.tree.Expr as ex
 use Rattle.core_lang.specs.contracts.tree.Condition as cond
+use Rattle.core_lang.specs.contracts.shape.Shape as shapes
 use Rattle.core_lang.specs.contracts.typed.Typed as typed
 use Rattle.core_lang.proofs.tree.Action.TheLaws.TheKnot as action
 use Rattle.core_lang.proofs.tree.Expr.TheLaws.TheKnot as expr
@@ -19,7 +19,9 @@ use Rattle.core_lang.proofs.tree.Comparison.TheSendSync as comparison
 use Rattle.core_lang.proofs.typed.LockClass.TheSendSync as class
 use Rattle.core_lang.proofs.typed.Struct.TheSendSync as structs
 use Rattle.core_lang.proofs.typed.GlobalVariable.TheSendSync as variable
-use Rattle.core_lang.proofs.shape.Shape.TheSendSync as shapes
+use Rattle.core_lang.proofs.shape.Array.TheSendSync as array
+use Rattle.core_lang.proofs.shape.Pool.TheSendSync as pool
+use Rattle.core_lang.proofs.shape.Object.TheSendSync as object
 use Rattle.core_lang.proofs.typed.Cell.TheSendSync as cell
 use Rattle.core_lang.proofs.typed.Thread.TheSendSync as thread
 use Rattle.core_lang.proofs.value.ValueType.TheSendSync as valued
@@ -45,8 +47,14 @@ return_sync = recorded_sync _ _ _ ret.the_type.to_one (struct_sync (shape ret.th
 pub section_sync : IsSync section.the_row
 section_sync = recorded_sync _ _ _ section.the_type.to_one (struct_sync (shape section.the_type) (search (sendable, crosses), (search (sendable, crosses), (search (sendable, crosses, local.the_sync), (search (sendable, crosses, valued.the_sync), (search (sendable, crosses, stmt_sync), (search (sendable, crosses, return_sync), tt)))))))
 
+shape_parts : AllSync (shape shapes.the_type).fields
+shape_parts = (search (sendable, crosses, array.the_sync), (search (sendable, crosses, pool.the_sync), (search (sendable, crosses, object.the_sync), (search (sendable, crosses), (search (sendable, crosses, section_sync), tt)))))
+
+shape_sync : IsSync (shapes.the_field).row
+shape_sync = struct_sync (shape shapes.the_type) shape_parts
+
 parts : AllSync (shape typed.the_type).fields
-parts = (search (sendable, crosses, class.the_sync), (search (sendable, crosses, structs.the_sync), (search (sendable, crosses, variable.the_sync), (shapes.the_field_sync, (search (sendable, crosses, cell.the_sync), (search (sendable, crosses, section_sync), (search (sendable, crosses, thread.the_sync), tt)))))))
+parts = (search (sendable, crosses, class.the_sync), (search (sendable, crosses, structs.the_sync), (search (sendable, crosses, variable.the_sync), (shape_sync, (search (sendable, crosses, cell.the_sync), (search (sendable, crosses, section_sync), (search (sendable, crosses, thread.the_sync), tt)))))))
 
 pub typed_whole : IsSync typed.the_row
 typed_whole = recorded_sync _ _ _ typed.the_type.to_one (struct_sync (shape typed.the_type) parts)

@@ -3,3 +3,9 @@ pub mod SerialCalls
 pub mod Sound
 pub mod Fitting
 pub mod Crossing
+pub mod Renamed
+pub mod WrittenScopes
+pub mod WrittenOut
+pub mod Expanded
+pub mod WrittenNumbers
+pub mod WrittenCalls

@@ -21,10 +21,10 @@ use Rattle.core_lang.specs.declared.tree.Comparison.TheVariants.{Equal, Unequal,
 use Rattle.core_lang.specs.declared.tree.FieldStep.{FieldStep}
 use Rattle.core_lang.specs.declared.tree.FieldStep.TheVariants as step
 use Rattle.core_lang.specs.declared.tree.Path.{Path}
-use Rattle.core_lang.specs.declared.tree.Expr.{Expr, Number, Null, Place, Global, Element', Member', Negate', Chain', Row_of-Operation, end_of-Operation, more_of-Operation}
+use Rattle.core_lang.specs.declared.tree.Expr.{Expr, Number, Null, Place, Global, Element', Member', Negate', Owned', Chain', Row_of-Operation, end_of-Operation, more_of-Operation}
 use Rattle.core_lang.specs.declared.tree.Condition.{Condition, Compare, Not', And', Or', Row_of-Condition, end_of-Condition, more_of-Condition}
 use Rattle.core_lang.specs.declared.tree.Stmt.{Stmt}
-use Rattle.core_lang.specs.declared.tree.Action.{Action, Bind, SetLocal, SetGlobal, SetElement, SetField, Print, If', IfElse', While', Row_of-Stmt, end_of-Stmt, more_of-Stmt}
+use Rattle.core_lang.specs.declared.tree.Action.{Action, Bind, SetLocal, SetGlobal, SetElement, SetField, Call, Print, If', IfElse', While', Row_of-Stmt, end_of-Stmt, more_of-Stmt}
 use Rattle.core_lang.specs.declared.tree.Return.{Return}
 use Rattle.core_lang.specs.declared.tree.Local.{Local}
 use Rattle.core_lang.specs.declared.typed.Cell.{Cell}
@@ -32,11 +32,15 @@ use Rattle.core_lang.specs.declared.typed.Owner.{Owner}
 use Rattle.core_lang.specs.declared.typed.Owner.TheVariants as owner
 use Rattle.core_lang.specs.declared.typed.Typed.{Typed}
 use Rattle.core_lang.specs.Arithmetic.{fits, is_zero, number_of, arithmetic, on_values, negated, compared}
-use Rattle.core_lang.specs.Cells.{with, found, at_index, element_cell, reference_to, member_of, field_cell, final_value, not_null, read}
-use Rattle.core_lang.specs.Meaning.{State, Flow, GoesOn, Traps, Beyond, Astray, along, place_of, joined, value_of, chained, and_then, or_else, truth_of, all_true, any_true, given, after, choose, printed, written, stored, turns, effect_of, effects_of, sequence}
+use Rattle.core_lang.specs.Cells.{with, found, at_index, element_cell, reference_to, member_of, field_cell, final_value, if_named, owned, not_null, read}
+use Rattle.core_lang.specs.Meaning.{State, Flow, GoesOn, Traps, Beyond, Astray, Helpers, Run, Over, Beyond_turns, Gone_astray, along, place_of, joined, value_of, chained, values_of, and_then, or_else, truth_of, all_true, any_true, given, after, choose, printed, written, stored, turns, received, back, effect_by, effects_by, sequence_by, run_from, if_there, helped, deepest}
 use Rattle.core_lang.specs.Whole.{opening, default_of, default_local, returned, ending, concluded}
-use Rattle.core_lang.specs.Typing.{lookup, struct_of, HasType, HaveTypes, local_types, cell_types, final_target, field_type, if_global, global_type, array_type, pool_struct, LeadsTo, IsPathTo, IsOf, AreIntegers, CanCompare, IsTest, AreTests, GivesLocal, IsWellTyped, AreWellTyped, AllWellTyped, IsResult}
-use Rattle.core_lang.specs.WellFormed.{IsCell, IsLaidOut, IsWithinLimits}
+use Rattle.core_lang.specs.declared.value.Outcome.{Outcome}
+use Rattle.core_lang.specs.declared.value.Outcome.TheVariants as out
+use Rattle.core_lang.specs.declared.tree.Section.{Section}
+use Rattle.core_lang.specs.Typing.{IsHeap, CanEnd, AreOf, Takes, IsWellTypedSection, lookup, struct_of, HasType, HaveTypes, local_types, cell_types, final_target, field_type, if_global, global_type, array_type, pool_struct, LeadsTo, IsPathTo, IsOf, AreIntegers, CanCompare, IsTest, AreTests, GivesLocal, IsWellTyped, AreWellTyped, AllWellTyped, IsResult}
+use Rattle.core_lang.specs.Helpers.{CallsOnly, AllCallOnly, EachCallsOnly, IsAtMostDeep}
+use Rattle.core_lang.specs.WellFormed.{IsChecked, IsCell, IsLaidOut, IsWithinLimits}
 use Rattle.core_lang.specs.Soundness.{Gives, IsTypedState, LeadsToTyped, ValuesHaveTheirTypes, TestsDecide, EffectsStayTyped}
 use Rattle.core_lang.specs.Laws.{StaysTyped, NeverGoAstray}
 
@@ -162,6 +166,12 @@ member_struct shape o object p pool here same there =
     ∙ ap (λ (q : ℕ). lookup (slice_get shape.pools.items q) (λ (y : Pool). Some y.structure)) same
     ∙ ap (λ (r : Option Pool). lookup r (λ (y : Pool). Some y.structure)) there
 
+-- what a helper comes to stays typed, where its arguments fit it
+abbrev HelpersSound : Typed → (ℕ → Type 0) → Helpers → Type 0
+HelpersSound program P call =
+    (k : ℕ) → P k → (h : Section) → slice_get program.shape.helpers.items k ≡ Some h → (vs heap : List Value) (prints : List ℤ) →
+    HaveTypes program.shape (local_types (take h.parameters h.locals.items)) vs → IsHeap program heap → StaysTyped program h.result_type (call k vs heap prints)
+
 module _ (program : Typed) (types : List ValueType) (laid : IsLaidOut program) (within : IsWithinLimits program) where
   abbrev Has : ValueType → Value → Type 0
   Has t v = HasType program.shape t v
@@ -230,6 +240,21 @@ module _ (program : Typed) (types : List ValueType) (laid : IsLaidOut program) (
       subst (λ (r : Option Object). Gives (Has (Reference target)) (with (found r) (λ (x : Object). with (found (slice_get program.shape.finals.items (x.finals + f))) (λ n. Ok (Ref (Some n)))))) (sym x.1)
       (subst (λ (r : Option ℕ). Gives (Has (Reference target)) (with (found r) (λ n. Ok (Ref (Some n))))) (sym named.1) named.2)
 
+  kept_sound : (b : Bool) (t : ValueType) (v : Value) → Has t v → Gives (Has t) (if_named b v)
+  kept_sound true t v h = h
+  kept_sound false t v h = tt
+
+  equal_gives : (target : ℕ) (w o : Value) → Has (Reference target) w → Has (Reference target) o → Gives IsAny (compared Equal w o)
+  equal_gives target w o h k = equal_sound program.shape (Reference target) w o h k
+
+  owned_sound : (v o : Value) (s f target : ℕ) → Has (Reference s) v → final_target program s f ≡ Some target → Has (Reference target) o →
+      Gives (Has (Reference s)) (owned program.shape v f o)
+  owned_sound (Int n) o s f target h e k = absurd h
+  owned_sound (Ref None) o s f target h e k = tt
+  owned_sound (Ref (Some x)) o s f target h e k =
+      gives_with (Has (Reference target)) (Has (Reference s)) (final_value program.shape (Ref (Some x)) f) _ (final_sound (Ref (Some x)) s f target h e)
+      (λ w hw. gives_with IsAny (Has (Reference s)) (compared Equal w o) _ (equal_gives target w o hw k) (λ b _. kept_sound b (Reference s) (Ref (Some x)) h))
+
   read_sound : (heap : List Value) (cell : ℕ) (t : ValueType) → HaveTypes program.shape (cell_types program) heap → IsCellOf t cell → Gives (Has t) (read heap cell)
   read_sound heap cell t h e = value_there program.shape (cell_types program) heap cell t h e
 
@@ -271,6 +296,11 @@ module _ (program : Typed) (types : List ValueType) (laid : IsLaidOut program) (
     value_sound (Negate' p e) Integer s ty is =
         gives_with (Has Integer) (Has Integer) (value_of e program.shape s.locals s.heap) _ (value_sound e Integer s ty is) (λ v h. negate_sound program.shape v h)
     value_sound (Negate' p e) (Reference r) s ty is = absurd is
+    value_sound (Owned' p e k f start j) Integer s ty is = absurd is
+    value_sound (Owned' p e k f start j) (Reference r) s ty is =
+        gives_with (Has (Reference r)) (Has (Reference r)) (value_of e program.shape s.locals s.heap) _ (value_sound e (Reference r) s ty is.1)
+        (λ v h. gives_with (Has (Reference is.2.0)) (Has (Reference r)) (found (slice_get s.locals j)) _
+        (value_there program.shape types s.locals j (Reference is.2.0) ty.locals is.2.2) (λ o k'. owned_sound v o r f is.2.0 h is.2.1 k'))
     value_sound (Chain' p first m rest) Integer s ty is =
         chain_sound rest s (value_of first program.shape s.locals s.heap) ty is.1 (value_sound first Integer s ty is.0)
     value_sound (Chain' p first m rest) (Reference r) s ty is = absurd is
@@ -372,36 +402,66 @@ module _ (program : Typed) (types : List ValueType) (laid : IsLaidOut program) (
   turns_sound (suc n) test body ht hb s ty =
       given_sound IsAny (test s) s _ ty (ht s ty) (λ b _. choose_sound b _ _ (after_sound (body s) _ (hb s ty) (turns_sound n test body ht hb)) ty)
 
-  mutual
-    effect_sound : (x : Action) (n : ℕ) (s : State) → IsTyped s → IsWellTyped program types x → Stays (effect_of x program.shape n s)
-    effect_sound (Bind local e) n s ty is = store_sound local e s ty is
-    effect_sound (SetLocal local e) n s ty is = store_sound local e s ty is
-    effect_sound (SetGlobal cell e) n s ty is =
-        given_sound (Has is.0) (value_of e program.shape s.locals s.heap) s _ ty (value_sound e is.0 s ty is.2) (λ v h. write_sound cell is.0 v s ty (global_cell cell is.0 is.1) h)
-    effect_sound (SetElement array i e) n s ty is =
-        given_sound (Has Integer) (value_of i program.shape s.locals s.heap) s _ ty (value_sound i Integer s ty is.2)
-        (λ v h. given_sound (IsCellOf is.0) (element_cell program.shape array v) s _ ty (element_sound array v is.0 is.1 h)
-        (λ cell c. given_sound (Has is.0) (value_of e program.shape s.locals s.heap) s _ ty (value_sound e is.0 s ty is.3) (λ w hw. write_sound cell is.0 w s ty c hw)))
-    effect_sound (SetField p k f e) n s ty is =
-        given_sound (Has (Reference k)) (with (place_of p program.shape s.locals s.heap) not_null) s _ ty
-        (gives_with (Has (Reference k)) (Has (Reference k)) (place_of p program.shape s.locals s.heap) _ (path_sound p (Reference k) s ty is.0) (λ v h. not_null_sound program.shape k v h))
-        (λ v h. given_sound (Has is.1.0) (value_of e program.shape s.locals s.heap) s _ ty (value_sound e is.1.0 s ty is.1.2)
-        (λ w hw. given_sound (IsCellOf is.1.0) (field_cell program.shape v f) s _ ty (field_sound v k f is.1.0 h is.1.1) (λ cell c. write_sound cell is.1.0 w s ty c hw)))
-    effect_sound (Print e) n s ty is = given_sound (Has Integer) (value_of e program.shape s.locals s.heap) s _ ty (value_sound e Integer s ty is) (λ v h. print_sound v s ty h)
-    effect_sound (If' c m a) n s ty is =
-        given_sound IsAny (truth_of c program.shape s.locals s.heap) s _ ty (test_sound c s ty is.0) (λ x _. choose_sound x _ _ (effects_sound a n s ty is.1) ty)
-    effect_sound (IfElse' c m a k b) n s ty is =
-        given_sound IsAny (truth_of c program.shape s.locals s.heap) s _ ty (test_sound c s ty is.0) (λ x _. choose_sound x _ _ (effects_sound a n s ty is.1) (effects_sound b n s ty is.2))
-    effect_sound (While' c m body) n s ty is =
-        turns_sound n (λ s. truth_of c program.shape s.locals s.heap) (effects_of body program.shape n) (λ s1 t1. test_sound c s1 t1 is.0) (λ s1 t1. effects_sound body n s1 t1 is.1) s ty
+  values_sound : (es : List Expr) (ts : List ValueType) (s : State) → IsTyped s → AreOf program types es ts → Gives (HaveTypes program.shape ts) (values_of es program.shape s.locals s.heap)
+  values_sound [] [] s ty is = tt
+  values_sound [] (t ∷ ts) s ty is = absurd is
+  values_sound (e ∷ es) [] s ty is = absurd is
+  values_sound (e ∷ es) (t ∷ ts) s ty is =
+      gives_with (Has t) (HaveTypes program.shape (t ∷ ts)) (value_of e program.shape s.locals s.heap) _ (value_sound e t s ty is.0)
+      (λ v h. gives_with (HaveTypes program.shape ts) (HaveTypes program.shape (t ∷ ts)) (values_of es program.shape s.locals s.heap) _ (values_sound es ts s ty is.1) (λ vs hs. (h, hs)))
 
-    effects_sound : {m : _} (row : Row_of-Stmt m) (n : ℕ) (s : State) → IsTyped s → AreWellTyped program types row → Stays (effects_of row program.shape n s)
-    effects_sound end_of-Stmt n s ty is = ty
-    effects_sound (more_of-Stmt start x rest) n s ty is = after_sound (effect_of x program.shape n s) _ (effect_sound x n s ty is.0) (λ s1 t1. effects_sound rest n s1 t1 is.1)
+  received_sound : (o : Outcome) (result : Option ℕ) (t : Option ValueType) (s : State) → IsTyped s → CanEnd program.shape t o → Takes program types result t → Stays (received o result s)
+  received_sound out.Ends None t s ty can take = ty
+  received_sound out.Ends (Some k) None s ty can take = absurd take
+  received_sound out.Ends (Some k) (Some t) s ty can take = absurd can
+  received_sound (out.Returns v) None t s ty can take = ty
+  received_sound (out.Returns v) (Some k) None s ty can take = absurd can
+  received_sound (out.Returns v) (Some k) (Some t) s ty can take =
+      given_sound (Has t) (found (slice_get s.locals k)) s _ ty (value_there program.shape types s.locals k t ty.locals take)
+      (λ old _. record { locals = types_set program.shape types s.locals k t v ty.locals take can; heap = ty.heap })
+  received_sound (out.Traps c) result t s ty can take = ty
 
-  sequence_sound : (xs : List Stmt) (n : ℕ) (s : State) → IsTyped s → AllWellTyped program types xs → Stays (sequence xs program.shape n s)
-  sequence_sound [] n s ty is = ty
-  sequence_sound (x ∷ xs) n s ty is = after_sound (effect_of x.action program.shape n s) _ (effect_sound x.action n s ty is.0) (λ s1 t1. sequence_sound xs n s1 t1 is.1)
+  back_sound : (run : Run) (result : Option ℕ) (t : Option ValueType) (s : State) → IsTyped s → StaysTyped program t run → Takes program types result t → Stays (back run result s)
+  back_sound (Over f) result t s ty stays take =
+      received_sound f.outcome result t (record s { heap = f.heap; prints = f.prints }) (record { locals = ty.locals; heap = stays.0 }) stays.1 take
+  back_sound Beyond_turns result t s ty stays take = tt
+  back_sound Gone_astray result t s ty stays take = stays
+
+  module _ (call : Helpers) (P : ℕ → Type 0) (helps : HelpersSound program P call) where
+    mutual
+      effect_sound : (x : Action) (n : ℕ) (s : State) → IsTyped s → IsWellTyped program types x → CallsOnly P x → Stays (effect_by call x program.shape n s)
+      effect_sound (Bind local e) n s ty is only = store_sound local e s ty is
+      effect_sound (SetLocal local e) n s ty is only = store_sound local e s ty is
+      effect_sound (SetGlobal cell e) n s ty is only =
+          given_sound (Has is.0) (value_of e program.shape s.locals s.heap) s _ ty (value_sound e is.0 s ty is.2) (λ v h. write_sound cell is.0 v s ty (global_cell cell is.0 is.1) h)
+      effect_sound (SetElement array i e) n s ty is only =
+          given_sound (Has Integer) (value_of i program.shape s.locals s.heap) s _ ty (value_sound i Integer s ty is.2)
+          (λ v h. given_sound (IsCellOf is.0) (element_cell program.shape array v) s _ ty (element_sound array v is.0 is.1 h)
+          (λ cell c. given_sound (Has is.0) (value_of e program.shape s.locals s.heap) s _ ty (value_sound e is.0 s ty is.3) (λ w hw. write_sound cell is.0 w s ty c hw)))
+      effect_sound (SetField p k f e) n s ty is only =
+          given_sound (Has (Reference k)) (with (place_of p program.shape s.locals s.heap) not_null) s _ ty
+          (gives_with (Has (Reference k)) (Has (Reference k)) (place_of p program.shape s.locals s.heap) _ (path_sound p (Reference k) s ty is.0) (λ v h. not_null_sound program.shape k v h))
+          (λ v h. given_sound (Has is.1.0) (value_of e program.shape s.locals s.heap) s _ ty (value_sound e is.1.0 s ty is.1.2)
+          (λ w hw. given_sound (IsCellOf is.1.0) (field_cell program.shape v f) s _ ty (field_sound v k f is.1.0 h is.1.1) (λ cell c. write_sound cell is.1.0 w s ty c hw)))
+      effect_sound (Call k es r) n s ty is only =
+          given_sound (HaveTypes program.shape (local_types (take is.0.parameters is.0.locals.items))) (values_of es.items program.shape s.locals s.heap) s _ ty
+          (values_sound es.items (local_types (take is.0.parameters is.0.locals.items)) s ty is.2)
+          (λ vs hs. back_sound (call k vs s.heap s.prints) r is.0.result_type s ty (helps k only is.0 is.1 vs s.heap s.prints hs ty.heap) is.3)
+      effect_sound (Print e) n s ty is only = given_sound (Has Integer) (value_of e program.shape s.locals s.heap) s _ ty (value_sound e Integer s ty is) (λ v h. print_sound v s ty h)
+      effect_sound (If' c m a) n s ty is only =
+          given_sound IsAny (truth_of c program.shape s.locals s.heap) s _ ty (test_sound c s ty is.0) (λ x _. choose_sound x _ _ (effects_sound a n s ty is.1 only) ty)
+      effect_sound (IfElse' c m a k b) n s ty is only =
+          given_sound IsAny (truth_of c program.shape s.locals s.heap) s _ ty (test_sound c s ty is.0) (λ x _. choose_sound x _ _ (effects_sound a n s ty is.1 only.0) (effects_sound b n s ty is.2 only.1))
+      effect_sound (While' c m body) n s ty is only =
+          turns_sound n (λ s. truth_of c program.shape s.locals s.heap) (effects_by call body program.shape n) (λ s1 t1. test_sound c s1 t1 is.0) (λ s1 t1. effects_sound body n s1 t1 is.1 only) s ty
+
+      effects_sound : {m : _} (row : Row_of-Stmt m) (n : ℕ) (s : State) → IsTyped s → AreWellTyped program types row → AllCallOnly P row → Stays (effects_by call row program.shape n s)
+      effects_sound end_of-Stmt n s ty is only = ty
+      effects_sound (more_of-Stmt start x rest) n s ty is only = after_sound (effect_by call x program.shape n s) _ (effect_sound x n s ty is.0 only.0) (λ s1 t1. effects_sound rest n s1 t1 is.1 only.1)
+
+    sequence_sound : (xs : List Stmt) (n : ℕ) (s : State) → IsTyped s → AllWellTyped program types xs → EachCallsOnly P xs → Stays (sequence_by call xs program.shape n s)
+    sequence_sound [] n s ty is only = ty
+    sequence_sound (x ∷ xs) n s ty is only = after_sound (effect_by call x.action program.shape n s) _ (effect_sound x.action n s ty is.0 only.0) (λ s1 t1. sequence_sound xs n s1 t1 is.1 only.1)
 
   -- ---- a whole section
 
@@ -424,6 +484,29 @@ module _ (program : Typed) (types : List ValueType) (laid : IsLaidOut program) (
   concluded_sound result_type result Beyond is h = tt
   concluded_sound result_type result Astray is h = h
 
+  -- ---- helpers
+
+  mutual
+    calls_there : (P : ℕ → Type 0) → ((k : ℕ) (h : Section) → slice_get program.shape.helpers.items k ≡ Some h → P k) → (x : Action) → IsWellTyped program types x → CallsOnly P x
+    calls_there P all (Bind local e) is = tt
+    calls_there P all (SetLocal local e) is = tt
+    calls_there P all (SetGlobal cell e) is = tt
+    calls_there P all (SetElement a i e) is = tt
+    calls_there P all (SetField p k f e) is = tt
+    calls_there P all (Call k es r) is = all k is.0 is.1
+    calls_there P all (Print e) is = tt
+    calls_there P all (If' c m a) is = row_calls_there P all a is.1
+    calls_there P all (IfElse' c m a k b) is = (row_calls_there P all a is.1, row_calls_there P all b is.2)
+    calls_there P all (While' c m a) is = row_calls_there P all a is.1
+
+    row_calls_there : {m : _} (P : ℕ → Type 0) → ((k : ℕ) (h : Section) → slice_get program.shape.helpers.items k ≡ Some h → P k) → (row : Row_of-Stmt m) → AreWellTyped program types row → AllCallOnly P row
+    row_calls_there P all end_of-Stmt is = tt
+    row_calls_there P all (more_of-Stmt start x rest) is = (calls_there P all x is.0, row_calls_there P all rest is.1)
+
+  each_calls_there : (P : ℕ → Type 0) → ((k : ℕ) (h : Section) → slice_get program.shape.helpers.items k ≡ Some h → P k) → (xs : List Stmt) → AllWellTyped program types xs → EachCallsOnly P xs
+  each_calls_there P all [] is = tt
+  each_calls_there P all (x ∷ xs) is = (calls_there P all x.action is.0, each_calls_there P all xs is.1)
+
 -- ---- the opening state
 
 default_has : (shape : Shape) (t : ValueType) → HasType shape t (default_of t)
@@ -442,14 +525,34 @@ opening_has shape zero (l ∷ ls) (v ∷ vs) h = absurd h
 opening_has shape (suc k) [] (v ∷ vs) h = absurd h
 opening_has shape (suc k) (l ∷ ls) (v ∷ vs) h = (h.0, opening_has shape k ls vs h.1)
 
+module _ (program : Typed) (well : IsChecked program) (n : ℕ) where
+  body_sound : (section : Section) (call : Helpers) (P : ℕ → Type 0) → HelpersSound program P call → IsWellTypedSection program section → EachCallsOnly P section.body.items →
+      (arguments heap : List Value) (prints : List ℤ) → HaveTypes program.shape (local_types (take section.parameters section.locals.items)) arguments → IsHeap program heap →
+      StaysTyped program section.result_type (run_from call section program.shape n (record (opening section arguments heap) { prints = prints }))
+  body_sound section call P helps good only arguments heap prints fit typed =
+      let types = local_types section.locals.items in
+      let s : State = record (opening section arguments heap) { prints = prints } in
+      let start : IsTypedState program types s =
+      record { locals = opening_has program.shape section.parameters section.locals.items arguments fit; heap = typed } in
+      concluded_sound program types well.laid_out well.within section.result_type section.result (sequence_by call section.body.items program.shape n s) good.result
+      (sequence_sound program types well.laid_out well.within call P helps section.body.items n s start good.body only)
+
+  helped_sound : (depth : ℕ) → HelpersSound program (IsAtMostDeep program.shape depth) (helped depth program.shape n)
+  helped_sound zero k deep h is vs heap prints fit typed = absurd deep
+  helped_sound (suc depth) k deep h is vs heap prints fit typed =
+      let both : Some deep.0 ≡ Some h = sym deep.1 ∙ is in
+      let same : deep.0 ≡ h = cc in
+      let go : Section → Run = λ section. run_from (helped depth program.shape n) section program.shape n (record (opening section vs heap) { prints = prints }) in
+      subst (λ (o : Option Section). StaysTyped program h.result_type (if_there o go)) (sym is)
+      (body_sound h (helped depth program.shape n) (IsAtMostDeep program.shape depth) (helped_sound depth) (well.helpers k h is)
+      (subst (λ (x : Section). EachCallsOnly (IsAtMostDeep program.shape depth) x.body.items) same deep.2) vs heap prints fit typed)
+
 pub never_astray : NeverGoAstray
 never_astray program k n section arguments heap well is fit typed =
-    let types = local_types section.locals.items in
     let good = well.sections k section is in
-    let start : IsTypedState program types (opening section arguments heap) =
-    record { locals = opening_has program.shape section.parameters section.locals.items arguments fit; heap = typed } in
-    concluded_sound program types well.laid_out well.within section.result_type section.result (sequence section.body.items program.shape n (opening section arguments heap)) good.result
-    (sequence_sound program types well.laid_out well.within section.body.items n (opening section arguments heap) start good.body)
+    body_sound program well n section (helped deepest program.shape n) (IsAtMostDeep program.shape deepest) (helped_sound program well n deepest) good
+    (each_calls_there program (local_types section.locals.items) well.laid_out well.within (IsAtMostDeep program.shape deepest) well.helper_depths section.body.items good.body)
+    arguments heap [] fit typed
 
 pub values_have_their_types : ValuesHaveTheirTypes
 values_have_their_types program types e t s well ty is = value_sound program types well.laid_out well.within e t s ty is
@@ -458,4 +561,6 @@ pub tests_decide : TestsDecide
 tests_decide program types c s well ty is = test_sound program types well.laid_out well.within c s ty is
 
 pub effects_stay_typed : EffectsStayTyped
-effects_stay_typed program types x n s well ty is = effect_sound program types well.laid_out well.within x n s ty is
+effects_stay_typed program types x n s well ty is =
+    effect_sound program types well.laid_out well.within (helped deepest program.shape n) (IsAtMostDeep program.shape deepest) (helped_sound program well n deepest) x n s ty is
+    (calls_there program types well.laid_out well.within (IsAtMostDeep program.shape deepest) well.helper_depths x is)

@@ -1,5 +1,5 @@
 -- Laws of the meaning, as the laws of `src/laws.rt` claim them.
-use Rattle.std.specs.Prelude.{◌≡◌, ◌≤◌, ℕ, List, [], ◌∷◌, ◌++◌, slice_get, Option, Some, ⊤}
+use Rattle.std.specs.Prelude.{◌≡◌, ◌≤◌, ◌↔◌, ℕ, List, [], ◌∷◌, ◌++◌, length, slice_get, Option, Some, ⊤}
 use Rattle.core_lang.specs.declared.value.Value.{Value}
 use Rattle.core_lang.specs.declared.value.ValueType.{ValueType}
 use Rattle.core_lang.specs.declared.shape.Shape.{Shape}
@@ -7,8 +7,11 @@ use Rattle.core_lang.specs.declared.tree.Section.{Section}
 use Rattle.core_lang.specs.declared.typed.Typed.{Typed}
 use Rattle.core_lang.specs.Whole.{Finished, Run, Over, Beyond_turns, Gone_astray, run_of, Whole}
 use Rattle.core_lang.specs.Serial.{Invocation, Ended, WholeCall, Serial, run_call, serial_with, opening_heap}
+use Rattle.core_lang.specs.Helpers.{CallsNothing}
+use Rattle.core_lang.specs.Scopes.{bound_in_all, numbers_from}
+use Rattle.core_lang.specs.Expansion.{HasSamePlaces, IsWrittenOut, IsExpansion}
 use Rattle.core_lang.specs.Typing.{IsHeap, Fit, CanEnd}
-use Rattle.core_lang.specs.WellFormed.{IsWellFormed}
+use Rattle.core_lang.specs.WellFormed.{IsChecked, IsWellFormed}
 
 -- what more turns give is what fewer gave
 abbrev pub MoreTurnsChangeNothing : Type 0
@@ -28,16 +31,16 @@ StaysTyped program result (Over finished) = IsHeap program finished.heap × CanE
 StaysTyped program result Beyond_turns = ⊤
 StaysTyped program result Gone_astray = ⊥
 
--- a section of a well-formed program, called with arguments that fit it on a heap of the program
+-- a section of an accepted program, called with arguments that fit it on a heap of the program
 abbrev pub NeverGoAstray : Type 0
 NeverGoAstray =
-    (program : Typed) (k n : ℕ) (section : Section) (arguments heap : List Value) → IsWellFormed program →
+    (program : Typed) (k n : ℕ) (section : Section) (arguments heap : List Value) → IsChecked program →
     slice_get program.sections.items k ≡ Some section → Fit program section arguments → IsHeap program heap →
     StaysTyped program section.result_type (run_of section program.shape n arguments heap)
 
 -- the opening heap holds a value of its type in each cell
 abbrev pub OpeningIsTyped : Type 0
-OpeningIsTyped = (program : Typed) → IsWellFormed program → IsHeap program (opening_heap program)
+OpeningIsTyped = (program : Typed) → IsChecked program → IsHeap program (opening_heap program)
 
 -- a call that is over within some turns is run whole
 abbrev pub OverIsWhole : Type 0
@@ -96,3 +99,41 @@ SettledAreSerial =
     let p = serial_with program n heap calls in
     ((settled : List Invocation) × (calls ≡ settled ++ p.unsettled) × Serial program heap settled p.ends p.heap)
     × IsUnsettled program n p.heap p.unsettled
+
+-- a section with its helpers written out has the run that it had, whatever the arguments, the heap and the turns
+abbrev pub WritingOutChangesNothing : Type 0
+WritingOutChangesNothing =
+    (shape shape' : Shape) (section section' : Section) → HasSamePlaces shape shape' → IsWrittenOut shape section section' → (n : ℕ) (arguments heap : List Value) →
+    length arguments ≡ section.parameters → run_of section shape n arguments heap ≡ run_of section' shape' n arguments heap
+
+-- each call has an argument for each parameter
+abbrev pub CallsFill : Typed → List Invocation → Type 0
+CallsFill program [] = ⊤
+CallsFill program (call ∷ calls) =
+    ((section : Section) → slice_get program.sections.items call.section ≡ Some section → length call.arguments ≡ section.parameters) × CallsFill program calls
+
+-- so calls run serially on an expansion as on the program
+abbrev pub ExpansionsRunAlike : Type 0
+ExpansionsRunAlike =
+    (program program' : Typed) (heap last : List Value) (calls : List Invocation) (ends : List Ended) → IsExpansion program program' → CallsFill program calls →
+    (Serial program heap calls ends last) ↔ (Serial program' heap calls ends last)
+
+-- no call is left
+abbrev pub WrittenOutHasNoCalls : Type 0
+WrittenOutHasNoCalls =
+    (shape : Shape) (section section' : Section) → IsWrittenOut shape section section' → CallsNothing section'
+
+-- and each further local is bound once, in the order of what is written
+abbrev pub WrittenOutBindsInOrder : Type 0
+WrittenOutBindsInOrder =
+    (shape : Shape) (section section' : Section) → IsWrittenOut shape section section' →
+    numbers_from 0 section'.parameters ++ bound_in_all section'.body.items ≡ numbers_from 0 (length section'.locals.items)
+
+-- a program whose helpers are written out is one that may be accepted
+abbrev pub WellFormedAreChecked : Type 0
+WellFormedAreChecked = (program : Typed) → IsWellFormed program → IsChecked program
+
+-- and none of its sections calls anything
+abbrev pub WellFormedCallNothing : Type 0
+WellFormedCallNothing =
+    (program : Typed) (k : ℕ) (section : Section) → IsWellFormed program → slice_get program.sections.items k ≡ Some section → CallsNothing section

@@ -6,7 +6,12 @@ pub mod Whole
 pub mod Serial
 pub mod Typing
 pub mod Scopes
+pub mod Helpers
+pub mod Expansion
+pub mod WrittenLocals
+pub mod WrittenPoints
 pub mod WellFormed
+pub mod Checked
 pub mod Soundness
 pub mod Laws
 pub mod Lists
@@ -16,7 +21,7 @@ pub use Rattle.core_lang.specs.Meaning.{State, value_of, truth_of, effect_of, se
 pub use Rattle.core_lang.specs.Whole.{Finished, Run, Over, Beyond_turns, Gone_astray, run_of}
 pub use Rattle.core_lang.specs.Serial.{Invocation, Ended, WholeCall, run_call, serial_with, opening_heap, all_calls}
 pub use Rattle.core_lang.specs.Typing.{struct_of, HasType, HaveTypes, local_types, IsHeap, HasCells, Fit, CanEnd}
-pub use Rattle.core_lang.specs.WellFormed.{IsWellFormed}
+pub use Rattle.core_lang.specs.WellFormed.{IsChecked, IsWellFormed}
 unfoldable pub use Rattle.core_lang.specs.WellFormed.{CanCall}
 pub use Rattle.core_lang.specs.Soundness.{Gives, IsTypedState, LeadsToTyped, ValuesHaveTheirTypes, TestsDecide, EffectsStayTyped}
-pub use Rattle.core_lang.specs.Laws.{MoreTurnsChangeNothing, HaveAtMostOneWhole, StaysTyped, NeverGoAstray, OpeningIsTyped, OverIsWhole, WholeIsOver, SerialOfNone, SerialOfBoth, HaveAtMostOneSerial, SerialSplits, QuietCallsChangeNothing, IsUnsettled, SettledAreSerial}
+pub use Rattle.core_lang.specs.Laws.{MoreTurnsChangeNothing, HaveAtMostOneWhole, StaysTyped, NeverGoAstray, OpeningIsTyped, OverIsWhole, WholeIsOver, SerialOfNone, SerialOfBoth, HaveAtMostOneSerial, SerialSplits, QuietCallsChangeNothing, IsUnsettled, SettledAreSerial, WritingOutChangesNothing, ExpansionsRunAlike, WrittenOutHasNoCalls, WrittenOutBindsInOrder, WellFormedAreChecked, WellFormedCallNothing}

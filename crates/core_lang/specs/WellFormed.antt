@@ -1,4 +1,4 @@
--- Programs within the limits, whose numbers all name what they should, and whose sections are well typed.
+-- Programs within the limits, whose numbers all name what they should, and whose sections and helpers are well typed.
 use Rattle.std.specs.Prelude.{◌≡◌, ℕ, ◌+◌, ◌<◌, ◌≤◌, List, [], ◌∷◌, length, slice_get, Some, ⊤}
 use Rattle.core_lang.specs.declared.value.Value.{Value}
 use Rattle.core_lang.specs.declared.value.ValueType.{ValueType}
@@ -21,6 +21,10 @@ use Rattle.core_lang.specs.declared.typed.Thread.{Thread}
 use Rattle.core_lang.specs.declared.typed.Typed.{Typed}
 use Rattle.core_lang.specs.Serial.{opening_heap}
 use Rattle.core_lang.specs.Scopes.{IsWellScoped}
+use Rattle.core_lang.specs.Meaning.{deepest}
+use Rattle.core_lang.specs.Helpers.{IsAtMostDeep}
+use Rattle.core_lang.specs.WrittenLocals.{written_locals}
+use Rattle.core_lang.specs.WrittenPoints.{helper_points}
 use Rattle.core_lang.specs.Typing.{struct_of, final_target, field_type, IsHeap, Fit, IsWellTypedSection}
 
 -- ---- where things lie
@@ -124,14 +128,32 @@ pub record IsWithinLimits (program : Typed) : Type 0 where
   pub members : (s : ℕ) (x : Struct) → slice_get program.structs.items s ≡ Some x → length x.locks.items + length x.finals.items + length x.fields.items ≤ 32
   pub objects : length program.shape.objects.items ≤ 65536
   pub cells : length program.cells.items ≤ 262144
-  pub sections : length program.sections.items ≤ 256
+  -- sections and helpers together
+  pub sections : length program.sections.items + length program.shape.helpers.items ≤ 256
   pub parameters : (k : ℕ) (x : Section) → slice_get program.sections.items k ≡ Some x → x.parameters ≤ 8
   -- the parameters are among the locals
   pub locals : (k : ℕ) (x : Section) → slice_get program.sections.items k ≡ Some x → length x.locals.items ≤ 64
   pub threads : length program.threads.items ≤ 64
   pub calls : calls_together program.threads.items ≤ 100000
 
--- each part of the program is as it should be
+-- each part of the program is as it should be: what is accepted, with its helpers
+pub record IsChecked (program : Typed) : Type 0 where
+  pub within : IsWithinLimits program
+  pub laid_out : IsLaidOut program
+  pub protected : IsProtected program
+  pub opens : IsHeap program (opening_heap program)
+  pub sections : (k : ℕ) (section : Section) → slice_get program.sections.items k ≡ Some section → IsWellTypedSection program section
+  pub scopes : (k : ℕ) (section : Section) → slice_get program.sections.items k ≡ Some section → IsWellScoped section
+  pub helpers : (k : ℕ) (helper : Section) → slice_get program.shape.helpers.items k ≡ Some helper → IsWellTypedSection program helper
+  pub helper_scopes : (k : ℕ) (helper : Section) → slice_get program.shape.helpers.items k ≡ Some helper → IsWellScoped helper
+  pub helper_depths : (k : ℕ) (helper : Section) → slice_get program.shape.helpers.items k ≡ Some helper → IsAtMostDeep program.shape deepest k
+  -- with what the helpers bring
+  pub written_locals : (k : ℕ) (section : Section) → slice_get program.sections.items k ≡ Some section → length (written_locals program.shape section) ≤ 64
+  pub helper_points : (k : ℕ) (section : Section) → slice_get program.sections.items k ≡ Some section → helper_points program.shape section ≤ 65536
+  pub scripts : (t k : ℕ) (thread : Thread) (call : Call) → slice_get program.threads.items t ≡ Some thread → slice_get thread.calls.items k ≡ Some call →
+      CanCall program call.section call.arguments.items
+
+-- the same of a program whose helpers are written out: it has none left
 pub record IsWellFormed (program : Typed) : Type 0 where
   pub within : IsWithinLimits program
   pub laid_out : IsLaidOut program
@@ -139,5 +161,6 @@ pub record IsWellFormed (program : Typed) : Type 0 where
   pub opens : IsHeap program (opening_heap program)
   pub sections : (k : ℕ) (section : Section) → slice_get program.sections.items k ≡ Some section → IsWellTypedSection program section
   pub scopes : (k : ℕ) (section : Section) → slice_get program.sections.items k ≡ Some section → IsWellScoped section
+  pub helpers : program.shape.helpers.items ≡ []
   pub scripts : (t k : ℕ) (thread : Thread) (call : Call) → slice_get program.threads.items t ≡ Some thread → slice_get thread.calls.items k ≡ Some call →
       CanCall program call.section call.arguments.items

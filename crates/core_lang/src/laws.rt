@@ -1,6 +1,6 @@
 //! What holds of the meaning of every program: functions that do nothing, and whose contracts are the laws.
 
-ghost use Rattle.core_lang.specs.Laws.{MoreTurnsChangeNothing, HaveAtMostOneWhole, NeverGoAstray, OpeningIsTyped, OverIsWhole, WholeIsOver, SerialOfNone, SerialOfBoth, SerialSplits, QuietCallsChangeNothing, HaveAtMostOneSerial, SettledAreSerial};
+ghost use Rattle.core_lang.specs.Laws.{MoreTurnsChangeNothing, HaveAtMostOneWhole, NeverGoAstray, OpeningIsTyped, OverIsWhole, WholeIsOver, SerialOfNone, SerialOfBoth, SerialSplits, QuietCallsChangeNothing, HaveAtMostOneSerial, SettledAreSerial, WritingOutChangesNothing, ExpansionsRunAlike, WrittenOutHasNoCalls, WrittenOutBindsInOrder, WellFormedAreChecked, WellFormedCallNothing};
 ghost use denote.Param.Send.{IsSync};
 ghost use Rattle.core_lang.specs.contracts.typed.Typed as typed;
 ghost use Rattle.core_lang.specs.Soundness.{ValuesHaveTheirTypes, TestsDecide, EffectsStayTyped};
@@ -15,7 +15,7 @@ pub fn at_most_one_whole()
     ensures { HaveAtMostOneWhole }
 {}
 
-/// In a well-formed program, where each local and cell has a value of its type, a well-typed expression gives a value of
+/// In an accepted program, where each local and cell has a value of its type, a well-typed expression gives a value of
 /// its type, or traps.
 pub fn values_have_their_types()
     ensures { ValuesHaveTheirTypes }
@@ -32,13 +32,13 @@ pub fn effects_stay_typed()
     ensures { EffectsStayTyped }
 {}
 
-/// A section of a well-formed program, called with arguments that fit it on a heap of the program, never goes astray,
+/// A section of an accepted program, called with arguments that fit it on a heap of the program, never goes astray,
 /// and leaves a heap of the program and an outcome of its result type.
 pub fn never_astray()
     ensures { NeverGoAstray }
 {}
 
-/// The opening heap of a well-formed program is a heap of the program.
+/// The opening heap of an accepted program is a heap of the program.
 pub fn opening_is_typed()
     ensures { OpeningIsTyped }
 {}
@@ -79,4 +79,18 @@ pub fn settled_are_serial()
 pub fn programs_are_shared()
     ensures whole { IsSync typed.the_row }
     ensures part { IsSync (typed.the_field).row }
+{}
+
+/// A section with its helpers written out has the run that it had; it has no calls, and binds its locals in their order.
+pub fn writing_out_changes_nothing()
+    ensures section { WritingOutChangesNothing }
+    ensures serial { ExpansionsRunAlike }
+    ensures no_calls { WrittenOutHasNoCalls }
+    ensures bound { WrittenOutBindsInOrder }
+{}
+
+/// A program whose helpers are written out is one that may be accepted, and none of its sections calls anything.
+pub fn well_formed_call_nothing()
+    ensures checked { WellFormedAreChecked }
+    ensures no_calls { WellFormedCallNothing }
 {}

@@ -105,6 +105,20 @@ pub enum Expr {
     },
     /// A number with the other sign.
     Negate(Box<Expr>),
+    /// A reference whose final reference names what a local does, as in `e where owner == b`. Null is one too; any other
+    /// reference is cut short by a trap.
+    Owned {
+        /// What is tested, and is the value.
+        value: Box<Expr>,
+        /// Its struct, an index into [`crate::typed::Typed::structs`].
+        structure: u32,
+        /// The final reference, by its number among the struct's final references.
+        number: u32,
+        /// Where the local's name starts.
+        start: usize,
+        /// The local, an index into [`Section::locals`].
+        owner: u32,
+    },
     /// Operands of `+` and `-`, or of `*`, `/` and `%`, from left to right.
     Chain {
         /// The first operand.
@@ -191,6 +205,15 @@ pub enum Action {
         field: u32,
         /// What is assigned.
         value: Expr,
+    },
+    /// A call of a helper.
+    Call {
+        /// The helper, an index into [`crate::shape::Shape::helpers`].
+        helper: usize,
+        /// A value for each of its parameters.
+        arguments: Vec<Expr>,
+        /// The `let` that its value is bound to, an index into [`Section::locals`]; where there is none, the value is dropped.
+        result: Option<usize>,
     },
     /// `print`
     Print(Expr),

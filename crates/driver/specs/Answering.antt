@@ -1,7 +1,7 @@
 -- What this crate's functions compute of an answer. It mirrors the code: nobody has to believe it.
 use Rattle.std.specs.Prelude.{◌≡◌, ℕ, Bool, List, [], string_bytes, Result, Ok, Err}
 use Rattle.code.specs.Listing.{line}
-use Rattle.compiler.specs.Programs.{Accepts, IsOfFirstPass}
+use Rattle.compiler.specs.Programs.{Accepts}
 use Rattle.lowering.specs.Plans.{Plan, IsCompiled}
 use Rattle.source.specs.declared.fault.Fault.{Fault}
 use Rattle.source.specs.Faults.{fault_text}

@@ -6,7 +6,7 @@ use Rattle.core_lang.specs.declared.tree.Expr.{Expr, Chain, Row_of-Operation, en
 use Rattle.core_lang.specs.declared.tree.Operation.{Operation}
 use Rattle.core_lang.specs.declared.tree.Condition.{Condition, And, Or, Row_of-Condition, end_of-Condition, more_of-Condition, items-the_row-Condition, items_hidden-the_row-Condition-0}
 use Rattle.core_lang.specs.declared.tree.Stmt.{Stmt}
-use Rattle.core_lang.specs.declared.tree.Action.{Action, Bind, SetLocal, SetGlobal, SetElement, SetField, Print, If, IfElse, While, If', IfElse', While', Row_of-Stmt, end_of-Stmt, more_of-Stmt, items-the_row-Stmt, items_hidden-the_row-Stmt-0}
+use Rattle.core_lang.specs.declared.tree.Action.{Action, Bind, SetLocal, SetGlobal, SetElement, SetField, Call, Print, If, IfElse, While, If', IfElse', While', Row_of-Stmt, end_of-Stmt, more_of-Stmt, items-the_row-Stmt, items_hidden-the_row-Stmt-0}
 use Rattle.core_lang.specs.declared.tree.Return.{Return}
 use Rattle.core_lang.specs.Lists.{row_of, conditions_of, block_of, else_of}
 use Rattle.flow.specs.Skeletons.{Skeleton, count, in_front, block_skeleton}
@@ -61,6 +61,7 @@ count-in_front (SetLocal k e) rest = refl
 count-in_front (SetGlobal cell e) rest = refl
 count-in_front (SetElement array i e) rest = refl
 count-in_front (SetField path structure f e) rest = refl
+count-in_front (Call f es r) rest = refl
 count-in_front (Print e) rest = refl
 count-in_front (If' c m block) rest = omega arith
 count-in_front (IfElse' c m block k otherwise) rest = omega arith

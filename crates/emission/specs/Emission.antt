@@ -6,7 +6,7 @@ use Rattle.core_lang.specs.declared.tree.Condition.{Condition}
 use Rattle.core_lang.specs.declared.tree.Stmt.{Stmt}
 use Rattle.core_lang.specs.declared.tree.Action.{Action}
 use Rattle.code.specs.declared.instr.Instr.{Instr}
-use Rattle.code.specs.declared.instr.Instr.TheVariants.{Bound, PutElement, NonNull, Jump, JumpIfFalse}
+use Rattle.code.specs.declared.instr.Instr.TheVariants.{PushNull, PrintTop, Bound, PutElement, NonNull, Jump, JumpIfFalse}
 use Rattle.code.specs.Lowering.{path_code, expr_code, test_code, acquire_code, if_code, while_code, stmt_code}
 use Rattle.emission.specs.declared.emitter.Emitter.{Emitter}
 use Rattle.emission.specs.NumberLists.{number_lists}
@@ -40,6 +40,10 @@ pub record Emits (old new : Emitter) (points : ℕ) (code : CodeAt) : Type 0 whe
 -- an expression, and an instruction for its value
 abbrev pub value_code : Expr → Instr → CodeAt
 value_code value last lists p = acquire_code lists p ++ (expr_code value ++ last ∷ [])
+
+-- null, printed: a machine gets stuck there
+abbrev pub stuck_code : CodeAt
+stuck_code lists p = acquire_code lists p ++ (PushNull ∷ (PrintTop ∷ []))
 
 abbrev pub set_element_code : ℕ → Expr → Expr → CodeAt
 set_element_code array index value lists p =

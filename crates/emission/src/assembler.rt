@@ -113,6 +113,20 @@ impl Assembler {
                 self.expression(e)?;
                 self.put(Instr::NegateTop)
             }
+            Expr::Owned {
+                value,
+                structure,
+                number,
+                owner,
+                ..
+            } => {
+                self.expression(value)?;
+                self.put(Instr::Where {
+                    number: *number,
+                    structure: *structure,
+                    local: *owner,
+                })
+            }
             Expr::Chain { first, rest } => {
                 self.expression(first)?;
                 for operation in rest {

@@ -23,7 +23,7 @@ pub struct Emitter<'a> {
 
 impl<'a> Emitter<'a> {
     ghost use Rattle.emission.specs.Emission.{Emits, Writes, Opens, Skips, Joins};
-    ghost use Rattle.emission.specs.Emission.{value_code, set_element_code, set_field_code};
+    ghost use Rattle.emission.specs.Emission.{value_code, stuck_code, set_element_code, set_field_code};
     ghost use Rattle.emission.specs.Emission.{choice_code, loop_code, statement_code, statements_code};
 
     /// Before the first point, with room for so many instructions.
@@ -60,6 +60,16 @@ impl<'a> Emitter<'a> {
         self.acquire()?;
         self.code.expression(value)?;
         self.code.put(last)?;
+        Ok(())
+    }
+
+    // A call, which has no code of its own: what stands here gets stuck.
+    fn stick(&mut self) -> Result<(), NoMemory>
+        ensures { OnOk result (Emits self.old self.new 1 stuck_code) }
+    {
+        self.acquire()?;
+        self.code.put(Instr::PushNull)?;
+        self.code.put(Instr::PrintTop)?;
         Ok(())
     }
 
@@ -113,6 +123,7 @@ impl<'a> Emitter<'a> {
                 };
                 self.set_field(base, value, last)
             }
+            Action::Call { .. } => self.stick(),
             Action::Print(value) => self.evaluate(value, Instr::PrintTop),
             Action::If { condition, block } => self.choose(block, condition),
             Action::IfElse {

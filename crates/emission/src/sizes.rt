@@ -14,6 +14,7 @@ fn of_expression(e: &Expr) -> usize {
         Expr::Element { index, .. } => of_expression(index).saturating_add(2),
         Expr::Member { index, .. } => of_expression(index).saturating_add(1),
         Expr::Negate(e) => of_expression(e).saturating_add(1),
+        Expr::Owned { value, .. } => of_expression(value).saturating_add(1),
         Expr::Chain { first, rest } => {
             let mut size = of_expression(first);
             for operation in rest {
@@ -59,6 +60,7 @@ fn of_statement(action: &Action) -> usize {
         Action::SetField { base, value, .. } => of_path(base)
             .saturating_add(of_expression(value))
             .saturating_add(1),
+        Action::Call { .. } => 1,
         Action::Print(value) => of_expression(value),
         Action::If { condition, block } => of_condition(condition).saturating_add(of_block(block)),
         Action::IfElse {

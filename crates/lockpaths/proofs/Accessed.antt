@@ -14,11 +14,12 @@ use Rattle.core_lang.specs.declared.tree.Section.{Section}
 use Rattle.core_lang.specs.declared.typed.Typed.{Typed}
 use Rattle.flow.specs.Points.{Point, points}
 use Rattle.locks.specs.Accesses.{Access, accesses_at}
-use Rattle.locks.specs.LockPaths.{LockPath, each_once, lock_path, paths_of}
+use Rattle.locks.specs.Faults.{Named, where_at}
+use Rattle.locks.specs.LockPaths.{StablePath, LockPath, stable, each_once, lock_path, paths_of}
 use Rattle.locks.specs.Laws.{SamePathDecides}
-use Rattle.normal_forms.specs.Forms.{forms_behind}
-use Rattle.lockpaths.specs.Gathering.{Gathered, is_in, place_from, with_new, with_path, with_known, blamed, met, ended, gathered, gathered_at, with_access}
-use Rattle.lockpaths.specs.Faulted.{fault_of, faults_behind}
+use Rattle.normal_forms.specs.Forms.{replacements_at}
+use Rattle.lockpaths.specs.Gathering.{Gathered, is_in, place_from, with_new, with_path, with_known, blamed, met, ended, gathered, gathered_at, with_access, blamed_unless, with_where, with_owner, with_owners}
+use Rattle.lockpaths.specs.Faulted.{fault_of, faults_behind, fault_unless, where_fault, owner_fault}
 use Rattle.lockpaths.proofs.Once.{place_in, place_none, once_in, once_new, once_known}
 use Rattle.lockpaths.proofs.Formed.{path_is_right}
 
@@ -230,23 +231,23 @@ module _ (program : Typed) (section : Section) where
   module _ (decides : SamePathDecides) where
     one_access : (before : List Access) (ends : List ℕ) (g : Gathered) (a : Access) → IsState (paths_of program section before) ends g →
         IsNext (paths_of program section before) (cons_option (lock_path program section a) []) ends g
-        (fault_of (paths_of program section before) a.start (lock_path program section a)) (with_access program section (forms_behind section (points section)) g a)
+        (fault_of (paths_of program section before) a.start (lock_path program section a)) (with_access program section (replacements_at section (points section)) g a)
     one_access before ends g a s =
         subst (λ o. IsNext (paths_of program section before) (cons_option (lock_path program section a) []) ends g
         (fault_of (paths_of program section before) a.start (lock_path program section a)) (met g a.start o)) (sym (path_is_right program section a.target))
         (next_met decides (paths_of program section before) ends g a.start (lock_path program section a) s)
 
     all_accesses : (before rest : List Access) (ends : List ℕ) (g : Gathered) → IsState (paths_of program section before) ends g →
-        IsBehind before rest ends g (gathered program section (forms_behind section (points section)) g rest)
+        IsBehind before rest ends g (gathered program section (replacements_at section (points section)) g rest)
     all_accesses before [] ends g s =
         record { state = subst (λ (l : List Access). IsState (paths_of program section l) ends g) (sym (append-nil before)) s; least = refl }
     all_accesses before (a ∷ rest) ends g s =
-        let g' = with_access program section (forms_behind section (points section)) g a in
+        let g' = with_access program section (replacements_at section (points section)) g a in
         let one = one_access before ends g a s in
         let front : IsState (paths_of program section (before ++ a ∷ [])) ends g' =
         subst (λ (l : List LockPath). IsState l ends g') (sym (paths_append before (a ∷ []))) one.state in
         let more = all_accesses (before ++ a ∷ []) rest ends g' front in
-        let last = gathered program section (forms_behind section (points section)) g' rest in
+        let last = gathered program section (replacements_at section (points section)) g' rest in
         record {
           state = subst (λ (l : List Access). IsState (paths_of program section l) ends last) (append_assoc before (a ∷ []) rest) more.state;
           least =
@@ -261,7 +262,7 @@ module _ (program : Typed) (section : Section) where
     ended_at ps ends g (inr o) = inr (record { full = o.full; over = o.over; fault = o.fault })
 
     pub all_points_met : (before : List Access) (ps : List Point) (ends : List ℕ) (g : Gathered) → IsState (paths_of program section before) ends g →
-        IsBehind before (flat_map accesses_at ps) (ends ++ ends_from before ps) g (gathered_at program section (forms_behind section (points section)) g ps)
+        IsBehind before (flat_map accesses_at ps) (ends ++ ends_from before ps) g (gathered_at program section (replacements_at section (points section)) g ps)
     all_points_met before [] ends g s =
         record {
           state = subst (λ (l : List Access). IsState (paths_of program section l) (ends ++ []) g) (sym (append-nil before)) (subst (λ (l : List ℕ). IsState (paths_of program section before) l g) (sym (append-nil ends)) s);
@@ -269,11 +270,11 @@ module _ (program : Typed) (section : Section) where
         }
     all_points_met before (p ∷ ps) ends g s =
         let here = accesses_at p in
-        let met_here = gathered program section (forms_behind section (points section)) g here in
+        let met_here = gathered program section (replacements_at section (points section)) g here in
         let one = all_accesses before here ends g s in
         let n = length (paths_of program section (before ++ here)) in
         let more = all_points_met (before ++ here) ps (ends ++ n ∷ []) (ended met_here) (ended_at (paths_of program section (before ++ here)) ends met_here one.state) in
-        let last = gathered_at program section (forms_behind section (points section)) (ended met_here) ps in
+        let last = gathered_at program section (replacements_at section (points section)) (ended met_here) ps in
         let rest = flat_map accesses_at ps in
         record {
           state =
@@ -284,3 +285,35 @@ module _ (program : Typed) (section : Section) where
               ∙ sym (least_append g.least (faults_behind program section before here) (faults_behind program section (before ++ here) rest))
               ∙ ap (least_of g.least) (sym (faults_append before here rest));
         }
+
+-- ---- the `where`s of points
+
+-- the state behind them, with their faults noted
+pub record IsAfter (ps : List LockPath) (ends : List ℕ) (g : Gathered) (faults : List Mistake) (g' : Gathered) : Type 0 where
+  pub state : IsState ps ends g'
+  pub least : g'.least ≡ least_of g.least faults
+
+module _ (section : Section) (ps : List LockPath) (ends : List ℕ) where
+  blamed_state : (g : Gathered) (start : ℕ) → IsState ps ends g → IsState ps ends (blamed g UnstableBase start)
+  blamed_state g start (inl w) = inl (record { paths = w.paths; limit = w.limit; numbers = w.numbers; ends_are = w.ends_are })
+  blamed_state g start (inr o) = inr (record { full = o.full; over = o.over; fault = lesser_is g.least _ })
+
+  unless_met : (g : Gathered) (start : ℕ) (o : Option StablePath) → IsState ps ends g → IsAfter ps ends g (fault_unless start o) (blamed_unless g start o)
+  unless_met g start None s = record { state = blamed_state g start s; least = refl }
+  unless_met g start (Some path) s = record { state = s; least = refl }
+
+  where_met : (g : Gathered) (o : Option Named) → IsState ps ends g → IsAfter ps ends g (where_fault section o) (with_where section g o)
+  where_met g None s = record { state = s; least = refl }
+  where_met g (Some owner) s = unless_met g owner.start (stable section owner.local []) s
+
+  pub owners_met : (list : List Point) (g : Gathered) → IsState ps ends g → IsAfter ps ends g (flat_map (owner_fault section) list) (with_owners section g list)
+  owners_met [] g s = record { state = s; least = refl }
+  owners_met (p ∷ rest) g s =
+      let one = where_met g (where_at p) s in
+      let more = owners_met rest (with_owner section g p) one.state in
+      record {
+        state = more.state;
+        least =
+            more.least ∙ ap (λ o. least_of o (flat_map (owner_fault section) rest)) one.least
+            ∙ sym (least_append g.least (owner_fault section p) (flat_map (owner_fault section) rest));
+      }

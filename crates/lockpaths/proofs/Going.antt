@@ -15,14 +15,15 @@ use Rattle.core_lang.specs.declared.tree.Comparison.{Comparison}
 use Rattle.core_lang.specs.declared.tree.Condition.{Condition, Compare, And, Or}
 use Rattle.core_lang.specs.declared.tree.Path.{Path}
 use Rattle.core_lang.specs.Typing.{lookup}
-use Rattle.locks.specs.Accesses.{Access, access, along, in_action, in_path, in_expr, in_operations, in_condition, in_conditions}
+use Rattle.locks.specs.Accesses.{Access, access, along, in_action, in_path, in_expr, in_condition}
 use Rattle.locks.specs.Accesses as target
+use Rattle.locks.specs.Locks.{protection_of}
 use Rattle.locks.specs.LockPaths.{StablePath, LockPath, is_fixed, all_final, stable}
 use Rattle.locks.specs.Lists.{in_expr-Chain, in_condition-And, in_condition-Or}
 use Rattle.lockpaths.specs.declared.finder.Finder.{Finder}
 use Rattle.normal_forms.specs.Forms.{form_by}
-use Rattle.lockpaths.specs.Gathering.{Gathered, field_path, met as met_by}
-use Rattle.lockpaths.specs.Finding.{table_of, target_of, over, over_point, over_points, in_all, in_operands}
+use Rattle.lockpaths.specs.Gathering.{Gathered, through_of, field_path, met as met_by}
+use Rattle.lockpaths.specs.Finding.{table_of, target_of, over, over_point, over_points, over_owner, over_owners, in_all, in_operands}
 use Rattle.flow.specs.Points.{Point}
 use Rattle.std.specs.List.{flat_map}
 
@@ -113,8 +114,8 @@ module _ (f : Finder) (g g' : Gathered) (start local : ℕ) (fields : List Field
     pub final_behind : b' ≡ true → all_final (take (k + 1) fields) ≡ None
     final_behind e = ap all_final taken ∙ none_more (take k fields) s n (behind (sym flag ∙ e))
 
-  module _ (field : step ≡ Field s n) (given : List FieldStep) (base : Option StablePath) (lock : Option LockPath) (front : given ≡ take k fields)
-      (found : base ≡ option_map (form_by (table_of f)) (stable f.forms.section.now local given))
+  module _ (field : step ≡ Field s n) (given : List FieldStep) (through : List ℕ) (base : Option StablePath) (lock : Option LockPath) (front : given ≡ take k fields)
+      (way : through ≡ through_of (protection_of f.program.now s n)) (found : base ≡ option_map (form_by (table_of f) through) (stable f.forms.section.now local given))
       (locked : lock ≡ field_path f.program.now s n base) (same : g' ≡ met_by g start lock) where
     taken_field : take (k + 1) fields ≡ take k fields ++ Field s n ∷ []
     taken_field = (more fields k step is h).1 ∙ ap (λ x. take k fields ++ x ∷ []) field
@@ -125,7 +126,8 @@ module _ (f : Finder) (g g' : Gathered) (start local : ℕ) (fields : List Field
     pub field_met : over f g' (along start local (take (k + 1) fields) (drop (k + 1) fields)) ≡ all
     field_met =
         ap (λ x. over f x (along start local (take (k + 1) fields) (drop (k + 1) fields)))
-        (same ∙ ap (met_by g start) (locked ∙ ap (field_path f.program.now s n) (found ∙ ap (λ l. option_map (form_by (table_of f)) (stable f.forms.section.now local l)) front)))
+        (same ∙ ap (met_by g start) (locked ∙ ap (field_path f.program.now s n) (found ∙ ap (λ l. option_map (form_by (table_of f) through) (stable f.forms.section.now local l)) front
+        ∙ ap (λ t. option_map (form_by (table_of f) t) (stable f.forms.section.now local (take k fields))) way)))
         ∙ ap (λ l. over f (met_by g start (target_of f (target.field local (take k fields) s n))) (along start local l (drop (k + 1) fields))) taken_field
         ∙ sym (ap (λ l. over f g (along start local (take k fields) l)) dropped_field) ∙ met
 
@@ -155,6 +157,15 @@ module _ {A : Type 0} (f : Finder) (h k : Gathered) where
   pub points_past : (at : A → Point) (xs : List A) (i : ℕ) → length xs ≤ i → over_points f h (map at (drop i xs)) ≡ k → h ≡ k
   points_past at xs i past all = sym (ap (λ (ys : List A). over_points f h (map at ys)) (drop_past xs i past)) ∙ all
 
+  pub owners_next : (at : A → Point) (xs : List A) (i : ℕ) (x : A) → i < length xs → x ≡ get_or xs i x → k ≡ over_owner f h (at x) →
+      over_owners f k (map at (drop (i + 1) xs)) ≡ over_owners f h (map at (drop i xs))
+  owners_next at xs i x lt is all =
+      ap (λ (g : Gathered). over_owners f g (map at (drop (i + 1) xs))) all
+      ∙ sym (ap (λ (ys : List A). over_owners f h (map at ys)) (next_of xs i x lt is))
+
+  pub owners_past : (at : A → Point) (xs : List A) (i : ℕ) → length xs ≤ i → over_owners f h (map at (drop i xs)) ≡ k → h ≡ k
+  owners_past at xs i past all = sym (ap (λ (ys : List A). over_owners f h (map at ys)) (drop_past xs i past)) ∙ all
+
 -- ---- the parts of a comparison and of an assignment
 
 pub over_compare : (f : Finder) (g h k : Gathered) (x : Condition) (sign : Comparison) (a b : Expr) → x ≡ Compare sign a b → h ≡ over f g (in_expr a) → k ≡ over f h (in_expr b) →
@@ -171,15 +182,17 @@ module _ (f : Finder) (g h m k : Gathered) (start : ℕ) (action : Action) where
       ∙ sym (fold-append _ (over f g (first ∷ [])) (in_expr index) (in_expr value))
       ∙ sym (ap (λ (y : Action). over f g (in_action start y)) is)
 
-  pub over_field : (base : Path) (s n : ℕ) (value : Expr) → action ≡ SetField base s n value → (given : List FieldStep) (form : Option StablePath) (lock : Option LockPath) →
-      h ≡ over f g (in_path base) → given ≡ base.fields.items → form ≡ option_map (form_by (table_of f)) (stable f.forms.section.now base.local given) →
+  pub over_field : (base : Path) (s n : ℕ) (value : Expr) → action ≡ SetField base s n value → (given : List FieldStep) (through : List ℕ) (form : Option StablePath) (lock : Option LockPath) →
+      h ≡ over f g (in_path base) → given ≡ base.fields.items → through ≡ through_of (protection_of f.program.now s n) →
+      form ≡ option_map (form_by (table_of f) through) (stable f.forms.section.now base.local given) →
       lock ≡ field_path f.program.now s n form → m ≡ met_by h base.start lock → k ≡ over f m (in_expr value) → k ≡ over f g (in_action start action)
-  over_field base s n value is given form lock one same found locked two all =
+  over_field base s n value is given through form lock one same way found locked two all =
       let here = access base.start (target.field base.local base.fields.items s n) in
       all
       ∙ ap (λ (y : Gathered). over f y (in_expr value))
       (two ∙ ap (met_by h base.start)
-      (locked ∙ ap (field_path f.program.now s n) (found ∙ ap (λ (l : List FieldStep). option_map (form_by (table_of f)) (stable f.forms.section.now base.local l)) same)))
+      (locked ∙ ap (field_path f.program.now s n) (found ∙ ap (λ (l : List FieldStep). option_map (form_by (table_of f) through) (stable f.forms.section.now base.local l)) same
+      ∙ ap (λ (t : List ℕ). option_map (form_by (table_of f) t) (stable f.forms.section.now base.local base.fields.items)) way)))
       ∙ ap (λ (y : Gathered). over f y (here ∷ in_expr value)) one
       ∙ sym (fold-append _ g (in_path base) (here ∷ in_expr value))
       ∙ sym (ap (λ (y : Action). over f g (in_action start y)) is)

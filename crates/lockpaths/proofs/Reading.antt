@@ -17,24 +17,19 @@ use Rattle.core_lang.specs.declared.shape.Array.{Array}
 use Rattle.core_lang.specs.declared.typed.Cell.{Cell}
 use Rattle.core_lang.specs.declared.typed.Field.{Field}
 use Rattle.core_lang.specs.declared.typed.GlobalVariable.{GlobalVariable}
-use Rattle.core_lang.specs.declared.typed.LockClass.{LockClass}
 use Rattle.core_lang.specs.declared.typed.LockClass.TheVariants as class
 use Rattle.core_lang.specs.declared.typed.Owner.{Owner}
 use Rattle.core_lang.specs.declared.typed.Owner.TheVariants as owner
-use Rattle.core_lang.specs.declared.typed.Protection.{Protection}
 use Rattle.core_lang.specs.declared.typed.Struct.{Struct}
 use Rattle.core_lang.specs.declared.typed.Typed.{Typed}
 use Rattle.core_lang.specs.Typing.{lookup}
 use Rattle.locks.specs.Locks.{protection_of}
 use Rattle.locks.specs.declared.path.LockPath as written
-use Rattle.locks.specs.declared.path.Root.TheVariants.{Local}
-use Rattle.locks.specs.LockPaths.{StablePath, LockPath, lock_path_of, global_path, protected_path, under, class_if_global, same_path}
-use Rattle.normal_forms.specs.declared.forms.Form.{Form}
-use Rattle.normal_forms.specs.Forms.{stable_path_of}
+use Rattle.locks.specs.LockPaths.{LockPath, lock_path_of, global_path, class_if_global, same_path}
 use Rattle.core_lang.specs.declared.tree.Section.{Section}
 use Rattle.flow.specs.Points.{Point, points}
-use Rattle.normal_forms.specs.Forms.{forms_behind}
-use Rattle.lockpaths.specs.Gathering.{gathered_at, gathered_in, Gathered, place_from, with_path, with_new, field_path}
+use Rattle.normal_forms.specs.Forms.{Replacement, replacements_at}
+use Rattle.lockpaths.specs.Gathering.{gathered_at, gathered_in, Gathered, nothing_yet, place_from, with_owners, with_path, with_new}
 use Rattle.lockpaths.specs.Numbers.{is_number}
 
 -- ---- of a list that a slice lends
@@ -69,34 +64,6 @@ module _ (program : Typed) (s f : ℕ) where
 
   pub protection_here : (x : Struct) (field : Field) → slice_get program.structs.items s ≡ Some x → slice_get x.fields.items f ≡ Some field → protection_of program s f ≡ Some field.protection
   protection_here x field at there = of_struct x at ∙ lookup_at (slice_get x.fields.items f) field (λ (y : Field). Some y.protection) there
-
--- ---- the path of a field of a base
-
-module _ (program : Typed) (s f : ℕ) (base : Option StablePath) (p : Protection) (annotated : Some p ≡ protection_of program s f) where
-  at_class : field_path program s f base ≡ lookup (slice_get program.classes.items p.class) (λ (c : LockClass). under c p base)
-  at_class = lookup_at (protection_of program s f) p (λ (q : Protection). lookup (slice_get program.classes.items q.class) (λ (c : LockClass). under c q base)) (sym annotated)
-
-  pub no_class : slice_get program.classes.items p.class ≡ None → field_path program s f base ≡ None
-  no_class e = at_class ∙ lookup_none (slice_get program.classes.items p.class) (λ (c : LockClass). under c p base) e
-
-  of_class : (c x : LockClass) → slice_get program.classes.items p.class ≡ Some c → c ≡ x → field_path program s f base ≡ under x p base
-  of_class c x at is = at_class ∙ lookup_at (slice_get program.classes.items p.class) c (λ (y : LockClass). under y p base) at ∙ ap (λ (y : LockClass). under y p base) is
-
-  pub global_class : (c : LockClass) (name : _) (path : LockPath) → slice_get program.classes.items p.class ≡ Some c → c ≡ class.Global name → path ≡ global_path p.class →
-      Some path ≡ field_path program s f base
-  global_class c name path at is made = ap Some made ∙ sym (of_class c (class.Global name) at is)
-
-  pub field_class : (c : LockClass) (k l : ℕ) → slice_get program.classes.items p.class ≡ Some c → c ≡ class.Field k l → field_path program s f base ≡ option_map (protected_path p) base
-  field_class c k l at is = of_class c (class.Field k l) at is
-
-pub base_none : (p : Protection) (base : Option Form) → base ≡ None → option_map (protected_path p) (option_map stable_path_of base) ≡ None
-base_none p base e = ap (λ (b : Option Form). option_map (protected_path p) (option_map stable_path_of b)) e
-
-pub base_extended : (p : Protection) (base : Option Form) (b : Form) (finals through : List ℕ) → base ≡ Some b → finals ≡ b.finals.items ++ through → through ≡ p.through.items →
-    ◌≡◌ {A = Option LockPath} (Some (record { root = Local b.root; finals = finals; class = p.class })) (option_map (protected_path p) (option_map stable_path_of base))
-base_extended p base b finals through e more is =
-    ap (λ (fs : List ℕ). Some (record { root = Local b.root; finals = fs; class = p.class })) (more ∙ ap (λ (t : List ℕ). b.finals.items ++ t) is)
-    ∙ sym (ap (λ (x : Option Form). option_map (protected_path p) (option_map stable_path_of x)) e)
 
 -- ---- the path of an element and of a global
 
@@ -228,13 +195,23 @@ number_small k items paths lt same le = let long = length-map items lock_path_of
 
 -- ---- a whole section
 
-pub gathered_there : (program : Typed) (section s : Section) (least : Option Mistake) (table : List StablePath) (paths : List LockPath) (numbers ends : List ℕ) (given seen : List Point) (new : Gathered) →
-    new ≡ gathered_at program s table (record { paths = paths; numbers = numbers; ends = ends; least = least }) seen → s ≡ section → table ≡ forms_behind section given → paths ≡ [] →
-    numbers ≡ [] → ends ≡ [] → given ≡ points section → seen ≡ points section → new ≡ gathered_in program section least
-gathered_there program section s least table paths numbers ends given seen new all same made no_paths no_numbers no_ends each every =
+pub met_there : (program : Typed) (section s : Section) (least : Option Mistake) (table : List Replacement) (paths : List LockPath) (numbers ends : List ℕ) (given seen : List Point) (new : Gathered) →
+    new ≡ gathered_at program s table (record { paths = paths; numbers = numbers; ends = ends; least = least }) seen → s ≡ section → table ≡ replacements_at section given → paths ≡ [] →
+    numbers ≡ [] → ends ≡ [] → given ≡ points section → seen ≡ points section →
+    new ≡ gathered_at program section (replacements_at section (points section)) (nothing_yet least) (points section)
+met_there program section s least table paths numbers ends given seen new all same made no_paths no_numbers no_ends each every =
     all ∙ ap (λ (x : Section). gathered_at program x table (record { paths = paths; numbers = numbers; ends = ends; least = least }) seen) same
-    ∙ ap (λ (t : List StablePath). gathered_at program section t (record { paths = paths; numbers = numbers; ends = ends; least = least }) seen) (made ∙ ap (forms_behind section) each)
-    ∙ ap (λ (p : List LockPath). gathered_at program section (forms_behind section (points section)) (record { paths = p; numbers = numbers; ends = ends; least = least }) seen) no_paths
-    ∙ ap (λ (n : List ℕ). gathered_at program section (forms_behind section (points section)) (record { paths = []; numbers = n; ends = ends; least = least }) seen) no_numbers
-    ∙ ap (λ (n : List ℕ). gathered_at program section (forms_behind section (points section)) (record { paths = []; numbers = []; ends = n; least = least }) seen) no_ends
-    ∙ ap (gathered_at program section (forms_behind section (points section)) (record { paths = []; numbers = []; ends = []; least = least })) every
+    ∙ ap (λ (t : List Replacement). gathered_at program section t (record { paths = paths; numbers = numbers; ends = ends; least = least }) seen) (made ∙ ap (replacements_at section) each)
+    ∙ ap (λ (p : List LockPath). gathered_at program section (replacements_at section (points section)) (record { paths = p; numbers = numbers; ends = ends; least = least }) seen) no_paths
+    ∙ ap (λ (n : List ℕ). gathered_at program section (replacements_at section (points section)) (record { paths = []; numbers = n; ends = ends; least = least }) seen) no_numbers
+    ∙ ap (λ (n : List ℕ). gathered_at program section (replacements_at section (points section)) (record { paths = []; numbers = []; ends = n; least = least }) seen) no_ends
+    ∙ ap (gathered_at program section (replacements_at section (points section)) (record { paths = []; numbers = []; ends = []; least = least })) every
+
+pub gathered_there : (program : Typed) (section s : Section) (least : Option Mistake) (named : List Point) (middle new : Gathered) →
+    middle ≡ gathered_at program section (replacements_at section (points section)) (nothing_yet least) (points section) → new ≡ with_owners s middle named → s ≡ section →
+    named ≡ points section → new ≡ gathered_in program section least
+gathered_there program section s least named middle new met all same every =
+    let before = gathered_at program section (replacements_at section (points section)) (nothing_yet least) (points section) in
+    all ∙ ap (λ (g : Gathered). with_owners s g named) met
+    ∙ ap (λ (x : Section). with_owners x before named) same
+    ∙ ap (with_owners section before) every

@@ -8,6 +8,7 @@ use Rattle.std.proofs.lemmas.List.{length-map, take-map, drop_at, take_at, map-a
 use Rattle.std.proofs.lemmas.List.Elements.{filter_map-append, All-nil, All-cons}
 use Rattle.source.specs.declared.mistake.Mistake.{Mistake}
 use Rattle.source.specs.Mistakes.{least_of}
+use Rattle.source.specs.Leasts.{least_append}
 use Rattle.core_lang.specs.declared.tree.Section.{Section}
 use Rattle.core_lang.specs.declared.typed.Typed.{Typed}
 use Rattle.flow.specs.Points.{Point, points}
@@ -18,12 +19,13 @@ use Rattle.locks.specs.Sets.{AreSets}
 use Rattle.locks.specs.Laws.{SamePathDecides, EachPathOnce}
 use Rattle.lockpaths.specs.declared.table.SectionPaths.{SectionPaths}
 use Rattle.lockpaths.specs.declared.table.Paths.{Paths}
-use Rattle.lockpaths.specs.Gathering.{Gathered, gathered_in}
-use Rattle.lockpaths.specs.Faulted.{faults_in}
+use Rattle.normal_forms.specs.Forms.{replacements_at}
+use Rattle.lockpaths.specs.Gathering.{Gathered, nothing_yet, gathered_at, gathered_in}
+use Rattle.lockpaths.specs.Faulted.{faults_behind, owner_fault, faults_in}
 use Rattle.lockpaths.specs.Numbers.{is_number, IsSetOf, cut, AreRising, IsComplete, IsFinished, AreEach}
 use Rattle.lockpaths.specs.Paths.{AreSectionPaths, ArePaths}
 use Rattle.lockpaths.proofs.Contained.{not_in_none, in_first, in_rest, in_cases}
-use Rattle.lockpaths.proofs.Accessed.{IsWithin, IsState, IsBehind, ends_from, all_points_met}
+use Rattle.lockpaths.proofs.Accessed.{IsWithin, IsState, IsBehind, ends_from, all_points_met, IsAfter, owners_met}
 use Rattle.lockpaths.proofs.Faulty.{none_found, all_have}
 
 -- ---- lists
@@ -175,13 +177,24 @@ pub record IsFound (program : Typed) (section : Section) (g : Gathered) : Type 0
   pub finished : (x : SectionPaths) → IsFinished g x → AreSectionPaths program section x
 
 module _ (decides : SamePathDecides) (once : EachPathOnce) (program : Typed) (section : Section) (least : Option Mistake) where
-  behind_all : IsBehind program section [] (accesses section) (ends_from program section [] (points section)) (record { paths = []; numbers = []; ends = []; least = least }) (gathered_in program section least)
+  abbrev met_all : Gathered
+  met_all = gathered_at program section (replacements_at section (points section)) (nothing_yet least) (points section)
+
+  abbrev owner_faults : List Mistake
+  owner_faults = flat_map (owner_fault section) (points section)
+
+  behind_all : IsBehind program section [] (accesses section) (ends_from program section [] (points section)) (nothing_yet least) met_all
   behind_all =
-      all_points_met program section decides [] (points section) [] (record { paths = []; numbers = []; ends = []; least = least })
+      all_points_met program section decides [] (points section) [] (nothing_yet least)
       (inl (record { paths = refl; limit = omega arith; numbers = refl; ends_are = refl }))
 
+  after_all : IsAfter (paths_of program section (accesses section)) (ends_from program section [] (points section)) met_all owner_faults (gathered_in program section least)
+  after_all = owners_met section (paths_of program section (accesses section)) (ends_from program section [] (points section)) (points section) met_all behind_all.state
+
   pub least_after : (gathered_in program section least).least ≡ least_of least (faults_in program section)
-  least_after = behind_all.least
+  least_after =
+      after_all.least ∙ ap (λ o. least_of o owner_faults) behind_all.least
+      ∙ sym (least_append least (faults_behind program section [] (accesses section)) owner_faults)
 
   found_within : (g : Gathered) → IsWithin (paths_of program section (accesses section)) (ends_from program section [] (points section)) g → faults_in program section ≡ [] →
       IsFound program section g
@@ -208,7 +221,7 @@ module _ (decides : SamePathDecides) (once : EachPathOnce) (program : Typed) (se
   found_state g (inr o) none e = absurd (o.fault e)
 
   pub found_all : (gathered_in program section least).least ≡ None → IsFound program section (gathered_in program section least)
-  found_all e = found_state (gathered_in program section least) behind_all.state (none_found least (faults_in program section) (sym least_after ∙ e)) e
+  found_all e = found_state (gathered_in program section least) after_all.state (none_found least (faults_in program section) (sym least_after ∙ e)) e
 
   pub found_none : (g : Gathered) → g ≡ gathered_in program section least → g.least ≡ None → IsFound program section g
   found_none g is e = subst (IsFound program section) (sym is) (found_all (ap (λ (x : Gathered). x.least) (sym is) ∙ e))

@@ -9,19 +9,20 @@ use Rattle.flow.specs.Points.{Point}
 use Rattle.locks.specs.Accesses.{Access, Target, in_condition}
 use Rattle.locks.specs.Lists.{in_operand}
 use Rattle.locks.specs.declared.path.LockPath as written
-use Rattle.locks.specs.LockPaths.{StablePath, LockPath, all_final, lock_path_of}
+use Rattle.locks.specs.LockPaths.{LockPath, all_final, lock_path_of}
 use Rattle.lockpaths.specs.declared.finder.Finder.{Finder}
 use Rattle.normal_forms.specs.declared.forms.Form.{Form}
-use Rattle.normal_forms.specs.Forms.{stable_path_of, forms_of, IsFormOf}
-use Rattle.lockpaths.specs.Gathering.{Gathered, path_by, field_path, gathered, gathered_at, with_accesses_of}
+use Rattle.normal_forms.specs.Forms.{Replacement, stable_path_of, replacements_of, IsFormOf}
+use Rattle.lockpaths.specs.Gathering.{Gathered, path_by, field_path, gathered, gathered_at, with_accesses_of, with_owner, with_owners}
 
--- the finder's table
-abbrev pub table_of : Finder → List StablePath
-table_of f = forms_of f.forms
+-- what stands for the section's locals
+abbrev pub table_of : Finder → List Replacement
+table_of f = replacements_of f.forms
 
--- the normal form of a base, which is none behind a field that is not final
-abbrev pub IsBase : Finder → Bool → ℕ → List FieldStep → Option Form → Type 0
-IsBase f is_behind local fields base = (is_behind ≡ true → all_final fields ≡ None) → IsFormOf f.forms.section.now (table_of f) local fields base
+-- the normal form of a base with final references behind it, which is none behind a field that is not final
+abbrev pub IsBase : Finder → Bool → ℕ → List FieldStep → List ℕ → Option Form → Type 0
+IsBase f is_behind local fields through base =
+    (is_behind ≡ true → all_final fields ≡ None) → IsFormOf f.forms.section.now (table_of f) local fields through base
 
 -- the lock path of a field of a base
 abbrev pub IsLockOf : Finder → ℕ → ℕ → Option Form → Option written.LockPath → Type 0
@@ -38,6 +39,12 @@ over_point f g point = with_accesses_of f.program.now f.forms.section.now (table
 
 abbrev pub over_points : Finder → Gathered → List Point → Gathered
 over_points f g points = gathered_at f.program.now f.forms.section.now (table_of f) g points
+
+abbrev pub over_owner : Finder → Gathered → Point → Gathered
+over_owner f g point = with_owner f.forms.section.now g point
+
+abbrev pub over_owners : Finder → Gathered → List Point → Gathered
+over_owners f g points = with_owners f.forms.section.now g points
 
 -- the accesses of conditions, and of the operands of a chain, one after another
 abbrev pub in_all : List Condition → List Access

@@ -14,10 +14,10 @@ use Rattle.core_lang.specs.declared.typed.Typed.{Typed}
 use Rattle.core_lang.specs.Typing.{lookup}
 use Rattle.flow.specs.Points.{Point, points}
 use Rattle.locks.specs.Accesses.{Access, Target, global, element, field, accesses_at}
-use Rattle.locks.specs.Faults.{PATH_LIMIT}
+use Rattle.locks.specs.Faults.{PATH_LIMIT, Named, where_at}
 use Rattle.locks.specs.Locks.{protection_of}
 use Rattle.locks.specs.LockPaths.{StablePath, LockPath, stable, under, global_path, class_if_global, same_path}
-use Rattle.normal_forms.specs.Forms.{form_by, forms_behind}
+use Rattle.normal_forms.specs.Forms.{Replacement, form_by, replacements_at}
 
 -- the paths so far, each once; the number of the path of each access; how many of these there are at the end of each point; and the
 -- least fault
@@ -65,17 +65,22 @@ met g start (Some path) = with_known g start path (place_from path 0 g.paths)
 abbrev pub ended : Gathered → Gathered
 ended g = record g { ends = g.ends ++ length g.numbers ∷ [] }
 
--- the path of a field of a base, which has this normal form, if it is a stable path
+-- the final references of an annotation, if there is one
+abbrev pub through_of : Option Protection → List ℕ
+through_of None = []
+through_of (Some p) = p.through.items
+
+-- the path of a field of a base, which has this normal form, with the annotation behind it, if it is a stable path
 abbrev pub field_path : Typed → ℕ → ℕ → Option StablePath → Option LockPath
 field_path program s f base =
     lookup (protection_of program s f) (λ (p : Protection). lookup (slice_get program.classes.items p.class) (λ (c : LockClass). under c p base))
 
-module _ (program : Typed) (section : Section) (table : List StablePath) where
+module _ (program : Typed) (section : Section) (rs : List Replacement) where
   -- the lock path of what is read or written, with normal forms by the table
   abbrev pub path_by : Target → Option LockPath
   path_by (global cell) = lookup (slice_get program.cells.items cell) (λ (c : Cell). option_map global_path (class_if_global program c.owner))
   path_by (element array) = lookup (slice_get program.shape.arrays.items array) (λ (x : Array). Some (global_path x.class))
-  path_by (field local base s f) = field_path program s f (option_map (form_by table) (stable section local base))
+  path_by (field local base s f) = field_path program s f (option_map (form_by rs (through_of (protection_of program s f))) (stable section local base))
 
   abbrev pub with_access : Gathered → Access → Gathered
   with_access g a = met g a.start (path_by a.target)
@@ -90,7 +95,27 @@ module _ (program : Typed) (section : Section) (table : List StablePath) where
   abbrev pub gathered_at : Gathered → List Point → Gathered
   gathered_at g ps = fold with_accesses_of g ps
 
+-- with the fault of a local that a `where` names there, unless it is a stable path
+abbrev pub blamed_unless : Gathered → ℕ → Option StablePath → Gathered
+blamed_unless g start None = blamed g UnstableBase start
+blamed_unless g start (Some path) = g
+
+module _ (section : Section) where
+  abbrev pub with_where : Gathered → Option Named → Gathered
+  with_where g None = g
+  with_where g (Some owner) = blamed_unless g owner.start (stable section owner.local [])
+
+  -- with the `where` of a point
+  abbrev pub with_owner : Gathered → Point → Gathered
+  with_owner g p = with_where g (where_at p)
+
+  abbrev pub with_owners : Gathered → List Point → Gathered
+  with_owners g ps = fold with_owner g ps
+
+abbrev pub nothing_yet : Option Mistake → Gathered
+nothing_yet least = record { paths = []; numbers = []; ends = []; least = least }
+
 -- of a whole section, behind the least fault of those before it
 abbrev pub gathered_in : Typed → Section → Option Mistake → Gathered
 gathered_in program section least =
-    gathered_at program section (forms_behind section (points section)) (record { paths = []; numbers = []; ends = []; least = least }) (points section)
+    with_owners section (gathered_at program section (replacements_at section (points section)) (nothing_yet least) (points section)) (points section)

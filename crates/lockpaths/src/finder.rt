@@ -4,9 +4,11 @@ ghost use Rattle.std.specs.Prelude.{◌≡◌, [], ◌∷◌, map, IfOk, OnOk};
 ghost use Rattle.std.specs.Option.{option_copied};
 ghost use Rattle.locks.specs.Locks.{protection_of};
 ghost use Rattle.flow.specs.PointList.{point_at};
-ghost use Rattle.locks.specs.Accesses.{access, global, element, in_path, in_expr, in_condition, in_action};
+ghost use Rattle.flow.specs.Points.{statement};
+ghost use Rattle.locks.specs.Accesses.{access, global, element, in_path, in_expr, in_exprs, in_condition, in_action};
 ghost use Rattle.locks.specs.LockPaths.{global_path, lock_path_of};
-ghost use Rattle.lockpaths.specs.Finding.{IsBase, IsLockOf, in_all, over, over_point, over_points};
+ghost use Rattle.lockpaths.specs.Gathering.{through_of};
+ghost use Rattle.lockpaths.specs.Finding.{IsBase, IsLockOf, in_all, over, over_point, over_points, over_owner, over_owners};
 
 use crate::found::Found;
 use core_lang::tree::{Action, Condition, Expr, FieldStep, Path, Stmt};
@@ -75,50 +77,51 @@ impl<'a> Finder<'a> {
         Some(&field.protection)
     }
 
-    // The lock path of a field of a base, which has this normal form if it is a stable path.
-    fn field_lock(
-        &self,
-        structure: usize,
-        field: u32,
-        base: Option<Form>,
-    ) -> Result<Option<LockPath>, NoMemory>
-        ensures { IfOk result (IsLockOf self.now structure field base) }
+    // The final references of what protects a field of a struct.
+    fn through(&self, structure: usize, field: u32) -> &'a [u32]
+        ensures { result.now ≡ through_of (protection_of self.now.program.now structure field) }
     {
-        let Some(protection) = self.protection(structure, field) else {
-            return Ok(None);
-        };
-        match self.program.classes.get(protection.class) {
-            Some(LockClass::Global(_)) => Ok(Some(self.global_lock(protection.class))),
-            Some(LockClass::Field { .. }) => {
-                let Some(base) = base else {
-                    return Ok(None);
-                };
-                let mut finals = base.finals;
-                finals.extend_from_slice(&protection.through)?;
-                Ok(Some(LockPath {
-                    root: Root::Local(base.root),
-                    finals,
-                    class: protection.class,
-                }))
-            }
-            None => Ok(None),
+        match self.protection(structure, field) {
+            Some(protection) => &protection.through,
+            None => &[],
         }
     }
 
-    // The normal form of a local followed by fields, if that is a stable path; it is none behind a field that is not
-    // final, so these are not gone over again.
+    // The lock path of a field of a base, which has this normal form, with the final references of what protects the
+    // field behind it, if it is a stable path.
+    fn field_lock(&self, structure: usize, field: u32, base: Option<Form>) -> Option<LockPath>
+        ensures { IsLockOf self.now structure field base result }
+    {
+        let protection = self.protection(structure, field)?;
+        match self.program.classes.get(protection.class) {
+            Some(LockClass::Global(_)) => Some(self.global_lock(protection.class)),
+            Some(LockClass::Field { .. }) => {
+                let base = base?;
+                Some(LockPath {
+                    root: Root::Local(base.root),
+                    finals: base.finals,
+                    class: protection.class,
+                })
+            }
+            None => None,
+        }
+    }
+
+    // The normal form of a local followed by fields and by these final references, if that is a stable path; it is none
+    // behind a field that is not final, so these are not gone over again.
     fn base(
         &self,
         is_behind: bool,
         local: usize,
         fields: &[FieldStep],
+        through: &[u32],
     ) -> Result<Option<Form>, NoMemory>
-        ensures { IfOk result (IsBase self.now is_behind local fields.now) }
+        ensures { IfOk result (IsBase self.now is_behind local fields.now through.now) }
     {
         if is_behind {
             return Ok(None);
         }
-        self.forms.form_at(local, fields)
+        self.forms.form_at(local, fields, through)
     }
 
     // The fields of a path that are not final. Behind the first of them no base is a stable path.
@@ -130,9 +133,10 @@ impl<'a> Finder<'a> {
             match path.fields[k] {
                 FieldStep::Final { .. } => {}
                 FieldStep::Field { structure, number } => {
-                    let base = self.base(is_behind, path.local, &path.fields[..k])?;
+                    let through = self.through(structure, number);
+                    let base = self.base(is_behind, path.local, &path.fields[..k], through)?;
                     is_behind = true;
-                    let lock = self.field_lock(structure, number, base)?;
+                    let lock = self.field_lock(structure, number, base);
                     found.meet(path.start, lock)?;
                 }
             }
@@ -158,6 +162,7 @@ impl<'a> Finder<'a> {
             }
             Expr::Member { index, .. } => self.expr(index, found),
             Expr::Negate(e) => self.expr(e, found),
+            Expr::Owned { value, .. } => self.expr(value, found),
             Expr::Chain { first, rest } => {
                 self.expr(first, found)?;
                 for operation in rest {
@@ -166,6 +171,16 @@ impl<'a> Finder<'a> {
                 Ok(())
             }
         }
+    }
+
+    // Expressions, one after another.
+    fn exprs(&self, list: &[Expr], found: &mut Found) -> Result<(), NoMemory>
+        ensures { OnOk result (found.new ≡ over self.now found.old (in_exprs list.now)) }
+    {
+        for e in list {
+            self.expr(e, found)?;
+        }
+        Ok(())
     }
 
     #[cycle(conditions)]
@@ -227,12 +242,14 @@ impl<'a> Finder<'a> {
                 value,
             } => {
                 self.along(base, found)?;
-                let form = self.forms.form_at(base.local, &base.fields)?;
-                let lock = self.field_lock(*structure, *field, form)?;
+                let through = self.through(*structure, *field);
+                let form = self.forms.form_at(base.local, &base.fields, through)?;
+                let lock = self.field_lock(*structure, *field, form);
                 found.meet(base.start, lock)?;
                 self.expr(value, found)?;
                 Ok(())
             }
+            Action::Call { arguments, .. } => self.exprs(arguments, found),
             Action::If { condition, .. }
             | Action::IfElse { condition, .. }
             | Action::While { condition, .. } => self.condition(condition, found),
@@ -258,6 +275,32 @@ impl<'a> Finder<'a> {
     {
         for point in points {
             self.point(*point, found)?;
+        }
+        Ok(())
+    }
+
+    // The `where` of a statement, if it names a `var`.
+    fn owner(&self, action: &Action, found: &mut Found) -> Result<(), NoMemory>
+        ensures { OnOk result (found.new ≡ over_owner self.now found.old (statement 0 action.now)) }
+    {
+        if let Action::Bind { value, .. } = action {
+            if let Expr::Owned { start, owner, .. } = value {
+                if !self.forms.is_fixed(*owner as usize) {
+                    found.meet(*start, None)?;
+                }
+            }
+        }
+        Ok(())
+    }
+
+    /// The `where`s of points.
+    pub fn owners(&self, points: &[PointRef<'a>], found: &mut Found) -> Result<(), NoMemory>
+        ensures { OnOk result (found.new ≡ over_owners self.now found.old (map point_at points.now)) }
+    {
+        for point in points {
+            if let PointRef::Statement(statement) = *point {
+                self.owner(&statement.action, found)?;
+            }
         }
         Ok(())
     }

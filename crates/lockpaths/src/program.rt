@@ -46,6 +46,7 @@ fn found_in(
         least,
     };
     finder.points(&points, &mut found)?;
+    finder.owners(&points, &mut found)?;
     Ok(found)
 }
 

@@ -1,5 +1,5 @@
 -- A path that a point uses is in scope there.
-use Rattle.std.proofs.Common.{◌≡◌, ℕ, List, Some, ◌⊎◌, inl, inr, refl, sym, ap, ◌∙◌, subst}
+use Rattle.std.proofs.Common.{◌≡◌, ℕ, List, Some, ◌⊎◌, Option, inl, inr, refl, sym, ap, ◌∙◌, subst}
 use Rattle.std.specs.Prelude.{slice_get}
 use Rattle.std.specs.Option.{option_map}
 use Rattle.std.specs.List.{Contains}
@@ -22,7 +22,7 @@ use Rattle.locks.specs.declared.path.Root.{Root}
 use Rattle.locks.specs.declared.path.Root.TheVariants.{GlobalLock, Local as AtLocal}
 use Rattle.locks.specs.Accesses.{Target, global, element, field, accesses_at}
 use Rattle.locks.specs.Locks.{protection_of}
-use Rattle.locks.specs.LockPaths.{LockPath, StablePath, Binding, stable, normal_form, bindings, under, global_path, protected_path, class_if_global, target_path, lock_path, IsRootInScope}
+use Rattle.locks.specs.LockPaths.{LockPath, StablePath, Binding, stable, normal_base, extended, bindings, under, global_path, protected_path, class_if_global, target_path, lock_path, IsRootInScope}
 use Rattle.locks.specs.Laws.{UsedAreInScope, ScopeOfPathsGoesBack}
 use Rattle.locks.proofs.Lists.{each_at, from_filter_map}
 use Rattle.locks.proofs.Scoped.{sound_point}
@@ -36,24 +36,24 @@ pub data IsFieldPath (program : Typed) (section : Section) (local : ℕ) (base :
   of_global : (c : LockClass) → slice_get program.classes.items p.class ≡ Some c → IsGlobalLock c → path ≡ global_path p.class →
       IsFieldPath program section local base p path
   of_object : (s l : ℕ) (q : StablePath) → slice_get program.classes.items p.class ≡ Some (class.Field s l) → stable section local base ≡ Some q →
-      path ≡ protected_path p (normal_form section q) → IsFieldPath program section local base p path
+      path ≡ protected_path p (normal_base section p q) → IsFieldPath program section local base p path
 
 module _ (program : Typed) (section : Section) where
   by_class : (local : ℕ) (base : List FieldStep) (p : Protection) (path : LockPath) (c : LockClass) → slice_get program.classes.items p.class ≡ Some c →
-      under c p (option_map (normal_form section) (stable section local base)) ≡ Some path → IsFieldPath program section local base p path
+      under c p (option_map (normal_base section p) (stable section local base)) ≡ Some path → IsFieldPath program section local base p path
   by_class local base p path (class.Global name) is e =
       of_global (class.Global name) is tt (let same : global_path p.class ≡ path = cc in sym same)
   by_class local base p path (class.Field s l) is e =
-      let o = map_some (protected_path p) (option_map (normal_form section) (stable section local base)) path e in
-      let q = map_some (normal_form section) (stable section local base) o.0 o.1 in
+      let o = map_some (protected_path p) (option_map (normal_base section p) (stable section local base)) path e in
+      let q = map_some (normal_base section p) (stable section local base) o.0 o.1 in
       of_object s l q.0 is q.1 (sym o.2 ∙ ap (protected_path p) (sym q.2))
 
   pub field_path : (local s f : ℕ) (base : List FieldStep) (path : LockPath) → target_path program section (field local base s f) ≡ Some path →
       (p : Protection) × (protection_of program s f ≡ Some p) × IsFieldPath program section local base p path
   field_path local s f base path e =
-      let normal = option_map (normal_form section) (stable section local base) in
-      let x = lookup_some (protection_of program s f) (λ (p : Protection). lookup (slice_get program.classes.items p.class) (λ (c : LockClass). under c p normal)) path e in
-      let y = lookup_some (slice_get program.classes.items x.0.class) (λ (c : LockClass). under c x.0 normal) path x.2 in
+      let normal : Protection → Option StablePath = λ p. option_map (normal_base section p) (stable section local base) in
+      let x = lookup_some (protection_of program s f) (λ (p : Protection). lookup (slice_get program.classes.items p.class) (λ (c : LockClass). under c p (normal p))) path e in
+      let y = lookup_some (slice_get program.classes.items x.0.class) (λ (c : LockClass). under c x.0 (normal x.0)) path x.2 in
       (x.0, x.1, by_class local base x.0 path y.0 y.1 y.2)
 
   -- ---- law
@@ -72,7 +72,7 @@ module _ (program : Typed) (section : Section) where
           in_scope = subst (λ k. Contains scope k) (sym parts.root) c;
           fixed = subst (IsFixed section) (sym parts.root) parts.fixed;
         } in
-        let last = all_roots section scope (bindings section) closed (bindings section) q (λ b d. d) first in
+        let last = all_roots section scope (bindings section) closed (bindings section) (extended q p) (λ b d. d) first in
         subst (λ (x : LockPath). IsRootInScope section i x.root) (sym e) (scope, at, last.in_scope)
 
     pub target_root : (target : Target) (path : LockPath) → IsTargetNamed scope target → target_path program section target ≡ Some path →

@@ -1,5 +1,5 @@
 -- The lock that the path of an access names is the one that protects the cell that the access reaches.
-use Rattle.std.proofs.Common.{◌≡◌, ℕ, ◌+◌, List, ◌++◌, Option, Some, Ok, refl, sym, ap, ◌∙◌, subst}
+use Rattle.std.proofs.Common.{◌≡◌, ℕ, ◌+◌, List, Option, Some, Ok, refl, sym, ap, ◌∙◌, subst}
 use Rattle.std.specs.Prelude.{slice_get}
 use Rattle.std.specs.Option.{option_map}
 use Rattle.std.specs.List.{Contains}
@@ -30,7 +30,7 @@ use Rattle.flow.specs.Points.{points}
 use Rattle.locks.specs.declared.lock.Lock.{Lock}
 use Rattle.locks.specs.Accesses.{Target, global, element, field, accesses_at}
 use Rattle.locks.specs.Locks.{led_to, global_lock, lock_of, protection_of, walked, protecting, lock_of_cell}
-use Rattle.locks.specs.LockPaths.{LockPath, bindings, normal_form, global_path, class_if_global, target_path, lock_named, object_at, LetsAgree}
+use Rattle.locks.specs.LockPaths.{LockPath, bindings, normal_form, extended, global_path, class_if_global, target_path, lock_named, object_at, LetsAgree}
 use Rattle.locks.specs.Reached.{Reaches, to_global, to_element, to_field}
 use Rattle.locks.specs.Laws.{PathsNameTheLocks}
 use Rattle.flow.specs.Theory.Each.{each_there}
@@ -133,7 +133,8 @@ module _ (program : Typed) (section : Section) (locals heap : List Value) where
         (global_lock p.class, named_global path p.class e, of_class p o g is ∙ global_of g p.class (led_to program.shape o p.through.items) single)
     field_path_named local s f o base v p path c here leads struct_is has (of_object s' l q is stable_is e) =
         let made : ℕ → Lock = λ n. record { class = p.class; object = n } in
-        let normal = normal_form section q in
+        let whole = extended q p in
+        let normal = normal_form section whole in
         let parts = stable_parts section local base q stable_is in
         let root : IsRoot section scope q.root = record {
           in_scope = subst (λ k. Contains scope k) (sym parts.root) c;
@@ -144,11 +145,11 @@ module _ (program : Typed) (section : Section) (locals heap : List Value) where
         ap (λ k. object_at program.shape locals k q.finals) parts.root
         ∙ ap (λ (r : Option Value). lookup r (λ (w : Value). led_from program.shape w q.finals)) here
         ∙ along_named program.shape heap base q.finals v (Ref (Some o)) parts.finals leads in
-        let path_ends : object_at program.shape locals normal.root (normal.finals ++ p.through.items) ≡ Some end.0 =
-        object_append program.shape locals normal.root normal.finals p.through.items
-        ∙ ap (λ r. lookup r (λ n. led_to program.shape n p.through.items))
-        (normal_same section scoped scope program.shape locals closed agree q root ∙ base_ends)
-        ∙ end.1 in (
+        let whole_ends : object_at program.shape locals whole.root whole.finals ≡ Some end.0 =
+        object_append program.shape locals q.root q.finals p.through.items
+        ∙ ap (λ r. lookup r (λ n. led_to program.shape n p.through.items)) base_ends ∙ end.1 in
+        let path_ends : object_at program.shape locals normal.root normal.finals ≡ Some end.0 =
+        normal_same section scoped scope program.shape locals closed agree whole end.0 root whole_ends in (
           made end.0,
           ap (λ (x : LockPath). lock_named x program.shape locals) e ∙ ap (option_map made) path_ends,
           of_class p o (class.Field s' l) is ∙ ap (option_map made) end.1,

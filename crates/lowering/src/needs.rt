@@ -22,6 +22,7 @@ fn of_expression(e: &Expr) -> Result<usize, NoMemory>
         Expr::Element { index, .. } => of_expression(index),
         Expr::Member { index, .. } => of_expression(index),
         Expr::Negate(e) => of_expression(e),
+        Expr::Owned { value, .. } => of_expression(value),
         Expr::Chain { first, rest } => {
             let mut need = of_expression(first)?;
             for operation in rest {
@@ -74,6 +75,7 @@ fn of_statement(action: &Action) -> Result<usize, NoMemory>
             Ok(index.max(above_one(value)?))
         }
         Action::SetField { value, .. } => above_one(of_expression(value)?),
+        Action::Call { .. } => Ok(1),
         Action::Print(value) => of_expression(value),
         Action::If { condition, block } => Ok(of_condition(condition)?.max(of_block(block)?)),
         Action::IfElse {

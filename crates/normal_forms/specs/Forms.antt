@@ -1,53 +1,80 @@
--- The normal forms of a section's locals as a table that is made from the first point to the last. Nobody has to believe these: what
--- a normal form is, says `locks`.
-use Rattle.std.specs.Prelude.{◌≡◌, ℕ, zero, suc, ◌+◌, Bool, if◌then◌else◌, List, [], ◌∷◌, ◌++◌, map, fold, length, slice_get, slice_set, Option, Some, None}
+-- What a section's locals stand for, as a list in the order of their points. Nobody has to believe these: what a normal form is, says
+-- `locks`.
+use Rattle.std.specs.Prelude.{◌≡◌, ℕ, ◌==◌, Bool, true, false, if◌then◌else◌, List, [], ◌∷◌, ◌++◌, map, Option, Some, None}
 use Rattle.std.specs.Option.{option_map}
+use Rattle.std.specs.List.{cons_option, filter_map}
+use Rattle.core_lang.specs.declared.tree.Action.{Action}
 use Rattle.core_lang.specs.declared.tree.Expr.{Expr}
 use Rattle.core_lang.specs.declared.tree.FieldStep.{FieldStep}
 use Rattle.core_lang.specs.declared.tree.Section.{Section}
-use Rattle.flow.specs.Points.{Point}
-use Rattle.locks.specs.LockPaths.{StablePath, Binding, binding_at, all_final, stable, stable_value, behind}
+use Rattle.flow.specs.Points.{Point, statement}
+use Rattle.locks.specs.LockPaths.{StablePath, OwnerPath, Binding, binding_at, all_final, stable, stable_value, owner_of, owned_path, or_behind}
 use Rattle.normal_forms.specs.declared.forms.Form.{Form}
+use Rattle.normal_forms.specs.declared.forms.Owner.{Owner}
+use Rattle.normal_forms.specs.declared.forms.Bound.{Bound}
 use Rattle.normal_forms.specs.declared.forms.Forms.{Forms}
 
 abbrev pub stable_path_of : Form → StablePath
 stable_path_of form = record { root = form.root; finals = form.finals.items }
 
-abbrev pub forms_of : Forms → List StablePath
-forms_of f = map stable_path_of f.table.items
+abbrev pub owner_path : ℕ → StablePath → OwnerPath
+owner_path number path = record { final = number; path = path }
+
+abbrev pub owner_path_of : Owner → OwnerPath
+owner_path_of owner = owner_path owner.number (record { root = owner.local; finals = [] })
+
+-- what stands for a local, and for its owner
+pub record Replacement : Type 0 where
+  pub local : ℕ
+  pub owner : Option OwnerPath
+  pub value : Option StablePath
+
+abbrev pub replacement_of : Bound → Replacement
+replacement_of b = record { local = b.local; owner = option_map owner_path_of b.owner; value = option_map stable_path_of b.value }
+
+abbrev pub replacements_of : Forms → List Replacement
+replacements_of f = map replacement_of f.bounds.items
+
+-- of a `let` or a `var`, and its initialiser
+abbrev pub replacement : Section → ℕ → Expr → Replacement
+replacement section local value = record { local = local; owner = owner_of section value; value = stable_value section value }
+
+abbrev pub of_binding : Section → Binding → Replacement
+of_binding section b = replacement section b.local b.value
+
+-- of points, one after another
+abbrev pub replacements_at : Section → List Point → List Replacement
+replacements_at section ps = map (of_binding section) (filter_map binding_at ps)
+
+-- of a statement, if it binds a local
+abbrev pub of_action : Section → Action → List Replacement
+of_action section x = map (of_binding section) (cons_option (binding_at (statement 0 x)) [])
 
 -- numbers with those of fields behind, if all of these are final
 abbrev pub IsPushed : List ℕ → List FieldStep → Bool → List ℕ → Type 0
 IsPushed before fields whole after = option_map (λ rest. before ++ rest) (all_final fields) ≡ (if whole then Some after else None)
 
--- the normal form of a path by a table
-abbrev pub form_by : List StablePath → StablePath → StablePath
-form_by table path = behind (slice_get table path.root) path
+-- a local by itself, if it is a stable path
+abbrev pub by_itself : ℕ → Bool → Option StablePath
+by_itself local true = Some (record { root = local; finals = [] })
+by_itself local false = None
 
--- the normal form of a local followed by fields, if that is a stable path
-abbrev pub IsFormOf : Section → List StablePath → ℕ → List FieldStep → Option Form → Type 0
-IsFormOf section table local fields form = option_map stable_path_of form ≡ option_map (form_by table) (stable section local fields)
+-- a path that begins at a local, with what stands for the local in its place
+abbrev pub put_in : Replacement → StablePath → StablePath
+put_in r path = or_behind (owned_path r.owner path) r.value path
 
--- the table behind a point that binds a local to this, if to a stable path
-abbrev pub with_form : List StablePath → ℕ → Option StablePath → List StablePath
-with_form table local None = table
-with_form table local (Some path) = slice_set table local path
+-- the same of any path: where it doesn't begin at the local, it stays
+abbrev pub replaced_by : Replacement → StablePath → StablePath
+replaced_by r path = if r.local == path.root then put_in r path else path
 
-abbrev pub with_value : Section → List StablePath → ℕ → Expr → List StablePath
-with_value section table local value = with_form table local (option_map (form_by table) (stable_value section value))
+-- from the last to the first
+abbrev pub all_replaced_by : List Replacement → StablePath → StablePath
+all_replaced_by [] path = path
+all_replaced_by (r ∷ rs) path = replaced_by r (all_replaced_by rs path)
 
-abbrev pub with_binding : Section → List StablePath → Option Binding → List StablePath
-with_binding section table None = table
-with_binding section table (Some b) = with_value section table b.local b.value
+-- the normal form of a local followed by fields, and by final references, if that is a stable path
+abbrev pub form_by : List Replacement → List ℕ → StablePath → StablePath
+form_by rs through base = all_replaced_by rs (record { root = base.root; finals = base.finals ++ through })
 
-abbrev pub with_point : Section → List StablePath → Point → List StablePath
-with_point section table p = with_binding section table (binding_at p)
-
--- so many locals by themselves, from a number on
-abbrev pub themselves : ℕ → ℕ → List StablePath
-themselves k zero = []
-themselves k (suc n) = record { root = k; finals = [] } ∷ themselves (k + 1) n
-
--- behind points
-abbrev pub forms_behind : Section → List Point → List StablePath
-forms_behind section ps = fold (with_point section) (themselves 0 (length section.locals.items)) ps
+abbrev pub IsFormOf : Section → List Replacement → ℕ → List FieldStep → List ℕ → Option Form → Type 0
+IsFormOf section rs local fields through form = option_map stable_path_of form ≡ option_map (form_by rs through) (stable section local fields)

@@ -1,6 +1,6 @@
-//! The normal forms of a section's locals, as a table: what stable path each of them stands for.
+//! The normal forms of a section's stable paths, by what its `let`s and `var`s say.
 //!
-//! - [`forms::Forms`]: the table behind all points of a section, and the normal form of a path by it.
+//! - [`forms::Forms`]: what stands for the locals of a section, and the normal form of a path by it.
 //!
 //! What a normal form is, is defined in `locks`.
 #![tactic(auto)]

@@ -2,11 +2,12 @@
 
 ghost use Rattle.std.specs.Prelude.{◌≡◌, ◌+◌, Ok};
 ghost use Rattle.core_lang.specs.Cells.{at_index, element_cell, reference_to, member_of, not_null, read};
-ghost use Rattle.core_lang.specs.Cells.{object_of, field_cell, final_value, step_value};
+ghost use Rattle.core_lang.specs.Cells.{object_of, field_cell, final_value, owned, step_value};
 ghost use Rattle.core_lang.specs.Meaning.{place_of};
 
+use crate::operators::compare;
 use core_lang::shape::{Object, Shape};
-use core_lang::tree::{FieldStep, Path};
+use core_lang::tree::{Comparison, FieldStep, Path};
 use core_lang::value::{Failure, Trap, Value};
 
 /// What a cell or a local holds.
@@ -120,6 +121,25 @@ fn value_of_field(
         FieldStep::Field { number, .. } => {
             let cell = cell_of_field(shape, base, number)?;
             value_at(heap, cell)
+        }
+    }
+}
+
+/// A reference whose final reference names what the owner does, or null.
+#[inline(always)]
+pub fn owned_by(shape: &Shape, value: Value, number: u32, owner: Value) -> Result<Value, Failure>
+    ensures { result ≡ owned shape.now value number owner }
+{
+    match value {
+        Value::Int(_) => Err(Failure::Wrong),
+        Value::Ref(None) => Ok(value),
+        Value::Ref(Some(_)) => {
+            let named = value_of_final(shape, value, number)?;
+            if compare(Comparison::Equal, named, owner)? {
+                Ok(value)
+            } else {
+                Err(Failure::Trap(Trap::NotOwned))
+            }
         }
     }
 }

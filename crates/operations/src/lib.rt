@@ -1,7 +1,7 @@
 //! What the operators give, and which cell an access reaches: the parts of a meaning that hold no state.
 //!
 //! - [`operators`]: arithmetic and comparisons of values.
-//! - [`access`]: locals, cells, elements, members and fields, and the value at the end of a path.
+//! - [`access`]: locals, cells, elements, members and fields, owners, and the value at the end of a path.
 #![tactic(auto)]
 
 pub mod access;

@@ -5,9 +5,8 @@ use Rattle.std.proofs.lemmas.List.{map-append, take_more}
 use Rattle.std.proofs.lemmas.Bool.{cases_lt, lt-ltb, le-ltb, eq-eqb, ne_eqb}
 use Rattle.std.proofs.lemmas.Option.{slice_get_past, slice_get-get_or}
 use Rattle.core_lang.specs.declared.tree.Condition.{Condition}
-use Rattle.core_lang.specs.declared.tree.Expr.{Expr}
 use Rattle.core_lang.specs.declared.tree.Stmt.{Stmt}
-use Rattle.core_lang.specs.declared.tree.Action.{Action, Bind, If, IfElse, While}
+use Rattle.core_lang.specs.declared.tree.Action.{Action, If, IfElse, While}
 use Rattle.core_lang.specs.declared.tree.Section.{Section}
 use Rattle.core_lang.specs.Scopes.{scope_after, scope_after_all, numbers_from}
 use Rattle.flow.specs.declared.points.PointRef.{PointRef}
@@ -72,12 +71,12 @@ module _ (r : List written.LockPath) where
       by_root GlobalLock = refl
       by_root (AtLocal k) = or_comm (names k locals) (local == k)
 
-  -- behind a `let` or a `var`
-  pub behind_bind : (action : Action) (local : ℕ) (value : Expr) (scope here set : PathSet) → action ≡ Bind local value → AreThose r (is_at local) here →
+  -- behind a statement that binds a local
+  pub behind_bind : (action : Action) (local : ℕ) (scope here set : PathSet) → ((locals : List ℕ) → behind_action action locals ≡ local ∷ locals) → AreThose r (is_at local) here →
       ((i : ℕ) → has set i ≡ (has scope i || has here i)) → IsAfter r scope (behind_action action) set
-  behind_bind action local value scope here set is at joined locals was i =
+  behind_bind action local scope here set is at joined locals was i =
       joined i ∙ ap (λ b. b || has here i) (was i) ∙ ap (λ b. test_root r (is_among locals) i || b) (at i)
-      ∙ with_root local locals (slice_get r i) ∙ ap (λ x. test_root r (is_among (behind_action x locals)) i) (sym is)
+      ∙ with_root local locals (slice_get r i) ∙ ap (λ ls. test_root r (is_among ls) i) (sym (is locals))
 
   -- the roots that one point more binds
   pub bound_more : (ps : List PointRef) (k : ℕ) (p : PointRef) (sets more_sets : List PathSet) (set : PathSet) → p ≡ get_or ps k p → k < length ps →

@@ -84,6 +84,10 @@ impl<'a> Roots<'a> {
         match point {
             PointRef::Statement(statement) => match &statement.action {
                 Action::Bind { local, .. } => self.at(*local),
+                Action::Call {
+                    result: Some(local),
+                    ..
+                } => self.at(*local),
                 _ => PathSet::empty(),
             },
             PointRef::Result(_) => PathSet::empty(),
@@ -96,6 +100,10 @@ impl<'a> Roots<'a> {
     {
         match action {
             Action::Bind { local, .. } => scope.union(self.at(*local)),
+            Action::Call {
+                result: Some(local),
+                ..
+            } => scope.union(self.at(*local)),
             _ => scope,
         }
     }

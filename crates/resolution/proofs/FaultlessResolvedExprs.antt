@@ -52,6 +52,7 @@ paren_resolved o s = (as_path s.0, ap parenthesised s.1 ∙ as_path_is s.0)
     as_path_is (value (core.element start number index) t) = refl
     as_path_is (value (core.member number index) t) = refl
     as_path_is (value (core.negate e) t) = refl
+    as_path_is (value (core.owned e k f start n) t) = refl
     as_path_is (value (core.chain e rest) t) = refl
     as_path_is (truth c) = refl
 

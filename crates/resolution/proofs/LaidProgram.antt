@@ -21,6 +21,7 @@ use Rattle.core_lang.specs.Typing.{lookup, struct_of, HasType, HaveTypes, IsHeap
 use Rattle.core_lang.specs.declared.typed.LockClass as the_class
 use Rattle.core_lang.specs.declared.typed.LockClass.TheVariants as class
 use Rattle.core_lang.specs.declared.tree.Local as the_local
+use Rattle.core_lang.specs.declared.tree.Section as the_section
 use Rattle.core_lang.specs.declared.typed.Call as the_call
 use Rattle.core_lang.specs.declared.typed.Thread as the_thread
 use Rattle.core_lang.specs.WellFormed.{IsCell, IsCellOf, IsLaidOut, IsProtected, IsGlobalLock, IsGlobalClass, FinalsLead, EndsAt, IsClassOf, CanCall}
@@ -33,7 +34,7 @@ use Rattle.resolution.proofs.Typed.{map_got, get_map, final_in, field_in, final_
 use Rattle.resolution.proofs.TypedResolvedExprs.{Sound}
 use Rattle.resolution.proofs.LaidLists.{Rows, rows_right, bind_got}
 use Rattle.resolution.proofs.LaidStages.{fields_in, finals_in}
-use Rattle.resolution.proofs.LaidWalk.{FinalRow, FieldRow}
+use Rattle.resolution.proofs.LaidWalk.{FinalRow, FieldRow, no_helpers_whole}
 use Rattle.resolution.proofs.LaidFacts.{StructAt, struct_of_number, sound_of, sections_of}
 use Rattle.resolution.proofs.LaidLocks.{GlobalClass, ClassFact, LeadIn, EndsIn, classes_of_program, globals_have, arrays_have, lock_fields_have, fields_have}
 use Rattle.resolution.proofs.LaidScripts.{Argument, threads_of, sectioned, parameter_local, section_at, argument_holds}
@@ -124,6 +125,15 @@ module _ (program : Typed) where
       let r = map_got core_struct program.structs.items k h.0 h.1 in
       let f = map_got core_lock r.0.locks.items l h.2 (ap (λ (z : core.Struct). slice_get z.locks l) r.2 ∙ h.3) in
       (r.0, r.1, (f.0, f.1, ap (λ (z : core.LockField). z.class) f.2 ∙ h.4))
+
+-- ---- helpers
+
+none_viewed : (xs : List the_section.Section) → map core_section xs ≡ [] → xs ≡ []
+none_viewed [] e = refl
+none_viewed (x ∷ xs) e = cc
+
+pub no_helpers : (decls : List Decl) (program : Typed) → resolved decls ≡ Some (core_of program) → program.shape.helpers.items ≡ []
+no_helpers decls program is = none_viewed program.shape.helpers.items (no_helpers_whole decls (core_of program) is)
 
 -- ---- the whole
 

@@ -390,6 +390,10 @@ begins_whole decls before p (d ∷ ds) whole h =
     let f = first_of decls before p d ds whole h in
     begins_on p f.next whole (begins_adds decls (length before) p d f.next f.adds) (begins_whole decls (before ++ d ∷ []) f.next ds whole f.rest)
 
+-- no declaration is of a helper
+pub no_helpers_whole : (decls : List Decl) (whole : core.Program) → resolved decls ≡ Some whole → whole.helpers ≡ []
+no_helpers_whole decls whole h = (begins_whole decls [] nothing_yet decls whole h).helpers
+
 pub walk : (decls : List Decl) → Clean decls → (whole : core.Program) (K : List Decl → core.Program → Type 0) → ((before : List Decl) (d : Decl) (p q : core.Program) → Step decls whole before d p q → K before p → K (before ++ d ∷ []) q) →
     (before ds : List Decl) (p : core.Program) → decls ≡ before ++ ds → Counts decls before p → K before p → resolved_from decls (length before) (Some p) ds ≡ Some whole → K decls whole × Counts decls decls whole
 walk decls clean whole K step before [] p parts n k h =

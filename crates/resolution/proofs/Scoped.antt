@@ -1,16 +1,16 @@
 -- Where resolved statements name locals, as data; and that values which stand for them name them there.
 use Rattle.std.proofs.Common.{◌≡◌, ℕ, List, [], ◌∷◌, ◌++◌, Option, Some, None, refl, ap, ◌∙◌, subst}
-use Rattle.std.specs.Prelude.{⊤}
+use Rattle.std.specs.Prelude.{map, ⊤}
 use Rattle.std.specs.List.{Contains}
 use Rattle.core_lang.specs.declared.tree.Expr as e
-use Rattle.core_lang.specs.declared.tree.Expr.{Number, Null, Place, Global, Element', Member', Negate', Chain', Row_of-Operation, end_of-Operation, more_of-Operation}
+use Rattle.core_lang.specs.declared.tree.Expr.{Number, Null, Place, Global, Element', Member', Negate', Owned', Chain', Row_of-Operation, end_of-Operation, more_of-Operation}
 use Rattle.core_lang.specs.declared.tree.Condition as c
 use Rattle.core_lang.specs.declared.tree.Condition.{Compare, Not', And', Or', Row_of-Condition, end_of-Condition, more_of-Condition}
 use Rattle.core_lang.specs.declared.tree.Stmt as s
 use Rattle.core_lang.specs.declared.tree.Action as a
-use Rattle.core_lang.specs.declared.tree.Action.{Bind, SetLocal, SetGlobal, SetElement, SetField, Print, If', IfElse', While', Row_of-Stmt, end_of-Stmt, more_of-Stmt}
+use Rattle.core_lang.specs.declared.tree.Action.{Bind, SetLocal, SetGlobal, SetElement, SetField, Call, Print, If', IfElse', While', Row_of-Stmt, end_of-Stmt, more_of-Stmt}
 use Rattle.core_lang.specs.declared.tree.Return as the_return
-use Rattle.core_lang.specs.Scopes.{NamesOnly, AllNameOnly, TestsOnly, AllTestOnly, scope_after, IsScoped, AreScoped, AllScoped, scope_after_all, bound_by, bound_in, bound_in_all, assigned_by, assigned_in, assigned_in_all, ResultNamesOnly}
+use Rattle.core_lang.specs.Scopes.{NamesOnly, AllNameOnly, EachNamesOnly, TestsOnly, AllTestOnly, scope_after, IsScoped, AreScoped, AllScoped, scope_after_all, bound_by, bound_in, bound_in_all, assigned_by, assigned_in, assigned_in_all, ResultNamesOnly}
 use Rattle.resolution.specs.Core as core
 use Rattle.resolution.specs.CoreViews.{core_expr, core_operations_row, core_condition, core_conditions_row, core_action, core_stmts_row, core_stmts}
 
@@ -25,11 +25,16 @@ abbrev mutual
   Names scope (core.element start n index) = Names scope index
   Names scope (core.member n index) = Names scope index
   Names scope (core.negate x) = Names scope x
+  Names scope (core.owned x s f start k) = Names scope x × Contains scope k
   Names scope (core.chain x rest) = Names scope x × AllName scope rest
 
   pub AllName : List ℕ → core.Operations → Type 0
   AllName scope core.no_operations = ⊤
   AllName scope (core.operation o x rest) = Names scope x × AllName scope rest
+
+abbrev pub EachNames : List ℕ → List core.Expr → Type 0
+EachNames scope [] = ⊤
+EachNames scope (x ∷ xs) = Names scope x × EachNames scope xs
 
 abbrev mutual
   pub TestNames : List ℕ → core.Condition → Type 0
@@ -48,6 +53,8 @@ behind scope (core.set_local n x) = scope
 behind scope (core.set_global n x) = scope
 behind scope (core.set_element n i x) = scope
 behind scope (core.set_field b k f x) = scope
+behind scope (core.call h xs None) = scope
+behind scope (core.call h xs (Some n)) = n ∷ scope
 behind scope (core.print x) = scope
 behind scope (core.if_true t b) = scope
 behind scope (core.if_else t b o) = scope
@@ -60,6 +67,7 @@ abbrev mutual
   ActNames scope (core.set_global n x) = Names scope x
   ActNames scope (core.set_element n i x) = Names scope i × Names scope x
   ActNames scope (core.set_field b k f x) = Contains scope b.local × Names scope x
+  ActNames scope (core.call h xs r) = EachNames scope xs
   ActNames scope (core.print x) = Names scope x
   ActNames scope (core.if_true t b) = TestNames scope t × StmtsName scope b
   ActNames scope (core.if_else t b o) = TestNames scope t × StmtsName scope b × StmtsName scope o
@@ -80,6 +88,8 @@ abbrev mutual
   binding (core.set_global n x) = []
   binding (core.set_element n i x) = []
   binding (core.set_field b k f x) = []
+  binding (core.call h xs None) = []
+  binding (core.call h xs (Some n)) = n ∷ []
   binding (core.print x) = []
   binding (core.if_true t b) = all_binding b
   binding (core.if_else t b o) = all_binding b ++ all_binding o
@@ -96,6 +106,7 @@ abbrev mutual
   assigning (core.set_global n x) = []
   assigning (core.set_element n i x) = []
   assigning (core.set_field b k f x) = []
+  assigning (core.call h xs r) = []
   assigning (core.print x) = []
   assigning (core.if_true t b) = all_assigning b
   assigning (core.if_else t b o) = all_assigning b ++ all_assigning o
@@ -116,11 +127,16 @@ mutual
   names_is scope (Element' start n _ index) h = names_is scope index h
   names_is scope (Member' n _ index) h = names_is scope index h
   names_is scope (Negate' _ x) h = names_is scope x h
+  names_is scope (Owned' _ x s f start k) h = (names_is scope x h.0, h.1)
   names_is scope (Chain' _ x _ rest) h = (names_is scope x h.0, all_name_is scope rest h.1)
 
   all_name_is : {k : _} (scope : List ℕ) (row : Row_of-Operation k) → AllName scope (core_operations_row row) → AllNameOnly scope row
   all_name_is scope end_of-Operation h = tt
   all_name_is scope (more_of-Operation o x rest) h = (names_is scope x h.0, all_name_is scope rest h.1)
+
+each_names_is : (scope : List ℕ) (xs : List e.Expr) → EachNames scope (map core_expr xs) → EachNamesOnly scope xs
+each_names_is scope [] h = tt
+each_names_is scope (x ∷ xs) h = (names_is scope x h.0, each_names_is scope xs h.1)
 
 mutual
   tests_is : (scope : List ℕ) (x : c.Condition) → TestNames scope (core_condition x) → TestsOnly scope x
@@ -139,6 +155,8 @@ behind_is scope (SetLocal n x) = refl
 behind_is scope (SetGlobal n x) = refl
 behind_is scope (SetElement n i x) = refl
 behind_is scope (SetField b k f x) = refl
+behind_is scope (Call h xs None) = refl
+behind_is scope (Call h xs (Some n)) = refl
 behind_is scope (Print x) = refl
 behind_is scope (If' t _ b) = refl
 behind_is scope (IfElse' t _ b _ o) = refl
@@ -151,6 +169,7 @@ mutual
   act_is scope (SetGlobal n x) h = names_is scope x h
   act_is scope (SetElement n i x) h = (names_is scope i h.0, names_is scope x h.1)
   act_is scope (SetField b k f x) h = (h.0, names_is scope x h.1)
+  act_is scope (Call k xs r) h = each_names_is scope xs.items h
   act_is scope (Print x) h = names_is scope x h
   act_is scope (If' t _ b) h = (tests_is scope t h.0, row_is scope b h.1)
   act_is scope (IfElse' t _ b _ o) h = (tests_is scope t h.0, row_is scope b h.1, row_is scope o h.2)
@@ -179,6 +198,8 @@ mutual
   binding_is (SetGlobal n x) = refl
   binding_is (SetElement n i x) = refl
   binding_is (SetField b k f x) = refl
+  binding_is (Call h xs None) = refl
+  binding_is (Call h xs (Some n)) = refl
   binding_is (Print x) = refl
   binding_is (If' t _ b) = row_binding b
   binding_is (IfElse' t _ b _ o) = ap (λ (l : List ℕ). l ++ all_binding (core_stmts_row o)) (row_binding b) ∙ ap (λ (l : List ℕ). bound_in b ++ l) (row_binding o)
@@ -199,6 +220,7 @@ mutual
   assigning_is (SetGlobal n x) = refl
   assigning_is (SetElement n i x) = refl
   assigning_is (SetField b k f x) = refl
+  assigning_is (Call h xs r) = refl
   assigning_is (Print x) = refl
   assigning_is (If' t _ b) = row_assigning b
   assigning_is (IfElse' t _ b _ o) = ap (λ (l : List ℕ). l ++ all_assigning (core_stmts_row o)) (row_assigning b) ∙ ap (λ (l : List ℕ). assigned_in b ++ l) (row_assigning o)

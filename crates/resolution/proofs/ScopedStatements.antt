@@ -21,7 +21,7 @@ use Rattle.resolution.specs.declared.wanted.Want.{Want}
 use Rattle.resolution.specs.declared.wanted.Want.TheVariants.{Value}
 use Rattle.resolution.specs.Core as core
 use Rattle.resolution.specs.Scopes as scopes
-use Rattle.resolution.specs.Scopes.{◌>>=◌, Scope, outside, Meaning, a_local, a_decl, nothing, meaning, number_at, type_of, struct_named, bound, hidden, hidden_from, left}
+use Rattle.resolution.specs.Scopes.{Scope, outside, Meaning, a_local, a_decl, nothing, meaning, number_at, type_of, struct_named, bound, hidden, hidden_from, left}
 use Rattle.resolution.specs.Expressions.{ResolvedExpr, value, truth, fits, alike_sorts, want, fitting, as_value, number_resolved, test_resolved, number_value, literal, value_of, local_path, cell_of, named_value, member_value, element_value, Walk, reached, at_lock, lost, walk_from, path_value, operator_of, negated, not_so, parenthesised, chained, linked, Tests, one_test, tested, all_hold, one_holds, ordered, equated, compared, typed, typed_place, typed_links, typed_tests}
 use Rattle.resolution.specs.Statements.{Target, to_local, to_global, to_element, to_field, Assignee, assignee, is_var, assignee_at, assignee_at_element, Split, last_field, field_target, assignee_along, target_of, wanted_by, first_name, Part, does, gives, binds, set_to, assigns, prints, returns, repeats, chooses, chooses_between, Body, given_back, preceded, block_without, block_of, after, after_all, typed_stmt, typed_body}
 use Rattle.resolution.proofs.TypedResolvedExprs.{IsLocal, meant_local}
@@ -118,6 +118,7 @@ module _ (sc : Scope) (scope : List ℕ) (covers : Covers sc.locals scope) where
   of_paren (Some (value (core.element start n i) s)) h = h
   of_paren (Some (value (core.member n i) s)) h = h
   of_paren (Some (value (core.negate x) s)) h = h
+  of_paren (Some (value (core.owned x k f start n) s)) h = h
   of_paren (Some (value (core.chain x rest) s)) h = h
   of_paren (Some (truth c)) h = h
 

@@ -8,12 +8,12 @@ use Rattle.core_lang.specs.declared.tree.Comparison.TheVariants.{Equal, Unequal,
 use Rattle.core_lang.specs.declared.tree.FieldStep.{FieldStep}
 use Rattle.core_lang.specs.declared.tree.FieldStep.TheVariants as step
 use Rattle.core_lang.specs.declared.tree.Expr as e
-use Rattle.core_lang.specs.declared.tree.Expr.{Number, Null, Place, Global, Element', Member', Negate', Chain', Row_of-Operation, end_of-Operation, more_of-Operation}
+use Rattle.core_lang.specs.declared.tree.Expr.{Number, Null, Place, Global, Element', Member', Negate', Owned', Chain', Row_of-Operation, end_of-Operation, more_of-Operation}
 use Rattle.core_lang.specs.declared.tree.Condition as c
 use Rattle.core_lang.specs.declared.tree.Condition.{Compare, Not', And', Or', Row_of-Condition, end_of-Condition, more_of-Condition}
 use Rattle.core_lang.specs.declared.tree.Stmt as s
 use Rattle.core_lang.specs.declared.tree.Action as a
-use Rattle.core_lang.specs.declared.tree.Action.{Bind, SetLocal, SetGlobal, SetElement, SetField, Print, If', IfElse', While', Row_of-Stmt, end_of-Stmt, more_of-Stmt}
+use Rattle.core_lang.specs.declared.tree.Action.{Bind, SetLocal, SetGlobal, SetElement, SetField, Call, Print, If', IfElse', While', Row_of-Stmt, end_of-Stmt, more_of-Stmt}
 use Rattle.core_lang.specs.declared.tree.Return as the_return
 use Rattle.core_lang.specs.declared.typed.Cell.{Cell}
 use Rattle.core_lang.specs.declared.typed.Struct as the_struct
@@ -144,6 +144,9 @@ module _ (p : core.Program) (locals : List ValueType) where
     Is (core.member n index) (Reference s) = (pool_in p n ≡ Some s) × Is index Integer
     Is (core.negate x) Integer = Is x Integer
     Is (core.negate x) (Reference s) = ⊥
+    Is (core.owned x k f start n) Integer = ⊥
+    Is (core.owned x k f start n) (Reference s) =
+        (k ≡ s) × Is x (Reference s) × ((target : ℕ) × (final_in p s f ≡ Some target) × (slice_get locals n ≡ Some (Reference target)))
     Is (core.chain x rest) Integer = Is x Integer × Are rest
     Is (core.chain x rest) (Reference s) = ⊥
 
@@ -180,6 +183,8 @@ module _ (p : core.Program) (locals : List ValueType) where
     Acts (core.set_global cell x) = (t : ValueType) × (global_in p cell ≡ Some t) × Is x t
     Acts (core.set_element n index x) = (t : ValueType) × (array_in p n ≡ Some t) × Is index Integer × Is x t
     Acts (core.set_field base s f x) = IsPath base (Reference s) × ((t : ValueType) × (field_in p s f ≡ Some t) × Is x t)
+    -- no text has a call
+    Acts (core.call k xs r) = ⊥
     Acts (core.print x) = Is x Integer
     Acts (core.if_true t block) = Tests t × AllAct block
     Acts (core.if_else t block other) = Tests t × AllAct block × AllAct other
@@ -217,6 +222,8 @@ module _ (program : Typed) (locals : List ValueType) where
     expr_is (Member' n _ index) (Reference s) h = (pool_struct_is program n s h.0, expr_is index Integer h.1)
     expr_is (Negate' _ x) Integer h = expr_is x Integer h
     expr_is (Negate' _ x) (Reference s) h = absurd h
+    expr_is (Owned' _ x k f start n) Integer h = absurd h
+    expr_is (Owned' _ x k f start n) (Reference s) h = (h.0, expr_is x (Reference s) h.1, (h.2.0, final_target_is program s f h.2.0 h.2.1, h.2.2))
     expr_is (Chain' _ x _ rest) Integer h = (expr_is x Integer h.0, operations_are rest h.1)
     expr_is (Chain' _ x _ rest) (Reference s) h = absurd h
 
@@ -250,6 +257,7 @@ module _ (program : Typed) (locals : List ValueType) where
     action_is (SetGlobal cell x) h = (h.0, global_type_is program cell h.0 h.1, expr_is x h.0 h.2)
     action_is (SetElement n index x) h = (h.0, array_type_is program n h.0 h.1, expr_is index Integer h.2, expr_is x h.0 h.3)
     action_is (SetField base s f x) h = ((h.0.0, h.0.1, leads_is h.0.0 base.fields.items (Reference s) h.0.2), (h.1.0, field_type_is program s f h.1.0 h.1.1, expr_is x h.1.0 h.1.2))
+    action_is (Call k xs r) h = absurd h
     action_is (Print x) h = expr_is x Integer h
     action_is (If' t _ block) h = (test_is t h.0, stmts_are block h.1)
     action_is (IfElse' t _ block _ other) h = (test_is t h.0, stmts_are block h.1, stmts_are other h.2)

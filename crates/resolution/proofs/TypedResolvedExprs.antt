@@ -23,7 +23,7 @@ use Rattle.resolution.specs.Expressions.{ResolvedExpr, value, truth, fits_type, 
 use Rattle.resolution.proofs.Named.{named_is, member_is}
 use Rattle.resolution.proofs.FaultlessExpressions.{IsMeant, meant}
 use Rattle.resolution.proofs.Typed as well
-use Rattle.resolution.proofs.Typed.{global_in, array_in, pool_in, final_in, field_in, Leads, IsPath, Is, Are, Compares, AllTest}
+use Rattle.resolution.proofs.Typed.{global_in, array_in, pool_in, final_in, field_in, Leads, Is, Are, Compares, AllTest}
 
 -- ---- what a program holds of its declarations
 
@@ -222,6 +222,7 @@ module _ (sc : Scope) (p : core.Program) (types : List ValueType) (sound : Sound
   paren_good (Some (value (core.element start n i) s)) h = h
   paren_good (Some (value (core.member n i) s)) h = h
   paren_good (Some (value (core.negate x) s)) h = h
+  paren_good (Some (value (core.owned x k f start n) s)) h = h
   paren_good (Some (value (core.chain x rest) s)) h = h
   paren_good (Some (truth c)) h = h
 

@@ -9,7 +9,7 @@ use Rattle.resolution.specs.CoreViews.{core_section, core_of}
 use Rattle.resolution.specs.Resolution.{resolved, typed_section}
 use Rattle.resolution.proofs.Typed.{get_map}
 use Rattle.resolution.proofs.FaultlessExpressions.{Clean}
-use Rattle.resolution.proofs.LaidProgram.{sound, laid_out, protected, opens, sections_are, scripts}
+use Rattle.resolution.proofs.LaidProgram.{no_helpers, sound, laid_out, protected, opens, sections_are, scripts}
 use Rattle.resolution.proofs.WithinLimits.{within_limits}
 use Rattle.resolution.proofs.WellSections.{section_well_typed, section_well_scoped}
 
@@ -27,5 +27,6 @@ well_formed decls clean program is = record {
   opens = opens decls clean program is;
   sections = λ k x at. let r = section_from decls clean program is k x at in section_well_typed decls program (sound decls clean program is) r.0 x r.1;
   scopes = λ k x at. let r = section_from decls clean program is k x at in section_well_scoped decls r.0 x r.1;
+  helpers = no_helpers decls program is;
   scripts = scripts decls clean program is;
 }

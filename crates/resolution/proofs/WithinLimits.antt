@@ -36,6 +36,7 @@ use Rattle.resolution.proofs.LaidWalk.{LockRow, FinalRow, FieldRow, Step, walked
 use Rattle.resolution.proofs.LaidFacts.{keeps_structs, keeps_sections, keeps_threads, struct_by_number, sections_of}
 use Rattle.resolution.proofs.LaidLocks.{few_classes}
 use Rattle.resolution.proofs.LaidObjects.{few_objects}
+use Rattle.resolution.proofs.LaidProgram.{no_helpers}
 use Rattle.resolution.proofs.LaidScripts.{one_got, joined_got, sectioned}
 use Rattle.resolution.proofs.Tests.{le_false}
 
@@ -295,7 +296,7 @@ module _ (decls : List Decl) (clean : Clean decls) (program : Typed) (is : resol
         members = struct_within;
         objects = few_objects decls clean (core_of program) is;
         cells = (let n = counted.cells in let l = cells_few decls [] decls (λ f i. clean f (of_totals decls f i)) (let z : 0 ≤ CELL_LIMIT = omega arith in z) in omega (arith, n, l));
-        sections = (let n = few.sections in let l = length-map program.sections.items core_section in omega (arith, n, l));
+        sections = (let n = few.sections in let l = length-map program.sections.items core_section in let none = ap length (no_helpers decls program is) in omega (arith, n, l, none));
         parameters = λ k x at. (section_few k x at).parameters;
         locals = λ k x at. (let n = (section_few k x at).locals in let l = length-map x.locals.items core_local in omega (arith, n, l));
         threads = (let n = few.threads in let l = length-map program.threads.items core_thread in omega (arith, n, l));

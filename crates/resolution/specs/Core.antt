@@ -26,6 +26,7 @@ mutual
     element : (start array : ℕ) → Expr → Expr
     member : (pool : ℕ) → Expr → Expr
     negate : Expr → Expr
+    owned : Expr → (structure number start owner : ℕ) → Expr
     chain : Expr → Operations → Expr
 
   pub data Operations : Type 0 where
@@ -52,6 +53,7 @@ mutual
     set_global : (cell : ℕ) → Expr → Action
     set_element : (array : ℕ) → Expr → Expr → Action
     set_field : Path → (structure field : ℕ) → Expr → Action
+    call : (helper : ℕ) → List Expr → (result : Option ℕ) → Action
     print : Expr → Action
     if_true : Condition → Stmts → Action
     if_else : Condition → Stmts → Stmts → Action
@@ -148,5 +150,6 @@ pub record Program : Type 0 where
   pub objects : List Object
   pub finals : List ℕ
   pub cells : List Cell
+  pub helpers : List Section
   pub sections : List Section
   pub threads : List Thread

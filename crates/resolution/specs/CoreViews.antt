@@ -2,13 +2,13 @@
 use Rattle.std.specs.Prelude.{List, [], ◌∷◌, map, option_map, string_bytes}
 use Rattle.core_lang.specs.declared.tree.Path as the_path
 use Rattle.core_lang.specs.declared.tree.Expr as e
-use Rattle.core_lang.specs.declared.tree.Expr.{Number, Null, Place, Global, Element', Member', Negate', Chain', Row_of-Operation, end_of-Operation, more_of-Operation}
+use Rattle.core_lang.specs.declared.tree.Expr.{Number, Null, Place, Global, Element', Member', Negate', Owned', Chain', Row_of-Operation, end_of-Operation, more_of-Operation}
 use Rattle.core_lang.specs.declared.tree.Operation as the_operation
 use Rattle.core_lang.specs.declared.tree.Condition as c
 use Rattle.core_lang.specs.declared.tree.Condition.{Compare, Not', And', Or', Row_of-Condition, end_of-Condition, more_of-Condition}
 use Rattle.core_lang.specs.declared.tree.Stmt as s
 use Rattle.core_lang.specs.declared.tree.Action as a
-use Rattle.core_lang.specs.declared.tree.Action.{Bind, SetLocal, SetGlobal, SetElement, SetField, Print, If', IfElse', While', Row_of-Stmt, end_of-Stmt, more_of-Stmt}
+use Rattle.core_lang.specs.declared.tree.Action.{Bind, SetLocal, SetGlobal, SetElement, SetField, Call as CallOf, Print, If', IfElse', While', Row_of-Stmt, end_of-Stmt, more_of-Stmt}
 use Rattle.core_lang.specs.declared.tree.Return as the_return
 use Rattle.core_lang.specs.declared.tree.Local as the_local
 use Rattle.core_lang.specs.declared.tree.Section as the_section
@@ -25,7 +25,7 @@ use Rattle.core_lang.specs.declared.typed.GlobalVariable as the_global
 use Rattle.core_lang.specs.declared.typed.Call as the_call
 use Rattle.core_lang.specs.declared.typed.Thread as the_thread
 use Rattle.core_lang.specs.declared.typed.Typed.{Typed}
-use Rattle.resolution.specs.Core.{Path, Expr, number, null, place, global, element, member, negate, chain, Operations, no_operations, operation, Condition, compare, negation, all_of, any_of, Conditions, no_conditions, condition, Action, bind, set_local, set_global, set_element, set_field, print, if_true, if_else, while_true, Stmts, no_stmts, stmt, Stmt, Return, Local, Section, LockClass, global_lock, lock_field, LockField, FinalField, Protection, Field, Struct, GlobalVariable, Array, Pool, Call, Thread, Program}
+use Rattle.resolution.specs.Core.{Path, Expr, number, null, place, global, element, member, negate, owned, chain, Operations, no_operations, operation, Condition, compare, negation, all_of, any_of, Conditions, no_conditions, condition, Action, bind, set_local, set_global, set_element, set_field, call, print, if_true, if_else, while_true, Stmts, no_stmts, stmt, Stmt, Return, Local, Section, LockClass, global_lock, lock_field, LockField, FinalField, Protection, Field, Struct, GlobalVariable, Array, Pool, Call, Thread, Program}
 
 abbrev pub core_path : the_path.Path → Path
 core_path p = record { start = p.start; local = p.local; fields = p.fields.items; in_parentheses = p.in_parentheses }
@@ -39,6 +39,7 @@ abbrev mutual
   core_expr (Element' start array _ index) = element start array (core_expr index)
   core_expr (Member' pool _ index) = member pool (core_expr index)
   core_expr (Negate' _ e) = negate (core_expr e)
+  core_expr (Owned' _ e structure final start owner) = owned (core_expr e) structure final start owner
   core_expr (Chain' _ first _ rest) = chain (core_expr first) (core_operations_row rest)
 
   pub core_operations_row : {m : _} → Row_of-Operation m → Operations
@@ -68,6 +69,7 @@ abbrev mutual
   core_action (SetGlobal cell e) = set_global cell (core_expr e)
   core_action (SetElement array index e) = set_element array (core_expr index) (core_expr e)
   core_action (SetField base structure field e) = set_field (core_path base) structure field (core_expr e)
+  core_action (CallOf helper arguments result) = call helper (map core_expr arguments.items) result
   core_action (Print e) = print (core_expr e)
   core_action (If' c _ block) = if_true (core_condition c) (core_stmts_row block)
   core_action (IfElse' c _ block _ otherwise) = if_else (core_condition c) (core_stmts_row block) (core_stmts_row otherwise)
@@ -154,6 +156,7 @@ core_of t = record {
   objects = t.shape.objects.items;
   finals = t.shape.finals.items;
   cells = t.cells.items;
+  helpers = map core_section t.shape.helpers.items;
   sections = map core_section t.sections.items;
   threads = map core_thread t.threads.items;
 }

@@ -133,7 +133,7 @@ empty_struct name = record { name = name; locks = []; finals = []; fields = [] }
 -- ---- programs
 
 abbrev pub nothing_yet : core.Program
-nothing_yet = record { classes = []; structs = []; globals = []; arrays = []; pools = []; objects = []; finals = []; cells = []; sections = []; threads = [] }
+nothing_yet = record { classes = []; structs = []; globals = []; arrays = []; pools = []; objects = []; finals = []; cells = []; helpers = []; sections = []; threads = [] }
 
 abbrev pub with_class : core.Program → core.LockClass → core.Program
 with_class p c = record p { classes = p.classes ++ c ∷ [] }

@@ -8,7 +8,7 @@ use Rattle.core_lang.specs.declared.value.Outcome.TheVariants.{Traps, Returns}
 use Rattle.core_lang.specs.declared.tree.Comparison.{Comparison}
 use Rattle.core_lang.specs.declared.shape.Shape.{Shape}
 use Rattle.core_lang.specs.Arithmetic.{compared}
-use Rattle.core_lang.specs.Cells.{found}
+use Rattle.core_lang.specs.Cells.{with, found, owned}
 use Rattle.locks.specs.declared.lock.Lock.{Lock}
 use Rattle.layout.specs.declared.room.Room.{Room}
 use Rattle.layout.specs.Layouts.{LayoutOf}
@@ -129,6 +129,10 @@ setting k m =
 -- the top goes into a cell
 abbrev pub storing : ℕ → Machine HeldCells → Effect HeldCells
 storing cell m = on_top m.stack (λ v rest. storing_under rest cell v m)
+
+-- a reference whose final reference names what a local does, or null
+abbrev pub owner_test : Shape → ℕ → ℕ → List Value → Value → Result Value Failure
+owner_test shape f k locals value = with (found (slice_get locals k)) (λ owner. owned shape value f owner)
 
 -- a value goes in place of the top, of which it is made
 abbrev pub on_one : (Value → Result Value Failure) → Machine HeldCells → Effect HeldCells

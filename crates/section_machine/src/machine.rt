@@ -6,7 +6,7 @@ ghost use Rattle.core_lang.specs.Cells.{element_cell, member_of, field_cell, fin
 ghost use Rattle.code.specs.Machine.{advances, jumps, negation, or_trap};
 ghost use Rattle.held_cells.specs.Held.{IsLoad, IsStore};
 ghost use Rattle.section_machine.specs.Machines.{FitsRoom, HasSmallCells, HasEffect, effect_of, putting_on, loading_on};
-ghost use Rattle.section_machine.specs.Machines.{storing_found, getting, setting, storing, on_one, on_both, testing, passing};
+ghost use Rattle.section_machine.specs.Machines.{storing_found, getting, setting, storing, owner_test, on_one, on_both, testing, passing};
 ghost use Rattle.section_machine.specs.Machines.{if_passed, loading_named, storing_named, branching, printing, back_by, returning};
 
 use crate::answer::{Answer, failed};
@@ -22,7 +22,9 @@ use held_cells::parts::Parts;
 use layout::room::Room;
 use layout::table::Layout;
 use moved_cells::grant::Grant;
-use operations::access::{cell_of_element, cell_of_field, member, non_null, value_of_final};
+use operations::access::{
+    cell_of_element, cell_of_field, member, non_null, owned_by, value_at, value_of_final,
+};
 use operations::operators::{compare, negate, operate};
 use source::memory::NoMemory;
 use std::alloc::Global;
@@ -478,6 +480,33 @@ impl<'p> Machine<'p> {
     }
 
     #[inline(always)]
+    fn check_owner(&mut self, shape: &Shape, number: u32, local: usize) -> Answer
+        requires { FitsRoom self.old.operand_room (on_one (owner_test shape.now number local self.old.machine.locals) self.old.machine) }
+        ensures { HasEffect (on_one (owner_test shape.now number local self.old.machine.locals) self.old.machine) self.old result self.new }
+    {
+        let Some(top) = self.operands.top() else {
+            return Answer::Undefined;
+        };
+        let owned = self.owned(shape, top, number, local);
+        self.replace_top(owned)
+    }
+
+    // A reference whose final reference names what a local does, or null.
+    #[inline(always)]
+    fn owned(
+        &self,
+        shape: &Shape,
+        value: Value,
+        number: u32,
+        local: usize,
+    ) -> Result<Value, Failure>
+        ensures { result ≡ owner_test shape.now number local self.now.machine.locals value }
+    {
+        let owner = value_at(&self.locals, local)?;
+        owned_by(shape, value, number, owner)
+    }
+
+    #[inline(always)]
     fn not_top(&mut self) -> Answer
         requires { FitsRoom self.old.operand_room (on_one negation self.old.machine) }
         ensures { HasEffect (on_one negation self.old.machine) self.old result self.new }
@@ -620,6 +649,7 @@ impl<'p> Machine<'p> {
             Instr::LoadField { number, .. } => self.load_field(shape, number),
             Instr::NonNull => self.check_null(),
             Instr::PutField { number, .. } => self.put_field(shape, number),
+            Instr::Where { number, local, .. } => self.check_owner(shape, number, local as usize),
             Instr::NegateTop => self.negate_top(),
             Instr::NotTop => self.not_top(),
             Instr::Operate(operator) => self.operate(operator),

@@ -7,7 +7,7 @@ use crate::short::{number, reference, simple};
 use core_lang::shape::Shape;
 use core_lang::tree::{Comparison, Condition, Expr};
 use core_lang::value::{Failure, Value};
-use operations::access::{cell_of_element, follow, member, value_at};
+use operations::access::{cell_of_element, follow, member, owned_by, value_at};
 use operations::operators::{compare, negate, operate};
 
 /// The value of an expression, by the short way where there is one.
@@ -48,6 +48,16 @@ fn walk(e: &Expr, shape: &Shape, locals: &[Value], heap: &[Value]) -> Result<Val
             member(shape, *pool, index)
         }
         Expr::Negate(e) => negate(walk(e, shape, locals, heap)?),
+        Expr::Owned {
+            value,
+            number,
+            owner,
+            ..
+        } => {
+            let value = walk(value, shape, locals, heap)?;
+            let owner = value_at(locals, *owner as usize)?;
+            owned_by(shape, value, *number, owner)
+        }
         Expr::Chain { first, rest } => {
             let mut value = walk(first, shape, locals, heap)?;
             for operation in rest {

@@ -148,6 +148,8 @@ impl Execution {
                 let cell = cell_of_field(shape, base, *field)?;
                 self.write(cell, v)
             }
+            // No run of a well-formed program comes here: its helpers are written out. Where one does, it is given up.
+            Action::Call { .. } => Err(Stop::NoMemory),
             Action::Print(e) => {
                 let v = evaluate(e, shape, &self.locals, self.draft.cells())?;
                 self.print(v)

@@ -224,7 +224,7 @@ fn other_number(e: &Expr, shape: &Shape, locals: &[Value], heap: &[Value]) -> Op
             let index = operand(index, shape, locals, heap)?;
             number_in(shape, heap, *array, index)
         }
-        Expr::Member { .. } => None,
+        Expr::Member { .. } | Expr::Owned { .. } => None,
         Expr::Negate(e) => negated_number(operand(e, shape, locals, heap)?),
         Expr::Chain { .. } => chain(e, shape, locals, heap),
     }

@@ -231,6 +231,7 @@ fn nothing(alloc: Global) -> Typed
             pools: Vec::new(alloc),
             objects: Vec::new(alloc),
             finals: Vec::new(alloc),
+            helpers: Vec::new(alloc),
         },
         cells: Vec::new(alloc),
         sections: Vec::new(alloc),

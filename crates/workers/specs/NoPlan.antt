@@ -24,7 +24,7 @@ no_plan = record {
     classes = none;
     structs = none;
     globals = none;
-    shape = record { arrays = none; pools = none; objects = none; finals = none };
+    shape = record { arrays = none; pools = none; objects = none; finals = none; helpers = none };
     cells = none;
     sections = none;
     threads = none;

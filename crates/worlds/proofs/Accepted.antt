@@ -17,9 +17,9 @@ use Rattle.core_lang.specs.Scopes.{IsWellScoped}
 use Rattle.core_lang.specs.WellFormed.{IsWithinLimits, IsLaidOut, IsProtected, IsGlobalClass, IsCell, IsCellOf, IsClassOf, CanCall, IsWellFormed}
 use Rattle.locks.specs.LockPaths.{LockPath, global_path, lock_path, paths_of, each_once, Uses}
 use Rattle.locks.specs.Accesses.{Access, access, global, accesses}
-use Rattle.locks.specs.Faults.{HasNoFault, unstable, one_too_many, unstable_base, over_limit, HasSection}
+use Rattle.locks.specs.Faults.{HasNoFault, Named, where_at, unstable, unstable_owner, one_too_many, unstable_base, unstable_owner_base, over_limit, HasSection}
 use Rattle.lockorder.specs.Edges.{Edge, AreRanksOf, RiseIn}
-use Rattle.flow.specs.Points.{Binds, bound_at}
+use Rattle.flow.specs.Points.{Point, points, Binds, bound_at}
 use Rattle.flow.specs.Walks.{begin}
 use Rattle.points.specs.Wanted.{IsTaken}
 use Rattle.locks.specs.Locks.{IsLock, lock_of_cell}
@@ -126,6 +126,7 @@ module _ (alloc : Global) (name : String Global) where
     opens = (tt, tt);
     sections = λ k x e. subst (λ (y : Section). IsWellTypedSection (inc_program alloc name) y) (the_one (inc alloc name) x k e).0 typed;
     scopes = λ k x e. subst (λ (y : Section). IsWellScoped y) (the_one (inc alloc name) x k e).0 scoped;
+    helpers = refl;
     scripts = scripts;
   }
 
@@ -152,12 +153,19 @@ module _ (alloc : Global) (name : String Global) where
   too_few (x ∷ y ∷ []) behind a split full = cc
   too_few (x ∷ y ∷ z ∷ before) behind a split full = cc
 
-  -- no access is without a lock path, and there are too few of them for a limit
+  no_where : (p : Point) (owner : Named) → Contains (points (inc alloc name)) p → where_at p ≡ Some owner → ⊥
+  no_where p owner (zero, lt, e) at = none_is_some owner (subst (λ (q : Point). where_at q ≡ Some owner) (sym e) at)
+  no_where p owner (suc i, lt, e) at = absurd (omega (arith, lt))
+
+  -- no access is without a lock path, no `where` names a `var`, and there are too few accesses for a limit
   faultless : HasNoFault (inc_program alloc name)
   faultless code start (unstable_base (unstable {section} here c e)) =
       let no = subst (λ (x : Section). (a : Access) → Contains (accesses x) a → lock_path (inc_program alloc name) x a ≡ None → ⊥)
       (the_section section here) each_has_one in
       no _ c e
+  faultless code start (unstable_owner_base (unstable_owner {section} {point} {owner} here c at is)) =
+      let no = subst (λ (x : Section). (p : Point) (o : Named) → Contains (points x) p → where_at p ≡ Some o → ⊥) (the_section section here) no_where in
+      no point owner c at
   faultless code start (over_limit (one_too_many {section} before behind a here split full path new)) =
       let no = subst (λ (x : Section). (before behind : List Access) (a : Access) → accesses x ≡ before ++ a ∷ behind →
       length (each_once (paths_of (inc_program alloc name) x before)) ≡ 64 → ⊥) (the_section section here) too_few in

@@ -80,7 +80,7 @@ module _ (alloc : Global) (name : String Global) where
   int_cell o n = record { owner = o; value_type = Integer; opening = Int (pos n) }
 
   abbrev pub no_shape : Shape
-  no_shape = record { arrays = none; pools = none; objects = none; finals = none }
+  no_shape = record { arrays = none; pools = none; objects = none; finals = none; helpers = none }
 
   abbrev pub a_call : ℕ → (arguments : List Value) → length arguments < 2 ^ 63 → Call
   a_call section arguments small = record { section = section; arguments = vec arguments small }
@@ -262,6 +262,7 @@ module _ (alloc : Global) (name : String Global) where
         pools = vec (record { name = name; first = 0; length = 2; structure = 0 } ∷ []) (omega arith);
         objects = vec (record { pool = 0; cells = 0; finals = 0 } ∷ record { pool = 0; cells = 1; finals = 0 } ∷ []) (omega arith);
         finals = none;
+        helpers = none;
       };
       cells = vec (int_cell (owner.Field 0 0) 10 ∷ int_cell (owner.Field 1 0) 20 ∷ []) (omega arith);
       sections = vec (transfer ∷ []) (omega arith);
@@ -389,6 +390,7 @@ module _ (alloc : Global) (name : String Global) where
         objects = vec (record { pool = 0; cells = 0; finals = 0 } ∷ record { pool = 1; cells = 1; finals = 0 }
             ∷ record { pool = 1; cells = 2; finals = 1 } ∷ []) (omega arith);
         finals = vec (0 ∷ 0 ∷ []) (omega arith);
+        helpers = none;
       };
       cells = vec (int_cell (owner.Field 0 0) 0 ∷ int_cell (owner.Field 1 0) 0 ∷ int_cell (owner.Field 2 0) 0 ∷ []) (omega arith);
       sections = vec (set_both ∷ []) (omega arith);

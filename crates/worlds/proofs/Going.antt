@@ -4,6 +4,7 @@ use Rattle.std.proofs.lemmas.Option.{slice_get_within}
 use Rattle.std.specs.Prelude.{unwrap_or}
 use Rattle.std.specs.Option.{option_map_or}
 use Rattle.std.specs.List.{Contains}
+use Rattle.core_lang.specs.Checked.{calls_nothing}
 use Rattle.core_lang.specs.declared.value.Value.{Value}
 use Rattle.core_lang.specs.declared.tree.Section.{Section}
 use Rattle.core_lang.specs.Serial.{Invocation}
@@ -161,7 +162,7 @@ module _ (laws : GoingLaws) (plan : Plan) (ok : IsCompiled plan) (k : ℕ) (sect
       let s = state_of m h.heap in
       let can = can_execute laws.cover plan section lists ok.stable ordered x.number x.point (laws.spots lists section x inside) held m h.heap come
       h.is_heap h.shows all has in
-      let g = laws.go_on program.shape lists section x s m.memory room inside (omega arith) can in
+      let g = laws.go_on program.shape lists section x s m.memory room (calls_nothing program k section ok.well_formed is) inside (omega arith) can in
       let at : IsStepping held (between_points (x.place + length (acquire_code lists x.number)) s m.memory) =
       steps_more load_held store_held program.shape code room (MayEnd program.shape x.point s) Any
       (HasComeOn held_value program.shape lists section x s (held_value m.memory)) (IsAtPoint plan section lists held)

@@ -6,6 +6,7 @@ use Rattle.core_lang.specs.declared.value.Value.{Value}
 use Rattle.core_lang.specs.declared.value.Outcome.{Outcome}
 use Rattle.core_lang.specs.declared.tree.Section.{Section}
 use Rattle.core_lang.specs.Laws.{StaysTyped, NeverGoAstray}
+use Rattle.core_lang.specs.Checked.{checked}
 use Rattle.core_lang.specs.Typing.{cell_types, IsHeap, Fit}
 use Rattle.locks.specs.declared.lock.Lock.{Lock}
 use Rattle.locks.specs.Locks.{lock_of_cell}
@@ -82,7 +83,7 @@ heap_overwritten laws plan ok a outcome heap well ready out size is_heap reads =
     let both : Some ready.section ≡ Some whole.0 = sym ready.is ∙ whole.1 in
     let same : ready.section ≡ whole.0 = cc both in
     let fit : Fit plan.program whole.0 a.call.arguments = subst (λ section. Fit plan.program section a.call.arguments) same ready.fit in
-    let stays = laws.astray plan.program a.call.section whole.2.0 whole.0 a.call.arguments heap ok.well_formed whole.1 fit is_heap in
+    let stays = laws.astray plan.program a.call.section whole.2.0 whole.0 a.call.arguments heap (checked plan.program ok.well_formed) whole.1 fit is_heap in
     let after = subst (StaysTyped plan.program whole.0.result_type) whole.2.1 stays in
     after.0
 

@@ -5,6 +5,7 @@ use Rattle.std.proofs.Common.{nat_eq}
 use Rattle.std.proofs.lemmas.Bool.{cases_eq, cond-true, cond-false, eq-eqb, ne_eqb}
 use Rattle.std.proofs.lemmas.Option.{slice_get_within}
 use Rattle.std.specs.Option.{option_map_or}
+use Rattle.core_lang.specs.Checked.{calls_nothing}
 use Rattle.core_lang.specs.declared.value.Value.{Value}
 use Rattle.core_lang.specs.declared.value.Outcome.{Outcome}
 use Rattle.core_lang.specs.declared.tree.Section.{Section}
@@ -265,4 +266,4 @@ true_commit ends_only plan ok t step a outcome w is heap n agree =
     ap (λ c. alone plan.program.shape c w.count (opening section a.call.arguments heap).locals heap) (sym code)
     ∙ (ap (λ l. alone plan.program.shape (code_at plan a.call.section) w.count l heap) (sym locals)
     ∙ (w.truth heap size agree ∙ ap (λ x. standing x (on_heap heap a.machine)) is)) in
-    (section, w.is, ends_only lists section plan.program.shape a.call.arguments heap w.count _ halts)
+    (section, w.is, ends_only lists section plan.program.shape a.call.arguments heap w.count _ (calls_nothing plan.program a.call.section section ok.well_formed w.is) halts)

@@ -3,7 +3,7 @@ use Rattle.std.proofs.Common.{◌≡◌, ℕ, ◌+◌, ◌-◌, List, [], ◌∷
 use Rattle.std.specs.Prelude.{slice_get}
 use Rattle.std.proofs.lemmas.Option.{none-some}
 use Rattle.core_lang.specs.declared.tree.Stmt.{Stmt}
-use Rattle.core_lang.specs.declared.tree.Action.{Action, Bind, SetLocal, SetGlobal, SetElement, SetField, Print, If', IfElse', While', Row_of-Stmt, end_of-Stmt, more_of-Stmt}
+use Rattle.core_lang.specs.declared.tree.Action.{Action, Bind, SetLocal, SetGlobal, SetElement, SetField, Call, Print, If', IfElse', While', Row_of-Stmt, end_of-Stmt, more_of-Stmt}
 use Rattle.core_lang.specs.declared.tree.Return.{Return as Result_of}
 use Rattle.core_lang.specs.declared.tree.Section.{Section}
 use Rattle.flow.specs.Skeletons.{Skeleton, Nil, Step, Fork, Loop, count, in_front, all_in_front, return_skeleton, skeleton}
@@ -27,6 +27,7 @@ count_action (SetLocal k e) r = omega arith
 count_action (SetGlobal cell e) r = omega arith
 count_action (SetElement array i e) r = omega arith
 count_action (SetField path s f e) r = omega arith
+count_action (Call f es v) r = omega arith
 count_action (Print e) r = omega arith
 
 by_truth : (A : Bool → Type 0) → A true → A false → (b : Bool) → A b
@@ -42,6 +43,7 @@ head_action (SetLocal j e) r n k = refl
 head_action (SetGlobal cell e) r n k = refl
 head_action (SetElement array i e) r n k = refl
 head_action (SetField path s f e) r n k = refl
+head_action (Call f es v) r n k = refl
 head_action (Print e) r n k = refl
 
 module _ {P : Type 0} (lists : List (List P)) where
@@ -133,6 +135,7 @@ module _ {P : Type 0} (lists : List (List P)) where
     flow_later (SetGlobal cell e) r n k p q f = in_step f
     flow_later (SetElement array i e) r n k p q f = in_step f
     flow_later (SetField path s g e) r n k p q f = in_step f
+    flow_later (Call h es v) r n k p q f = in_step f
     flow_later (Print e) r n k p q f = in_step f
 
     block_lands : {m : _} (row : Row_of-Stmt m) (n place : ℕ) (k : Option ℕ) → ((y : Spot) → InBlock lists row n place y → Has y) →
@@ -170,6 +173,8 @@ module _ {P : Type 0} (lists : List (List P)) where
           elim h [ inl same ↦ step_fine start (SetElement array i e) r n place k x (λ b. refl) has l same | inr bad ↦ absurd bad ]
       action_fine start (SetField path s f e) r n place k x has emb l h =
           elim h [ inl same ↦ step_fine start (SetField path s f e) r n place k x (λ b. refl) has l same | inr bad ↦ absurd bad ]
+      action_fine start (Call f es v) r n place k x has emb l h =
+          elim h [ inl same ↦ step_fine start (Call f es v) r n place k x (λ b. refl) has l same | inr bad ↦ absurd bad ]
       action_fine start (Print e) r n place k x has emb l h =
           elim h [ inl same ↦ step_fine start (Print e) r n place k x (λ b. refl) has l same | inr bad ↦ absurd bad ]
       action_fine start (If' c m block) r n place k x has emb l h =
@@ -329,6 +334,7 @@ acquires_first lists code place n (statement start (SetLocal k e)) has = has_fro
 acquires_first lists code place n (statement start (SetGlobal cell e)) has = has_front code place (acquire_code lists n) _ has
 acquires_first lists code place n (statement start (SetElement array i e)) has = has_front code place (acquire_code lists n) _ has
 acquires_first lists code place n (statement start (SetField path s f e)) has = has_front code place (acquire_code lists n) _ has
+acquires_first lists code place n (statement start (Call f es v)) has = has_front code place (acquire_code lists n) _ has
 acquires_first lists code place n (statement start (Print e)) has = has_front code place (acquire_code lists n) _ has
 acquires_first lists code place n (statement start (If' c m block)) has =
     has_front code place (acquire_code lists n) (test_code c) (has_front code place (acquire_code lists n ++ test_code c) _ has)

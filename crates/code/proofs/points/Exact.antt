@@ -46,9 +46,9 @@ module _ {P M : Type 0} (load : M → ℕ → Option (Value × M)) (store : M �
 
 pub points_go_on : {P M : Type 0} (load : M → ℕ → Option (Value × M)) (store : M → ℕ → Value → Option M) (view : M → ℕ → Option Value) →
     IsMemory load store view → PointsGoOn P M load store view
-points_go_on load store view is shape lists section x s memory room inside room_is can =
+points_go_on load store view is shape lists section x s memory room only inside room_is can =
     let Q = HasComeOn view shape lists section x s (view memory) in
-    point_safe load store view is shape (MayEnd shape x.point s) Q room lists section x s memory inside room_is can.shows can.covers
+    point_safe load store view is shape (MayEnd shape x.point s) Q room lists section x s memory only inside room_is can.shows can.covers
     (does_exactly load store view is shape Q room lists section s x.point _ can.sound
     (λ later e memory' y shows keeps inside' follows.
     record { later = later; leads = e; to = y; inside = inside'; follows = follows; is = refl; shows = shows; keeps = keeps }))

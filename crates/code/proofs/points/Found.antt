@@ -4,10 +4,10 @@ use Rattle.std.specs.Prelude.{slice_get}
 use Rattle.core_lang.specs.declared.tree.FieldStep.{FieldStep}
 use Rattle.core_lang.specs.declared.tree.FieldStep.TheVariants.{Final, Field}
 use Rattle.core_lang.specs.declared.tree.Path.{Path}
-use Rattle.core_lang.specs.declared.tree.Expr.{Expr, Number, Null, Place, Global, Element', Member', Negate', Chain', Row_of-Operation, end_of-Operation, more_of-Operation}
+use Rattle.core_lang.specs.declared.tree.Expr.{Expr, Number, Null, Place, Global, Element', Member', Negate', Owned', Chain', Row_of-Operation, end_of-Operation, more_of-Operation}
 use Rattle.core_lang.specs.declared.tree.Condition.{Condition, Compare, Not', And', Or', Row_of-Condition, end_of-Condition, more_of-Condition}
 use Rattle.core_lang.specs.declared.tree.Stmt.{Stmt}
-use Rattle.core_lang.specs.declared.tree.Action.{Action, Bind, SetLocal, SetGlobal, SetElement, SetField, Print, If', IfElse', While', Row_of-Stmt, end_of-Stmt, more_of-Stmt}
+use Rattle.core_lang.specs.declared.tree.Action.{Action, Bind, SetLocal, SetGlobal, SetElement, SetField, Call, Print, If', IfElse', While', Row_of-Stmt, end_of-Stmt, more_of-Stmt}
 use Rattle.core_lang.specs.declared.tree.Return.{Return as Result_of}
 use Rattle.flow.specs.Points.{Point, statement, result, inner_points, points_of_all, point_of_return}
 use Rattle.flow.specs.Points as flow
@@ -48,6 +48,7 @@ mutual
   quiet_expr (Global start cell) = (tt, tt)
   quiet_expr (Element' start array p index) = quiet_both (expr_code index) _ (quiet_expr index) (tt, tt)
   quiet_expr (Member' pool p index) = quiet_both (expr_code index) _ (quiet_expr index) (tt, tt)
+  quiet_expr (Owned' p e s f start k) = quiet_both (expr_code e) _ (quiet_expr e) (tt, tt)
   quiet_expr (Negate' p e) = quiet_both (expr_code e) _ (quiet_expr e) (tt, tt)
   quiet_expr (Chain' p first m rest) = quiet_both (expr_code first) (chain_code rest) (quiet_expr first) (quiet_chain rest)
 
@@ -96,6 +97,7 @@ module _ {P : Type 0} (lists : List (List P)) (Has : Spot → Type 0) where
     inner_found (SetGlobal cell e) n place emb = tt
     inner_found (SetElement array i e) n place emb = tt
     inner_found (SetField path s f e) n place emb = tt
+    inner_found (Call f es r) n place emb = tt
     inner_found (Print e) n place emb = tt
 
     block_found : {m : _} (row : Row_of-Stmt m) (n place : ℕ) → ((y : Spot) → InBlock lists row n place y → Has y) → EachAt IsSpotOf n (flow.points_in row)
@@ -170,6 +172,7 @@ module _ {P : Type 0} (lists : List (List P)) (Has : Spot → Type 0) where
         own_asks start (SetElement array i e) n place _ emb (quiet_both (expr_code i) _ (quiet_expr i) (tt, quiet_both (expr_code e) _ (quiet_expr e) (tt, tt)))
     action_asks start (SetField path s f e) n place emb =
         own_asks start (SetField path s f e) n place _ emb (quiet_both (path_code path) _ (quiet_path path) (tt, quiet_both (expr_code e) _ (quiet_expr e) (tt, tt)))
+    action_asks start (Call f es r) n place emb = own_asks start (Call f es r) n place _ emb (tt, (tt, tt))
     action_asks start (Print e) n place emb = own_asks start (Print e) n place _ emb (quiet_both (expr_code e) _ (quiet_expr e) (tt, tt))
     action_asks start (If' c m block) n place emb =
         asks_both place (acquire_code lists n ++ test_code c) _ (own_asks start (If' c m block) n place (test_code c) emb (quiet_test c))

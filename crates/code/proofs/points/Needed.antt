@@ -2,7 +2,7 @@
 use Rattle.std.proofs.Common.{◌≡◌, ℕ, ◌+◌, ◌≤◌, max, List, [], ◌∷◌, Option, Some, None, inl, inr, sym, subst, arith}
 use Rattle.std.proofs.Math.Nat.{le-max_left, le-max_right}
 use Rattle.core_lang.specs.declared.tree.Stmt.{Stmt}
-use Rattle.core_lang.specs.declared.tree.Action.{Action, Bind, SetLocal, SetGlobal, SetElement, SetField, Print, If', IfElse', While', Row_of-Stmt, end_of-Stmt, more_of-Stmt}
+use Rattle.core_lang.specs.declared.tree.Action.{Action, Bind, SetLocal, SetGlobal, SetElement, SetField, Call, Print, If', IfElse', While', Row_of-Stmt, end_of-Stmt, more_of-Stmt}
 use Rattle.core_lang.specs.declared.tree.Return.{Return as Result_of}
 use Rattle.core_lang.specs.declared.tree.Section.{Section}
 use Rattle.flow.specs.Points.{Point, statement, result}
@@ -28,6 +28,7 @@ own_within (SetLocal k e) = omega arith
 own_within (SetGlobal cell e) = omega arith
 own_within (SetElement array i e) = omega arith
 own_within (SetField path s f e) = omega arith
+own_within (Call f es r) = omega arith
 own_within (Print e) = omega arith
 
 module _ {P : Type 0} (lists : List (List P)) where
@@ -49,6 +50,7 @@ module _ {P : Type 0} (lists : List (List P)) where
     inside_within (SetGlobal cell e) n place x h = absurd h
     inside_within (SetElement array i e) n place x h = absurd h
     inside_within (SetField path s f e) n place x h = absurd h
+    inside_within (Call f es r) n place x h = absurd h
     inside_within (Print e) n place x h = absurd h
 
     block_within : {m : _} (row : Row_of-Stmt m) (n place : ℕ) (x : Spot) → InBlock lists row n place x → point_need x.point ≤ block_need row

@@ -15,6 +15,7 @@ use Rattle.core_lang.specs.Whole.{opening, default_of, default_local}
 use Rattle.core_lang.specs.Typing.{HasType, HaveTypes, local_types, cell_types}
 use Rattle.core_lang.specs.Soundness.{IsTypedState, LeadsToTyped}
 use Rattle.core_lang.specs.WellFormed.{IsWellFormed}
+use Rattle.core_lang.specs.Checked.{calls_nothing}
 use Rattle.flow.specs.Skeletons.{skeleton}
 use Rattle.flow.specs.Flow.{head}
 use Rattle.flow.specs.Effects.{effect_at}
@@ -132,7 +133,7 @@ module _ {P : Type 0} (typed : PointsStayTyped) (program : Typed) (section : Sec
       } in
       steps_more load_from store_to program.shape code room (MayEnd program.shape x.point s) Any
       (HasComeOn slice_get program.shape lists section x s (slice_get s.heap)) IsAtPoint (λ outcome f. tt) (comes_on x s fits leads) _
-      (points_go_on load_from store_to slice_get heap_is_memory program.shape lists section x s s.heap room inside (omega arith) can)
+      (points_go_on load_from store_to slice_get heap_is_memory program.shape lists section x s s.heap room (calls_nothing program here.0 section well here.1) inside (omega arith) can)
 
   -- after an instruction
   goes_on : (n : ℕ) (m : Machine (List Value)) (x : Effect (List Value)) → Goes load_from store_to program.shape code Any IsAtPoint room x →

@@ -4,7 +4,7 @@ use Rattle.std.specs.Prelude.{slice_get}
 use Rattle.std.proofs.Math.Seq.{get_or-append_seam}
 use Rattle.std.proofs.lemmas.Option.{slice_get-get_or}
 use Rattle.core_lang.specs.declared.tree.Stmt.{Stmt}
-use Rattle.core_lang.specs.declared.tree.Action.{Action, Bind, SetLocal, SetGlobal, SetElement, SetField, Print, If', IfElse', While', Row_of-Stmt, end_of-Stmt, more_of-Stmt}
+use Rattle.core_lang.specs.declared.tree.Action.{Action, Bind, SetLocal, SetGlobal, SetElement, SetField, Call, Print, If', IfElse', While', Row_of-Stmt, end_of-Stmt, more_of-Stmt}
 use Rattle.core_lang.specs.declared.tree.Return.{Return as Result_of}
 use Rattle.core_lang.specs.declared.tree.Section.{Section}
 use Rattle.flow.specs.Points.{Point, statement, result, inner_points, points_of_all, point_of_return, points}
@@ -47,6 +47,7 @@ mutual
   length_inner (SetGlobal cell e) = refl
   length_inner (SetElement array i e) = refl
   length_inner (SetField path s f e) = refl
+  length_inner (Call f es r) = refl
   length_inner (Print e) = refl
 
   pub length_block : {m : _} (row : Row_of-Stmt m) → length (flow.points_in row) ≡ points_in row
@@ -85,6 +86,7 @@ module _ {P : Type 0} (lists : List (List P)) where
     inside_numbered (SetGlobal cell e) n place x h = absurd h
     inside_numbered (SetElement array i e) n place x h = absurd h
     inside_numbered (SetField path s f e) n place x h = absurd h
+    inside_numbered (Call f es r) n place x h = absurd h
     inside_numbered (Print e) n place x h = absurd h
 
     pub block_numbered : {m : _} (row : Row_of-Stmt m) (n place : ℕ) (x : Spot) → InBlock lists row n place x → Numbered (flow.points_in row) n x

@@ -1,9 +1,9 @@
 -- No two spots of a section have the same number.
 use Rattle.std.proofs.Common.{◌≡◌, ℕ, ◌+◌, ◌<◌, ◌≤◌, List, [], ◌∷◌, ◌++◌, length, Option, Some, None, inl, inr, sym, ap, ◌∙◌, arith, length-append}
 use Rattle.core_lang.specs.declared.tree.Stmt.{Stmt}
-use Rattle.core_lang.specs.declared.tree.Action.{Action, Bind, SetLocal, SetGlobal, SetElement, SetField, Print, If', IfElse', While', Row_of-Stmt, end_of-Stmt, more_of-Stmt}
+use Rattle.core_lang.specs.declared.tree.Action.{Action, Bind, SetLocal, SetGlobal, SetElement, SetField, Call, Print, If', IfElse', While', Row_of-Stmt, end_of-Stmt, more_of-Stmt}
 use Rattle.core_lang.specs.declared.tree.Return.{Return as Result_of}
-use Rattle.flow.specs.Points.{Point, statement, result, inner_points}
+use Rattle.flow.specs.Points.{Point, result, inner_points}
 use Rattle.flow.specs.Points as flow
 use Rattle.code.specs.Lowering.{points_of, points_in}
 use Rattle.code.specs.Spots.{Spot, Inside, InBlock, InAction, InBody}
@@ -75,6 +75,7 @@ module _ {P : Type 0} (lists : List (List P)) where
     inside_once (SetGlobal cell v) n place x y e h k = absurd h
     inside_once (SetElement array i v) n place x y e h k = absurd h
     inside_once (SetField path s f v) n place x y e h k = absurd h
+    inside_once (Call f vs r) n place x y e h k = absurd h
     inside_once (Print v) n place x y e h k = absurd h
 
     block_once : {m : _} (row : Row_of-Stmt m) (n place : ℕ) (x y : Spot) → x.number ≡ y.number → InBlock lists row n place x → InBlock lists row n place y → x ≡ y

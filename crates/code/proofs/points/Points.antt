@@ -5,20 +5,23 @@ use Rattle.core_lang.specs.declared.value.Value.{Value}
 use Rattle.core_lang.specs.declared.value.Outcome.{Outcome}
 use Rattle.core_lang.specs.declared.value.Outcome.TheVariants as out
 use Rattle.core_lang.specs.declared.tree.Condition.{Condition}
-use Rattle.core_lang.specs.declared.tree.Action.{Action, Bind, SetLocal, SetGlobal, SetElement, SetField, Print, If', IfElse', While'}
+use Rattle.core_lang.specs.declared.tree.Action.{Action, Bind, SetLocal, SetGlobal, SetElement, SetField, Call, Print, If', IfElse', While'}
 use Rattle.core_lang.specs.declared.tree.Section.{Section}
 use Rattle.core_lang.specs.declared.shape.Shape.{Shape}
 use Rattle.core_lang.specs.Meaning.{State, GoesOn, given, value_of, truth_of, effect_of}
+use Rattle.core_lang.specs.Helpers.{NoHelper, CallsNothing}
 use Rattle.flow.specs.Skeletons.{skeleton}
 use Rattle.flow.specs.Flow.{Follows}
 use Rattle.flow.specs.Points.{Point, statement, result}
 use Rattle.flow.specs.Effects.{effect_at}
+use Rattle.flow.specs.Theory.PointCalls.{PointCalls, point_calls}
 use Rattle.locks.specs.Accesses.{in_condition, in_action, accesses_at}
 use Rattle.code.specs.declared.instr.Instr.{Instr}
 use Rattle.code.specs.declared.instr.Instr.TheVariants.{Jump, JumpBack, JumpIfFalse, End}
 use Rattle.code.specs.Machine.{Machine}
 use Rattle.code.specs.Lowering.{expr_code, test_code, acquire_code, section_code}
 use Rattle.code.specs.Needs.{test_need, stmt_need, operand_need}
+use Rattle.code.proofs.points.Numbers.{spot_is_point}
 use Rattle.code.proofs.points.Needed.{point_need, spot_within}
 use Rattle.code.specs.Seen.{IsMemory, Shows, IsSeen, Covers}
 use Rattle.code.specs.Spots.{HasAt, Spot, InSection}
@@ -100,30 +103,31 @@ module _ {P M : Type 0} (load : M → ℕ → Option (Value × M)) (store : M �
       by true a a' e h = let e' : a + 1 + 0 ≡ a' + 1 = omega (arith, e) in subst (Leaves lists code (InSection lists section) (Follows (skeleton section) p)) e' h
       by false a a' e h = subst (λ i. Leaves lists code (InSection lists section) (Follows (skeleton section) p) (i + 1 + over)) e h
 
-  by_point : (point : Point) (x : Spot) (s : State) (memory : M) → point_need point ≤ room → HasAt code x.place (point_code lists point x.number) →
+  by_point : (point : Point) (x : Spot) (s : State) (memory : M) → PointCalls NoHelper point → point_need point ≤ room → HasAt code x.place (point_code lists point x.number) →
       Ends lists code (InSection lists section) (Follows (skeleton section) x.number) x point →
       Shows (view memory) s.heap → CoversEach shape s.locals s.heap (view memory) (accesses_at point) → Does point s (Arrives x.number memory) →
       Steps load store shape code F Q room (machine (x.place + length (acquire_code lists x.number)) [] s.locals memory s.prints)
-  by_point (result r) x s memory fit has e shows c g =
+  by_point (result r) x s memory only fit has e shows c g =
       let ca = acquire_code lists x.number in
       let back = has_back code x.place ca _ has in
       return_safe load store view is shape code F Q room s.locals s.heap s.prints (view memory) r.value (x.place + length ca) [] (omega (arith, fit)) (has_front code _ (expr_code r.value) _ back)
       (has_back code _ (expr_code r.value) _ back).0 c g memory (λ d. refl)
-  by_point (statement start (If' c m block)) x s memory fit has e shows cov g = test_point c x.number x.number x.place _ s memory fit has e shows cov g
-  by_point (statement start (IfElse' c m block k otherwise)) x s memory fit has e shows cov g = test_point c x.number x.number x.place _ s memory fit has e shows cov g
-  by_point (statement start (While' c m body)) x s memory fit has e shows cov g = test_point c x.number x.number x.place _ s memory fit has e shows cov g
-  by_point (statement start (Bind k v)) x s memory fit has e shows c g = simple_point start (Bind k v) x.number x.number x.place s memory fit tt has e shows c g
-  by_point (statement start (SetLocal k v)) x s memory fit has e shows c g = simple_point start (SetLocal k v) x.number x.number x.place s memory fit tt has e shows c g
-  by_point (statement start (SetGlobal cell v)) x s memory fit has e shows c g = simple_point start (SetGlobal cell v) x.number x.number x.place s memory fit tt has e shows c g
-  by_point (statement start (SetElement array i v)) x s memory fit has e shows c g = simple_point start (SetElement array i v) x.number x.number x.place s memory fit tt has e shows c g
-  by_point (statement start (SetField path t f v)) x s memory fit has e shows c g = simple_point start (SetField path t f v) x.number x.number x.place s memory fit tt has e shows c g
-  by_point (statement start (Print v)) x s memory fit has e shows c g = simple_point start (Print v) x.number x.number x.place s memory fit tt has e shows c g
+  by_point (statement start (If' c m block)) x s memory only fit has e shows cov g = test_point c x.number x.number x.place _ s memory fit has e shows cov g
+  by_point (statement start (IfElse' c m block k otherwise)) x s memory only fit has e shows cov g = test_point c x.number x.number x.place _ s memory fit has e shows cov g
+  by_point (statement start (While' c m body)) x s memory only fit has e shows cov g = test_point c x.number x.number x.place _ s memory fit has e shows cov g
+  by_point (statement start (Bind k v)) x s memory only fit has e shows c g = simple_point start (Bind k v) x.number x.number x.place s memory fit tt has e shows c g
+  by_point (statement start (SetLocal k v)) x s memory only fit has e shows c g = simple_point start (SetLocal k v) x.number x.number x.place s memory fit tt has e shows c g
+  by_point (statement start (SetGlobal cell v)) x s memory only fit has e shows c g = simple_point start (SetGlobal cell v) x.number x.number x.place s memory fit tt has e shows c g
+  by_point (statement start (SetElement array i v)) x s memory only fit has e shows c g = simple_point start (SetElement array i v) x.number x.number x.place s memory fit tt has e shows c g
+  by_point (statement start (SetField path t f v)) x s memory only fit has e shows c g = simple_point start (SetField path t f v) x.number x.number x.place s memory fit tt has e shows c g
+  by_point (statement start (Call f vs r)) x s memory only fit has e shows c g = absurd only
+  by_point (statement start (Print v)) x s memory only fit has e shows c g = simple_point start (Print v) x.number x.number x.place s memory fit tt has e shows c g
 
   -- from a point's own code on
-  pub point_safe : (x : Spot) (s : State) (memory : M) → InSection lists section x → operand_need section ≤ room → Shows (view memory) s.heap →
+  pub point_safe : (x : Spot) (s : State) (memory : M) → CallsNothing section → InSection lists section x → operand_need section ≤ room → Shows (view memory) s.heap →
       Covers shape s.locals s.heap (view memory) (accesses_at x.point) → Does x.point s (Arrives x.number memory) →
       Steps load store shape code F Q room (machine (x.place + length (acquire_code lists x.number)) [] s.locals memory s.prints)
-  point_safe x s memory h room_is shows c g =
+  point_safe x s memory only h room_is shows c g =
       let fine = section_fine lists section x h in
-      by_point x.point x s memory (let n = spot_within lists section x h in omega (arith, n, room_is)) fine.has fine.ends shows
+      by_point x.point x s memory (point_calls NoHelper section x.number x.point only (spot_is_point lists section x h)) (let n = spot_within lists section x h in omega (arith, n, room_is)) fine.has fine.ends shows
       (covers_each shape s.locals s.heap (view memory) (accesses_at x.point) c) g

@@ -10,21 +10,21 @@ use Rattle.core_lang.specs.declared.value.Outcome.{Outcome}
 use Rattle.core_lang.specs.declared.tree.FieldStep.{FieldStep}
 use Rattle.core_lang.specs.declared.tree.FieldStep.TheVariants.{Final, Field}
 use Rattle.core_lang.specs.declared.tree.Path.{Path}
-use Rattle.core_lang.specs.declared.tree.Expr.{Expr, Number, Null, Place, Global, Element', Member', Negate', Chain', Row_of-Operation, end_of-Operation, more_of-Operation}
+use Rattle.core_lang.specs.declared.tree.Expr.{Expr, Number, Null, Place, Global, Element', Member', Negate', Owned', Chain', Row_of-Operation, end_of-Operation, more_of-Operation}
 use Rattle.core_lang.specs.declared.tree.Condition.{Condition, Compare, Not', And', Or', Row_of-Condition, end_of-Condition, more_of-Condition}
-use Rattle.core_lang.specs.declared.tree.Action.{Action, Bind, SetLocal, SetGlobal, SetElement, SetField, Print, If', IfElse', While'}
+use Rattle.core_lang.specs.declared.tree.Action.{Action, Bind, SetLocal, SetGlobal, SetElement, SetField, Call, Print, If', IfElse', While'}
 use Rattle.core_lang.specs.declared.value.Outcome.TheVariants as out
 use Rattle.core_lang.specs.declared.value.Trap.TheVariants.{TooManyPrints}
 use Rattle.core_lang.specs.declared.shape.Shape.{Shape}
 use Rattle.core_lang.specs.Arithmetic.{on_values, negated, compared}
-use Rattle.core_lang.specs.Cells.{with, found, element_cell, member_of, field_cell, final_value, not_null, read, step_value}
-use Rattle.core_lang.specs.Meaning.{State, Flow, GoesOn, Traps, Beyond, Astray, given, written, stored, effect_of, along, place_of, joined, value_of, chained, and_then, or_else, truth_of, all_true, any_true}
+use Rattle.core_lang.specs.Cells.{with, found, element_cell, member_of, field_cell, final_value, owned, not_null, read, step_value}
+use Rattle.core_lang.specs.Meaning.{State, GoesOn, Traps, given, written, stored, effect_of, along, place_of, joined, value_of, chained, and_then, or_else, truth_of, all_true, any_true}
 use Rattle.core_lang.specs.Meaning as meaning
 use Rattle.locks.specs.Accesses.{Access, in_path, in_expr, in_operations, in_condition, in_conditions, in_action}
 use Rattle.locks.specs.Accesses as accesses
 use Rattle.locks.specs.Reached.{Reaches, to_global, to_element, to_field}
 use Rattle.code.specs.declared.instr.Instr.{Instr}
-use Rattle.code.specs.declared.instr.Instr.TheVariants.{PushNumber, PushNull, GetLocal, PutLocal, LoadGlobal, PutGlobal, LoadElement, Bound, PutElement, GetMember, LoadFinal, LoadField, NonNull, PutField, NegateTop, NotTop, Operate, Test, Jump, JumpIfFalse, JumpIfTrue, PrintTop, Return}
+use Rattle.code.specs.declared.instr.Instr.TheVariants.{PushNumber, PushNull, GetLocal, PutLocal, LoadGlobal, PutGlobal, LoadElement, Bound, PutElement, GetMember, LoadFinal, LoadField, NonNull, PutField, Where, NegateTop, NotTop, Operate, Test, Jump, JumpIfFalse, JumpIfTrue, PrintTop, Return}
 use Rattle.code.specs.Machine.{Machine, Effect, truth, printed, act, or_trap, if_there, loads, stores, advances}
 use Rattle.code.specs.Lowering.{fields_code, path_code, expr_code, chain_code, test_code, all_code, any_code}
 use Rattle.code.specs.Needs.{expr_need, chain_need, test_need, tests_need, stmt_need}
@@ -44,14 +44,16 @@ own_code (SetLocal k e) = expr_code e ++ PutLocal k ∷ []
 own_code (SetGlobal cell e) = expr_code e ++ PutGlobal cell ∷ []
 own_code (SetElement array i e) = expr_code i ++ (Bound array ∷ (expr_code e ++ PutElement array ∷ []))
 own_code (SetField path structure f e) = path_code path ++ (NonNull ∷ (expr_code e ++ PutField f structure ∷ []))
+own_code (Call f es r) = PushNull ∷ (PrintTop ∷ [])
 own_code (Print e) = expr_code e ++ PrintTop ∷ []
 own_code _ = []
 
--- it has no blocks
+-- it has no blocks, and calls nothing
 abbrev pub IsSimple : Action → Type 0
 IsSimple (If' c m block) = ⊥
 IsSimple (IfElse' c m block k otherwise) = ⊥
 IsSimple (While' c m body) = ⊥
+IsSimple (Call f es r) = ⊥
 IsSimple _ = Unit {0}
 
 -- a machine
@@ -216,6 +218,7 @@ module _ {M : Type 0} (load : M → ℕ → Option (Value × M)) (store : M → 
   needs (Element' start array p index) = needs index
   needs (Member' pool p index) = needs index
   needs (Negate' p e) = needs e
+  needs (Owned' p e s f start k) = needs e
   needs (Chain' p first m rest) = let a = needs first in let b = le-max_left (expr_need first) (chain_need rest) in omega (arith, a, b)
 
   test_needs : (c : Condition) → 1 ≤ test_need c
@@ -258,6 +261,16 @@ module _ {M : Type 0} (load : M → ℕ → Option (Value × M)) (store : M → 
         (has_back code place ci _ has).0 (λ memory. refl) k)
         (gives-with F (value_of index shape locals heap) (member_of shape pool) (Then (place + length ci + 1) stack)
         (subst (λ n. Gives F (value_of (Member' pool p index) shape locals heap) (Then n stack)) end g)))
+    expr_safe (Owned' p e structure final start local) place stack fit has c g =
+        let n = needs e in
+        let ce = expr_code e in
+        let test = λ (v : Value). with (found (slice_get locals local)) (λ (owner : Value). owned shape v final owner) in
+        let end : place + length (ce ++ Where final structure local ∷ []) ≡ place + length ce + 1 = omega (arith, length-append ce (Where final structure local ∷ [])) in
+        expr_safe e place stack fit (has_front code place ce _ has) c
+        (gives-more F (value_of e shape locals heap) _ _
+        (λ i k. top_safe (Where final structure local) (test i) (place + length ce) stack i (omega (arith, fit, n)) (has_back code place ce _ has).0 (λ memory. refl) k)
+        (gives-with F (value_of e shape locals heap) test (Then (place + length ce + 1) stack)
+        (subst (λ n. Gives F (value_of (Owned' p e structure final start local) shape locals heap) (Then n stack)) end g)))
     expr_safe (Negate' p e) place stack fit has c g =
         let n = needs e in
         let ce = expr_code e in
@@ -601,6 +614,7 @@ module _ {M : Type 0} (load : M → ℕ → Option (Value × M)) (store : M → 
       (gives-with F base not_null _
       (gives-given F (with base not_null) state _ last
       (subst (λ n. Leads F (effect_of (SetField path structure f e) shape 0 state) (On n stack)) end g)))))
+  simple_safe (Call f es r) start place stack fit simple has shows c g = absurd simple
   simple_safe (Print e) start place stack fit simple has shows c g =
       let n = needs e in
       let ce = expr_code e in

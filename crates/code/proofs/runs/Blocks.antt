@@ -9,12 +9,13 @@ use Rattle.core_lang.specs.declared.shape.Shape.{Shape}
 use Rattle.core_lang.specs.declared.tree.Expr.{Expr}
 use Rattle.core_lang.specs.declared.tree.Condition.{Condition}
 use Rattle.core_lang.specs.declared.tree.Stmt.{Stmt}
-use Rattle.core_lang.specs.declared.tree.Action.{Action, Bind, SetLocal, SetGlobal, SetElement, SetField, Print, If', IfElse', While', Row_of-Stmt, end_of-Stmt, more_of-Stmt}
+use Rattle.core_lang.specs.declared.tree.Action.{Action, Bind, SetLocal, SetGlobal, SetElement, SetField, Call, Print, If', IfElse', While', Row_of-Stmt, end_of-Stmt, more_of-Stmt}
 use Rattle.core_lang.specs.declared.tree.Return.{Return as Result_of}
 use Rattle.core_lang.specs.Cells.{with, element_cell, field_cell, not_null}
 use Rattle.core_lang.specs.Meaning.{State, Flow, GoesOn, Traps, Beyond, Astray, given, after, choose, turns, written, stored, place_of, value_of, truth_of, effect_of, effects_of, sequence}
 use Rattle.core_lang.specs.Meaning as meaning
 use Rattle.core_lang.specs.Whole.{Run, over, returned, ending, concluded}
+use Rattle.core_lang.specs.Helpers.{CallsOnly, AllCallOnly, EachCallsOnly, NoHelper}
 use Rattle.code.specs.declared.instr.Instr.{Instr}
 use Rattle.code.specs.declared.instr.Instr.TheVariants.{Bound, PutElement, NonNull, PutField, PutLocal, PutGlobal, PrintTop, Jump, JumpBack, JumpIfFalse, Acquire, Return, End}
 use Rattle.code.specs.Machine.{truth}
@@ -137,23 +138,23 @@ module _ (shape : Shape) (code : List Instr) where
         (λ v. h v (place + length ce) (has_back code place end ce rest has)))
 
     mutual
-      stmt_settles : (x : Action) (point k place end : ℕ) (s : State) (go : State → Run) → k ≤ n → HasAt code place (stmt_code lists x point) end → Onward shape code k end go →
+      stmt_settles : (x : Action) (point k place end : ℕ) (s : State) (go : State → Run) → CallsOnly NoHelper x → k ≤ n → HasAt code place (stmt_code lists x point) end → Onward shape code k end go →
           Runs k place s (conclude (effect_of x shape n s) go)
-      stmt_settles (Bind local e) point k place end s go le has h =
+      stmt_settles (Bind local e) point k place end s go only le has h =
           acquired point k place end s (expr_code e ++ PutLocal local ∷ []) _ has (λ at here.
           value_settles e (PutLocal local ∷ []) k at end s (λ v. stored local v s) go here (λ v at' last. put_local_settles shape code k s local at' end v go last h))
-      stmt_settles (SetLocal local e) point k place end s go le has h =
+      stmt_settles (SetLocal local e) point k place end s go only le has h =
           acquired point k place end s (expr_code e ++ PutLocal local ∷ []) _ has (λ at here.
           value_settles e (PutLocal local ∷ []) k at end s (λ v. stored local v s) go here (λ v at' last. put_local_settles shape code k s local at' end v go last h))
-      stmt_settles (SetGlobal cell e) point k place end s go le has h =
+      stmt_settles (SetGlobal cell e) point k place end s go only le has h =
           acquired point k place end s (expr_code e ++ PutGlobal cell ∷ []) _ has (λ at here.
           value_settles e (PutGlobal cell ∷ []) k at end s (λ v. written cell v s) go here (λ v at' last. put_global_settles shape code k s cell at' end v go last h))
-      stmt_settles (SetElement array i e) point k place end s go le has h =
+      stmt_settles (SetElement array i e) point k place end s go only le has h =
           let rest = Bound array ∷ (expr_code e ++ PutElement array ∷ []) in
           acquired point k place end s (expr_code i ++ rest) _ has (λ at here.
           value_settles i rest k at end s (λ x. given (element_cell shape array x) s (λ cell. given (value_of e shape s.locals s.heap) s (λ v. written cell v s))) go here
           (λ x at' last. element_settles shape code k s array x e at' end go last h))
-      stmt_settles (SetField path structure f e) point k place end s go le has h =
+      stmt_settles (SetField path structure f e) point k place end s go only le has h =
           let cp = path_code path in
           let rest = NonNull ∷ (expr_code e ++ PutField f structure ∷ []) in
           let base = place_of path shape s.locals s.heap in
@@ -163,18 +164,19 @@ module _ (shape : Shape) (code : List Instr) where
           (resolve-with shape code k s at [] base not_null (λ b. conclude (effect b) go)
           (path_settles shape code k s path at (at + length cp) [] (λ r. resolve (not_null r) s (λ b. conclude (effect b) go)) (has_front code at end cp rest here)
           (λ r. field_settles shape code k s structure f r e (at + length cp) end go (has_back code at end cp rest here) h))))
-      stmt_settles (Print e) point k place end s go le has h =
+      stmt_settles (Call f es r) point k place end s go only le has h = absurd only
+      stmt_settles (Print e) point k place end s go only le has h =
           acquired point k place end s (expr_code e ++ PrintTop ∷ []) _ has (λ at here.
           value_settles e (PrintTop ∷ []) k at end s (λ v. meaning.printed v s) go here (λ v at' last. print_settles shape code k s v at' end go last h))
-      stmt_settles (If' c m block) point k place end s go le has h =
+      stmt_settles (If' c m block) point k place end s go only le has h =
           let test = acquire_code lists point ++ test_code c in
           let cb = block_code lists block (point + 1) in
           let mid = place + length test in
           let behind = has_back code place end test _ has in
           condition_settles c point k k place mid (length cb) s (effects_of block shape n s) (GoesOn s) go (omega arith) (has_front code place end test _ has) behind.0
-          (block_settles block (point + 1) k (mid + 1) end s go le behind.1 h)
+          (block_settles block (point + 1) k (mid + 1) end s go only le behind.1 h)
           (ends_at k (mid + 1 + length cb) end s (go s) (has_length code (mid + 1) end cb behind.1) (h s))
-      stmt_settles (IfElse' c m block j otherwise) point k place end s go le has h =
+      stmt_settles (IfElse' c m block j otherwise) point k place end s go only le has h =
           let test = acquire_code lists point ++ test_code c in
           let ca = block_code lists block (point + 1) in
           let next = point + 1 + points_in block in
@@ -186,24 +188,24 @@ module _ (shape : Shape) (code : List Instr) where
           let after_first : mid + 1 + (length ca + 1) ≡ stop + 1 = omega arith in
           condition_settles c point k k place mid (length ca + 1) s (effects_of block shape n s) (effects_of otherwise shape n s) go (omega arith)
           (has_front code place end test _ has) behind.0
-          (block_settles block (point + 1) k (mid + 1) stop s go le (has_front code (mid + 1) end ca _ behind.1)
+          (block_settles block (point + 1) k (mid + 1) stop s go only.0 le (has_front code (mid + 1) end ca _ behind.1)
           (λ s'. takes shape code k (Jump (length cb)) (machine stop [] s') (go s') last.0
           (ends_at k (stop + 1 + length cb) end s' (go s') (has_length code (stop + 1) end cb last.1) (h s'))))
-          (ends_at k (mid + 1 + (length ca + 1)) (stop + 1) s _ after_first (block_settles otherwise next k (stop + 1) end s go le last.1 h))
-      stmt_settles (While' c m body) point k place end s go le has h =
+          (ends_at k (mid + 1 + (length ca + 1)) (stop + 1) s _ after_first (block_settles otherwise next k (stop + 1) end s go only.1 le last.1 h))
+      stmt_settles (While' c m body) point k place end s go only le has h =
           loop_settles c (block_code lists body (point + 1)) point place end (effects_of body shape n) go has
-          (λ at stop j s next le here h. block_settles body (point + 1) j at stop s next le here h) n k le (omega arith) h s
+          (λ at stop j s next le here h. block_settles body (point + 1) j at stop s next only le here h) n k le (omega arith) h s
 
-      block_settles : {m : _} (row : Row_of-Stmt m) (point k place end : ℕ) (s : State) (go : State → Run) → k ≤ n → HasAt code place (block_code lists row point) end →
+      block_settles : {m : _} (row : Row_of-Stmt m) (point k place end : ℕ) (s : State) (go : State → Run) → AllCallOnly NoHelper row → k ≤ n → HasAt code place (block_code lists row point) end →
           Onward shape code k end go → Runs k place s (conclude (effects_of row shape n s) go)
-      block_settles end_of-Stmt point k place end s go le has h = ends_at k place end s (go s) has (h s)
-      block_settles (more_of-Stmt start x rest) point k place end s go le has h =
+      block_settles end_of-Stmt point k place end s go only le has h = ends_at k place end s (go s) has (h s)
+      block_settles (more_of-Stmt start x rest) point k place end s go only le has h =
           let cx = stmt_code lists x point in
           let cr = block_code lists rest (point + points_of x) in
           let mid = place + length cx in
           conclude-after k place s (effect_of x shape n s) (effects_of rest shape n) go
-          (stmt_settles x point k place mid s (λ s'. conclude (effects_of rest shape n s') go) le (has_front code place end cx cr has)
-          (λ s'. block_settles rest (point + points_of x) k mid end s' go le (has_back code place end cx cr has) h))
+          (stmt_settles x point k place mid s (λ s'. conclude (effects_of rest shape n s') go) only.0 le (has_front code place end cx cr has)
+          (λ s'. block_settles rest (point + points_of x) k mid end s' go only.1 le (has_back code place end cx cr has) h))
 
     -- ---- a whole section
 
@@ -229,13 +231,13 @@ module _ (shape : Shape) (code : List Instr) where
     settles-concluded result k place s Beyond f h = h
     settles-concluded result k place s Astray f h = h
 
-    pub body_settles : (xs : List Stmt) (result : Option Result_of) (point k place end : ℕ) (s : State) → k ≤ n → HasAt code place (body_code lists xs point result) end →
+    pub body_settles : (xs : List Stmt) (result : Option Result_of) (point k place end : ℕ) (s : State) → EachCallsOnly NoHelper xs → k ≤ n → HasAt code place (body_code lists xs point result) end →
         Runs k place s (concluded result shape (sequence xs shape n s))
-    body_settles [] result point k place end s le has = end_settles result point k place end s has
-    body_settles (x ∷ xs) result point k place end s le has =
+    body_settles [] result point k place end s only le has = end_settles result point k place end s has
+    body_settles (x ∷ xs) result point k place end s only le has =
         let cx = stmt_code lists x.action point in
         let cr = body_code lists xs (point + points_of x.action) result in
         let mid = place + length cx in
         settles-concluded result k place s (effect_of x.action shape n s) (sequence xs shape n)
-        (stmt_settles x.action point k place mid s (λ s'. concluded result shape (sequence xs shape n s')) le (has_front code place end cx cr has)
-        (λ s'. body_settles xs result (point + points_of x.action) k mid end s' le (has_back code place end cx cr has)))
+        (stmt_settles x.action point k place mid s (λ s'. concluded result shape (sequence xs shape n s')) only.0 le (has_front code place end cx cr has)
+        (λ s'. body_settles xs result (point + points_of x.action) k mid end s' only.1 le (has_back code place end cx cr has)))

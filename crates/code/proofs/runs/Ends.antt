@@ -7,6 +7,7 @@ use Rattle.core_lang.specs.Whole.{Finished, Run, Over, Beyond_turns, Gone_astray
 use Rattle.code.specs.declared.instr.Instr.{Instr}
 use Rattle.code.specs.Machine.{Machine, Standing, Stuck}
 use Rattle.code.specs.Memory.{load_from, store_to}
+use Rattle.core_lang.specs.Helpers.{CallsNothing}
 use Rattle.code.specs.Lowering.{section_code}
 use Rattle.code.specs.Alone.{starting, alone, halted}
 use Rattle.code.specs.Laws.{IsOver}
@@ -17,10 +18,10 @@ use Rattle.code.proofs.runs.Blocks.{body_settles}
 
 -- n turns settle n instructions
 section_settles : {P : Type 0} (lists : List (List P)) (section : Section) (shape : Shape) (n : ℕ) (arguments heap : List Value) →
-    Settles shape (section_code lists section) n (starting (opening section arguments heap).locals heap) (run_of section shape n arguments heap)
-section_settles lists section shape n arguments heap =
+    CallsNothing section → Settles shape (section_code lists section) n (starting (opening section arguments heap).locals heap) (run_of section shape n arguments heap)
+section_settles lists section shape n arguments heap only =
     let code = section_code lists section in
-    body_settles shape code n lists section.body.items section.result 0 n 0 (length code) (opening section arguments heap) (omega arith) (has_all code [])
+    body_settles shape code n lists section.body.items section.result 0 n 0 (length code) (opening section arguments heap) only (omega arith) (has_all code [])
 
 same_end : (x y : Finished) → halted x ≡ halted y → x ≡ y
 same_end x y e =
@@ -44,17 +45,17 @@ module _ (shape : Shape) (code : List Instr) (m : Machine (List Value)) where
       absurd (let both : Stuck ≡ halted finished = one_end settled.0 n Stuck (halted finished) tt tt settled.1 e in cc)
 
 pub ends : {P : Type 0} (lists : List (List P)) (section : Section) (shape : Shape) (arguments heap : List Value) (finished : Finished) →
-    Whole section shape arguments heap finished →
+    CallsNothing section → Whole section shape arguments heap finished →
     (n : ℕ) × (alone shape (section_code lists section) n (opening section arguments heap).locals heap ≡ halted finished)
-ends lists section shape arguments heap finished whole =
+ends lists section shape arguments heap finished only whole =
     subst (Settles shape (section_code lists section) whole.0 (starting (opening section arguments heap).locals heap)) whole.1
-    (section_settles lists section shape whole.0 arguments heap)
+    (section_settles lists section shape whole.0 arguments heap only)
 
-pub ends_only : {P : Type 0} (lists : List (List P)) (section : Section) (shape : Shape) (arguments heap : List Value) (n : ℕ) (finished : Finished) →
+pub ends_only : {P : Type 0} (lists : List (List P)) (section : Section) (shape : Shape) (arguments heap : List Value) (n : ℕ) (finished : Finished) → CallsNothing section →
     alone shape (section_code lists section) n (opening section arguments heap).locals heap ≡ halted finished →
     Whole section shape arguments heap finished
-ends_only lists section shape arguments heap n finished e = (
+ends_only lists section shape arguments heap n finished only e = (
   n,
   is_over shape (section_code lists section) (starting (opening section arguments heap).locals heap) n finished (run_of section shape n arguments heap) e
-      (section_settles lists section shape n arguments heap),
+      (section_settles lists section shape n arguments heap only),
 )

@@ -10,15 +10,15 @@ use Rattle.core_lang.specs.declared.shape.Shape.{Shape}
 use Rattle.core_lang.specs.declared.tree.FieldStep.{FieldStep}
 use Rattle.core_lang.specs.declared.tree.FieldStep.TheVariants.{Final, Field}
 use Rattle.core_lang.specs.declared.tree.Path.{Path}
-use Rattle.core_lang.specs.declared.tree.Expr.{Expr, Number, Null, Place, Global, Element', Member', Negate', Chain', Row_of-Operation, end_of-Operation, more_of-Operation}
+use Rattle.core_lang.specs.declared.tree.Expr.{Expr, Number, Null, Place, Global, Element', Member', Negate', Owned', Chain', Row_of-Operation, end_of-Operation, more_of-Operation}
 use Rattle.core_lang.specs.declared.tree.Condition.{Condition, Compare, Not', And', Or', Row_of-Condition, end_of-Condition, more_of-Condition}
 use Rattle.core_lang.specs.Arithmetic.{on_values, negated, compared}
-use Rattle.core_lang.specs.Cells.{with, found, element_cell, member_of, field_cell, final_value, not_null, read}
-use Rattle.core_lang.specs.Meaning.{State, Flow, GoesOn, Traps, Beyond, Astray, given, written, stored, along, place_of, joined, value_of, chained, and_then, or_else, truth_of, all_true, any_true}
+use Rattle.core_lang.specs.Cells.{with, found, element_cell, member_of, field_cell, final_value, owned, not_null, read}
+use Rattle.core_lang.specs.Meaning.{State, Flow, GoesOn, Traps, given, written, stored, along, place_of, value_of, chained, and_then, or_else, truth_of, all_true, any_true}
 use Rattle.core_lang.specs.Meaning as meaning
 use Rattle.core_lang.specs.Whole.{Run}
 use Rattle.code.specs.declared.instr.Instr.{Instr}
-use Rattle.code.specs.declared.instr.Instr.TheVariants.{PushNumber, PushNull, GetLocal, PutLocal, LoadGlobal, PutGlobal, LoadElement, Bound, PutElement, GetMember, LoadFinal, LoadField, NonNull, PutField, NegateTop, NotTop, Operate, Test, Jump, JumpIfFalse, JumpIfTrue, PrintTop}
+use Rattle.code.specs.declared.instr.Instr.TheVariants.{PushNumber, PushNull, GetLocal, PutLocal, LoadGlobal, PutGlobal, LoadElement, Bound, PutElement, GetMember, LoadFinal, LoadField, NonNull, PutField, Where, NegateTop, NotTop, Operate, Test, Jump, JumpIfFalse, JumpIfTrue, PrintTop}
 use Rattle.code.specs.Machine.{truth, printed, act, or_trap, if_there, loads, stores, advances}
 use Rattle.code.specs.Memory.{beside, load_from, written_where, store_to}
 use Rattle.code.specs.Lowering.{fields_code, path_code, expr_code, chain_code, test_code, all_code, any_code}
@@ -143,6 +143,12 @@ module _ (shape : Shape) (code : List Instr) (k : ℕ) (s : State) where
         resolve-with place stack (value_of index shape s.locals s.heap) (member_of shape pool) go
         (expr_settles index place (place + length ci) stack (λ i. resolve (member_of shape pool i) s go) (has_front code place end ci _ has)
         (λ i. pushes (GetMember pool) (member_of shape pool i) (place + length ci) end (i ∷ stack) stack go (has_back code place end ci _ has) refl h))
+    expr_settles (Owned' p e structure final start local) place end stack go has h =
+        let ce = expr_code e in
+        let test = λ (v : Value). with (found (slice_get s.locals local)) (λ (owner : Value). owned shape v final owner) in
+        resolve-with place stack (value_of e shape s.locals s.heap) test go
+        (expr_settles e place (place + length ce) stack (λ v. resolve (test v) s go) (has_front code place end ce _ has)
+        (λ v. pushes (Where final structure local) (test v) (place + length ce) end (v ∷ stack) stack go (has_back code place end ce _ has) refl h))
     expr_settles (Negate' p e) place end stack go has h =
         let ce = expr_code e in
         resolve-with place stack (value_of e shape s.locals s.heap) negated go

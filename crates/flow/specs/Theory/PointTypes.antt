@@ -4,14 +4,15 @@ use Rattle.core_lang.specs.declared.value.ValueType.{ValueType}
 use Rattle.core_lang.specs.declared.value.Failure.{Failure}
 use Rattle.core_lang.specs.declared.value.Failure.TheVariants.{Trap, Wrong}
 use Rattle.core_lang.specs.declared.tree.Stmt.{Stmt}
-use Rattle.core_lang.specs.declared.tree.Action.{Action, Bind, SetLocal, SetGlobal, SetElement, SetField, Print, If', IfElse', While', Row_of-Stmt, end_of-Stmt, more_of-Stmt}
+use Rattle.core_lang.specs.declared.tree.Action.{Action, Bind, SetLocal, SetGlobal, SetElement, SetField, Call, Print, If', IfElse', While', Row_of-Stmt, end_of-Stmt, more_of-Stmt}
 use Rattle.core_lang.specs.declared.tree.Return.{Return}
 use Rattle.core_lang.specs.declared.tree.Section.{Section}
 use Rattle.core_lang.specs.declared.typed.Typed.{Typed}
 use Rattle.core_lang.specs.Meaning.{State, GoesOn, given, value_of, truth_of}
 use Rattle.core_lang.specs.Typing.{local_types, HasType, IsOf, IsWellTyped, AreWellTyped, AllWellTyped, IsResult, IsWellTypedSection}
 use Rattle.core_lang.specs.Soundness.{Gives, IsTypedState, LeadsToTyped, ValuesHaveTheirTypes, TestsDecide, EffectsStayTyped}
-use Rattle.core_lang.specs.WellFormed.{IsWellFormed}
+use Rattle.core_lang.specs.WellFormed.{IsChecked}
+use Rattle.core_lang.specs.Checked.{checked}
 use Rattle.flow.specs.Points.{Point, statement, result, inner_points, points_in, points_of_all, point_of_return, points}
 use Rattle.flow.specs.Effects.{effect_at}
 use Rattle.flow.specs.Laws.{PointsStayTyped}
@@ -29,6 +30,7 @@ module _ (program : Typed) (types : List ValueType) where
     inner_typed (SetGlobal cell e) h = tt
     inner_typed (SetElement array index e) h = tt
     inner_typed (SetField base s f e) h = tt
+    inner_typed (Call helper arguments r) h = tt
     inner_typed (Print e) h = tt
     inner_typed (If' c m block) h = row_typed block h.1
     inner_typed (IfElse' c m block k otherwise) h =
@@ -55,7 +57,7 @@ points_typed program section well =
     each_append (IsTypedPoint program types) (points_of_all section.body.items) (point_of_return section.result)
     (all_typed program types section.body.items well.body) (return_typed program types section.result_type section.result well.result)
 
-module _ (values : ValuesHaveTheirTypes) (tests : TestsDecide) (effects : EffectsStayTyped) (program : Typed) (well : IsWellFormed program) (types : List ValueType) where
+module _ (values : ValuesHaveTheirTypes) (tests : TestsDecide) (effects : EffectsStayTyped) (program : Typed) (well : IsChecked program) (types : List ValueType) where
   stays : {A : Type 0} (P : A → Type 0) (r : Result A Failure) (s : State) → IsTypedState program types s → Gives P r → LeadsToTyped program types (given r s (λ a. GoesOn s))
   stays P (Ok a) s h g = h
   stays P (Err (Trap t)) s h g = h
@@ -67,6 +69,7 @@ module _ (values : ValuesHaveTheirTypes) (tests : TestsDecide) (effects : Effect
   at_point (statement start (SetGlobal c e)) s h t = effects program types (SetGlobal c e) 0 s well h t
   at_point (statement start (SetElement a i e)) s h t = effects program types (SetElement a i e) 0 s well h t
   at_point (statement start (SetField b n f e)) s h t = effects program types (SetField b n f e) 0 s well h t
+  at_point (statement start (Call helper arguments r)) s h t = effects program types (Call helper arguments r) 0 s well h t
   at_point (statement start (Print e)) s h t = effects program types (Print e) 0 s well h t
   at_point (statement start (If' c m a)) s h t = stays (λ b. Unit {0}) (truth_of c program.shape s.locals s.heap) s h (tests program types c s well h t.0)
   at_point (statement start (IfElse' c m a k b)) s h t = stays (λ b. Unit {0}) (truth_of c program.shape s.locals s.heap) s h (tests program types c s well h t.0)
@@ -77,4 +80,4 @@ pub points_stay_typed : ValuesHaveTheirTypes → TestsDecide → EffectsStayType
 points_stay_typed values tests effects program k p section point s well here at typed =
     let types = local_types section.locals.items in
     let all = points_typed program section (well.sections k section here) in
-    at_point values tests effects program well types point s typed (each_there (IsTypedPoint program types) (points section) p point all at)
+    at_point values tests effects program (checked program well) types point s typed (each_there (IsTypedPoint program types) (points section) p point all at)

@@ -1,6 +1,5 @@
 use Rattle.std.proofs.Common.{◌≡◌, ◌+◌, [], ◌∷◌, length, map, drop, get_or, arith, ap, sym, subst}
 use Rattle.std.proofs.lemmas.List.{length-map}
-use Rattle.replay.specs.declared.verdict.Verdict.TheVariants.{Differs}
 use Rattle.replay.specs.Verdicts.{Holds, IsDiffering}
 use Rattle.replay.specs.declared.wanted.Wanted.TheVariants.{Line}
 use Rattle.replay.specs.Reading.{IsAt}

@@ -1,5 +1,5 @@
 use Rattle.std.proofs.lemmas.Result.{on_ok_weaker}
-use Rattle.code.specs.declared.instr.Instr.TheVariants.{GetMember, LoadElement, NegateTop}
+use Rattle.code.specs.declared.instr.Instr.TheVariants.{GetMember, LoadElement, NegateTop, Where}
 use Rattle.code.specs.Lowering.{expr_code}
 use Rattle.std.proofs.Common.{◌∙◌, refl, ap}
 use Rattle.emission.specs.CodeLists.{operations_code}
@@ -46,3 +46,11 @@ returns-in_ok-expression-in-Negate t c =
     (expr_code c.deref-in-Negate.result.now) (expr_code c.in-Negate.e.value) (expr_code c.args.e.now) (NegateTop) (ap expr_code c.deref-in-Negate.ensures) (ap expr_code c.in-Negate.is)
     c.in_ok-expression-in-Negate.ensures x)
     c.put-in-Negate.ensures
+
+pub returns-in_ok-expression-in-Owned : goal.returns-in_ok-expression-in-Owned
+returns-in_ok-expression-in-Owned t c =
+    on_ok_weaker c.put-in-Owned.result
+    (λ x. one_added c.args.self.now.instructions.items c.expression-in-Owned.new.self.instructions.items c.put-in-Owned.new.self.instructions.items
+    (expr_code c.deref-in-Owned.result.now) (expr_code c.in-Owned.value.value) (expr_code c.args.e.now) (Where c.in-Owned.number c.in-Owned.structure c.in-Owned.owner)
+    (ap expr_code c.deref-in-Owned.ensures) (ap expr_code c.in-Owned.is) c.in_ok-expression-in-Owned.ensures x)
+    c.put-in-Owned.ensures

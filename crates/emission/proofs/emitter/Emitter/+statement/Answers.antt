@@ -1,4 +1,4 @@
-use Rattle.core_lang.specs.declared.tree.Action.{Bind, Print, SetElement, SetField, SetGlobal, SetLocal}
+use Rattle.core_lang.specs.declared.tree.Action.{Bind, Call, Print, SetElement, SetField, SetGlobal, SetLocal}
 use Rattle.std.proofs.Common.{◌∙◌, List, refl, ap, subst, arith, length, length-append}
 use Rattle.std.proofs.lemmas.Result.{on_ok_weaker}
 use Rattle.std.proofs.lemmas.List.{take_all}
@@ -99,3 +99,7 @@ statement-returns-in-Print t c =
 pub statement-returns-in-SetElement : goal.statement-returns-in-SetElement
 statement-returns-in-SetElement t c =
     on_ok_weaker c.set_element.result (λ e. emits_as c.args.action.now (SetElement c.in-SetElement.array c.in-SetElement.index c.in-SetElement.value) c.args.self.now c.set_element.new.self c.in-SetElement.is e) c.set_element.ensures
+
+pub statement-returns-in-Call : goal.statement-returns-in-Call
+statement-returns-in-Call t c =
+    on_ok_weaker c.stick.result (λ e. emits_as c.args.action.now (Call c.in-Call.helper c.in-Call.arguments c.in-Call.result) c.args.self.now c.stick.new.self c.in-Call.is e) c.stick.ensures

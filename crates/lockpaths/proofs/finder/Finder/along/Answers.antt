@@ -2,7 +2,7 @@ use Rattle.std.proofs.Common.{◌<◌, ◌∙◌, length, take, ap, arith}
 use Rattle.locks.specs.LockPaths.{all_final}
 use Rattle.lockpaths.proofs.Going.{final_met, final_behind, field_met, field_behind}
 use Rattle.lockpaths.proofs.finder.Finder.along.Goals as goal
-use Rattle.lockpaths.proofs.finder.Finder.along.Goals.{in-Final, in-Field+in_ok-base-in-Field+in_ok-lock-in-Field+in_ok-meet-in-Field}
+use Rattle.lockpaths.proofs.finder.Finder.along.Goals.{in-Final, in-Field+in_ok-base-in-Field+in_ok-meet-in-Field}
 
 pub loop-k-preserved : goal.loop-k-preserved
 loop-k-preserved c =
@@ -13,11 +13,11 @@ loop-k-preserved c =
         met = final_met c.args.self.now c.loop-k.found _ c.args.path.now.start c.args.path.now.local c.args.path.now.fields.items c.loop-k.k _ _ c.loop-k.is_behind _ _ c.index.result.now c.index.ensures lt i.met i.behind w.in-Final.is w.found-is w.is_behind-is;
         behind = final_behind c.args.self.now c.loop-k.found _ c.args.path.now.start c.args.path.now.local c.args.path.now.fields.items c.loop-k.k _ _ c.loop-k.is_behind _ _ c.index.result.now c.index.ensures lt i.met i.behind w.in-Final.is w.found-is w.is_behind-is;
       }
-      | in-Field+in_ok-base-in-Field+in_ok-lock-in-Field+in_ok-meet-in-Field w ↦
+      | in-Field+in_ok-base-in-Field+in_ok-meet-in-Field w ↦
           let front = ap (λ l. take c.loop-k.k l) w.deref.ensures.value in
           let found = w.in_ok-base-in-Field.ensures (λ e. ap all_final front ∙ i.behind e) in
           record {
-            met = field_met c.args.self.now c.loop-k.found _ c.args.path.now.start c.args.path.now.local c.args.path.now.fields.items c.loop-k.k _ _ c.loop-k.is_behind c.match-index.is_behind _ c.index.result.now c.index.ensures lt i.met i.behind w.in-Field.is _ _ _ front found w.in_ok-lock-in-Field.ensures (w.found-is ∙ w.in_ok-meet-in-Field.ensures);
-            behind = λ e. field_behind c.args.self.now c.loop-k.found c.match-index.found c.args.path.now.start c.args.path.now.local c.args.path.now.fields.items c.loop-k.k _ _ c.loop-k.is_behind c.match-index.is_behind _ c.index.result.now c.index.ensures lt i.met i.behind w.in-Field.is _ _ _ front found w.in_ok-lock-in-Field.ensures (w.found-is ∙ w.in_ok-meet-in-Field.ensures);
+            met = field_met c.args.self.now c.loop-k.found _ c.args.path.now.start c.args.path.now.local c.args.path.now.fields.items c.loop-k.k _ _ c.loop-k.is_behind c.match-index.is_behind _ c.index.result.now c.index.ensures lt i.met i.behind w.in-Field.is _ _ _ _ front w.through-through.ensures found w.field_lock-lock.ensures (w.found-is ∙ w.in_ok-meet-in-Field.ensures);
+            behind = λ e. field_behind c.args.self.now c.loop-k.found c.match-index.found c.args.path.now.start c.args.path.now.local c.args.path.now.fields.items c.loop-k.k _ _ c.loop-k.is_behind c.match-index.is_behind _ c.index.result.now c.index.ensures lt i.met i.behind w.in-Field.is _ _ _ _ front w.through-through.ensures found w.field_lock-lock.ensures (w.found-is ∙ w.in_ok-meet-in-Field.ensures);
           }
     ]

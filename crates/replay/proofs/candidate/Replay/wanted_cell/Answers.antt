@@ -1,4 +1,4 @@
-use Rattle.std.proofs.Common.{◌∙◌, ◌∷◌, ◌<◌, List, [], ℕ, arith, length, string_bytes, sym, ap, subst}
+use Rattle.std.proofs.Common.{◌<◌, List, [], ℕ, arith, length, string_bytes, sym, subst}
 use Rattle.std.specs.Prelude.{codes}
 use Rattle.report.specs.History.{cell_line}
 use Rattle.replay.specs.Wanted.{MayCome}

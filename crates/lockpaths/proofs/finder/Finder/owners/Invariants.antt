@@ -1,0 +1,8 @@
+use Rattle.std.proofs.Common.{◌≡◌, map, drop}
+use Rattle.flow.specs.PointList.{point_at}
+use Rattle.lockpaths.specs.Finding.{over_owners}
+use Rattle.lockpaths.proofs.finder.Finder.owners.Given as goal
+
+abbrev pub invariant-loop-point : goal.invariant-loop-point
+invariant-loop-point l =
+    over_owners l.self l.found (map point_at (drop l.point-index l.points)) ≡ over_owners l.self l.initial.found (map point_at l.points)
