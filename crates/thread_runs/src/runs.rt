@@ -1,11 +1,12 @@
 //! Runs of a scene.
 
-ghost use Rattle.std.specs.Prelude.{◌≡◌, ◌≤◌, IfOk};
+ghost use Rattle.std.specs.Prelude.{◌≡◌, ◌≤◌, IfOk, IfSome};
+ghost use Rattle.workers.specs.Seats.{new_seats};
 
 use crate::scene::Scene;
 use crate::stage::Stage;
-use crate::told::{say_done, say_history};
-use crate::turns::{Turn, all_at_once, one_by_one};
+use crate::told::{say_agreement, say_done, say_history};
+use crate::turns::{Turns, all_at_once, one_by_one, take_turn};
 use compiler::compile;
 use lowering::compiled::Program;
 use std::alloc::Global;
@@ -15,6 +16,7 @@ use std::test::Fail;
 use std::thread::Threads;
 use workers::closed::Strange;
 use workers::naming::Naming;
+use workers::row::Row;
 use workers::seat::Seat;
 use workers::shared::Shared;
 use workers::threads::run_threads;
@@ -38,6 +40,13 @@ pub fn side_by_side<R: Threads + Wait + Sync>(
 ) -> Result<String, Fail> {
     let program = compile(alloc, scene.text.as_bytes())?;
     said_side_by_side::<Brand, R>(rt, alloc, &program, scene)
+}
+
+/// What is said where two seats of the scene call one after another, with whether what one has seen begins what the other
+/// has, both ways, before that and after.
+pub fn in_agreement<R: Wait>(rt: &R, alloc: Global, scene: &Scene<'_>) -> Result<String, Fail> {
+    let program = compile(alloc, scene.text.as_bytes())?;
+    said_in_agreement::<Brand, R>(rt, alloc, &program, scene)
 }
 
 /// What is said where a thread runs each script of the scene's text.
@@ -65,7 +74,10 @@ fn said_in_turn<J: Naming, R: Wait>(
     requires { program.now ≡ J.plan }
 {
     let count = seats_of(scene)?;
-    let (shared, seats): (Shared<'_, J>, Vec<Seat<J>>) = Shared::open(alloc, program, count)?;
+    let row = Row::new(alloc)?;
+    let (shared, seats): (Shared<'_, J>, Vec<Seat<'_, J>>) = Shared::open(
+        &row, alloc, program, count,
+    )?;
     let stage = Stage::new(scene);
     let turns = one_by_one(rt, alloc, &shared, seats, &stage)?;
     let said = said_of(alloc, program, shared, turns, closing)?;
@@ -82,11 +94,52 @@ fn said_side_by_side<J: Naming + Send + Sync, R: Threads + Wait + Sync>(
     requires { program.now ≡ J.plan }
 {
     let count = seats_of(scene)?;
-    let (shared, seats): (Shared<'_, J>, Vec<Seat<J>>) = Shared::open(alloc, program, count)?;
+    let row = Row::new(alloc)?;
+    let (shared, seats): (Shared<'_, J>, Vec<Seat<'_, J>>) = Shared::open(
+        &row, alloc, program, count,
+    )?;
     let stage = Stage::new(scene);
     let turns = all_at_once(rt, alloc, &shared, seats, &stage)?;
     let said = said_of(alloc, program, shared, turns, scene.calls.len())?;
     with_patience(said, &stage)
+}
+
+// What `in_agreement` says of the program that `J` names.
+fn said_in_agreement<J: Naming, R: Wait>(
+    rt: &R,
+    alloc: Global,
+    program: &Program,
+    scene: &Scene<'_>,
+) -> Result<String, Fail>
+    requires { program.now ≡ J.plan }
+{
+    let row = Row::new(alloc)?;
+    let (shared, seats): (Shared<'_, J>, Vec<Seat<'_, J>>) = Shared::open(&row, alloc, program, 2)?;
+    let Some((mut one, mut other)) = two_of(&row, seats) else {
+        return Err(Fail::new("there aren't two seats"));
+    };
+    let stage = Stage::new(scene);
+    let mut said = String::new(alloc);
+    say_agreement(&mut said, &one, &other)?;
+    say_done(&mut said, 0, take_turn(rt, &shared, &mut one, &stage))?;
+    say_done(&mut said, 1, take_turn(rt, &shared, &mut other, &stage))?;
+    say_agreement(&mut said, &one, &other)?;
+    with_patience(said, &stage)
+}
+
+// Two seats of a row.
+fn two_of<'r, J: Naming>(
+    row: &'r Row<J>,
+    seats: Vec<Seat<'r, J>>,
+) -> Option<(Seat<'r, J>, Seat<'r, J>)>
+    requires { seats.items ≡ new_seats row.now 2 }
+    ensures { IfSome result (λ two. two.0.row ≡ two.1.row) }
+{
+    let _row = row;
+    let mut seats = seats;
+    let other = seats.pop()?;
+    let one = seats.pop()?;
+    Some((one, other))
 }
 
 // How many seats a scene has.
@@ -105,20 +158,17 @@ fn said_of<J: Naming>(
     alloc: Global,
     program: &Program,
     shared: Shared<'_, J>,
-    turns: Vec<Turn<J>>,
+    turns: Turns<'_, J>,
     closing: usize,
 ) -> Result<String, Fail>
     requires { program.now ≡ J.plan }
 {
     let mut said = String::new(alloc);
-    let mut seats = Vec::new(alloc);
-    for turn in turns {
-        let Turn { seat, done } = turn;
-        say_done(&mut said, seat.thread(), done)?;
-        if seats.len() < closing {
-            seats.push(seat)?;
-        }
+    let Turns { mut seats, answers } = turns;
+    for (thread, answer) in answers.into_iter().enumerate() {
+        say_done(&mut said, thread, answer)?;
     }
+    seats.truncate(closing);
     match shared.close(seats) {
         Ok(closed) => say_history(&mut said, program, &closed)?,
         Err(Strange) => said.push_str("strange\n")?,

@@ -1,5 +1,6 @@
 //! Seats that call, each once.
 
+ghost use Rattle.std.specs.Prelude.{◌≡◌};
 ghost use denote.Param.Send.{IsSend, IsSync};
 ghost use Rattle.lowering.specs.contracts.compiled.Program as program;
 
@@ -15,47 +16,59 @@ use workers::naming::Naming;
 use workers::seat::{CallRefusal, Done, Seat};
 use workers::shared::Shared;
 
-/// A seat that has called, and what it was answered.
+/// What a call was answered.
+pub type Answered = Result<Done, CallRefusal>;
+
+/// Seats that have called, and what they were answered, in the same order.
 #[derive(Drop)]
-pub struct Turn<J: Naming> {
-    pub seat: Seat<J>,
-    pub done: Result<Done, CallRefusal>,
+pub struct Turns<'r, J: Naming> {
+    pub seats: Vec<Seat<'r, J>>,
+    pub answers: Vec<Answered>,
 }
 
 /// The seats call one after another.
-pub fn one_by_one<J: Naming, R: Wait>(
+pub fn one_by_one<'r, J: Naming, R: Wait>(
     rt: &R,
     alloc: Global,
     shared: &Shared<'_, J>,
-    seats: Vec<Seat<J>>,
+    seats: Vec<Seat<'r, J>>,
     stage: &Stage<'_>,
-) -> Result<Vec<Turn<J>>, NoMemory> {
-    let mut turns = Vec::new(alloc);
+) -> Result<Turns<'r, J>, NoMemory> {
+    let mut after = Vec::new(alloc);
+    let mut answers = Vec::new(alloc);
     for seat in seats {
-        turns.push(take_turn(rt, shared, seat, stage))?;
+        let mut seat = seat;
+        answers.push(take_turn(rt, shared, &mut seat, stage))?;
+        after.push(seat)?;
     }
-    Ok(turns)
+    Ok(Turns {
+        seats: after,
+        answers,
+    })
 }
 
 /// The seats call from a thread each.
-pub fn all_at_once<J: Naming + Send + Sync, R: Threads + Wait + Sync>(
+pub fn all_at_once<'r, J: Naming + Send + Sync, R: Threads + Wait + Sync>(
     rt: &R,
     alloc: Global,
     shared: &Shared<'_, J>,
-    seats: Vec<Seat<J>>,
+    seats: Vec<Seat<'r, J>>,
     stage: &Stage<'_>,
-) -> Result<Vec<Turn<J>>, NoMemory> {
+) -> Result<Turns<'r, J>, NoMemory> {
     lowering::laws::programs_are_shared();
-    thread::scope(
+    let mut seats = seats;
+    let lent = &mut seats;
+    let answers = thread::scope(
         thread::scope_env(),
         rt,
-        move |scope| -> Result<Vec<Turn<J>>, NoMemory>
+        move |scope| -> Result<Vec<Answered>, NoMemory>
             requires { IsSync R.row × IsSync J.row × IsSend J.row × IsSync program.the_row }
         {
             let mut handles = Vec::new(alloc);
-            let mut turns = Vec::new(alloc);
-            for seat in seats {
-                let started = scope.spawn(move || -> Turn<J> {
+            let mut answers = Vec::new(alloc);
+            let each = lent.iter_mut();
+            for seat in each {
+                let started = scope.spawn(move || -> Answered {
                     take_turn(rt, shared, seat, stage)
                 });
                 let Ok(handle) = started else {
@@ -64,36 +77,45 @@ pub fn all_at_once<J: Naming + Send + Sync, R: Threads + Wait + Sync>(
                 handles.push(handle)?;
             }
             for handle in handles {
-                turns.push(handle.join(rt))?;
+                answers.push(handle.join(rt))?;
             }
-            Ok(turns)
+            Ok(answers)
         },
-    )
+    );
+    match answers {
+        Ok(answers) => Ok(Turns { seats, answers }),
+        Err(NoMemory) => Err(NoMemory),
+    }
 }
 
-fn take_turn<J: Naming, R: Wait>(
+/// A seat calls.
+pub fn take_turn<J: Naming, R: Wait>(
     rt: &R,
     shared: &Shared<'_, J>,
-    mut seat: Seat<J>,
+    seat: &mut Seat<'_, J>,
     stage: &Stage<'_>,
-) -> Turn<J> {
+) -> Answered
+    ensures { seat.new.row ≡ seat.old.row }
+{
     let thread = seat.thread();
     stage.come(thread, Mark::Ready);
-    let done = match call(rt, shared, &mut seat, stage) {
+    let answer = match call(rt, shared, seat, stage) {
         // What is refused memory changes nothing, so that it may be made again (`tests/refused_memory.sh`).
-        Err(CallRefusal::NoMemory) => call(rt, shared, &mut seat, stage),
+        Err(CallRefusal::NoMemory) => call(rt, shared, seat, stage),
         answer => answer,
     };
     stage.come(thread, Mark::Over);
-    Turn { seat, done }
+    answer
 }
 
 fn call<J: Naming, R: Wait>(
     rt: &R,
     shared: &Shared<'_, J>,
-    seat: &mut Seat<J>,
+    seat: &mut Seat<'_, J>,
     stage: &Stage<'_>,
-) -> Result<Done, CallRefusal> {
+) -> Answered
+    ensures { seat.new.row ≡ seat.old.row }
+{
     let Some(call) = stage.call_of(seat.thread()) else {
         return Err(CallRefusal::Strange);
     };

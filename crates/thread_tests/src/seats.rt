@@ -3,7 +3,7 @@
 use case_files::judging::compare;
 use core_lang::value::Value;
 use std::test::Fail;
-use thread_runs::{Hold, Mark, Scene, SeatCall, in_turn, side_by_side};
+use thread_runs::{Hold, Mark, Scene, SeatCall, in_agreement, in_turn, side_by_side};
 
 /// One cell that is written and read.
 const PUT_AND_GET: &str = "lock G;
@@ -78,6 +78,27 @@ fn a_seat_sees_what_another_wrote(rt: HostRuntime) -> Result<(), Fail> {
         "0: Ends at 0
 1: Returns(Int(9)) at 1
 2 entries, left Int(9)
+",
+    )
+}
+
+/// What seat 1 has seen goes on where what seat 0 has seen ends.
+#[test]
+fn who_calls_later_has_seen_more(rt: HostRuntime) -> Result<(), Fail> {
+    let alloc = rt.alloc();
+    let scene = Scene {
+        text: PUT_AND_GET,
+        calls: PUT_9_THEN_GET,
+        holds: &[],
+    };
+    let said = in_agreement(&rt, alloc, &scene)?;
+    compare(
+        alloc,
+        said.as_str(),
+        "agree true true
+0: Ends at 0
+1: Returns(Int(9)) at 1
+agree true false
 ",
     )
 }

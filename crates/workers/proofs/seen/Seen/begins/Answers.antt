@@ -17,10 +17,10 @@ loop-at-preserved g c =
     let ts = c.self.inside.tokens.items in
     let below : c.loop-at.at < length ts = omega (arith, c.loop-at-test.true, c.len-count.ensures, c.self.inside.tokens.ok.0) in
     let log = c.args.log.now.commits in
-    let entry = c.get.result in
-    let beneath : c.loop-at.at < length log = slice_get_within log c.loop-at.at entry c.get.ensures in
+    let entry = c.get-entry.result in
+    let beneath : c.loop-at.at < length log = slice_get_within log c.loop-at.at entry c.get-entry.ensures in
     more_same (λ t. t.value) ts log c.loop-at.at c.index.result.now entry below beneath c.index.ensures
-    (sym (get_or_from_slice_get log c.loop-at.at entry entry c.get.ensures)) (sym c.copy.ensures ∙ c.is_same.ensures c.if-not-is_same.false) c.loop-at.invariant
+    (sym (get_or_from_slice_get log c.loop-at.at entry entry c.get-entry.ensures)) (sym c.copy.ensures ∙ c.is_same.ensures c.if-not-is_same.false) c.loop-at.invariant
 
 pub returns : goal.returns
 returns g c = λ _.
