@@ -3,7 +3,7 @@
 
     tests/failing.py [--program BIN] [--commands NAMES] [--turns N] [--every N] [FILE..]
     tests/failing.py --cases [--program BIN] [--every N] [FILE..]
-    tests/failing.py --unit-tests [--program BIN] [--every N]
+    tests/failing.py --unit-tests [--program BIN] [--every N] [--test NAME]
 
 --commands      which of check, listing, serial, simulate, run and replay, joined by commas; by default all
 --turns N       of serial and replay, by default 1000
@@ -11,6 +11,7 @@
 --cases         the program `cases` over each of its files, and of its calls the growths alone
 --unit-tests    the programs of the tests of `unit_tests`, `command_tests` and `thread_tests`, and of their calls the
                 growths alone; of each test of `thread_tests` some 300 growths, spread over all
+--test NAME     only this test, and each of its growths
 FILE..          programs, by default those of examples/; of `cases` files of crates/cases/data, by default all.
                 Where a file of steps lies beside a program, simulate takes it, else some steps of its threads in turn.
                 replay takes what serial writes of the program, and with --why that with another value of the first cell;
@@ -165,9 +166,11 @@ def of_unit_tests(a):
     crates = [TOP / f"crates/{crate}/out/{crate}_tests" for crate in ("unit_tests", "command_tests", "thread_tests")]
     for path in [a.program] if a.program else crates:
         program = str(path.resolve())
-        most = 300 if path.name == "thread_tests_tests" else 1 << 62
+        most = 300 if path.name == "thread_tests_tests" and not a.test else 1 << 62
         listed = subprocess.run([program, "--list"], capture_output=True, check=True, text=True)
         for name in re.findall(r"^(\S+): test$", listed.stdout + listed.stderr, re.M):
+            if a.test not in (None, name):
+                continue
             yield Subject([program, name], [], {"growth": wrong_test}, a.every, most)
 
 
@@ -179,6 +182,7 @@ def main():
     p.add_argument("--every", type=int, default=1)
     p.add_argument("--cases", action="store_true")
     p.add_argument("--unit-tests", action="store_true")
+    p.add_argument("--test")
     p.add_argument("files", nargs="*", type=pathlib.Path, metavar="FILE")
     a = p.parse_args()
     with tempfile.TemporaryDirectory() as room:
