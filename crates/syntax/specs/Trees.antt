@@ -49,10 +49,16 @@ pub record Local : Type 0 where
   pub value_type : ValueType
   pub value : Expr
 
+-- behind a `let`: which final reference of its value names what which local names
+pub record Owner : Type 0 where
+  pub field : Ident
+  pub local : Ident
+
 -- a statement, those of a block with where its closing brace stands, and what stands behind `else`
 mutual
   pub data Stmt : Type 0 where
     let_local : Local → Stmt
+    let_owned : Local → Owner → Stmt
     var_local : Local → Stmt
     assign : Place → Expr → Stmt
     if_then : (start : Span) → Expr → Stmts → (close : Span) → Otherwise → Stmt

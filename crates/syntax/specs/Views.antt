@@ -16,6 +16,8 @@ use Rattle.syntax.specs.declared.tree.Joined.{Row_of-Link, end_of-Link, more_of-
 use Rattle.syntax.specs.declared.tree.Op.{Op}
 use Rattle.syntax.specs.declared.tree.Link as the_link
 use Rattle.syntax.specs.declared.tree.Local as the_local
+use Rattle.syntax.specs.declared.tree.Owner as the_owner
+use Rattle.syntax.specs.declared.tree.OwnedLocal as the_owned_local
 use Rattle.syntax.specs.declared.tree.Stmt as the_stmt
 use Rattle.syntax.specs.declared.tree.Stmt.{Row_of-Stmt, end_of-Stmt, more_of-Stmt}
 use Rattle.syntax.specs.declared.tree.If as the_if
@@ -39,7 +41,7 @@ use Rattle.syntax.specs.declared.tree.Thread as the_thread
 use Rattle.syntax.specs.declared.tree.Decl as the_decl
 use Rattle.syntax.specs.declared.tree.Decl.TheVariants as decl_case
 use Rattle.syntax.specs.declared.tree.Tree.{Tree}
-use Rattle.syntax.specs.Trees.{Ident, ValueType, int_type, ref_type, Const, int_const, negative, null_const, member_const, Place, lone, element, path, Expr, int, null, place, paren, prefix, chain, compare, Links, no_links, link, Local, Stmt, let_local, var_local, assign, if_then, while, print, return_value, Stmts, no_stmts, stmt, Otherwise, no_else, else_do, Block, Protection, Variable, Array, Final, Field, Member, lock_member, final_member, field_member, Struct, Pool, Init, Param, Section, Call, Item, call, repeat, Items, no_items, item, Thread, Decl, lock, struct, global, array, pool, init, atomic, thread}
+use Rattle.syntax.specs.Trees.{Ident, ValueType, int_type, ref_type, Const, int_const, negative, null_const, member_const, Place, lone, element, path, Expr, int, null, place, paren, prefix, chain, compare, Links, no_links, link, Local, Owner, Stmt, let_local, let_owned, var_local, assign, if_then, while, print, return_value, Stmts, no_stmts, stmt, Otherwise, no_else, else_do, Block, Protection, Variable, Array, Final, Field, Member, lock_member, final_member, field_member, Struct, Pool, Init, Param, Section, Call, Item, call, repeat, Items, no_items, item, Thread, Decl, lock, struct, global, array, pool, init, atomic, thread}
 use Rattle.syntax.specs.Grammar.{level_of}
 
 abbrev pub ident : the_name.Name → Ident
@@ -102,9 +104,16 @@ link_of l = (l.op, expr_of l.operand)
 abbrev pub local_of : the_local.Local → Local
 local_of l = record { start = l.start; name = ident l.name; value_type = type_of l.value_type; value = expr_of l.value }
 
+abbrev pub owner_of : the_owner.Owner → Owner
+owner_of o = record { field = ident o.field; local = ident o.local }
+
+abbrev pub owned_local_of : the_owned_local.OwnedLocal → Stmt
+owned_local_of l = let_owned (local_of l.local) (owner_of l.owner)
+
 abbrev mutual
   pub stmt_of : the_stmt.Stmt → Stmt
   stmt_of (the_stmt.Let l) = let_local (local_of l.value)
+  stmt_of (the_stmt.LetOwned l) = owned_local_of l.value
   stmt_of (the_stmt.Var l) = var_local (local_of l.value)
   stmt_of (the_stmt.Assign p e) = assign (place_of p) (expr_of e)
   stmt_of (the_stmt.If' _ choice) = if_of choice

@@ -196,6 +196,22 @@ pub struct Local {
     pub value: Expr,
 }
 
+/// `where owner == b`: which of its final references a local's value is tested by, and what this has to name.
+#[derive(Drop)]
+pub struct Owner {
+    /// The final reference.
+    pub field: Name,
+    /// The local that names what the final reference has to name.
+    pub local: Name,
+}
+
+/// `let n: ref S = e where owner == b;`
+#[derive(Drop)]
+pub struct OwnedLocal {
+    pub local: Local,
+    pub owner: Owner,
+}
+
 /// A statement.
 ///
 /// A program may have one for every four bytes, so a statement takes 56 bytes: what is larger stands
@@ -205,6 +221,8 @@ pub struct Local {
 pub enum Stmt {
     /// `let x: int = e;`
     Let(Box<Local>),
+    /// `let n: ref S = e where owner == b;`
+    LetOwned(Box<OwnedLocal>),
     /// `var x: int = e;`
     Var(Box<Local>),
     /// `x = e;`
