@@ -2,21 +2,27 @@
 use Rattle.std.proofs.Common.{◌≡◌, ℕ, List, [], ◌∷◌, ◌++◌, refl, sym, ap, append_assoc}
 use Rattle.source.specs.declared.span.Span.{Span}
 use Rattle.source.specs.declared.token.Keyword.TheVariants as keyword
-use Rattle.source.specs.declared.token.Sign.TheVariants.{OpenBrace, CloseBrace, CloseParen, Semicolon, Colon, Equals}
+use Rattle.source.specs.declared.token.Sign.TheVariants.{OpenBrace, CloseBrace, CloseParen, Semicolon, Colon, Equals, DoubleEquals}
 use Rattle.source.specs.Tokens.{Tok}
-use Rattle.syntax.specs.Trees.{Local, Stmt, let_local, var_local, assign, if_then, while, print, return_value, Stmts, no_stmts, stmt, Otherwise, no_else, else_do, Block}
-use Rattle.syntax.specs.Grammar.{IsLocal, is_local, IsStmt, is_let, is_var, is_assign, is_if, is_while, is_print, is_return, IsStmts, are_no_stmts, are_stmts, IsBraced, is_braced, IsElse, is_no_else, is_else}
-use Rattle.syntax.specs.Printing.{type_text, expr_text, place_text, indent, deeper, local_text, stmt_text, stmts_text, else_text}
-use Rattle.syntax.specs.Bare.{nowhere, bare_local, bare_stmt, bare_stmts, bare_else, bare_block}
+use Rattle.syntax.specs.Trees.{Local, Stmt, let_local, let_owned, var_local, assign, if_then, while, print, return_value, Stmts, no_stmts, stmt, Otherwise, no_else, else_do, Block}
+use Rattle.syntax.specs.Grammar.{IsLocal, is_local, IsOwner, is_owner, IsStmt, is_let, is_let_owned, is_var, is_assign, is_if, is_while, is_print, is_return, IsStmts, are_no_stmts, are_stmts, IsBraced, is_braced, IsElse, is_no_else, is_else}
+use Rattle.syntax.specs.Printing.{type_text, expr_text, place_text, indent, deeper, local_text, owner_text, stmt_text, stmts_text, else_text}
+use Rattle.syntax.specs.Bare.{nowhere, bare_local, bare_owner, bare_stmt, bare_stmts, bare_else, bare_block}
 use Rattle.syntax.proofs.Marks.{Apart}
-use Rattle.syntax.proofs.Good.{Good, type_good, expr_good, place_good, stmt_good, braced_good}
-use Rattle.syntax.proofs.Backward.{kinds, Reads, start_of, named, along, word_on, sign_on, name_on, paren_on, gap_on, line_on, indent_on, Again}
+use Rattle.syntax.proofs.Good.{Good, type_good, expr_good, place_good, local_good, stmt_good, braced_good}
+use Rattle.syntax.proofs.Backward.{kinds, Reads, start_of, named, along, word_on, sign_on, name_on, paren_on, gap_on, line_on, indent_on, Again, Rereads}
 use Rattle.syntax.proofs.AgainExprs.{type_again, expr_again, place_again}
 
 -- ---- the texts of lines, grouped to the right
 
-local_line : (x t e tail : List ℕ) → (((((x ++ 58 ∷ 32 ∷ []) ++ t) ++ 32 ∷ 61 ∷ 32 ∷ []) ++ e) ++ 59 ∷ []) ++ tail ≡ x ++ 58 ∷ 32 ∷ (t ++ 32 ∷ 61 ∷ 32 ∷ (e ++ 59 ∷ tail))
+local_line : (x t e tail : List ℕ) → ((((x ++ 58 ∷ 32 ∷ []) ++ t) ++ 32 ∷ 61 ∷ 32 ∷ []) ++ e) ++ tail ≡ x ++ 58 ∷ 32 ∷ (t ++ 32 ∷ 61 ∷ 32 ∷ (e ++ tail))
 local_line x t e tail = simp append_assoc
+
+owner_line : (f l tail : List ℕ) → ((f ++ 32 ∷ 61 ∷ 61 ∷ 32 ∷ []) ++ l) ++ tail ≡ f ++ 32 ∷ 61 ∷ 61 ∷ 32 ∷ (l ++ tail)
+owner_line f l tail = simp append_assoc
+
+owned_line : (l o tail : List ℕ) → ((l ++ o) ++ 59 ∷ []) ++ tail ≡ l ++ (o ++ 59 ∷ tail)
+owned_line l o tail = simp append_assoc
 
 assign_line : (p e tail : List ℕ) → (((p ++ 32 ∷ 61 ∷ 32 ∷ []) ++ e) ++ 59 ∷ []) ++ tail ≡ p ++ 32 ∷ 61 ∷ 32 ∷ (e ++ 59 ∷ tail)
 assign_line p e tail = simp append_assoc
@@ -45,7 +51,7 @@ else_apart d (else_do ss close) tail a = refl
 
 local_again : {l : Local} {ts rest : List Tok} → IsLocal l ts rest → Good ts → {total : ℕ} {tail : List ℕ} (r : Reads total tail (kinds rest)) → Apart tail → Again IsLocal bare_local l total (local_text l ++ tail) ts r.tokens
 local_again (is_local {l} t e) g {total} {tail} r a =
-    let i = expr_again e (type_good _ _ _ t g.1.1).1 (sign_on Semicolon r a) refl in
+    let i = expr_again e (type_good _ _ _ t g.1.1).1 r a in
     let y = type_again l.value_type _ _ t g.1.1 total _ (gap_on (sign_on Equals (gap_on i.reads) refl)) refl in
     let n = name_on l.name.text g.0 (sign_on Colon (gap_on y.reads) refl) refl in
     record {
@@ -53,6 +59,17 @@ local_again (is_local {l} t e) g {total} {tail} r a =
       tree = record { start = nowhere; name = named l.name n; value_type = y.tree; value = i.tree };
       is = is_local y.is i.is;
       same = rw (y.same, i.same) refl;
+    }
+
+owner_again : Rereads IsOwner bare_owner owner_text
+owner_again o ts rest is_owner g total tail r a =
+    let l = name_on o.local.text g.1.1.1.0 r a in
+    let f = name_on o.field.text g.1.0 (gap_on (sign_on DoubleEquals (gap_on l) refl)) refl in
+    record {
+      reads = gap_on (word_on keyword.Where (gap_on (along (sym (owner_line o.field.text o.local.text tail)) f)) refl);
+      tree = record { field = named o.field f; local = named o.local l };
+      is = is_owner;
+      same = refl;
     }
 
 -- the same local's statement, whose first word stands there
@@ -67,13 +84,23 @@ IsBracedBlock b ts rest = IsBraced b.stmts b.close ts rest
 
 mutual
   pub stmt_again : {s : Stmt} {ts rest : List Tok} → IsStmt s ts rest → Good ts → (d : ℕ) {total : ℕ} {tail : List ℕ} (r : Reads total tail (kinds rest)) → Apart tail → Again IsStmt bare_stmt s total (stmt_text d s ++ tail) ts r.tokens
-  stmt_again (is_let f) g d r a =
-      let i = local_again f g.1 r a in
-      let w = word_on keyword.Let (gap_on i.reads) refl in
+  stmt_again (is_let {l} f) g d {tail = tail} r a =
+      let i = local_again f g.1 (sign_on Semicolon r a) refl in
+      let w = word_on keyword.Let (gap_on (along (sym (append_assoc (local_text l) (59 ∷ []) tail)) i.reads)) refl in
       record { reads = w; tree = let_local (from_start (start_of w) i.tree); is = is_let (restarted (start_of w) i.is); same = ap let_local i.same }
-  stmt_again (is_var f) g d r a =
-      let i = local_again f g.1 r a in
-      let w = word_on keyword.Var (gap_on i.reads) refl in
+  stmt_again (is_let_owned {l} {o} f h) g d {total} {tail} r a =
+      let x = owner_again o _ _ h (local_good f g.1) total _ (sign_on Semicolon r a) refl in
+      let i = local_again f g.1 x.reads refl in
+      let w = word_on keyword.Let (gap_on (along (sym (owned_line (local_text l) (owner_text o) tail)) i.reads)) refl in
+      record {
+        reads = w;
+        tree = let_owned (from_start (start_of w) i.tree) x.tree;
+        is = is_let_owned (restarted (start_of w) i.is) x.is;
+        same = rw (i.same, x.same) refl;
+      }
+  stmt_again (is_var {l} f) g d {tail = tail} r a =
+      let i = local_again f g.1 (sign_on Semicolon r a) refl in
+      let w = word_on keyword.Var (gap_on (along (sym (append_assoc (local_text l) (59 ∷ []) tail)) i.reads)) refl in
       record { reads = w; tree = var_local (from_start (start_of w) i.tree); is = is_var (restarted (start_of w) i.is); same = ap var_local i.same }
   stmt_again (is_assign {p} {e} f h) g d {tail = tail} r a =
       let i = expr_again h (place_good f g).1 (sign_on Semicolon r a) refl in

@@ -8,8 +8,8 @@ use Rattle.source.specs.declared.span.Span.{Span}
 use Rattle.source.specs.declared.token.Sign.{Sign}
 use Rattle.source.specs.declared.token.Sign.TheVariants.{Colon, Dot, Equals}
 use Rattle.std.specs.Prelude.{Option}
-use Rattle.syntax.specs.Trees.{Place, Expr, Links, Local, Stmt, Stmts, Otherwise, Section, Call, Item, Items, Decl}
-use Rattle.syntax.specs.Grammar.{IsOptional, left_out, given, AreMany, no_more, one_more, IsAfter, after, AreListed, none_listed, listed, IsName, is_name, IsType, is_int_type, is_ref_type, IsConst, is_int_const, is_negative, is_null_const, is_member_const, IsExpr, is_int, is_null, is_place, is_paren, is_prefix, is_chain, is_compare, IsPlace, is_lone, is_element, is_path, IsLinks, are_no_links, is_link, IsLocal, is_local, IsStmt, is_let, is_var, is_assign, is_if, is_while, is_print, is_return, IsStmts, are_no_stmts, are_stmts, IsBraced, is_braced, IsElse, is_no_else, is_else, is_block, IsIndex, is_index, IsProtection, is_protection, is_field, is_final, IsMember, is_lock_member, is_final_member, is_field_member, is_struct, is_variable, is_array, is_pool, is_init, IsParam, is_param, IsSection, is_section, IsCall, is_call, IsItem, is_call_item, is_repeat, IsItems, are_no_items, are_items, is_thread, IsDecl, is_lock, is_struct_decl, is_global, is_array_decl, is_pool_decl, is_init_decl, is_atomic, is_thread_decl}
+use Rattle.syntax.specs.Trees.{Place, Expr, Links, Local, Owner, Stmt, Stmts, Otherwise, Section, Call, Item, Items, Decl}
+use Rattle.syntax.specs.Grammar.{IsOptional, left_out, given, AreMany, no_more, one_more, IsAfter, after, AreListed, none_listed, listed, IsName, is_name, IsType, is_int_type, is_ref_type, IsConst, is_int_const, is_negative, is_null_const, is_member_const, IsExpr, is_int, is_null, is_place, is_paren, is_prefix, is_chain, is_compare, IsPlace, is_lone, is_element, is_path, IsLinks, are_no_links, is_link, IsLocal, is_local, IsOwner, is_owner, IsStmt, is_let, is_let_owned, is_var, is_assign, is_if, is_while, is_print, is_return, IsStmts, are_no_stmts, are_stmts, IsBraced, is_braced, IsElse, is_no_else, is_else, is_block, IsIndex, is_index, IsProtection, is_protection, is_field, is_final, IsMember, is_lock_member, is_final_member, is_field_member, is_struct, is_variable, is_array, is_pool, is_init, IsParam, is_param, IsSection, is_section, IsCall, is_call, IsItem, is_call_item, is_repeat, IsItems, are_no_items, are_items, is_thread, IsDecl, is_lock, is_struct_decl, is_global, is_array_decl, is_pool_decl, is_init_decl, is_atomic, is_thread_decl}
 
 abbrev pub GoodKind : Lexeme → Type 0
 GoodKind (name x) = IsUnit x (name x) × (length x ≤ NAME_LIMIT)
@@ -91,12 +91,16 @@ mutual
 -- ---- statements
 
 pub local_good : {l : Local} {ts rest : List Tok} → IsLocal l ts rest → Good ts → Good rest
-local_good (is_local t e) g = (expr_good e (type_good _ _ _ t g.1.1).1).1
+local_good (is_local t e) g = expr_good e (type_good _ _ _ t g.1.1).1
+
+pub owner_good : {o : Owner} {ts rest : List Tok} → IsOwner o ts rest → Good ts → Good rest
+owner_good is_owner g = g.1.1.1.1
 
 mutual
   pub stmt_good : {s : Stmt} {ts rest : List Tok} → IsStmt s ts rest → Good ts → Good rest
-  stmt_good (is_let l) g = local_good l g.1
-  stmt_good (is_var l) g = local_good l g.1
+  stmt_good (is_let l) g = (local_good l g.1).1
+  stmt_good (is_let_owned l o) g = (owner_good o (local_good l g.1)).1
+  stmt_good (is_var l) g = (local_good l g.1).1
   stmt_good (is_assign p e) g = (expr_good e (place_good p g).1).1
   stmt_good (is_if e b o) g = else_good o (braced_good b (expr_good e g.1.1).1)
   stmt_good (is_while e b) g = braced_good b (expr_good e g.1.1).1

@@ -4,7 +4,7 @@ use Rattle.source.specs.declared.span.Span.{Span}
 use Rattle.source.specs.Tokens.{Tok}
 use Rattle.source.specs.Texts.{HasTokens}
 use Rattle.source.specs.declared.token.Number.{Number}
-use Rattle.syntax.specs.Trees.{Ident, ValueType, int_type, ref_type, Const, int_const, negative, null_const, member_const, Place, lone, element, path, Expr, int, null, place, paren, prefix, chain, compare, Links, no_links, link, Local, Stmt, let_local, var_local, assign, if_then, while, print, return_value, Stmts, no_stmts, stmt, Otherwise, no_else, else_do, Block, Protection, Variable, Array, Final, Field, Member, lock_member, final_member, field_member, Struct, Pool, Init, Param, Section, Call, Item, call, repeat, Items, no_items, item, Thread, Decl, lock, struct, global, array, pool, init, atomic, thread}
+use Rattle.syntax.specs.Trees.{Ident, ValueType, int_type, ref_type, Const, int_const, negative, null_const, member_const, Place, lone, element, path, Expr, int, null, place, paren, prefix, chain, compare, Links, no_links, link, Local, Owner, Stmt, let_local, let_owned, var_local, assign, if_then, while, print, return_value, Stmts, no_stmts, stmt, Otherwise, no_else, else_do, Block, Protection, Variable, Array, Final, Field, Member, lock_member, final_member, field_member, Struct, Pool, Init, Param, Section, Call, Item, call, repeat, Items, no_items, item, Thread, Decl, lock, struct, global, array, pool, init, atomic, thread}
 use Rattle.syntax.specs.Views.{option_of}
 use Rattle.syntax.specs.Grammar.{HasTree}
 
@@ -50,9 +50,13 @@ abbrev mutual
 abbrev pub bare_local : Local → Local
 bare_local l = record { start = nowhere; name = bare_name l.name; value_type = bare_type l.value_type; value = bare_expr l.value }
 
+abbrev pub bare_owner : Owner → Owner
+bare_owner o = record { field = bare_name o.field; local = bare_name o.local }
+
 abbrev mutual
   pub bare_stmt : Stmt → Stmt
   bare_stmt (let_local l) = let_local (bare_local l)
+  bare_stmt (let_owned l o) = let_owned (bare_local l) (bare_owner o)
   bare_stmt (var_local l) = var_local (bare_local l)
   bare_stmt (assign p e) = assign (bare_place p) (bare_expr e)
   bare_stmt (if_then at e body close other) = if_then nowhere (bare_expr e) (bare_stmts body) nowhere (bare_else other)

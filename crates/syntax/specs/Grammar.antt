@@ -17,7 +17,7 @@ use Rattle.syntax.specs.declared.tree.Prefix.TheVariants.{Negate, Not}
 use Rattle.syntax.specs.declared.tree.Comparison.{Comparison}
 use Rattle.syntax.specs.declared.tree.Comparison.TheVariants.{Equal, NotEqual, Less, LessOrEqual, Greater, GreaterOrEqual}
 use Rattle.source.specs.declared.token.Number.{Number}
-use Rattle.syntax.specs.Trees.{Ident, ValueType, int_type, ref_type, Const, int_const, negative, null_const, member_const, Place, lone, element, path, Expr, int, null, place, paren, prefix, chain, compare, Links, no_links, link, Local, Stmt, let_local, var_local, assign, if_then, while, print, return_value, Stmts, no_stmts, stmt, Otherwise, no_else, else_do, Block, Protection, Variable, Array, Final, Field, Member, lock_member, final_member, field_member, Struct, Pool, Init, Param, Section, Call, Item, call, repeat, Items, no_items, item, Thread, Decl, lock, struct, global, array, pool, init, atomic, thread}
+use Rattle.syntax.specs.Trees.{Ident, ValueType, int_type, ref_type, Const, int_const, negative, null_const, member_const, Place, lone, element, path, Expr, int, null, place, paren, prefix, chain, compare, Links, no_links, link, Local, Owner, Stmt, let_local, let_owned, var_local, assign, if_then, while, print, return_value, Stmts, no_stmts, stmt, Otherwise, no_else, else_do, Block, Protection, Variable, Array, Final, Field, Member, lock_member, final_member, field_member, Struct, Pool, Init, Param, Section, Call, Item, call, repeat, Items, no_items, item, Thread, Decl, lock, struct, global, array, pool, init, atomic, thread}
 
 abbrev pub tok : Lexeme → Span → Tok
 tok k at = record { kind = k; span = at }
@@ -167,17 +167,30 @@ mutual
 
 -- ---- statements
 
--- `let` and `var`, behind their first word
+-- `let` and `var`, behind their first word, up to the end of the value
 pub data IsLocal : Local → List Tok → List Tok → Type 0 where
-  is_local : {l : Local} {colon equals semicolon : Span} {ts mid rest : List Tok}
+  is_local : {l : Local} {colon equals : Span} {ts mid rest : List Tok}
       → IsType l.value_type ts (tok (mark Equals) equals ∷ mid)
-      → IsExpr ANY l.value mid (tok (mark Semicolon) semicolon ∷ rest)
+      → IsExpr ANY l.value mid rest
       → IsLocal l (name_tok l.name ∷ tok (mark Colon) colon ∷ ts) rest
+
+-- which final reference names what which local names
+pub data IsOwner : Owner → List Tok → List Tok → Type 0 where
+  is_owner : {o : Owner} {start equals : Span} {rest : List Tok}
+      → IsOwner o (tok (word keyword.Where) start ∷ name_tok o.field ∷ tok (mark DoubleEquals) equals ∷ name_tok o.local ∷ rest) rest
 
 mutual
   pub data IsStmt : Stmt → List Tok → List Tok → Type 0 where
-    is_let : {l : Local} {ts rest : List Tok} → IsLocal l ts rest → IsStmt (let_local l) (tok (word keyword.Let) l.start ∷ ts) rest
-    is_var : {l : Local} {ts rest : List Tok} → IsLocal l ts rest → IsStmt (var_local l) (tok (word keyword.Var) l.start ∷ ts) rest
+    is_let : {l : Local} {semicolon : Span} {ts rest : List Tok}
+        → IsLocal l ts (tok (mark Semicolon) semicolon ∷ rest)
+        → IsStmt (let_local l) (tok (word keyword.Let) l.start ∷ ts) rest
+    is_let_owned : {l : Local} {o : Owner} {semicolon : Span} {ts mid rest : List Tok}
+        → IsLocal l ts mid
+        → IsOwner o mid (tok (mark Semicolon) semicolon ∷ rest)
+        → IsStmt (let_owned l o) (tok (word keyword.Let) l.start ∷ ts) rest
+    is_var : {l : Local} {semicolon : Span} {ts rest : List Tok}
+        → IsLocal l ts (tok (mark Semicolon) semicolon ∷ rest)
+        → IsStmt (var_local l) (tok (word keyword.Var) l.start ∷ ts) rest
     is_assign : {p : Place} {e : Expr} {equals semicolon : Span} {ts mid rest : List Tok}
         → IsPlace p ts (tok (mark Equals) equals ∷ mid)
         → IsExpr ANY e mid (tok (mark Semicolon) semicolon ∷ rest)

@@ -6,7 +6,7 @@ use Rattle.syntax.specs.declared.tree.Op.{Op}
 use Rattle.syntax.specs.declared.tree.Comparison.{Comparison}
 use Rattle.syntax.specs.declared.tree.Prefix.{Prefix}
 use Rattle.source.specs.declared.token.Number.{Number}
-use Rattle.syntax.specs.Trees.{Ident, ValueType, int_type, ref_type, Const, int_const, negative, null_const, member_const, Place, lone, element, path, Expr, int, null, place, paren, prefix, chain, compare, Links, no_links, link, Local, Stmt, let_local, var_local, assign, if_then, while, print, return_value, Stmts, no_stmts, stmt, Otherwise, no_else, else_do, Protection, Variable, Array, Member, lock_member, final_member, field_member, Struct, Pool, Init, Param, Section, Call, Item, call, repeat, Items, no_items, item, Thread, Decl, lock, struct, global, array, pool, init, atomic, thread}
+use Rattle.syntax.specs.Trees.{Ident, ValueType, int_type, ref_type, Const, int_const, negative, null_const, member_const, Place, lone, element, path, Expr, int, null, place, paren, prefix, chain, compare, Links, no_links, link, Local, Owner, Stmt, let_local, let_owned, var_local, assign, if_then, while, print, return_value, Stmts, no_stmts, stmt, Otherwise, no_else, else_do, Protection, Variable, Array, Member, lock_member, final_member, field_member, Struct, Pool, Init, Param, Section, Call, Item, call, repeat, Items, no_items, item, Thread, Decl, lock, struct, global, array, pool, init, atomic, thread}
 use Rattle.syntax.specs.Grammar.{sign_of, prefix_sign, comparison_sign}
 
 -- ---- lists, and parts that may be left out
@@ -92,14 +92,19 @@ deeper d = if nat_lt d 64 then d + 1 else d
 abbrev pub braced : ℕ → List ℕ → List ℕ
 braced d lines = codes " {" ++ lines ++ codes "\n" ++ indent d ++ codes "}"
 
+-- up to the end of the value
 abbrev pub local_text : Local → List ℕ
-local_text l = l.name.text ++ codes ": " ++ type_text l.value_type ++ codes " = " ++ expr_text l.value ++ codes ";"
+local_text l = l.name.text ++ codes ": " ++ type_text l.value_type ++ codes " = " ++ expr_text l.value
+
+abbrev pub owner_text : Owner → List ℕ
+owner_text o = codes " where " ++ o.field.text ++ codes " == " ++ o.local.text
 
 abbrev mutual
   -- at this depth
   pub stmt_text : ℕ → Stmt → List ℕ
-  stmt_text d (let_local l) = codes "let " ++ local_text l
-  stmt_text d (var_local l) = codes "var " ++ local_text l
+  stmt_text d (let_local l) = codes "let " ++ local_text l ++ codes ";"
+  stmt_text d (let_owned l o) = codes "let " ++ local_text l ++ owner_text o ++ codes ";"
+  stmt_text d (var_local l) = codes "var " ++ local_text l ++ codes ";"
   stmt_text d (assign p e) = place_text p ++ codes " = " ++ expr_text e ++ codes ";"
   stmt_text d (if_then at e body close other) = codes "if (" ++ expr_text e ++ codes ")" ++ braced d (stmts_text (deeper d) body) ++ else_text d other
   stmt_text d (while at e body close) = codes "while (" ++ expr_text e ++ codes ")" ++ braced d (stmts_text (deeper d) body)

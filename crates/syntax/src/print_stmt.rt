@@ -2,13 +2,13 @@
 
 ghost use Rattle.std.specs.Prelude.{◌≡◌, ◌++◌, codes};
 ghost use Rattle.syntax.specs.Adding.{Adds};
-ghost use Rattle.syntax.specs.Views.{place_of, expr_of, local_of, stmt_of, if_of, stmts_of, else_of};
+ghost use Rattle.syntax.specs.Views.{place_of, expr_of, local_of, owner_of, owned_local_of, stmt_of, if_of, stmts_of, else_of};
 ghost use Rattle.syntax.specs.Rows.{while_of};
-ghost use Rattle.syntax.specs.Printing.{place_text, expr_text, indent, deeper, local_text, stmt_text, stmts_text, braced, else_text};
+ghost use Rattle.syntax.specs.Printing.{place_text, expr_text, indent, deeper, local_text, owner_text, stmt_text, stmts_text, braced, else_text};
 
 use crate::print::{push_expr, push_place, push_type};
 use crate::printer::Printer;
-use crate::tree::{Block, Expr, If, Local, Place, Stmt, While};
+use crate::tree::{Block, Expr, If, Local, OwnedLocal, Owner, Place, Stmt, While};
 
 pub fn push_indent(out: &mut Printer, depth: usize)
     ensures { Adds out.old out.new (indent depth) }
@@ -26,7 +26,7 @@ pub fn deeper(depth: usize) -> usize
     if depth < 64 { depth + 1 } else { depth }
 }
 
-/// A local, behind this word.
+/// A local, behind this word, up to the end of its value.
 fn push_local(out: &mut Printer, word: &str, local: &Local)
     ensures { Adds out.old out.new (word.now ++ local_text (local_of local.now)) }
 {
@@ -36,6 +36,28 @@ fn push_local(out: &mut Printer, word: &str, local: &Local)
     push_type(out, &local.value_type);
     out.push_str(" = ");
     push_expr(out, &local.value);
+}
+
+/// The statement of a local of which no owner is told.
+fn push_plain(out: &mut Printer, word: &str, local: &Local)
+    ensures { Adds out.old out.new (word.now ++ local_text (local_of local.now) ++ codes ";") }
+{
+    push_local(out, word, local);
+    out.push_str(";");
+}
+
+fn push_owner(out: &mut Printer, owner: &Owner)
+    ensures { Adds out.old out.new (owner_text (owner_of owner.now)) }
+{
+    out.push_named(" where ", &owner.field);
+    out.push_named(" == ", &owner.local);
+}
+
+fn push_owned(out: &mut Printer, owned: &OwnedLocal, depth: usize)
+    ensures { Adds out.old out.new (stmt_text depth (owned_local_of owned.now)) }
+{
+    push_local(out, "let ", &owned.local);
+    push_owner(out, &owned.owner);
     out.push_str(";");
 }
 
@@ -63,8 +85,9 @@ fn push_stmt(out: &mut Printer, s: &Stmt, depth: usize)
     ensures { Adds out.old out.new (stmt_text depth (stmt_of s.now)) }
 {
     match s {
-        Stmt::Let(local) => push_local(out, "let ", local),
-        Stmt::Var(local) => push_local(out, "var ", local),
+        Stmt::Let(local) => push_plain(out, "let ", local),
+        Stmt::LetOwned(owned) => push_owned(out, owned, depth),
+        Stmt::Var(local) => push_plain(out, "var ", local),
         Stmt::Assign(place, e) => push_assignment(out, place, e),
         Stmt::If(choice) => push_if(out, choice, depth),
         Stmt::While(repetition) => push_while(out, repetition, depth),

@@ -16,10 +16,13 @@ pub push_else-returns-in-Some : goal.push_else-returns-in-Some
 push_else-returns-in-Some t c = rw c.in-Some.is (followed_by c.push_str.ensures c.push_braced.ensures)
 
 pub push_stmt-returns-in-Let : goal.push_stmt-returns-in-Let
-push_stmt-returns-in-Let t c = rw c.in-Let.is ((rw c.deref.ensures at c.push_local.ensures))
+push_stmt-returns-in-Let t c = rw c.in-Let.is ((rw c.deref.ensures at c.push_plain.ensures))
+
+pub push_stmt-returns-in-LetOwned : goal.push_stmt-returns-in-LetOwned
+push_stmt-returns-in-LetOwned t c = rw c.in-LetOwned.is ((rw c.deref-in-LetOwned.ensures at c.push_owned.ensures))
 
 pub push_stmt-returns-in-Var : goal.push_stmt-returns-in-Var
-push_stmt-returns-in-Var t c = rw c.in-Var.is ((rw c.deref-in-Var.ensures at c.push_local-in-Var.ensures))
+push_stmt-returns-in-Var t c = rw c.in-Var.is ((rw c.deref-in-Var.ensures at c.push_plain-in-Var.ensures))
 
 pub push_stmt-returns-in-Assign : goal.push_stmt-returns-in-Assign
 push_stmt-returns-in-Assign t c = rw c.in-Assign.is (c.push_assignment.ensures)
