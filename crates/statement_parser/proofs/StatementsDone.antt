@@ -7,7 +7,7 @@ use Rattle.syntax.specs.Trees.{Expr, Ident, ValueType, Stmts, Otherwise, while, 
 use Rattle.source.specs.declared.token.Sign.TheVariants.{Colon, Equals}
 use Rattle.token_parts.specs.Reading.{sign_at, name_at}
 use Rattle.token_parts.specs.Parts.{type_at}
-use Rattle.statement_parser.specs.Expressions.{ended_at, condition_at}
+use Rattle.statement_parser.specs.Expressions.{expr_at, condition_at}
 
 pub stmts_in_some : (room : ℕ) → 0 < room → stmts_in room ≡ stmts_with (stmt_at (room - 1))
 unfolding stmts_in
@@ -16,7 +16,7 @@ stmts_in_some (suc room) h = rw sub-one refl
 
 module _ (ts : List Tok) where
   module _ {t1 : List Tok} {x : Ident} (first : name_at ts ≡ Ok (x, t1)) where
-    pub local_done : {t2 t3 t4 t5 : List Tok} {t : ValueType} {e : Expr} {s1 s3 : Span} (room : ℕ) (start : Span) → sign_at Colon t1 ≡ Ok (s1, t2) → type_at t2 ≡ Ok (t, t3) → sign_at Equals t3 ≡ Ok (s3, t4) → ended_at room t4 ≡ Ok (e, t5) →
+    pub local_done : {t2 t3 t4 t5 : List Tok} {t : ValueType} {e : Expr} {s1 s3 : Span} (room : ℕ) (start : Span) → sign_at Colon t1 ≡ Ok (s1, t2) → type_at t2 ≡ Ok (t, t3) → sign_at Equals t3 ≡ Ok (s3, t4) → expr_at room t4 ≡ Ok (e, t5) →
         local_at room start ts ≡ Ok (record { start = start; name = x; value_type = t; value = e }, t5)
     unfolding local_at
     local_done room start h2 h3 h4 h5 = rw (first, h2, h3, h4, h5) refl

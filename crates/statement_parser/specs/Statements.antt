@@ -1,23 +1,57 @@
 -- Reading statements.
 use Rattle.std.specs.Prelude.{ℕ, zero, suc, Ok}
 use Rattle.source.specs.declared.span.Span.{Span}
-use Rattle.source.specs.declared.token.Keyword.TheVariants.{Let, Var, If, Else, While, Print, Return}
-use Rattle.source.specs.declared.token.Sign.TheVariants.{OpenBrace, CloseBrace, Colon, Equals}
+use Rattle.source.specs.declared.token.Keyword.TheVariants.{Let, Var, If, Else, While, Print, Return, Where}
+use Rattle.source.specs.declared.token.Sign.TheVariants.{OpenBrace, CloseBrace, Semicolon, Colon, Equals, DoubleEquals}
 use Rattle.source.specs.Tokens.{Lexeme, name, word, mark}
-use Rattle.syntax.specs.Trees.{Ident, Local, Stmt, let_local, var_local, assign, if_then, while, print, return_value, Stmts, no_stmts, stmt, Otherwise, no_else, else_do}
+use Rattle.syntax.specs.Trees.{Ident, Local, Owner, Stmt, let_local, let_owned, var_local, assign, if_then, while, print, return_value, Stmts, no_stmts, stmt, Otherwise, no_else, else_do}
 use Rattle.token_parts.specs.Reading.{◌>>=◌, Reader, many_at, first_at, refused, sign_at, open_at, word_at, name_at, next_until, choose}
 use Rattle.token_parts.specs.Parts.{type_at}
-use Rattle.statement_parser.specs.Expressions.{place_at, inside_at, ended_at, condition_at}
+use Rattle.statement_parser.specs.Expressions.{place_at, inside_at, expr_at, ended_at, condition_at}
 
--- behind the word `let` or `var`
+-- behind the word `let` or `var`, up to the end of the value
 unfoldable pub local_at : ℕ → Span → Reader Local
 local_at room start ts = do
   x ← name_at ts
   colon ← sign_at Colon x.1
   t ← type_at colon.1
   equals ← sign_at Equals t.1
-  e ← ended_at room equals.1
+  e ← expr_at room equals.1
   Ok (record { start = start; name = x.0; value_type = t.0; value = e.0 }, e.1)
+
+-- from the word `where` on
+unfoldable pub owner_at : Reader Owner
+owner_at ts = do
+  start ← word_at Where ts
+  field ← name_at start.1
+  equals ← sign_at DoubleEquals field.1
+  x ← name_at equals.1
+  Ok (record { field = field.0; local = x.0 }, x.1)
+
+-- what a `let` of this local ends with: an owner and a semicolon, or a semicolon
+abbrev pub owned_at : Local → Reader Stmt
+owned_at l ts = do
+  o ← owner_at ts
+  semicolon ← sign_at Semicolon o.1
+  Ok (let_owned l o.0, semicolon.1)
+
+abbrev pub plain_at : Local → Reader Stmt
+plain_at l ts = do
+  semicolon ← sign_at Semicolon ts
+  Ok (let_local l, semicolon.1)
+
+-- behind the word `let`
+unfoldable pub let_at : ℕ → Span → Reader Stmt
+let_at room start ts = do
+  l ← local_at room start ts
+  choose (word Where) (owned_at l.0) (plain_at l.0) l.1
+
+-- behind the word `var`
+unfoldable pub var_at : ℕ → Span → Reader Stmt
+var_at room start ts = do
+  l ← local_at room start ts
+  semicolon ← sign_at Semicolon l.1
+  Ok (var_local l.0, semicolon.1)
 
 -- behind the first name of what is assigned to
 unfoldable pub assign_at : ℕ → Ident → Reader Stmt
@@ -64,12 +98,8 @@ while_with room body start ts = do
 
 abbrev pub stmt_from : ℕ → Reader Stmts → Lexeme → Span → Reader Stmt
 stmt_from room body (name x) at ts = assign_at room (record { text = x; span = at }) ts
-stmt_from room body (word Let) at ts = do
-  l ← local_at room at ts
-  Ok (let_local l.0, l.1)
-stmt_from room body (word Var) at ts = do
-  l ← local_at room at ts
-  Ok (var_local l.0, l.1)
+stmt_from room body (word Let) at ts = let_at room at ts
+stmt_from room body (word Var) at ts = var_at room at ts
 stmt_from room body (word If) at ts = if_with room body at ts
 stmt_from room body (word While) at ts = while_with room body at ts
 stmt_from room body (word Print) at ts = do

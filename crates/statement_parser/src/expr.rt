@@ -264,6 +264,13 @@ fn chain(alloc: Global, level: Level, tokens: &[Token], room: u32) -> Result<(Ex
     joined(alloc, Joined::Chain(level, left, links), rest)
 }
 
+/// An expression, in which `room` signs may still be opened.
+pub fn expr(alloc: Global, tokens: &[Token], room: u32) -> Result<(Expr, &[Token]), Stop>
+    ensures { Gives (λ x. (expr_of x.0, seen x.1.now)) result (expr_at room (seen tokens.now)) }
+{
+    chain(alloc, Level::Disjunction, tokens, room)
+}
+
 /// An expression, in which `room` signs may still be opened, and the sign behind it.
 #[cycle(expr)]
 fn closed(alloc: Global, sign: Sign, tokens: &[Token], room: u32) -> Result<(Expr, &[Token]), Stop>

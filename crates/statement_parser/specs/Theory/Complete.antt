@@ -323,6 +323,17 @@ pub no_ops_semicolon : (at : Span) (ts : List Tok) → NoOps ANY (tok (mark Semi
 unfolding comparison_at skip_at
 no_ops_semicolon at ts = record { none = λ k low. none_before_semicolon at ts k; no_comparison = λ low. refl; no_place = record { no_bracket = refl; no_dot = refl; no_field = refl } }
 
+none_before_where : (at : Span) (ts : List Tok) (k : Level) → op_at k (tok (word keyword.Where) at ∷ ts) ≡ None
+unfolding op_at
+none_before_where at ts Term = refl
+none_before_where at ts Sum = refl
+none_before_where at ts Conjunction = refl
+none_before_where at ts Disjunction = refl
+
+pub no_ops_where : (at : Span) (ts : List Tok) → NoOps ANY (tok (word keyword.Where) at ∷ ts)
+unfolding comparison_at skip_at
+no_ops_where at ts = record { none = λ k low. none_before_where at ts k; no_comparison = λ low. refl; no_place = record { no_bracket = refl; no_dot = refl; no_field = refl } }
+
 pub no_place_equals : (at : Span) (ts : List Tok) → NoPlace (tok (mark Equals) at ∷ ts)
 unfolding skip_at
 no_place_equals at ts = record { no_bracket = refl; no_dot = refl; no_field = refl }

@@ -2,23 +2,26 @@
 use Rattle.std.proofs.Common.{◌≡◌, ℕ, zero, suc, ◌+◌, ◌<◌, List, ◌∷◌, refl, subst, arith}
 use Rattle.source.specs.declared.span.Span.{Span}
 use Rattle.source.specs.declared.token.Keyword.TheVariants as keyword
-use Rattle.source.specs.declared.token.Sign.TheVariants.{OpenBrace, CloseBrace, Semicolon, Colon, Equals}
+use Rattle.source.specs.declared.token.Sign.TheVariants.{OpenBrace, CloseBrace, Semicolon, Colon, Equals, DoubleEquals}
 use Rattle.source.specs.Tokens.{Lexeme, name, word, mark, Tok}
-use Rattle.syntax.specs.Trees.{Ident, int_type, Expr, Local, Stmt, let_local, var_local, assign, if_then, while, print, return_value, Stmts, no_stmts, stmt, Otherwise, no_else, else_do}
-use Rattle.syntax.specs.Grammar.{tok, name_tok, IsName, is_name, IsType, is_int_type, IsPlace, is_int, IsLocal, is_local, IsStmt, is_let, is_var, is_assign, is_if, is_while, is_print, is_return, IsStmts, are_no_stmts, are_stmts, IsBraced, is_braced, IsElse, is_no_else, is_else}
+use Rattle.syntax.specs.Trees.{Ident, int_type, Expr, Local, Owner, Stmt, let_local, let_owned, var_local, assign, if_then, while, print, return_value, Stmts, no_stmts, stmt, Otherwise, no_else, else_do}
+use Rattle.syntax.specs.Grammar.{tok, name_tok, ANY, IsName, is_name, IsType, is_int_type, IsPlace, IsExpr, is_int, IsLocal, is_local, IsOwner, is_owner, IsStmt, is_let, is_let_owned, is_var, is_assign, is_if, is_while, is_print, is_return, IsStmts, are_no_stmts, are_stmts, IsBraced, is_braced, IsElse, is_no_else, is_else}
 use Rattle.token_parts.specs.Reading.{Reader, next_until}
-use Rattle.statement_parser.specs.Expressions.{inside_at}
-use Rattle.statement_parser.specs.Statements.{local_at, assign_at, braced_with, some_else, nothing_else, else_with, if_with, while_with, stmt_from, stmt_with, stmt_at, stmts_with, stmts_in, braced_at}
+use Rattle.statement_parser.specs.Expressions.{inside_at, expr_at}
+use Rattle.statement_parser.specs.Statements.{local_at, owner_at, owned_at, plain_at, let_at, var_at, assign_at, braced_with, some_else, nothing_else, else_with, if_with, while_with, stmt_from, stmt_with, stmt_at, stmts_with, stmts_in, braced_at}
 use Rattle.token_parts.specs.Theory.Law.{Law, give_law, at_rest, Head, refuses, takes, first_law, IsTok, is_tok}
 use Rattle.token_parts.specs.Theory.Laws.{many_law}
-use Rattle.token_parts.specs.Theory.Joined.{Done, done, Both, both, nowhere, Part, ends_with, then_part, then_open, production, sign_part, word_part, name_part, until_law, choose_law, weaken_law}
-use Rattle.statement_parser.specs.Theory.Productions.{zero_expr, IsEnded, ended, ended_part, inside_law, place_part, IsCondition, is_condition, condition_part}
+use Rattle.token_parts.specs.Theory.Joined.{Done, done, Both, both, nowhere, Part, Rest, ends_with, then_part, then_open, production, sign_part, word_part, name_part, until_law, choose_law, weaken_law, either}
+use Rattle.statement_parser.specs.Theory.Productions.{zero_expr, any_part, expr_law, IsEnded, ended, ended_part, inside_law, place_part, IsCondition, is_condition, condition_part}
 use Rattle.token_parts.specs.Theory.PartLaws.{one_is, no_name, zero_tok, type_part}
 
 -- ---- what the parts of each production make
 
-local_is : {start : Span} {y : Local} {ts rest : List Tok} → Both IsName (λ x. Both (IsTok (mark Colon)) (λ c. Both IsType (λ t. Both (IsTok (mark Equals)) (λ q. Both IsEnded (λ e. Done (record { start = start; name = x; value_type = t; value = e })))))) y ts rest → (y.start ≡ start) × IsLocal y ts rest
-local_is (both is_name (both is_tok (both t (both is_tok (both (ended e) done))))) = (refl, is_local t e)
+local_is : {start : Span} {y : Local} {ts rest : List Tok} → Both IsName (λ x. Both (IsTok (mark Colon)) (λ c. Both IsType (λ t. Both (IsTok (mark Equals)) (λ q. Both (IsExpr ANY) (λ e. Done (record { start = start; name = x; value_type = t; value = e })))))) y ts rest → (y.start ≡ start) × IsLocal y ts rest
+local_is (both is_name (both is_tok (both t (both is_tok (both e done))))) = (refl, is_local t e)
+
+owner_is : {y : Owner} {ts rest : List Tok} → Both (IsTok (word keyword.Where)) (λ w. Both IsName (λ f. Both (IsTok (mark DoubleEquals)) (λ q. Both IsName (λ x. Done (record { field = f; local = x }))))) y ts rest → IsOwner y ts rest
+owner_is (both is_tok (both is_name (both is_tok (both is_name done)))) = is_owner
 
 assign_is : {x : Ident} {y : Stmt} {ts rest : List Tok} → Both (at_rest IsPlace (name_tok x)) (λ p. Both (IsTok (mark Equals)) (λ q. Both IsEnded (λ e. Done (assign p e)))) y ts rest → IsStmt y (name_tok x ∷ ts) rest
 assign_is (both p (both is_tok (both (ended e) done))) = is_assign p e
@@ -46,11 +49,26 @@ pub data IsLocalFrom (start : Span) : Local → List Tok → List Tok → Type 0
 local_from_is : {start : Span} {y : Local} {ts rest : List Tok} → (y.start ≡ start) × IsLocal y ts rest → IsLocalFrom start y ts rest
 local_from_is h = from_there h.0 h.1
 
-let_is : {start : Span} {l : Local} {ts rest : List Tok} → IsLocalFrom start l ts rest → IsStmt (let_local l) (tok (word keyword.Let) start ∷ ts) rest
-let_is {l = l} {ts = ts} {rest = rest} (from_there e h) = subst (λ (s : Span). IsStmt (let_local l) (tok (word keyword.Let) s ∷ ts) rest) e (is_let h)
+-- what a `let` of this local ends with
+data IsLetEnd (l : Local) : Stmt → List Tok → List Tok → Type 0 where
+  ends_plain : {semicolon : Span} {ts : List Tok} → IsLetEnd l (let_local l) (tok (mark Semicolon) semicolon ∷ ts) ts
+  ends_owned : {o : Owner} {semicolon : Span} {ts rest : List Tok} → IsOwner o ts (tok (mark Semicolon) semicolon ∷ rest) → IsLetEnd l (let_owned l o) ts rest
 
-var_is : {start : Span} {l : Local} {ts rest : List Tok} → IsLocalFrom start l ts rest → IsStmt (var_local l) (tok (word keyword.Var) start ∷ ts) rest
-var_is {l = l} {ts = ts} {rest = rest} (from_there e h) = subst (λ (s : Span). IsStmt (var_local l) (tok (word keyword.Var) s ∷ ts) rest) e (is_var h)
+plain_is : {l : Local} {y : Stmt} {ts rest : List Tok} → Both (IsTok (mark Semicolon)) (λ s. Done (let_local l)) y ts rest → IsLetEnd l y ts rest
+plain_is (both is_tok done) = ends_plain
+
+owned_is : {l : Local} {y : Stmt} {ts rest : List Tok} → Both IsOwner (λ o. Both (IsTok (mark Semicolon)) (λ s. Done (let_owned l o))) y ts rest → IsLetEnd l y ts rest
+owned_is (both o (both is_tok done)) = ends_owned o
+
+let_ended : {l : Local} {y : Stmt} {ts mid rest : List Tok} → IsLocal l ts mid → IsLetEnd l y mid rest → IsStmt y (tok (word keyword.Let) l.start ∷ ts) rest
+let_ended h ends_plain = is_let h
+let_ended h (ends_owned o) = is_let_owned h o
+
+let_is : {start : Span} {y : Stmt} {ts rest : List Tok} → Both (IsLocalFrom start) (λ l. IsLetEnd l) y ts rest → IsStmt y (tok (word keyword.Let) start ∷ ts) rest
+let_is {y = y} {ts = ts} {rest = rest} (both (from_there e h) f) = subst (λ (s : Span). IsStmt y (tok (word keyword.Let) s ∷ ts) rest) e (let_ended h f)
+
+var_is : {start : Span} {y : Stmt} {ts rest : List Tok} → Both (IsLocalFrom start) (λ l. Both (IsTok (mark Semicolon)) (λ s. Done (var_local l))) y ts rest → IsStmt y (tok (word keyword.Var) start ∷ ts) rest
+var_is {y = y} {ts = ts} {rest = rest} (both (from_there e h) (both is_tok done)) = subst (λ (s : Span). IsStmt y (tok (word keyword.Var) s ∷ ts) rest) e (is_var h)
 
 print_is : {start : Span} {e : Expr} {ts rest : List Tok} → IsEnded e ts rest → IsStmt (print start e) (tok (word keyword.Print) start ∷ ts) rest
 print_is (ended h) = is_print h
@@ -59,20 +77,53 @@ return_is : {start : Span} {e : Expr} {ts rest : List Tok} → IsEnded e ts rest
 return_is (ended h) = is_return h
 
 module _ (limit : ℕ) where
+  owner_law : (d : ℕ) → Law limit IsOwner owner_at 1 d d
+  unfolding owner_at
+  owner_law d =
+      production limit IsOwner
+      (then_part limit (word_part limit keyword.Where d) (then_part limit (name_part limit d) (then_part limit (sign_part limit DoubleEquals d (λ o. o)) (then_part limit (name_part limit d) (ends_with limit (λ x. record { field = x.0.0.1; local = x.1 }))))))
+      (λ y ts rest r. owner_is r)
+
+  owner_part : {P : Type 0} (d : ℕ) → Part limit P IsOwner owner_at 1 d d
+  owner_part d = record {
+    law = λ p. owner_law d;
+    can = λ rest. (record { field = no_name; local = no_name }, tok (word keyword.Where) nowhere ∷ name_tok no_name ∷ tok (mark DoubleEquals) nowhere ∷ name_tok no_name ∷ rest, is_owner);
+  }
+
   module _ (room d : ℕ) (sum : d + room ≡ limit) where
     local_law : (start : Span) → Law limit (IsLocalFrom start) (local_at room start) 1 d d
     unfolding local_at
     local_law start =
         production limit (IsLocalFrom start)
-        (then_part limit (name_part limit d) (then_part limit (sign_part limit Colon d (λ o. o)) (then_part limit (type_part limit d) (then_part limit (sign_part limit Equals d (λ o. o)) (then_part limit (ended_part limit room d sum)
+        (then_part limit (name_part limit d) (then_part limit (sign_part limit Colon d (λ o. o)) (then_part limit (type_part limit d) (then_part limit (sign_part limit Equals d (λ o. o)) (then_part limit (any_part limit (expr_at room) d (λ p. expr_law limit room d sum))
         (ends_with limit (λ x. record { start = start; name = x.0.0.0.0.1; value_type = x.0.0.1; value = x.1 })))))))
         (λ y ts rest r. local_from_is (local_is r))
 
     local_part : {P : Type 0} (start : Span) → Part limit P (IsLocalFrom start) (local_at room start) 1 d d
     local_part start = record {
       law = λ p. local_law start;
-      can = λ rest. (record { start = start; name = no_name; value_type = int_type; value = zero_expr }, name_tok no_name ∷ tok (mark Colon) nowhere ∷ tok (word keyword.Int) nowhere ∷ tok (mark Equals) nowhere ∷ zero_tok ∷ tok (mark Semicolon) nowhere ∷ rest, from_there refl (is_local is_int_type is_int));
+      can = λ rest. (record { start = start; name = no_name; value_type = int_type; value = zero_expr }, name_tok no_name ∷ tok (mark Colon) nowhere ∷ tok (word keyword.Int) nowhere ∷ tok (mark Equals) nowhere ∷ zero_tok ∷ rest, from_there refl (is_local is_int_type is_int));
     }
+
+    plain_rest : {P : Type 0} → Rest limit P (λ (x : Unit {0} × Local). IsLetEnd x.1) (λ x. plain_at x.1) 1 d d
+    plain_rest = record {
+      law = λ p x. production limit (IsLetEnd x.1) (then_part limit (sign_part limit Semicolon d (λ o. o)) (ends_with limit (λ y. let_local x.1))) (λ y ts rest r. plain_is r);
+      can = λ rest. (tok (mark Semicolon) nowhere ∷ rest, λ x. (let_local x.1, ends_plain));
+    }
+
+    owned_rest : {P : Type 0} → Rest limit P (λ (x : Unit {0} × Local). IsLetEnd x.1) (λ x. owned_at x.1) 1 d d
+    owned_rest = record {
+      law = λ p x. production limit (IsLetEnd x.1) (then_part limit (owner_part d) (then_part limit (sign_part limit Semicolon d (λ o. o)) (ends_with limit (λ y. let_owned x.1 y.0.1)))) (λ y ts rest r. owned_is r);
+      can = λ rest. (tok (mark Semicolon) nowhere ∷ rest, λ x. (let_local x.1, ends_plain));
+    }
+
+    let_law : (start : Span) → Law limit (at_rest IsStmt (tok (word keyword.Let) start)) (let_at room start) 1 d d
+    unfolding let_at
+    let_law start = production limit (at_rest IsStmt (tok (word keyword.Let) start)) (then_part limit (local_part start) (either limit (word keyword.Where) owned_rest plain_rest)) (λ y ts rest r. let_is r)
+
+    var_law : (start : Span) → Law limit (at_rest IsStmt (tok (word keyword.Var) start)) (var_at room start) 1 d d
+    unfolding var_at
+    var_law start = production limit (at_rest IsStmt (tok (word keyword.Var) start)) (then_part limit (local_part start) (then_part limit (sign_part limit Semicolon d (λ o. o)) (ends_with limit (λ x. var_local x.0.1)))) (λ y ts rest r. var_is r)
 
     assign_law : (x : Ident) → Law limit (at_rest IsStmt (name_tok x)) (assign_at room x) 0 d d
     unfolding assign_at
@@ -120,8 +171,8 @@ module _ (limit : ℕ) where
 
       stmt_head : (k : Lexeme) (at : Span) → Head limit IsStmt d d k at (stmt_from room body k at)
       stmt_head (name x) at = takes 0 (λ e. cc) (λ o. absurd o) (assign_law (record { text = x; span = at }))
-      stmt_head (word keyword.Let) at = takes 1 (λ e. cc) (λ o. absurd o) (production limit (at_rest IsStmt (tok (word keyword.Let) at)) (then_part limit (local_part at) (ends_with limit (λ x. let_local x.1))) (one_is _ (λ x ts rest h. let_is h)))
-      stmt_head (word keyword.Var) at = takes 1 (λ e. cc) (λ o. absurd o) (production limit (at_rest IsStmt (tok (word keyword.Var) at)) (then_part limit (local_part at) (ends_with limit (λ x. var_local x.1))) (one_is _ (λ x ts rest h. var_is h)))
+      stmt_head (word keyword.Let) at = takes 1 (λ e. cc) (λ o. absurd o) (let_law at)
+      stmt_head (word keyword.Var) at = takes 1 (λ e. cc) (λ o. absurd o) (var_law at)
       stmt_head (word keyword.If) at = takes 1 (λ e. cc) (λ o. absurd o) (if_law at)
       stmt_head (word keyword.While) at = takes 1 (λ e. cc) (λ o. absurd o) (while_law at)
       stmt_head (word keyword.Print) at = takes 1 (λ e. cc) (λ o. absurd o) (production limit (at_rest IsStmt (tok (word keyword.Print) at)) (then_part limit (ended_part limit room d sum) (ends_with limit (λ x. print at x.1))) (one_is _ (λ x ts rest h. print_is h)))

@@ -2,31 +2,34 @@
 use Rattle.std.proofs.Common.{◌≡◌, ℕ, zero, suc, true, false, List, [], ◌∷◌, length, Ok, refl, sym, subst}
 use Rattle.source.specs.declared.span.Span.{Span}
 use Rattle.source.specs.declared.token.Keyword.TheVariants as keyword
-use Rattle.source.specs.declared.token.Sign.TheVariants.{OpenBrace, CloseBrace, OpenParen, Colon, Equals}
+use Rattle.source.specs.declared.token.Sign.TheVariants.{OpenBrace, CloseBrace, OpenParen, Semicolon, Colon, Equals, DoubleEquals}
 use Rattle.source.specs.Tokens.{Lexeme, name, word, mark, end, Tok}
 use Rattle.source.specs.Tokens as lexeme
-use Rattle.syntax.specs.Trees.{Ident, Place, Expr, Local, Stmt, let_local, var_local, assign, if_then, while, print, return_value, Stmts, no_stmts, stmt, Otherwise, no_else, else_do}
-use Rattle.syntax.specs.Grammar.{tok, name_tok, IsName, is_name, IsType, IsPlace, is_lone, is_element, is_path, IsLocal, is_local, IsStmt, is_let, is_var, is_assign, is_if, is_while, is_print, is_return, IsStmts, are_no_stmts, are_stmts, IsBraced, is_braced, IsElse, is_no_else, is_else}
+use Rattle.syntax.specs.Trees.{Ident, Place, Expr, Local, Owner, Stmt, let_local, let_owned, var_local, assign, if_then, while, print, return_value, Stmts, no_stmts, stmt, Otherwise, no_else, else_do}
+use Rattle.syntax.specs.Grammar.{tok, name_tok, ANY, IsName, is_name, IsType, IsPlace, is_lone, is_element, is_path, IsExpr, IsLocal, is_local, IsOwner, is_owner, IsStmt, is_let, is_let_owned, is_var, is_assign, is_if, is_while, is_print, is_return, IsStmts, are_no_stmts, are_stmts, IsBraced, is_braced, IsElse, is_no_else, is_else}
 use Rattle.token_parts.specs.Reading.{◌>>=◌, same_kind, sign_at, open_at, word_at, choose}
 use Rattle.statement_parser.specs.Expressions.{inside_at, place_at, ended_at, condition_at}
-use Rattle.statement_parser.specs.Statements.{local_at, assign_at, braced_with, some_else, nothing_else, else_with, if_with, while_with, stmt_with, stmt_at, stmts_with, stmts_in, braced_at}
+use Rattle.statement_parser.specs.Statements.{local_at, owner_at, owned_at, plain_at, let_at, var_at, assign_at, braced_with, some_else, nothing_else, else_with, if_with, while_with, stmt_with, stmt_at, stmts_with, stmts_in, braced_at}
 use Rattle.token_parts.specs.Theory.Law.{IsTok, is_tok}
 use Rattle.token_parts.specs.Theory.Joined.{Done, done, Both, both}
 use Rattle.statement_parser.specs.Theory.Productions.{IsEnded, ended}
 use Rattle.statement_parser.specs.Theory.StatementLaws.{IsLocalFrom, from_there, IsBracedPair}
 use Rattle.statement_parser.specs.Theory.StatementTurns.{next_stmt_shortens}
-use Rattle.statement_parser.specs.Theory.Complete.{no_place_equals, PlaceFound, place_found, ended_found, condition_found}
-use Rattle.token_parts.specs.Theory.Finding.{Finds, found, deep, finds_then, FindsPart, Anything, ends_found, and_found, production_found, sign_found, name_found, NotNext, IsNext, until_none, until_found, choose_right}
+use Rattle.statement_parser.specs.Theory.Complete.{NoOps, no_ops_semicolon, no_ops_where, no_place_equals, PlaceFound, place_found, any_found, ended_found, condition_found}
+use Rattle.token_parts.specs.Theory.Finding.{Finds, found, deep, finds_then, FindsPart, Anything, ends_found, then_found, and_found, production_found, sign_found, word_found, name_found, NotNext, IsNext, until_none, until_found, choose_left, choose_right}
 use Rattle.token_parts.specs.Theory.PartsFound.{type_found}
 
-local_back : {start : Span} {y : Local} {ts rest : List Tok} → IsLocalFrom start y ts rest → Both IsName (λ x. Both (IsTok (mark Colon)) (λ c. Both IsType (λ t. Both (IsTok (mark Equals)) (λ q. Both IsEnded (λ e. Done (record { start = start; name = x; value_type = t; value = e })))))) y ts rest
-local_back (from_there {l = l} {rest = rest} same (is_local t e)) = both is_name (both is_tok (both t (both is_tok (both (ended e) (subst (λ (s : Span). Done (record { start = s; name = l.name; value_type = l.value_type; value = l.value }) l rest rest) same done)))))
+local_back : {start : Span} {y : Local} {ts rest : List Tok} → IsLocalFrom start y ts rest → Both IsName (λ x. Both (IsTok (mark Colon)) (λ c. Both IsType (λ t. Both (IsTok (mark Equals)) (λ q. Both (IsExpr ANY) (λ e. Done (record { start = start; name = x; value_type = t; value = e })))))) y ts rest
+local_back (from_there {l = l} {rest = rest} same (is_local t e)) = both is_name (both is_tok (both t (both is_tok (both e (subst (λ (s : Span). Done (record { start = s; name = l.name; value_type = l.value_type; value = l.value }) l rest rest) same done)))))
 
-local_found : (room : ℕ) (start : Span) → FindsPart Anything (IsLocalFrom start) (local_at room start)
+local_ends : {x y : Local} {ts rest : List Tok} → Done x y ts rest → NoOps ANY rest → NoOps ANY ts
+local_ends done stops = stops
+
+local_found : (room : ℕ) (start : Span) → FindsPart (NoOps ANY) (IsLocalFrom start) (local_at room start)
 unfolding local_at
 local_found room start =
     production_found (IsLocalFrom start)
-    (and_found name_found (and_found (sign_found Colon) (and_found type_found (and_found (sign_found Equals) (and_found (ended_found room)
+    (and_found name_found (and_found (sign_found Colon) (and_found type_found (and_found (sign_found Equals) (then_found {F = NoOps ANY} (λ e ts mid h f. any_found h room f) (λ x a y ts rest r f. local_ends r f)
     (ends_found (λ x. record { start = start; name = x.0.0.0.0.1; value_type = x.0.0.1; value = x.1 })))))))
     (λ y ts rest h. local_back h)
 
@@ -63,13 +66,44 @@ unfolding braced_with open_at stmts_in sign_at
 braces_found zero ss begin close ts rest h = deep (suc (length ts)) refl
 braces_found (suc room) ss begin close ts rest h = finds_then (stmts_with (stmt_at room) ts) (λ ss. sign_at CloseBrace ss.1 >>= λ c. Ok ((ss.0, c.0), c.1)) (ss, tok (mark CloseBrace) close ∷ rest) ((ss, close), rest) (h room) (found refl)
 
-let_found : (room : ℕ) (l : Local) (ts rest : List Tok) → IsLocal l ts rest → Finds (stmt_at room (tok (word keyword.Let) l.start ∷ ts)) (let_local l, rest)
-unfolding stmt_with
-let_found room l ts rest h = finds_then (local_at room l.start ts) (λ l. Ok (let_local l.0, l.1)) (l, rest) (let_local l, rest) (local_found room l.start l ts rest (from_there refl h) tt) (found refl)
+owner_back : {y : Owner} {ts rest : List Tok} → IsOwner y ts rest → Both (IsTok (word keyword.Where)) (λ w. Both IsName (λ f. Both (IsTok (mark DoubleEquals)) (λ q. Both IsName (λ x. Done (record { field = f; local = x }))))) y ts rest
+owner_back is_owner = both is_tok (both is_name (both is_tok (both is_name done)))
 
-var_found : (room : ℕ) (l : Local) (ts rest : List Tok) → IsLocal l ts rest → Finds (stmt_at room (tok (word keyword.Var) l.start ∷ ts)) (var_local l, rest)
-unfolding stmt_with
-var_found room l ts rest h = finds_then (local_at room l.start ts) (λ l. Ok (var_local l.0, l.1)) (l, rest) (var_local l, rest) (local_found room l.start l ts rest (from_there refl h) tt) (found refl)
+owner_found : FindsPart Anything IsOwner owner_at
+unfolding owner_at
+owner_found =
+    production_found IsOwner
+    (and_found (word_found keyword.Where) (and_found name_found (and_found (sign_found DoubleEquals) (and_found name_found (ends_found (λ x. record { field = x.0.0.1; local = x.1 }))))))
+    (λ y ts rest h. owner_back h)
+
+owner_stops : {o : Owner} {ts rest : List Tok} → IsOwner o ts rest → NoOps ANY ts
+owner_stops (is_owner {o} {start} {equals} {rest}) = no_ops_where start (name_tok o.field ∷ tok (mark DoubleEquals) equals ∷ name_tok o.local ∷ rest)
+
+owner_begins : {o : Owner} {ts rest : List Tok} → IsOwner o ts rest → IsNext (word keyword.Where) ts
+owner_begins is_owner = refl
+
+let_found : (room : ℕ) (l : Local) (semicolon : Span) (ts rest : List Tok) → IsLocal l ts (tok (mark Semicolon) semicolon ∷ rest) → Finds (stmt_at room (tok (word keyword.Let) l.start ∷ ts)) (let_local l, rest)
+unfolding stmt_with let_at sign_at
+let_found room l semicolon ts rest h =
+    let us = tok (mark Semicolon) semicolon ∷ rest in
+    finds_then (local_at room l.start ts) (λ l. choose (word keyword.Where) (owned_at l.0) (plain_at l.0) l.1) (l, us) (let_local l, rest) (local_found room l.start l ts us (from_there refl h) (no_ops_semicolon semicolon rest))
+    (choose_right (word keyword.Where) (owned_at l) (plain_at l) us (let_local l, rest) refl (found refl))
+
+owned_found : (l : Local) (o : Owner) (semicolon : Span) (ts rest : List Tok) → IsOwner o ts (tok (mark Semicolon) semicolon ∷ rest) → Finds (owned_at l ts) (let_owned l o, rest)
+unfolding sign_at
+owned_found l o semicolon ts rest h = finds_then (owner_at ts) (λ o. sign_at Semicolon o.1 >>= λ s. Ok (let_owned l o.0, s.1)) (o, tok (mark Semicolon) semicolon ∷ rest) (let_owned l o, rest) (owner_found o ts _ h tt) (found refl)
+
+let_owned_found : (room : ℕ) (l : Local) (o : Owner) (semicolon : Span) (ts mid rest : List Tok) → IsLocal l ts mid → IsOwner o mid (tok (mark Semicolon) semicolon ∷ rest) → Finds (stmt_at room (tok (word keyword.Let) l.start ∷ ts)) (let_owned l o, rest)
+unfolding stmt_with let_at
+let_owned_found room l o semicolon ts mid rest h g =
+    finds_then (local_at room l.start ts) (λ l. choose (word keyword.Where) (owned_at l.0) (plain_at l.0) l.1) (l, mid) (let_owned l o, rest) (local_found room l.start l ts mid (from_there refl h) (owner_stops g))
+    (choose_left (word keyword.Where) (owned_at l) (plain_at l) mid (let_owned l o, rest) (owner_begins g) (owned_found l o semicolon mid rest g))
+
+var_found : (room : ℕ) (l : Local) (semicolon : Span) (ts rest : List Tok) → IsLocal l ts (tok (mark Semicolon) semicolon ∷ rest) → Finds (stmt_at room (tok (word keyword.Var) l.start ∷ ts)) (var_local l, rest)
+unfolding stmt_with var_at sign_at
+var_found room l semicolon ts rest h =
+    let us = tok (mark Semicolon) semicolon ∷ rest in
+    finds_then (local_at room l.start ts) (λ l. sign_at Semicolon l.1 >>= λ s. Ok (var_local l.0, s.1)) (l, us) (var_local l, rest) (local_found room l.start l ts us (from_there refl h) (no_ops_semicolon semicolon rest)) (found refl)
 
 print_found : (room : ℕ) (start : Span) (e : Expr) (ts rest : List Tok) → IsEnded e ts rest → Finds (stmt_at room (tok (word keyword.Print) start ∷ ts)) (print start e, rest)
 unfolding stmt_with
@@ -86,6 +120,7 @@ place_begins (is_path h) = (refl, refl)
 
 stmt_begins : {s : Stmt} {ts rest : List Tok} → IsStmt s ts rest → NotNext (mark CloseBrace) ts × NotNext (word keyword.Else) ts
 stmt_begins (is_let h) = (refl, refl)
+stmt_begins (is_let_owned h o) = (refl, refl)
 stmt_begins (is_var h) = (refl, refl)
 stmt_begins (is_assign p h) = place_begins p
 stmt_begins (is_if e b o) = (refl, refl)
@@ -118,8 +153,9 @@ more_stmts_found room s more ts mid rest e h g = until_found no_stmts stmt (mark
 
 mutual
   stmt_found : {s : Stmt} {ts rest : List Tok} → IsStmt s ts rest → (room : ℕ) → NotNext (word keyword.Else) rest → Finds (stmt_at room ts) (s, rest)
-  stmt_found (is_let {l = l} {ts = ts} {rest = rest} h) room follow = let_found room l ts rest h
-  stmt_found (is_var {l = l} {ts = ts} {rest = rest} h) room follow = var_found room l ts rest h
+  stmt_found (is_let {l = l} {semicolon = semicolon} {ts = ts} {rest = rest} h) room follow = let_found room l semicolon ts rest h
+  stmt_found (is_let_owned {l = l} {o = o} {semicolon = semicolon} {ts = ts} {mid = mid} {rest = rest} h g) room follow = let_owned_found room l o semicolon ts mid rest h g
+  stmt_found (is_var {l = l} {semicolon = semicolon} {ts = ts} {rest = rest} h) room follow = var_found room l semicolon ts rest h
   stmt_found (is_assign {p = p} {e = e} {equals = equals} {ts = ts} {mid = mid} {rest = rest} i h) room follow = place_assign room p e equals ts mid rest (place_found i room (no_place_equals equals mid)) (ended h)
   stmt_found (is_if {e = e} {body = body} {other = other} {start = start} {before = before} {after = behind} {close = close} {ts = ts} {mid = mid} {next = next} {rest = rest} h b o) room follow = if_found room start before e body close other ts mid next rest (condition_found room e before behind ts mid h) (braced_found b room) (else_found o room follow)
   stmt_found (is_while {e = e} {body = body} {start = start} {before = before} {after = behind} {close = close} {ts = ts} {mid = mid} {rest = rest} h b) room follow = while_found room start before e body close ts mid rest (condition_found room e before behind ts mid h) (braced_found b room)

@@ -13,7 +13,7 @@ use Rattle.statement_parser.specs.Theory.StatementTurns.{stmt_shortens, stmts_go
 use Rattle.source.specs.declared.token.Keyword.TheVariants.{Let, Var, If, While, Print, Return}
 use Rattle.source.specs.declared.token.Token.TheVariants as token
 use Rattle.std.specs.Rc.{rc_str_bytes}
-use Rattle.syntax.specs.Trees.{Ident, Local, Expr, let_local, var_local, print, return_value}
+use Rattle.syntax.specs.Trees.{Ident, Expr, print, return_value}
 use Rattle.token_parts.specs.Theory.First.{word_first, at_first, named_is, behind_first}
 use Rattle.statement_parser.proofs.stmt.+stmt.Goals as goal
 
@@ -106,30 +106,6 @@ otherwise-returns-in_err-body t c =
     let p = err_from_is_err_and c.from_residual-in_err-body.result c.from_residual-in_err-body.ensures.1 in
     rw (p.1, p.2, sym c.is_word_next.ensures ∙ c.if-not-is_word_next.false, c.in_ok-rest.ensures) (fails_on c.in_err-body.field-0.0 _ _ c.in_err-body.ensures)
 
-pub stmt-returns-in_ok-local-in-Word-default-Let : goal.stmt-returns-in_ok-local-in-Word-default-Let
-unfolding stmt_with
-stmt-returns-in_ok-local-in-Word-default-Let t c =
-    word_first c.args.tokens.now c.first-item.result c.in-len1-up.len_at_least c.first-item.is c.in-Word-default-Let.span c.in-Word-default-Let.field-1 Let c.in-Word-default-Let.is (rw c.in-Word-default-Let.is at c.in-Word-default-Let.field-1-is) (stmt_at c.args.room)
-    ∙ ap (λ (r : Result (Local × List Tok) Stop). r >>= λ l. Ok (let_local l.0, l.1)) c.in_ok-local-in-Word-default-Let.ensures
-
-pub stmt-returns-in_err-local-in-Word-default-Let : goal.stmt-returns-in_err-local-in-Word-default-Let
-unfolding stmt_with
-stmt-returns-in_err-local-in-Word-default-Let t c =
-    let p = err_from_is_err_and c.from_residual-in_err-local-in-Word-default-Let.result c.from_residual-in_err-local-in-Word-default-Let.ensures.1 in
-    rw (p.1, p.2, word_first c.args.tokens.now c.first-item.result c.in-len1-up.len_at_least c.first-item.is c.in-Word-default-Let.span c.in-Word-default-Let.field-1 Let c.in-Word-default-Let.is (rw c.in-Word-default-Let.is at c.in-Word-default-Let.field-1-is) (stmt_at c.args.room)) (fails_on c.in_err-local-in-Word-default-Let.field-0.0 _ _ c.in_err-local-in-Word-default-Let.ensures)
-
-pub stmt-returns-in_ok-local-in-Word-default-Var : goal.stmt-returns-in_ok-local-in-Word-default-Var
-unfolding stmt_with
-stmt-returns-in_ok-local-in-Word-default-Var t c =
-    word_first c.args.tokens.now c.first-item.result c.in-len1-up.len_at_least c.first-item.is c.in-Word-default-Var.span c.in-Word-default-Var.field-1 Var c.in-Word-default-Var.is (rw c.in-Word-default-Var.is at c.in-Word-default-Var.field-1-is) (stmt_at c.args.room)
-    ∙ ap (λ (r : Result (Local × List Tok) Stop). r >>= λ l. Ok (var_local l.0, l.1)) c.in_ok-local-in-Word-default-Var.ensures
-
-pub stmt-returns-in_err-local-in-Word-default-Var : goal.stmt-returns-in_err-local-in-Word-default-Var
-unfolding stmt_with
-stmt-returns-in_err-local-in-Word-default-Var t c =
-    let p = err_from_is_err_and c.from_residual-in_err-local-in-Word-default-Var.result c.from_residual-in_err-local-in-Word-default-Var.ensures.1 in
-    rw (p.1, p.2, word_first c.args.tokens.now c.first-item.result c.in-len1-up.len_at_least c.first-item.is c.in-Word-default-Var.span c.in-Word-default-Var.field-1 Var c.in-Word-default-Var.is (rw c.in-Word-default-Var.is at c.in-Word-default-Var.field-1-is) (stmt_at c.args.room)) (fails_on c.in_err-local-in-Word-default-Var.field-0.0 _ _ c.in_err-local-in-Word-default-Var.ensures)
-
 pub stmt-returns-in_ok-value-in-Word-default-Print : goal.stmt-returns-in_ok-value-in-Word-default-Print
 unfolding stmt_with
 stmt-returns-in_ok-value-in-Word-default-Print t c =
@@ -153,6 +129,14 @@ unfolding stmt_with
 stmt-returns-in_err-value-in-Word-default-Return t c =
     let p = err_from_is_err_and c.from_residual-in_err-value-in-Word-default-Return.result c.from_residual-in_err-value-in-Word-default-Return.ensures.1 in
     rw (p.1, p.2, word_first c.args.tokens.now c.first-item.result c.in-len1-up.len_at_least c.first-item.is c.in-Word-default-Return.span c.in-Word-default-Return.field-1 Return c.in-Word-default-Return.is (rw c.in-Word-default-Return.is at c.in-Word-default-Return.field-1-is) (stmt_at c.args.room)) (fails_on c.in_err-value-in-Word-default-Return.field-0.0 _ _ c.in_err-value-in-Word-default-Return.ensures)
+
+pub stmt-returns-in-Word-default-Let : goal.stmt-returns-in-Word-default-Let
+unfolding stmt_with
+stmt-returns-in-Word-default-Let t c = rw (word_first c.args.tokens.now c.first-item.result c.in-len1-up.len_at_least c.first-item.is c.in-Word-default-Let.span c.in-Word-default-Let.field-1 Let c.in-Word-default-Let.is (rw c.in-Word-default-Let.is at c.in-Word-default-Let.field-1-is) (stmt_at c.args.room)) c.let_rest.ensures
+
+pub stmt-returns-in-Word-default-Var : goal.stmt-returns-in-Word-default-Var
+unfolding stmt_with
+stmt-returns-in-Word-default-Var t c = rw (word_first c.args.tokens.now c.first-item.result c.in-len1-up.len_at_least c.first-item.is c.in-Word-default-Var.span c.in-Word-default-Var.field-1 Var c.in-Word-default-Var.is (rw c.in-Word-default-Var.is at c.in-Word-default-Var.field-1-is) (stmt_at c.args.room)) c.var_rest.ensures
 
 pub stmt-returns-in-Word-default-If : goal.stmt-returns-in-Word-default-If
 unfolding stmt_with

@@ -1,9 +1,7 @@
-use Rattle.std.proofs.Common.{Ok, ap, sym, ◌∙◌}
 use Rattle.std.proofs.lemmas.Result.{err_from_is_err_and}
 use Rattle.source.specs.declared.token.Sign.TheVariants.{Colon, Equals}
 use Rattle.source.specs.Tokens.{seen}
-use Rattle.syntax.specs.declared.tree.Local as the_local
-use Rattle.syntax.specs.Views.{ident, local_of, type_of}
+use Rattle.syntax.specs.Views.{ident, type_of}
 use Rattle.token_parts.specs.Reading.{name_at}
 use Rattle.token_parts.specs.Parts.{type_at}
 use Rattle.statement_parser.specs.Statements.{local_at}
@@ -16,7 +14,7 @@ pub returns : goal.returns
 returns c =
     let x0 = ended Colon name_at (seen c.args.tokens.now) c.take_name.result ident (λ r. seen r.now) c.in_ok-name.name _ c.take_name.ensures c.in_ok-name.ensures in
     let x1 = ended Equals type_at (seen c.in_ok-name.rest.now) c.value_type.result type_of (λ r. seen r.now) c.in_ok-value_type.value_type _ c.value_type.ensures c.in_ok-value_type.ensures in
-    local_done (seen c.args.tokens.now) x0.read c.args.room c.args.start x0.sign x1.read x1.sign c.in_ok-value.ensures ∙ ap (λ (l : the_local.Local). Ok (local_of l, seen c.in_ok-value.rest.now)) (sym c.in_ok-new.ensures.ok)
+    local_done (seen c.args.tokens.now) x0.read c.args.room c.args.start x0.sign x1.read x1.sign c.in_ok-value.ensures
 
 pub returns-in_err-name : goal.returns-in_err-name
 unfolding local_at
