@@ -10,7 +10,7 @@ use Rattle.syntax.specs.declared.tree.If as the_if
 use Rattle.syntax.specs.declared.tree.If.{out-If}
 use Rattle.syntax.specs.declared.tree.While as the_while
 use Rattle.syntax.specs.Returns.{IsReturn, is_return, HasReturn, this_returns, returns_inside, later_returns, HasReturnInside, in_then, in_else, in_while, HasStrayReturn, this_early, stray_inside, later_stray, EndsInReturn, last_returns, ends_later, IsSectionFault, no_result, stray, missing, IsReturnFault, this_section, later_section, ReturnsRight, IsFirstReturnFault}
-use Rattle.syntax.specs.Trees.{Ident, ValueType, Expr, Variable, Array, Struct, Pool, Init, Thread, Stmt, let_local, var_local, assign, if_then, while, print, return_value, Stmts, no_stmts, stmt, Otherwise, no_else, else_do, Section, Decl, lock, struct, global, array, pool, init, atomic, thread}
+use Rattle.syntax.specs.Trees.{Ident, ValueType, Expr, Variable, Array, Struct, Pool, Init, Thread, Stmt, let_local, let_owned, var_local, assign, if_then, while, print, return_value, Stmts, no_stmts, stmt, Otherwise, no_else, else_do, Section, Decl, lock, struct, global, array, pool, init, atomic, thread}
 use Rattle.syntax.specs.Views.{stmt_of, stmts_of, else_of}
 use Rattle.syntax.specs.Rows.{stmt_of-While, if_of-out}
 use Rattle.parser.specs.Returning.{earlier, own_return, least_return, inner_return, other_return, least_stray, is_return as returns, does_end, missing_at, section_fault_of, decl_fault, least_fault}
@@ -54,6 +54,7 @@ IsOther s = (at : Span) (e : the_expr.Expr) → s ≡ Return at e → ⊥
 
 pub other_returns : (s : the_stmt.Stmt) → IsOther s → false ≡ returns (stmt_of s)
 other_returns (the_stmt.Let l) h = refl
+other_returns (the_stmt.LetOwned l) h = refl
 other_returns (the_stmt.Var l) h = refl
 other_returns (the_stmt.Assign p e) h = refl
 other_returns (the_stmt.If' x (the_if.If' start e n row close other)) h = refl
@@ -63,6 +64,7 @@ other_returns (the_stmt.Return at e) h = absurd (h at e refl)
 
 pub other_own : (s : the_stmt.Stmt) → IsOther s → None ≡ own_return (stmt_of s)
 other_own (the_stmt.Let l) h = refl
+other_own (the_stmt.LetOwned l) h = refl
 other_own (the_stmt.Var l) h = refl
 other_own (the_stmt.Assign p e) h = refl
 other_own (the_stmt.If' x (the_if.If' start e n row close other)) h = refl
@@ -111,6 +113,7 @@ same_place is_return = omega arith
 own_least : (s : Stmt) → IsLeast (IsReturn s) (own_return s)
 own_least (return_value at e) = (is_return, λ n h. same_place h)
 own_least (let_local l) = λ n h. elim h [ ]
+own_least (let_owned l o) = λ n h. elim h [ ]
 own_least (var_local l) = λ n h. elim h [ ]
 own_least (if_then start e body close other) = λ n h. elim h [ ]
 own_least (while start e body close) = λ n h. elim h [ ]
@@ -157,6 +160,7 @@ mutual
 
   inside_least : (s : Stmt) → IsLeast (HasReturnInside s) (inner_return s)
   inside_least (let_local l) = λ n h. elim h [ ]
+  inside_least (let_owned l o) = λ n h. elim h [ ]
   inside_least (var_local l) = λ n h. elim h [ ]
   inside_least (assign p e) = λ n h. elim h [ ]
   inside_least (if_then start e body close other) = least_of_both (HasReturn body) (HasElse other) (HasReturnInside (if_then start e body close other)) (λ n h. in_then h) in_other split_if (least_return body) (other_return other) (return_least body) (other_least other)
@@ -190,6 +194,7 @@ stray_least (stmt s (stmt next more)) = least_of_both (IsHere s) (HasStrayReturn
 is_last : (s : Stmt) → returns s ≡ true → EndsInReturn (stmt s no_stmts)
 is_last (return_value at e) h = last_returns is_return
 is_last (let_local l) h = absurd cc
+is_last (let_owned l o) h = absurd cc
 is_last (var_local l) h = absurd cc
 is_last (if_then start e body close other) h = absurd cc
 is_last (while start e body close) h = absurd cc

@@ -51,8 +51,12 @@ fn inner_return(stmt: &Stmt) -> Option<usize>
             else_return(&choice.otherwise),
         ),
         Stmt::While(repetition) => least_return(&repetition.block.stmts),
-        Stmt::Let(_) | Stmt::Var(_) | Stmt::Assign(_, _) | Stmt::Print(_, _) | Stmt::Return(_, _) =>
-            None,
+        Stmt::Let(_)
+        | Stmt::LetOwned(_)
+        | Stmt::Var(_)
+        | Stmt::Assign(_, _)
+        | Stmt::Print(_, _)
+        | Stmt::Return(_, _) => None,
     }
 }
 
