@@ -8,12 +8,12 @@ syntax case match
 syntax keyword autolockDeclaration lock struct global pool init atomic thread
 syntax keyword autolockModifier final protected_by
 syntax keyword autolockType int ref
-syntax keyword autolockBinding let var
+syntax keyword autolockBinding let var where
 syntax keyword autolockConditional if else
 syntax keyword autolockRepeat while repeat
 syntax keyword autolockStatement print return
 syntax keyword autolockConstant null
-syntax keyword autolockReserved where call
+syntax keyword autolockReserved call
 syntax match autolockNumber '\<\d\+\>'
 syntax match autolockOperator '[-+*/%!<>=]\|&&\|||'
 syntax keyword autolockTodo TODO FIXME contained
