@@ -11,30 +11,34 @@ use Rattle.syntax.specs.declared.tree.Level.{Level}
 use Rattle.syntax.specs.declared.tree.Level.TheVariants.{Term, Sum, Conjunction, Disjunction}
 use Rattle.syntax.specs.declared.tree.Comparison as written
 use Rattle.syntax.specs.declared.tree.Comparison.TheVariants as sign
-use Rattle.syntax.specs.Trees.{Ident, ref_type, Const, int_const, negative, member_const, Place, lone, element, path, Expr, int, place, chain, compare, assign, Protection, Member, lock_member, final_member, field_member, Struct, Pool, Init, Call, Decl, lock, struct, global, array, pool, init, atomic, thread}
+use Rattle.syntax.specs.Trees as tree
+use Rattle.syntax.specs.Trees.{Ident, ref_type, Const, int_const, negative, member_const, Place, lone, element, path, Expr, int, place, chain, compare, Owner, let_owned, assign, Protection, Member, lock_member, final_member, field_member, Struct, Pool, Init, Call, Decl, lock, struct, global, array, pool, init, atomic, thread}
+use Rattle.core_lang.specs.declared.value.ValueType as core_type
 use Rattle.core_lang.specs.declared.value.ValueType.TheVariants.{Integer, Reference}
 use Rattle.core_lang.specs.declared.tree.FieldStep.{FieldStep}
 use Rattle.source.specs.declared.mistake.Mistake.{Mistake}
+use Rattle.resolution.specs.declared.wanted.Sort.TheVariants as sort
 use Rattle.resolution.specs.declared.wanted.Want.{Want}
 use Rattle.resolution.specs.declared.wanted.Want.TheVariants.{Value}
 use Rattle.resolution.specs.Limits.{STRUCT_LIMIT, MEMBER_LIMIT, FINAL_LIMIT, CLASS_LIMIT, OBJECT_LIMIT, CELL_LIMIT, SECTION_LIMIT, THREAD_LIMIT, PARAMETER_LIMIT, LOCAL_LIMIT, CALL_LIMIT}
 use Rattle.resolution.specs.Scopes.{Scope, Local, outside, Meaning, a_local, a_decl, nothing, meaning, place_of, count, declared, the_decl, alike, the_struct, member_name, member_bears, the_member, the_local, has_type, member_has_type, type_of, struct_named, entered}
 use Rattle.resolution.specs.Numbers.{is_lock, total, classes_of, objects_of, cells_of, calls_of}
-use Rattle.resolution.specs.Expressions.{ResolvedExpr, value, truth, fits, fits_sort, alike_sorts, want, typed, operator_of, Walk, reached, at_lock, lost, stepped, walked, at_local, walk_from}
+use Rattle.resolution.specs.Expressions.{ResolvedExpr, value, truth, fits, fits_type, fits_sort, alike_sorts, want, typed, operator_of, Walk, reached, at_lock, lost, stepped, walked, at_local, walk_from}
+use Rattle.resolution.specs.Owners.{OwnerField, owner_field}
 use Rattle.resolution.specs.Statements.{first_name, target_of, wanted_by}
 use Rattle.resolution.specs.Constants.{pool_members, initialised, member_want, given}
 use Rattle.resolution.specs.Annotations.{AnnotationCursor, stepped_on, cursor_at}
 use Rattle.resolution.specs.Resolution.{ahead_of}
-use Rattle.resolution.specs.Where.{Has, first, further, HasStmt, HasExpr, HasPlace, is_read, is_written, Binds, HasCall, HasConst, of_variable, of_elements, Annotates, annotates}
+use Rattle.resolution.specs.Where.{Has, first, further, HasStmt, HasExpr, HasPlace, is_read, is_written, Binds, NamesOwner, names_owner, HasCall, HasConst, of_variable, of_elements, Annotates, annotates}
 use Rattle.resolution.specs.Faults as fault
 use Rattle.resolution.specs.Faults.{start_of, const_start, IsTooLarge, IsDeclaredTwice, Reaches, stays, goes_on, Walks, walks, NamesGlobal, IsLockDecl, IsLockMember, IsFinalMember, IsUnknown, AreUnlike, IsEquality, IsOfNumbers, IsNoValue, HasNoElements, IsNoReference, IsNoStruct, IsSection, IsPool, IsWrongType, IsWrongCount, IsNotAssignable, IsUnprotected, EndsAtNoLock, PassesNonFinal, limit_of, IsOverLimit, IsFinalMissing, IsOutOfRange, IsLockAsValue, IsFault, too_large, declared_twice, unknown, wrong_type, miscounted, not_assignable, without_lock, ends_at_no_lock, passes_non_final, over_limit, final_missing, out_of_range, lock_as_value}
 use Rattle.resolution.specs.FaultLists as list
-use Rattle.resolution.specs.FaultLists.{one, one_if, unfit, unfit_member, no_struct, type_faults, number_faults, index_faults, own_faults, sort_misfit, const_faults, argument_faults, no_elements, no_member, no_field, step_faults, end_faults, walk_faults, path_faults, misfit, unlike, side_faults, operator_faults, expr_faults, place_faults, wanted_faults, taken, local_faults, no_target, no_array, final_faults, target_faults, global_lock_faults, lock_faults, passed_faults, last_faults, passed, along_faults, annotation_faults, protection_faults, opening_faults, some_lacks, is_at, is_due, lacks, missing_faults, field_faults, named_faults, null_faults, init_faults, call_faults, again, twice, twice_faults, member_twice_faults, struct_faults, first_too_many, lock_count, member_counts, count_faults, total_faults, given_before, init_target_again, repeated, repeated_faults, each_faults, program_faults}
+use Rattle.resolution.specs.FaultLists.{one, one_if, unfit, unfit_member, no_struct, type_faults, number_faults, index_faults, own_faults, sort_misfit, const_faults, argument_faults, no_elements, no_member, no_field, step_faults, end_faults, walk_faults, path_faults, misfit, unlike, side_faults, operator_faults, expr_faults, place_faults, wanted_faults, taken, local_faults, no_target, no_array, final_faults, target_faults, no_final_in, owner_field_faults, other_type, owner_faults, global_lock_faults, lock_faults, passed_faults, last_faults, passed, along_faults, annotation_faults, protection_faults, opening_faults, some_lacks, is_at, is_due, lacks, missing_faults, field_faults, named_faults, null_faults, init_faults, call_faults, again, twice, twice_faults, member_twice_faults, struct_faults, first_too_many, lock_count, member_counts, count_faults, total_faults, given_before, init_target_again, repeated, repeated_faults, each_faults, program_faults}
 use Rattle.source.specs.Leasts.{IsAmong}
 use Rattle.resolution.proofs.Members.{at, at_if}
 use Rattle.resolution.proofs.Members as m
 use Rattle.resolution.proofs.Named.{member_is}
-use Rattle.resolution.proofs.Parts.{chain_link, of_place_at, of_decl, of_stmt, stmt_decls, of_wanted, expr_decls, of_expr, own, of_param, of_local, local_decls, in_members_field, of_type, of_call, of_const}
+use Rattle.resolution.proofs.Parts.{chain_link, of_place_at, of_decl, of_stmt, of_owner, stmt_decls, of_wanted, expr_decls, of_expr, own, of_param, of_local, local_decls, in_members_field, of_type, of_call, of_const}
 use Rattle.resolution.proofs.Tests.{lt_true, le_true, both_true}
 use Rattle.std.proofs.lemmas.List.{append-nil}
 
@@ -44,6 +48,9 @@ listed decls c p = IsAmong (record { code = c; start = p }) (program_faults decl
 -- what is noted unless the type has a fault
 unfit_in : (decls : List Decl) (c : Code) (p : ℕ) (x : Meaning) → has_type decls x ≡ true → unfit decls c p x ≡ one c p
 unfit_in decls c p x e = ap (λ (b : Bool). one_if b c p) e
+
+unfit_member_in : (decls : List Decl) (c : Code) (p : ℕ) (x : Member) → member_has_type decls x ≡ true → unfit_member decls c p x ≡ one c p
+unfit_member_in decls c p x e = ap (λ (b : Bool). one_if b c p) e
 
 -- ---- E02
 
@@ -223,6 +230,22 @@ of_init_field : (decls : List Decl) (x : Init) (ms : List Member) → Has decls 
 of_init_field decls x ms h is f i =
     init_part decls x h f (m.in_right f (index_faults decls x.pool.span.start (the_decl decls x.pool.text) x.index) _ (subst (λ (o : Option (List Member)). IsAmong f (named_faults decls x.field.span.start o x.field.text)) (sym is) i))
 
+-- ---- what stands behind `where`
+
+-- a field's name
+of_member : (decls : List Decl) (ms : List Member) (y : Ident) → NamesOwner decls ms y → (f : Mistake) → ((ds : List Decl) → ds ≡ decls → IsAmong f (list.no_final ds y.span.start (the_member ms y.text))) → IsAmong f (program_faults decls)
+of_member decls ms y (names_owner {sc = sc} {l = l} {o = o} {k = k} {s = s} h is here) f i =
+    let same = stmt_decls decls sc (let_owned l o) h in
+    let found : the_struct sc.decls k ≡ Some s = ap (λ (ds : List Decl). the_struct ds k) same ∙ here in
+    let listed_at : owner_field_faults sc.decls (type_of sc l.value_type) o.field ≡ list.no_final sc.decls o.field.span.start (the_member s.members o.field.text) =
+    ap (λ (t : Option core_type.ValueType). owner_field_faults sc.decls t o.field) is ∙ ap (λ (q : Option Struct). no_final_in sc.decls q o.field) found in
+    of_owner decls sc l o h f (m.in_left f (owner_field_faults sc.decls (type_of sc l.value_type) o.field) _ (subst (IsAmong f) (sym listed_at) (i sc.decls same)))
+
+-- a local's
+of_owner_name : (decls : List Decl) (sc : Scope) (l : tree.Local) (o : Owner) → HasStmt decls sc (let_owned l o) → (c : Code) → list.no_owner sc.decls o.local.span.start (owner_field sc.decls (type_of sc l.value_type) o.field) (meaning sc o.local.text) ≡ one c o.local.span.start →
+    listed decls c o.local.span.start
+of_owner_name decls sc l o h c e = of_owner decls sc l o h _ (m.in_right _ (owner_field_faults sc.decls (type_of sc l.value_type) o.field) _ (at c o.local.span.start _ e))
+
 -- ---- E06
 
 const_own : (decls : List Decl) (w : Want) (x : Ident) (n : Number) → HasConst decls w (member_const x n) → (f : Mistake) → IsAmong f (index_faults decls x.span.start (the_decl decls x.text) n) → IsAmong f (program_faults decls)
@@ -240,6 +263,8 @@ unknown_in decls p (fault.in_init {i = x} h e) = of_init_index decls x h _ (at U
 unknown_in decls p (fault.no_field_initialised {i = x} {ms = ms} h is e) = of_init_field decls x ms h is _ (at UnknownName x.field.span.start _ (ap (field_faults x.field.span.start) e))
 unknown_in decls p (fault.no_field {sc = sc} {x = x} {fs = fs} before behind y steps k {s = s} h parts to is e) =
     of_path decls sc x fs h _ (λ same. in_path sc.decls x.span.start (meaning sc x.text) fs before behind y _ parts (at UnknownName y.span.start _ (unknown_field decls sc.decls x.span.start (meaning sc x.text) before y steps k s same to is e)))
+unknown_in decls p (fault.no_final {ms = ms} {f = y} h e) = of_member decls ms y h _ (λ ds same. at UnknownName y.span.start _ (ap (list.no_final ds y.span.start) e))
+unknown_in decls p (fault.no_owner {sc = sc} {l = l} {o = o} h is) = of_owner_name decls sc l o h UnknownName (ap (list.no_owner sc.decls o.local.span.start (owner_field sc.decls (type_of sc l.value_type) o.field)) is)
 unknown_in decls p (fault.no_lock {p = q} h e) = of_global_lock decls q h _ (at UnknownName q.first.span.start _ (ap (λ (o : Option (ℕ × Decl)). global_lock_faults decls q.first.span.start o q.rest) e))
 unknown_in decls p (fault.no_field_passed {p = q} {st = st} {y = y} {ys = ys} h e) = unknown_passed decls q st y ys h e
 
@@ -359,6 +384,21 @@ wrong_in decls p (fault.no_struct {sc = sc} {x = x} h not_so) = of_type decls sc
 wrong_in decls p (fault.no_section {c = c} {i = k} {d = d} h is not_so t) = call_at decls c WrongType h (ap (λ (o : Option (ℕ × Decl)). call_faults decls c.section.span.start o c.arguments) is ∙ no_section_is decls c.section.span.start k d c.arguments not_so t)
 wrong_in decls p (fault.no_pool {w = w} {p = x} {n = n} {i = k} {d = d} h is not_so t) = const_own decls w x n h _ (at WrongType x.span.start _ (ap (λ (o : Option (ℕ × Decl)). index_faults decls x.span.start o n) is ∙ no_pool_is decls x.span.start k d n not_so t))
 wrong_in decls p (fault.no_pool_initialised {j = x} {i = k} {d = d} h is not_so t) = of_init_index decls x h _ (at WrongType x.pool.span.start _ (ap (λ (o : Option (ℕ × Decl)). index_faults decls x.pool.span.start o x.index) is ∙ no_pool_is decls x.pool.span.start k d x.index not_so t))
+wrong_in decls p (fault.not_final {ms = ms} {f = y} {g = g} h e t) =
+    of_member decls ms y h _ (λ ds same. at WrongType y.span.start _ (ap (list.no_final ds y.span.start) e ∙ unfit_member_in ds WrongType y.span.start (field_member g) (ap (λ (cs : List Decl). member_has_type cs (field_member g)) same ∙ t)))
+wrong_in decls p (fault.number_owned {sc = sc} {l = l} {o = o} h is) =
+    of_owner decls sc l o h _ (m.in_left _ (owner_field_faults sc.decls (type_of sc l.value_type) o.field) _ (at WrongType o.field.span.start _ (ap (λ (t : Option core_type.ValueType). owner_field_faults sc.decls t o.field) is)))
+wrong_in decls p (fault.owner_no_local {sc = sc} {l = l} {o = o} {i = n} {d = d} h is t) =
+    of_owner_name decls sc l o h WrongType
+    (ap (list.no_owner sc.decls o.local.span.start (owner_field sc.decls (type_of sc l.value_type) o.field)) is ∙ unfit_in sc.decls WrongType o.local.span.start (a_decl n d) (has_same decls sc.decls (a_decl n d) (stmt_decls decls sc (let_owned l o) h) t))
+wrong_in decls p (fault.other_owner {sc = sc} {l = l} {o = o} {f = g} {b = b} {t = t} h of is has_it no_fit) =
+    let same = stmt_decls decls sc (let_owned l o) h in
+    let field : owner_field sc.decls (type_of sc l.value_type) o.field ≡ Some g = ap (λ (ds : List Decl). owner_field ds (type_of sc l.value_type) o.field) same ∙ of in
+    of_owner_name decls sc l o h WrongType
+    (ap (list.no_owner sc.decls o.local.span.start (owner_field sc.decls (type_of sc l.value_type) o.field)) is
+    ∙ ap (λ (q : Option OwnerField). other_type o.local.span.start q b.value_type) field
+    ∙ ap (other_type o.local.span.start (Some g)) has_it
+    ∙ misfit_is o.local.span.start (fits_type g.value_type (sort.Of t)) no_fit)
 wrong_in decls p (fault.misplaced_operator {sc = sc} {w = w} {level = level} {e = a} {f = g} {links = links} {o = o} h of l e) =
     of_expr decls sc w (chain level a links) h _ (chain_link sc level a links o g l _ (m.in_left _ (operator_faults level (start_of g) o ++ expr_faults sc g) _ (m.in_left _ (operator_faults level (start_of g) o) _ (at WrongType (start_of g) _ (operators_are level (start_of g) o of e)))))
 
@@ -410,9 +450,6 @@ bare_in decls p (fault.bare_field {s = s} {f = g} h b e) =
     of_decl decls (struct s) h _ (λ n here. in_members_field decls n s.members s.members g b _ (m.in_right _ (type_faults (outside decls) g.value_type) _ (at NeitherFinalNorProtected g.name.span.start _ (ap (protection_faults decls n s.members g.name.span.start) e))))
 
 -- ---- E11, E12
-
-unfit_member_in : (decls : List Decl) (c : Code) (p : ℕ) (x : Member) → member_has_type decls x ≡ true → unfit_member decls c p x ≡ one c p
-unfit_member_in decls c p x e = ap (λ (b : Bool). one_if b c p) e
 
 last_is : (decls : List Decl) (head here n : ℕ) (x : Member) → (IsLockMember x → ⊥) → member_has_type decls x ≡ true → last_faults decls head here (Some (n, x)) ≡ one ProtectedByNoLock head
 last_is decls head here n (lock_member y) h e = absurd (h tt)
@@ -644,6 +681,7 @@ locks_in decls p (fault.global_lock {sc = sc} {x = x} h is) =
     of_place decls sc (lone x) h _ (λ same. at LockAsValue x.span.start _ (ap (list.no_value sc.decls x.span.start) is)) (λ same. at LockAsValue x.span.start _ (ap (no_target sc.decls x.span.start) is))
 locks_in decls p (fault.lock_field {sc = sc} {x = x} {fs = fs} h to) =
     of_path decls sc x fs h _ (λ same. in_path_end sc.decls x.span.start (meaning sc x.text) fs _ (at LockAsValue x.span.start _ (ap (λ (cs : List Decl). end_faults x.span.start (walk_from cs (meaning sc x.text) fs)) same ∙ ap (end_faults x.span.start) to)))
+locks_in decls p (fault.lock_as_owner {ms = ms} {f = y} h is) = of_member decls ms y h _ (λ ds same. at LockAsValue y.span.start _ (ap (list.no_final ds y.span.start) is))
 locks_in decls p (fault.lock_initialised {i = x} {m = n} {y = y} h is) =
     by_members (pool_members decls (the_decl decls x.pool.text)) refl
   where

@@ -3,7 +3,7 @@ use Rattle.std.proofs.Common.{◌≡◌, ℕ, zero, suc, List, [], ◌∷◌, �
 use Rattle.std.specs.Prelude.{not, is_some, slice_get}
 use Rattle.source.specs.declared.span.Span.{Span}
 use Rattle.source.specs.declared.fault.Code.TheVariants.{UnknownName, WrongType, NotAssignable, LockAsValue}
-use Rattle.syntax.specs.Trees.{Ident, Place, lone, element, path, Expr, Local, Stmt, let_local, var_local, assign, if_then, while, print, return_value, Stmts, no_stmts, stmt, Otherwise, no_else, else_do, Decl, lock, struct, global, array, pool, init, atomic, thread}
+use Rattle.syntax.specs.Trees.{Ident, Place, lone, element, path, Expr, Local, Owner, Stmt, let_local, let_owned, var_local, assign, if_then, while, print, return_value, Stmts, no_stmts, stmt, Otherwise, no_else, else_do, Decl, lock, struct, global, array, pool, init, atomic, thread}
 use Rattle.syntax.specs.Returns.{IsReturn, is_return, HasReturn, this_returns, returns_inside, later_returns, HasReturnInside, in_then, in_else, in_while, HasStrayReturn, this_early, stray_inside, later_stray, EndsInReturn, last_returns, ends_later}
 use Rattle.core_lang.specs.declared.value.ValueType as core_type
 use Rattle.core_lang.specs.declared.value.ValueType.TheVariants.{Integer}
@@ -14,12 +14,14 @@ use Rattle.resolution.specs.Core as core
 use Rattle.resolution.specs.Scopes as scope
 use Rattle.resolution.specs.Scopes.{Scope, outside, Meaning, a_local, a_decl, nothing, meaning, number_at, has_type, type_of, bound, hidden, hidden_from, left}
 use Rattle.resolution.specs.Expressions.{want, fitting, as_value, typed, Walk, reached, walk_from, local_path, cell_of}
-use Rattle.resolution.specs.Statements.{Target, to_local, to_global, to_element, to_field, Assignee, assignee, is_var, assignee_at, assignee_at_element, Split, last_field, field_target, assignee_along, target_of, wanted_by, first_name, Part, does, gives, binds, set_to, assigns, prints, returns, repeats, chooses_between, Body, preceded, block_of, after, after_else, after_all, typed_stmt, typed_if, typed_body}
+use Rattle.resolution.specs.Statements.{Target, to_local, to_global, to_element, to_field, Assignee, assignee, is_var, assignee_at, assignee_at_element, Split, last_field, field_target, assignee_along, target_of, wanted_by, first_name, Part, does, gives, binds, set_to, assigns, prints, returns, repeats, chooses_between, Body, preceded, block_of, after, after_else, after_all, first_value, typed_stmt, typed_if, typed_body}
+use Rattle.resolution.specs.Owners.{owned_by}
 use Rattle.resolution.specs.Where.{of_global, of_array}
-use Rattle.resolution.specs.FaultLists.{unfit, type_faults, no_elements, path_faults, wanted_faults, local_faults, no_target, no_array, final_faults, target_faults, stmt_faults, else_faults, stmts_faults}
+use Rattle.resolution.specs.FaultLists.{unfit, type_faults, no_elements, path_faults, wanted_faults, local_faults, no_target, no_array, final_faults, target_faults, binding_faults, owner_faults, stmt_faults, else_faults, stmts_faults}
 use Rattle.resolution.proofs.TrueStatements.{after_same}
 use Rattle.resolution.proofs.FaultlessExpressions.{NoneIn, none_left, none_right, not_one, not_if, is_there, Clean, Typing, type_is, known, AllTyped, Context, IsKnown, meaning_known, decl_typed, unfit_not, Path, path_is}
 use Rattle.resolution.proofs.FaultlessResolvedExprs.{value_is, test_is}
+use Rattle.resolution.proofs.FaultlessOwners.{room, owned_is}
 use Rattle.resolution.specs.Facts.{after_result}
 
 -- ---- the left side of an assignment
@@ -122,6 +124,7 @@ local_parts sc l none =
 mutual
   pub after_context : (sc : Scope) → Context sc → (s : Stmt) → NoneIn (stmt_faults sc s) → Context (after sc s)
   after_context sc c (let_local l) none = bound_context sc c kind.Let l (local_parts sc l none).0
+  after_context sc c (let_owned l o) none = bound_context sc c kind.Let l (local_parts sc l (none_left (binding_faults sc l) (owner_faults sc (type_of sc l.value_type) o) none)).0
   after_context sc c (var_local l) none = bound_context sc c kind.Var l (local_parts sc l none).0
   after_context sc c (assign p e) none = c
   after_context sc c (if_then start e body close other) none =
@@ -148,6 +151,7 @@ mutual
 abbrev IsReturning : Stmt → Type 0
 IsReturning (return_value start e) = Unit {0}
 IsReturning (let_local l) = ⊥
+IsReturning (let_owned l o) = ⊥
 IsReturning (var_local l) = ⊥
 IsReturning (assign p e) = ⊥
 IsReturning (if_then start e body close other) = ⊥
@@ -157,6 +161,7 @@ IsReturning (print start e) = ⊥
 returning : (s : Stmt) → IsReturning s → (at : ℕ) × IsReturn s at
 returning (return_value start e) h = (start.start, is_return)
 returning (let_local l) h = absurd h
+returning (let_owned l o) h = absurd h
 returning (var_local l) h = absurd h
 returning (assign p e) h = absurd h
 returning (if_then start e body close other) h = absurd h
@@ -191,6 +196,17 @@ local_acts sc c l none =
     let v = local_value sc c (type_of sc l.value_type) t l.value parts.1 in
     bind_acts l.start.start (length sc.locals) (type_of sc l.value_type) t.value_type (as_value (fitting (want (type_of sc l.value_type)) (typed sc l.value))) v.0 t.is v.1
 
+owned_acts : (sc : Scope) → Context sc → (l : Local) (o : Owner) → NoneIn (binding_faults sc l ++ owner_faults sc (type_of sc l.value_type) o) → (x : core.Stmt) × (typed_stmt sc (let_owned l o) ≡ Some (does x))
+owned_acts sc c l o none =
+    let t = type_of sc l.value_type in
+    let plain = none_left (binding_faults sc l) (owner_faults sc t o) none in
+    let parts = local_parts sc l plain in
+    let typing = type_is sc l.value_type parts.0 in
+    let v = local_value sc c t typing l.value parts.1 in
+    let few = room sc l.name (none_left (local_faults sc l.name) (type_faults sc l.value_type) (none_left (local_faults sc l.name ++ type_faults sc l.value_type) (wanted_faults sc (want t) l.value) plain)) in
+    let y = owned_is sc c few t typing o (none_right (binding_faults sc l) (owner_faults sc t o) none) (first_value sc l) v.0 v.1 in
+    bind_acts l.start.start (length sc.locals) t typing.value_type (owned_by sc t o (first_value sc l)) y.0 typing.is y.1
+
 assign_acts : (sc : Scope) → Context sc → (p : Place) (e : Expr) → NoneIn (target_faults sc p ++ wanted_faults sc (wanted_by (target_of sc p)) e) → (x : core.Stmt) × (typed_stmt sc (assign p e) ≡ Some (does x))
 assign_acts sc c p e none =
     let a = target_is sc c p (none_left (target_faults sc p) (wanted_faults sc (wanted_by (target_of sc p)) e) none) in
@@ -223,6 +239,7 @@ block_more s rest inner o r (inr a) b = absurd (let q = returning s a.1 in inner
 mutual
   stmt_is : (sc : Scope) → Context sc → (s : Stmt) → NoneIn (stmt_faults sc s) → ((at : ℕ) → HasReturnInside s at → ⊥) → (IsReturning s → HasResult sc) → Acts s (typed_stmt sc s)
   stmt_is sc c (let_local l) none inner result = let r = local_acts sc c l none in inl (r.0, (λ h. h), r.1)
+  stmt_is sc c (let_owned l o) none inner result = let r = owned_acts sc c l o none in inl (r.0, (λ h. h), r.1)
   stmt_is sc c (var_local l) none inner result = let r = local_acts sc c l none in inl (r.0, (λ h. h), r.1)
   stmt_is sc c (assign p e) none inner result = let r = assign_acts sc c p e none in inl (r.0, (λ h. h), r.1)
   stmt_is sc c (if_then start e body close other) none inner result =

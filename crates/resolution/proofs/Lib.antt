@@ -9,6 +9,7 @@ pub mod Parts
 pub mod AllFaults
 pub mod FaultlessExpressions
 pub mod FaultlessResolvedExprs
+pub mod FaultlessOwners
 pub mod FaultlessStatements
 pub mod FaultlessConstants
 pub mod FaultlessSections
@@ -17,6 +18,7 @@ pub mod FaultlessMembers
 pub mod FaultlessPrograms
 pub mod Typed
 pub mod TypedResolvedExprs
+pub mod TypedOwners
 pub mod TypedStatements
 pub mod Scoped
 pub mod ScopedStatements

@@ -5,7 +5,8 @@ use Rattle.std.proofs.lemmas.Bool.Decides.{nat_tests}
 use Rattle.source.specs.declared.fault.Code.TheVariants.{WrongArgumentCount, LimitExceeded}
 use Rattle.syntax.specs.declared.tree.Op.{Op}
 use Rattle.syntax.specs.declared.tree.Level.{Level}
-use Rattle.syntax.specs.Trees.{Ident, ValueType, ref_type, Const, element, Expr, place, paren, prefix, chain, compare, Links, no_links, link, Stmt, let_local, var_local, assign, if_then, while, print, return_value, Stmts, no_stmts, stmt, else_do, Member, lock_member, final_member, field_member, Field, Final, Param, Section, Call, call, repeat, Items, no_items, item, Decl, struct, global, array, pool, init, atomic, thread}
+use Rattle.syntax.specs.Trees as tree
+use Rattle.syntax.specs.Trees.{Ident, ValueType, ref_type, Const, element, Expr, place, paren, prefix, chain, compare, Links, no_links, link, Owner, Stmt, let_local, let_owned, var_local, assign, if_then, while, print, return_value, Stmts, no_stmts, stmt, else_do, Member, lock_member, final_member, field_member, Field, Final, Param, Section, Call, call, repeat, Items, no_items, item, Decl, struct, global, array, pool, init, atomic, thread}
 use Rattle.core_lang.specs.declared.value.ValueType.TheVariants.{Integer}
 use Rattle.core_lang.specs.declared.tree.LocalKind.TheVariants as kind
 use Rattle.source.specs.declared.mistake.Mistake.{Mistake}
@@ -18,9 +19,9 @@ use Rattle.resolution.specs.Statements.{after, after_all}
 use Rattle.resolution.specs.Constants.{want_of, members_of, pool_members, initialised, member_want}
 use Rattle.resolution.specs.Resolution.{ahead_of, entry}
 use Rattle.resolution.specs.Where as site
-use Rattle.resolution.specs.Where.{Has, first, further, HasLink, this_link, later_link, operand_want, prefix_want, side_want, Within, itself, in_parentheses, in_prefix, in_first, in_operand, in_left, in_right, in_index, Among, here, later, in_then, in_else, in_while, Asks, of_let, of_var, of_assign, of_index, of_while, of_print, of_return, HasStmt, in_section, HasExpr, in_stmt, Binds, parameter, a_let, a_var, HasType, of_global, of_array, of_pool, of_final, of_field, of_parameter, of_result, of_a_let, of_a_var, InItems, this_call, in_repeat, later_call, HasCall, in_thread, HasConst, opening, initial, argument}
+use Rattle.resolution.specs.Where.{Has, first, further, HasLink, this_link, later_link, operand_want, prefix_want, side_want, Within, itself, in_parentheses, in_prefix, in_first, in_operand, in_left, in_right, in_index, Among, here, later, in_then, in_else, in_while, Asks, of_let, of_owned, of_var, of_assign, of_index, of_while, of_print, of_return, HasStmt, in_section, HasExpr, in_stmt, Binds, parameter, a_let, an_owned_let, a_var, HasType, of_global, of_array, of_pool, of_final, of_field, of_parameter, of_result, of_a_let, of_an_owned_let, of_a_var, InItems, this_call, in_repeat, later_call, HasCall, in_thread, HasConst, opening, initial, argument}
 use Rattle.resolution.specs.Faults.{start_of}
-use Rattle.resolution.specs.FaultLists.{one, one_if, misfit, no_elements, no_array, operator_faults, side_faults, expr_faults, link_faults, wanted_faults, local_faults, type_faults, target_faults, stmt_faults, stmts_faults, param_faults, result_faults, const_faults, argument_faults, lock_faults, protection_faults, members_faults, opening_faults, missing_faults, index_faults, named_faults, null_faults, call_faults, item_faults, items_faults, decl_faults, each_faults, twice_faults, struct_faults, total_faults, repeated_faults, program_faults}
+use Rattle.resolution.specs.FaultLists.{one, one_if, misfit, no_elements, no_array, operator_faults, side_faults, expr_faults, link_faults, wanted_faults, local_faults, type_faults, target_faults, binding_faults, owner_faults, stmt_faults, stmts_faults, param_faults, result_faults, const_faults, argument_faults, lock_faults, protection_faults, members_faults, opening_faults, missing_faults, index_faults, named_faults, null_faults, call_faults, item_faults, items_faults, decl_faults, each_faults, twice_faults, struct_faults, total_faults, repeated_faults, program_faults}
 use Rattle.source.specs.Leasts.{IsAmong}
 use Rattle.resolution.proofs.Members as m
 use Rattle.resolution.proofs.TrueStatements.{after_same, entered_same}
@@ -78,6 +79,7 @@ part sc w v (place (element y e)) x (in_index h) f i =
 
 asked : (sc : Scope) (s : Stmt) (w : Want) (e : Expr) → Asks sc s w e → (f : Mistake) → IsAmong f (wanted_faults sc w e) → IsAmong f (stmt_faults sc s)
 asked sc (let_local l) w e of_let f i = m.in_right f (local_faults sc l.name ++ type_faults sc l.value_type) _ i
+asked sc (let_owned l o) w e of_owned f i = m.in_left f (binding_faults sc l) _ (m.in_right f (local_faults sc l.name ++ type_faults sc l.value_type) _ i)
 asked sc (var_local l) w e of_var f i = m.in_right f (local_faults sc l.name ++ type_faults sc l.value_type) _ i
 asked sc (assign p e) w x of_assign f i = m.in_right f (target_faults sc p) _ i
 asked sc (assign (element y j) e) w x of_index f i =
@@ -134,6 +136,13 @@ pub of_stmt : (decls : List Decl) (sc : Scope) (s : Stmt) → HasStmt decls sc s
 of_stmt decls sc s (in_section {x = x} h a) f i =
     of_decl decls (atomic x) h f (λ n at. m.in_right f (result_faults decls x.result ++ param_faults (ahead_of decls x) 0 x.params) _ (among (entry decls x) sc x.body.stmts s a f i))
 
+-- what is listed for a `let` with an owner: for its parts as those of any, and for what stands behind `where`
+of_binding : (decls : List Decl) (sc : Scope) (l : tree.Local) (o : Owner) → HasStmt decls sc (let_owned l o) → (f : Mistake) → IsAmong f (binding_faults sc l) → IsAmong f (program_faults decls)
+of_binding decls sc l o h f i = of_stmt decls sc (let_owned l o) h f (m.in_left f (binding_faults sc l) (owner_faults sc (type_of sc l.value_type) o) i)
+
+pub of_owner : (decls : List Decl) (sc : Scope) (l : tree.Local) (o : Owner) → HasStmt decls sc (let_owned l o) → (f : Mistake) → IsAmong f (owner_faults sc (type_of sc l.value_type) o) → IsAmong f (program_faults decls)
+of_owner decls sc l o h f i = of_stmt decls sc (let_owned l o) h f (m.in_right f (binding_faults sc l) (owner_faults sc (type_of sc l.value_type) o) i)
+
 pub stmt_decls : (decls : List Decl) (sc : Scope) (s : Stmt) → HasStmt decls sc s → sc.decls ≡ decls
 stmt_decls decls sc s (in_section {x = x} h a) = same_decls (entry decls x) sc x.body.stmts s a ∙ entered_same (ahead_of decls x) x.params
 
@@ -171,11 +180,13 @@ pub of_local : (decls : List Decl) (sc : Scope) (x : Ident) → Binds decls sc x
 of_local decls sc x (parameter {x = s} p before behind h parts) f i =
     of_param decls s before behind p h parts f (m.in_left f (local_faults (entered (ahead_of decls s) before) p.name ++ one_if (nat_le PARAMETER_LIMIT (length before)) LimitExceeded p.name.span.start) _ (m.in_left f (local_faults (entered (ahead_of decls s) before) p.name) _ i))
 of_local decls sc x (a_let {l = l} h) f i = of_stmt decls sc (let_local l) h f (m.in_left f (local_faults sc l.name ++ type_faults sc l.value_type) (wanted_faults sc (want (type_of sc l.value_type)) l.value) (m.in_left f (local_faults sc l.name) (type_faults sc l.value_type) i))
+of_local decls sc x (an_owned_let {l = l} {o = o} h) f i = of_binding decls sc l o h f (m.in_left f (local_faults sc l.name ++ type_faults sc l.value_type) (wanted_faults sc (want (type_of sc l.value_type)) l.value) (m.in_left f (local_faults sc l.name) (type_faults sc l.value_type) i))
 of_local decls sc x (a_var {l = l} h) f i = of_stmt decls sc (var_local l) h f (m.in_left f (local_faults sc l.name ++ type_faults sc l.value_type) (wanted_faults sc (want (type_of sc l.value_type)) l.value) (m.in_left f (local_faults sc l.name) (type_faults sc l.value_type) i))
 
 pub local_decls : (decls : List Decl) (sc : Scope) (x : Ident) → Binds decls sc x → sc.decls ≡ decls
 local_decls decls sc x (parameter {x = s} p before behind h parts) = entered_same (ahead_of decls s) before
 local_decls decls sc x (a_let {l = l} h) = stmt_decls decls sc (let_local l) h
+local_decls decls sc x (an_owned_let {l = l} {o = o} h) = stmt_decls decls sc (let_owned l o) h
 local_decls decls sc x (a_var {l = l} h) = stmt_decls decls sc (var_local l) h
 
 -- ---- types
@@ -214,6 +225,7 @@ of_type decls sc t (of_result {x = x} h is) f i =
     of_decl decls (atomic x) h f (λ n at. m.in_left f (result_faults decls x.result ++ param_faults (ahead_of decls x) 0 x.params) (stmts_faults (entry decls x) x.body.stmts)
     (m.in_left f (result_faults decls x.result) (param_faults (ahead_of decls x) 0 x.params) (subst (λ (o : Option ValueType). IsAmong f (result_faults decls o)) (sym is) i)))
 of_type decls sc t (of_a_let {l = l} h) f i = of_stmt decls sc (let_local l) h f (m.in_left f (local_faults sc l.name ++ type_faults sc l.value_type) (wanted_faults sc (want (type_of sc l.value_type)) l.value) (m.in_right f (local_faults sc l.name) _ i))
+of_type decls sc t (of_an_owned_let {l = l} {o = o} h) f i = of_binding decls sc l o h f (m.in_left f (local_faults sc l.name ++ type_faults sc l.value_type) (wanted_faults sc (want (type_of sc l.value_type)) l.value) (m.in_right f (local_faults sc l.name) _ i))
 of_type decls sc t (of_a_var {l = l} h) f i = of_stmt decls sc (var_local l) h f (m.in_left f (local_faults sc l.name ++ type_faults sc l.value_type) (wanted_faults sc (want (type_of sc l.value_type)) l.value) (m.in_right f (local_faults sc l.name) _ i))
 
 -- ---- calls and constants

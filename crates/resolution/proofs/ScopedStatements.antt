@@ -1,13 +1,13 @@
 -- Resolved statements name locals in scope alone, bind each once, and assign to no other than a `var`.
 use Rattle.std.proofs.Common.{◌≡◌, ℕ, zero, suc, ◌+◌, ◌<◌, List, [], ◌∷◌, ◌++◌, length, Option, Some, None, Bool, true, false, ◌⊎◌, inl, inr, if◌then◌else◌, refl, sym, ap, ◌∙◌, subst, append_assoc, arith}
-use Rattle.std.specs.Prelude.{ℤ, slice_get, ⊤}
+use Rattle.std.specs.Prelude.{ℤ, nat_le, slice_get, ⊤}
 use Rattle.std.specs.List.{Contains}
 use Rattle.std.proofs.lemmas.List.Elements.{Contains-append_cases}
 use Rattle.syntax.specs.declared.tree.Level.TheVariants.{Term, Sum, Conjunction, Disjunction}
 use Rattle.syntax.specs.declared.tree.Prefix.TheVariants.{Negate, Not}
 use Rattle.syntax.specs.declared.tree.Comparison as written
 use Rattle.syntax.specs.declared.tree.Comparison.TheVariants as sign
-use Rattle.syntax.specs.Trees.{Place, lone, element, path, Expr, int, null, place, paren, prefix, chain, compare, Links, no_links, link, Stmt, let_local, var_local, assign, if_then, while, print, return_value, Stmts, no_stmts, stmt, no_else, else_do, Decl, lock, struct, global, array, pool, init, atomic, thread}
+use Rattle.syntax.specs.Trees.{Place, lone, element, path, Expr, int, null, place, paren, prefix, chain, compare, Links, no_links, link, Owner, Stmt, let_local, let_owned, var_local, assign, if_then, while, print, return_value, Stmts, no_stmts, stmt, no_else, else_do, Decl, lock, struct, global, array, pool, init, atomic, thread}
 use Rattle.core_lang.specs.declared.value.ValueType as core_type
 use Rattle.core_lang.specs.declared.value.ValueType.TheVariants.{Integer}
 use Rattle.core_lang.specs.declared.tree.LocalKind.{LocalKind}
@@ -21,9 +21,11 @@ use Rattle.resolution.specs.declared.wanted.Want.{Want}
 use Rattle.resolution.specs.declared.wanted.Want.TheVariants.{Value}
 use Rattle.resolution.specs.Core as core
 use Rattle.resolution.specs.Scopes as scopes
-use Rattle.resolution.specs.Scopes.{Scope, outside, Meaning, a_local, a_decl, nothing, meaning, number_at, type_of, struct_named, bound, hidden, hidden_from, left}
+use Rattle.resolution.specs.Scopes.{◌>>=◌, Scope, outside, Meaning, a_local, a_decl, nothing, meaning, number_at, type_of, struct_named, bound, hidden, hidden_from, left}
 use Rattle.resolution.specs.Expressions.{ResolvedExpr, value, truth, fits, alike_sorts, want, fitting, as_value, number_resolved, test_resolved, number_value, literal, value_of, local_path, cell_of, named_value, member_value, element_value, Walk, reached, at_lock, lost, walk_from, path_value, operator_of, negated, not_so, parenthesised, chained, linked, Tests, one_test, tested, all_hold, one_holds, ordered, equated, compared, typed, typed_place, typed_links, typed_tests}
-use Rattle.resolution.specs.Statements.{Target, to_local, to_global, to_element, to_field, Assignee, assignee, is_var, assignee_at, assignee_at_element, Split, last_field, field_target, assignee_along, target_of, wanted_by, first_name, Part, does, gives, binds, set_to, assigns, prints, returns, repeats, chooses, chooses_between, Body, given_back, preceded, block_without, block_of, after, after_all, typed_stmt, typed_body}
+use Rattle.resolution.specs.Statements.{Target, to_local, to_global, to_element, to_field, Assignee, assignee, is_var, assignee_at, assignee_at_element, Split, last_field, field_target, assignee_along, target_of, wanted_by, first_name, Part, does, gives, binds, set_to, assigns, prints, returns, repeats, chooses, chooses_between, Body, given_back, preceded, block_without, block_of, after, after_all, first_value, typed_stmt, typed_body}
+use Rattle.resolution.specs.Limits.{STRUCT_LIMIT, LOCAL_LIMIT}
+use Rattle.resolution.specs.Owners.{OwnerField, owner_field, is_of, owner_local, owned_value, owned_by}
 use Rattle.resolution.proofs.TypedResolvedExprs.{IsLocal, meant_local}
 use Rattle.resolution.proofs.TypedStatements.{Kept, kept_hidden, Front, all_front}
 use Rattle.resolution.proofs.Scoped.{Names, AllName, TestNames, AllTestName, behind, ActNames, StmtsName, behind_all, binding, all_binding, assigning, all_assigning}
@@ -487,6 +489,35 @@ module _ (finals : List core.Local) where
   target_in sc scope c b (element x e) = element_in sc.decls scope (meaning sc x.text) (number_resolved (typed sc e)) (index_in sc scope c (number_resolved (typed sc e)) (value_names sc scope c (Value Integer) e))
   target_in sc scope c b (path x fs) = along_in x.span.start sc scope c (meaning sc x.text) (walk_from sc.decls (meaning sc x.text) fs) (meant_local sc x.text)
 
+  -- ---- a value that is tested
+
+  owner_in : (sc : Scope) (scope : List ℕ) → Covers sc.locals scope → (g : Option OwnerField) (m : Meaning) → IsLocal sc.locals m → (n : ℕ) → owner_local g m ≡ Some n → Contains scope n
+  owner_in sc scope c None m loc n e = cc
+  owner_in sc scope c (Some g) (a_local k l) loc n e = by_type (is_of g.value_type l.value_type) e
+    where
+      by_type : (b : Bool) → (if b then Some k else None) ≡ Some n → Contains scope n
+      by_type true h = let same : k ≡ n = cc in subst (Contains scope) same (c k l loc.0 loc.1)
+      by_type false h = cc
+  owner_in sc scope c (Some g) (a_decl k d) loc n e = cc
+  owner_in sc scope c (Some g) nothing loc n e = cc
+
+  numbered_in : (scope : List ℕ) (x : core.Expr) (start k f n : ℕ) (a b : Bool) → Names scope x → Contains scope n →
+      IndexIn scope (◌>>=◌ {B = core.Expr} (if a then Some k else None) (λ j. ◌>>=◌ {B = core.Expr} (if b then Some n else None) (λ i. Some (core.owned x j f start i))))
+  numbered_in scope x start k f n true true h c = (h, c)
+  numbered_in scope x start k f n true false h c = tt
+  numbered_in scope x start k f n false b h c = tt
+
+  tested_in : (scope : List ℕ) (start : ℕ) (v : Option core.Expr) (g : Option OwnerField) (i : Option ℕ) → IndexIn scope v → ((n : ℕ) → i ≡ Some n → Contains scope n) → IndexIn scope (owned_value start v g i)
+  tested_in scope start None g i h c = tt
+  tested_in scope start (Some x) None i h c = tt
+  tested_in scope start (Some x) (Some g) None h c = tt
+  tested_in scope start (Some x) (Some g) (Some n) h c = numbered_in scope x start g.structure g.number n (nat_le g.structure STRUCT_LIMIT) (nat_le n LOCAL_LIMIT) h (c n refl)
+
+  owned_in : (sc : Scope) (scope : List ℕ) → Covers sc.locals scope → (t : Option core_type.ValueType) (o : Owner) (v : Option core.Expr) → IndexIn scope v → IndexIn scope (owned_by sc t o v)
+  owned_in sc scope c t o v h =
+      let g = owner_field sc.decls t o.field in
+      tested_in scope o.local.span.start v g (owner_local g (meaning sc o.local.text)) h (owner_in sc scope c g (meaning sc o.local.text) (meant_local sc o.local.text))
+
   bind_done : (ls : List scopes.Local) (x : scopes.Local) (scope : List ℕ) (start : ℕ) (o : Option core_type.ValueType) (v : Option core.Expr) → Covers ls scope → IndexIn scope v → PartDone finals ls (ls ++ x ∷ []) scope (binds start (length ls) o v)
   bind_done ls x scope start None v c h = tt
   bind_done ls x scope start (Some t) None c h = tt
@@ -563,6 +594,9 @@ module _ (finals : List core.Local) where
     stmt_done sc (let_local l) scope c b =
         bind_done sc.locals (record { name = l.name.text; kind = kind.Let; value_type = type_of sc l.value_type; is_visible = true }) scope l.start.start (type_of sc l.value_type) (as_value (fitting (want (type_of sc l.value_type)) (typed sc l.value))) c
         (index_in sc scope c (as_value (fitting (want (type_of sc l.value_type)) (typed sc l.value))) (value_names sc scope c (want (type_of sc l.value_type)) l.value))
+    stmt_done sc (let_owned l o) scope c b =
+        bind_done sc.locals (record { name = l.name.text; kind = kind.Let; value_type = type_of sc l.value_type; is_visible = true }) scope l.start.start (type_of sc l.value_type) (owned_by sc (type_of sc l.value_type) o (first_value sc l)) c
+        (owned_in sc scope c (type_of sc l.value_type) o (first_value sc l) (index_in sc scope c (first_value sc l) (value_names sc scope c (want (type_of sc l.value_type)) l.value)))
     stmt_done sc (var_local l) scope c b =
         bind_done sc.locals (record { name = l.name.text; kind = kind.Var; value_type = type_of sc l.value_type; is_visible = true }) scope l.start.start (type_of sc l.value_type) (as_value (fitting (want (type_of sc l.value_type)) (typed sc l.value))) c
         (index_in sc scope c (as_value (fitting (want (type_of sc l.value_type)) (typed sc l.value))) (value_names sc scope c (want (type_of sc l.value_type)) l.value))

@@ -70,7 +70,7 @@ true_own decls w (negative sign n) h f i = of_if decls (nat_lt NUMBER_LIMIT n.va
 true_own decls w (null_const at) h f i = absurd i
 true_own decls w (member_const x n) h f i = true_index decls w x n h (the_decl decls x.text) refl f i
 
-misfit_if : (decls : List Decl) (p : ℕ) (b : Bool) → (b ≡ false → IsTrue_of decls (record { code = WrongType; start = p })) → (f : Mistake) → IsAmong f (if b then [] else one WrongType p) → IsTrue_of decls f
+pub misfit_if : (decls : List Decl) (p : ℕ) (b : Bool) → (b ≡ false → IsTrue_of decls (record { code = WrongType; start = p })) → (f : Mistake) → IsAmong f (if b then [] else one WrongType p) → IsTrue_of decls f
 misfit_if decls p true h f i = absurd i
 misfit_if decls p false h f i = of_one decls WrongType p f (h refl) i
 

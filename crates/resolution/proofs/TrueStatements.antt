@@ -2,26 +2,31 @@
 use Rattle.std.proofs.Common.{◌≡◌, ℕ, ◌+◌, List, [], ◌∷◌, ◌++◌, length, Option, Some, None, Bool, true, false, refl, sym, ap, ◌∙◌, subst, if◌then◌else◌, append_assoc, arith}
 use Rattle.std.specs.Prelude.{nat_le, not, is_some}
 use Rattle.source.specs.declared.span.Span.{Span}
-use Rattle.source.specs.declared.fault.Code.TheVariants.{DeclaredTwice, UnknownName, NotAssignable, LimitExceeded, LockAsValue}
-use Rattle.syntax.specs.Trees.{Ident, ValueType, Place, lone, element, path, Expr, Stmt, let_local, var_local, assign, if_then, while, print, return_value, Stmts, no_stmts, stmt, Otherwise, no_else, else_do, Param, Section, Decl, lock, struct, global, array, pool, init, atomic, thread}
-use Rattle.core_lang.specs.declared.value.ValueType.TheVariants.{Integer}
+use Rattle.source.specs.declared.fault.Code.TheVariants.{DeclaredTwice, UnknownName, WrongType, NotAssignable, LimitExceeded, LockAsValue}
+use Rattle.syntax.specs.Trees as tree
+use Rattle.syntax.specs.Trees.{Ident, ValueType, Place, lone, element, path, Expr, Owner, Stmt, let_local, let_owned, var_local, assign, if_then, while, print, return_value, Stmts, no_stmts, stmt, Otherwise, no_else, else_do, Member, lock_member, final_member, field_member, Struct, Param, Section, Decl, lock, struct, global, array, pool, init, atomic, thread}
+use Rattle.core_lang.specs.declared.value.ValueType as core_type
+use Rattle.core_lang.specs.declared.value.ValueType.TheVariants.{Integer, Reference}
 use Rattle.core_lang.specs.declared.tree.LocalKind.TheVariants as kind
 use Rattle.source.specs.declared.mistake.Mistake.{Mistake}
+use Rattle.resolution.specs.declared.wanted.Sort.TheVariants as sort
 use Rattle.resolution.specs.declared.wanted.Want.{Want}
 use Rattle.resolution.specs.declared.wanted.Want.TheVariants.{Condition, Value}
 use Rattle.resolution.specs.Limits.{PARAMETER_LIMIT, LOCAL_LIMIT}
-use Rattle.resolution.specs.Scopes.{Scope, Local, outside, Meaning, a_local, a_decl, nothing, meaning, the_decl, the_local, has_type, type_of, bound, entered, left}
-use Rattle.resolution.specs.Expressions.{want, Walk, reached, at_lock, lost, walk_from}
+use Rattle.resolution.specs.Scopes.{Scope, Local, outside, Meaning, a_local, a_decl, nothing, meaning, the_decl, the_struct, the_member, the_local, has_type, member_has_type, type_of, bound, entered, left}
+use Rattle.resolution.specs.Expressions.{fits_type, want, Walk, reached, at_lock, lost, walk_from}
+use Rattle.resolution.specs.Owners.{OwnerField, owner_field}
 use Rattle.resolution.specs.Statements.{is_var, last_field, target_of, wanted_by, after, after_else, after_all}
 use Rattle.resolution.specs.Resolution.{ahead_of, entry}
 use Rattle.resolution.specs.Where as site
-use Rattle.resolution.specs.Where.{Has, first, further, Among, here, later, in_then, in_else, in_while, Asks, of_let, of_var, of_assign, of_index, of_while, of_print, of_return, HasStmt, in_section, HasExpr, in_stmt, HasPlace, is_written, Binds, parameter, a_let, a_var, HasType, of_parameter, of_result, of_a_let, of_a_var}
+use Rattle.resolution.specs.Where.{Has, first, further, Among, here, later, in_then, in_else, in_while, Asks, of_let, of_owned, of_var, of_assign, of_index, of_while, of_print, of_return, HasStmt, in_section, HasExpr, in_stmt, HasPlace, is_written, Binds, parameter, a_let, an_owned_let, a_var, HasType, of_parameter, of_result, of_a_let, of_an_owned_let, of_a_var, NamesOwner, names_owner}
 use Rattle.resolution.specs.Faults as fault
-use Rattle.resolution.specs.Faults.{IsNoValue, declared_twice, unknown, not_assignable, over_limit, lock_as_value}
-use Rattle.resolution.specs.FaultLists.{one_if, unfit, no_elements, path_faults, wanted_faults, type_faults, taken, local_faults, no_target, no_array, final_faults, target_faults, stmt_faults, else_faults, stmts_faults, param_faults, result_faults}
+use Rattle.resolution.specs.Faults.{IsNoValue, declared_twice, unknown, wrong_type, not_assignable, over_limit, lock_as_value}
+use Rattle.resolution.specs.FaultLists as list
+use Rattle.resolution.specs.FaultLists.{one_if, unfit, no_elements, path_faults, wanted_faults, type_faults, taken, local_faults, no_target, no_array, final_faults, target_faults, binding_faults, no_final_in, owner_field_faults, other_type, owner_faults, stmt_faults, else_faults, stmts_faults, param_faults, result_faults}
 use Rattle.source.specs.Leasts.{IsAmong}
 use Rattle.resolution.proofs.Members.{IsTrue_of, both, of_one, of_if}
-use Rattle.resolution.proofs.TrueExpressions.{true_type, true_elements, true_path, true_wanted, none_is}
+use Rattle.resolution.proofs.TrueExpressions.{misfit_if, true_type, true_elements, true_path, true_wanted, none_is}
 use Rattle.resolution.proofs.Tests.{le_of}
 
 -- ---- locals
@@ -91,6 +96,41 @@ true_target sc (path x fs) e h f i =
     (true_path sc x fs (is_written h) (meaning sc x.text) refl f)
     (true_final sc x fs e h (walk_from sc.decls (meaning sc x.text) fs) refl f) i
 
+-- ---- what stands behind `where`
+
+true_no_final : (decls : List Decl) (ms : List Member) (y : Ident) → NamesOwner decls ms y → (m : Option (ℕ × Member)) → the_member ms y.text ≡ m → (f : Mistake) → IsAmong f (list.no_final decls y.span.start m) → IsTrue_of decls f
+true_no_final decls ms y h None is f i = of_one decls UnknownName y.span.start f (unknown (fault.no_final h is)) i
+true_no_final decls ms y h (Some (n, lock_member x)) is f i = of_one decls LockAsValue y.span.start f (lock_as_value (fault.lock_as_owner h is)) i
+true_no_final decls ms y h (Some (n, final_member x)) is f i = absurd i
+true_no_final decls ms y h (Some (n, field_member x)) is f i = of_if decls (member_has_type decls (field_member x)) WrongType y.span.start f (λ t. wrong_type (fault.not_final h is t)) i
+
+module _ (sc : Scope) (l : tree.Local) (o : Owner) (h : HasStmt sc.decls sc (let_owned l o)) where
+  true_owner_struct : (k : ℕ) → type_of sc l.value_type ≡ Some (Reference k) → (s : Option Struct) → the_struct sc.decls k ≡ s → (f : Mistake) → IsAmong f (no_final_in sc.decls s o.field) → IsTrue_of sc.decls f
+  true_owner_struct k t None is f i = absurd i
+  true_owner_struct k t (Some s) is f i = true_no_final sc.decls s.members o.field (names_owner h t is) (the_member s.members o.field.text) refl f i
+
+  true_owner_field : (t : Option core_type.ValueType) → type_of sc l.value_type ≡ t → (f : Mistake) → IsAmong f (owner_field_faults sc.decls t o.field) → IsTrue_of sc.decls f
+  true_owner_field None is f i = absurd i
+  true_owner_field (Some Integer) is f i = of_one sc.decls WrongType o.field.span.start f (wrong_type (fault.number_owned h is)) i
+  true_owner_field (Some (Reference k)) is f i = true_owner_struct k is (the_struct sc.decls k) refl f i
+
+  true_other : (n : ℕ) (b : Local) → meaning sc o.local.text ≡ a_local n b → (g : Option OwnerField) → owner_field sc.decls (type_of sc l.value_type) o.field ≡ g → (t : Option core_type.ValueType) → b.value_type ≡ t →
+      (f : Mistake) → IsAmong f (other_type o.local.span.start g t) → IsTrue_of sc.decls f
+  true_other n b is None of t at f i = absurd i
+  true_other n b is (Some g) of None at f i = absurd i
+  true_other n b is (Some g) of (Some t) at f i = misfit_if sc.decls o.local.span.start (fits_type g.value_type (sort.Of t)) (λ e. wrong_type (fault.other_owner h of is at e)) f i
+
+  true_no_owner : (m : Meaning) → meaning sc o.local.text ≡ m → (f : Mistake) → IsAmong f (list.no_owner sc.decls o.local.span.start (owner_field sc.decls (type_of sc l.value_type) o.field) m) → IsTrue_of sc.decls f
+  true_no_owner (a_local n b) is f i = true_other n b is (owner_field sc.decls (type_of sc l.value_type) o.field) refl b.value_type refl f i
+  true_no_owner (a_decl n d) is f i = of_if sc.decls (has_type sc.decls (a_decl n d)) WrongType o.local.span.start f (λ t. wrong_type (fault.owner_no_local h is t)) i
+  true_no_owner nothing is f i = of_one sc.decls UnknownName o.local.span.start f (unknown (fault.no_owner h is)) i
+
+  true_owner : (f : Mistake) → IsAmong f (owner_faults sc (type_of sc l.value_type) o) → IsTrue_of sc.decls f
+  true_owner f i =
+      both f (owner_field_faults sc.decls (type_of sc l.value_type) o.field) (list.no_owner sc.decls o.local.span.start (owner_field sc.decls (type_of sc l.value_type) o.field) (meaning sc o.local.text))
+      (true_owner_field (type_of sc l.value_type) refl f)
+      (true_no_owner (meaning sc o.local.text) refl f) i
+
 -- ---- statements
 
 pub else_same : (sc : Scope) (o : Otherwise) → (after_else sc o).decls ≡ sc.decls
@@ -99,6 +139,7 @@ else_same sc (else_do body close) = refl
 
 pub after_same : (sc : Scope) (s : Stmt) → (after sc s).decls ≡ sc.decls
 after_same sc (let_local l) = refl
+after_same sc (let_owned l o) = refl
 after_same sc (var_local l) = refl
 after_same sc (assign p e) = refl
 after_same sc (if_then start e body close other) = else_same (left sc (after_all sc body)) other
@@ -133,6 +174,12 @@ mutual
   true_stmt decls sc (let_local l) h same up f i =
       let g = has_moved decls sc (let_local l) same h in
       moved decls sc f same (true_typed_local sc (let_local l) l.name l.value_type l.value g (a_let g) (of_a_let g) of_let f i)
+  true_stmt decls sc (let_owned l o) h same up f i =
+      let g = has_moved decls sc (let_owned l o) same h in
+      moved decls sc f same
+      (both f (binding_faults sc l) (owner_faults sc (type_of sc l.value_type) o)
+      (true_typed_local sc (let_owned l o) l.name l.value_type l.value g (an_owned_let g) (of_an_owned_let g) of_owned f)
+      (true_owner sc l o g f) i)
   true_stmt decls sc (var_local l) h same up f i =
       let g = has_moved decls sc (var_local l) same h in
       moved decls sc f same (true_typed_local sc (var_local l) l.name l.value_type l.value g (a_var g) (of_a_var g) of_var f i)

@@ -1,7 +1,7 @@
 -- Resolved statements and sections are well typed.
 use Rattle.std.proofs.Common.{◌≡◌, ℕ, zero, suc, List, [], ◌∷◌, ◌++◌, length, Option, Some, None, Bool, true, false, if◌then◌else◌, refl, sym, ap, ◌∙◌, subst}
 use Rattle.std.specs.Prelude.{slice_get, map, ⊤}
-use Rattle.syntax.specs.Trees.{Ident, ValueType, Place, lone, element, path, Expr, Local, Stmt, let_local, var_local, assign, if_then, while, print, return_value, Stmts, no_stmts, stmt, Otherwise, no_else, else_do, Section, Decl, lock, struct, global, array, pool, init, atomic, thread}
+use Rattle.syntax.specs.Trees.{Ident, ValueType, Place, lone, element, path, Expr, Local, Owner, Stmt, let_local, let_owned, var_local, assign, if_then, while, print, return_value, Stmts, no_stmts, stmt, Otherwise, no_else, else_do, Section, Decl, lock, struct, global, array, pool, init, atomic, thread}
 use Rattle.core_lang.specs.declared.value.ValueType as core_type
 use Rattle.core_lang.specs.declared.value.ValueType.TheVariants.{Integer, Reference}
 use Rattle.core_lang.specs.declared.tree.LocalKind.{LocalKind}
@@ -13,7 +13,8 @@ use Rattle.resolution.specs.Core as core
 use Rattle.resolution.specs.Scopes as scope
 use Rattle.resolution.specs.Scopes.{◌>>=◌, Scope, outside, Meaning, a_local, a_decl, nothing, meaning, number_at, type_of, bound, hidden, hidden_from, left, entered}
 use Rattle.resolution.specs.Expressions.{want, fitting, as_value, number_resolved, test_resolved, typed, Walk, reached, at_lock, lost, walked, at_local, walk_from, cell_of}
-use Rattle.resolution.specs.Statements.{Target, to_local, to_global, to_element, to_field, Assignee, assignee, is_var, assignee_at, assignee_at_element, Split, behind, last_field, field_target, assignee_along, target_of, wanted_by, first_name, Part, does, gives, binds, set_to, assigns, prints, returns, repeats, chooses, chooses_between, Body, given_back, preceded, block_without, block_of, after, after_else, after_all, typed_stmt, typed_if, typed_body}
+use Rattle.resolution.specs.Statements.{Target, to_local, to_global, to_element, to_field, Assignee, assignee, is_var, assignee_at, assignee_at_element, Split, behind, last_field, field_target, assignee_along, target_of, wanted_by, first_name, Part, does, gives, binds, set_to, assigns, prints, returns, repeats, chooses, chooses_between, Body, given_back, preceded, block_without, block_of, after, after_else, after_all, first_value, typed_stmt, typed_if, typed_body}
+use Rattle.resolution.specs.Owners.{owned_by}
 use Rattle.resolution.specs.Constants.{added}
 use Rattle.resolution.specs.Resolution.{result_of, ahead_of, entry, core_local, core_locals, section_with, section_of, typed_section}
 use Rattle.resolution.proofs.TrueStatements.{after_same, entered_same}
@@ -22,6 +23,7 @@ use Rattle.resolution.proofs.FaultlessSections.{entered_result}
 use Rattle.resolution.proofs.Typed as well
 use Rattle.resolution.proofs.Typed.{global_in, array_in, pool_in, final_in, field_in, Leads, IsPath, Is, Gives, Acts, AllAct, Returns, get_map}
 use Rattle.resolution.proofs.TypedResolvedExprs.{Sound, Have, IsLocal, meant_local, GoodValue, GoodTest, GoodPath, local_walk, value_good_of, test_good_of}
+use Rattle.resolution.proofs.TypedOwners.{owned_value_good}
 use Rattle.resolution.specs.Facts.{after_result}
 
 -- ---- locals stay
@@ -64,6 +66,7 @@ front_left (x ∷ a) (y ∷ b) f (suc n) l e = front_left a b (λ j k h. f (suc 
 mutual
   pub after_front : (sc : Scope) (s : Stmt) → Front sc.locals (after sc s).locals
   after_front sc (let_local l) n k e = slice_front sc.locals (record { name = l.name.text; kind = kind.Let; value_type = type_of sc l.value_type; is_visible = true } ∷ []) n k e
+  after_front sc (let_owned l o) n k e = slice_front sc.locals (record { name = l.name.text; kind = kind.Let; value_type = type_of sc l.value_type; is_visible = true } ∷ []) n k e
   after_front sc (var_local l) n k e = slice_front sc.locals (record { name = l.name.text; kind = kind.Var; value_type = type_of sc l.value_type; is_visible = true } ∷ []) n k e
   after_front sc (assign p x) n k e = e
   after_front sc (if_then start x body close other) n k e = else_front (left sc (after_all sc body)) other n k (front_left sc.locals (after_all sc body).locals (all_front sc body) n k e)
@@ -311,6 +314,18 @@ module _ (decls : List Decl) (p : core.Program) (types : List core_type.ValueTyp
       bind_good sc.result l.start.start (length sc.locals) (type_of sc l.value_type) (as_value (fitting (want (type_of sc l.value_type)) (typed sc l.value)))
       (λ t e. (have (length sc.locals) x t (last_local sc.locals x) e, wanted_good sc so before (type_of sc l.value_type) l.value t e))
 
+  owned_good : (sc : Scope) (so : Sound sc.decls p) (l : Local) (o : Owner) → Have (bound sc kind.Let l.name (type_of sc l.value_type)).locals types → GoodPart sc.result (typed_stmt sc (let_owned l o))
+  owned_good sc so l o have =
+      let x : scope.Local = record { name = l.name.text; kind = kind.Let; value_type = type_of sc l.value_type; is_visible = true } in
+      let before = have_before sc.locals (sc.locals ++ x ∷ []) types (kept_push sc.locals x) have in
+      bind_good sc.result l.start.start (length sc.locals) (type_of sc l.value_type) (owned_by sc (type_of sc l.value_type) o (first_value sc l))
+      (λ t e. (have (length sc.locals) x t (last_local sc.locals x) e, tested sc so before (type_of sc l.value_type) t e l o))
+    where
+      tested : (sc : Scope) (so : Sound sc.decls p) (have : Have sc.locals types) (w : Option core_type.ValueType) (t : core_type.ValueType) → w ≡ Some t → (l : Local) (o : Owner) → IfValue t (owned_by sc w o (as_value (fitting (want w) (typed sc l.value))))
+      tested sc so have w t is l o =
+          subst (λ (y : Option core_type.ValueType). IfValue t (owned_by sc y o (as_value (fitting (want y) (typed sc l.value))))) (sym is)
+          (if_value sc so have t (owned_by sc (Some t) o (as_value (fitting (Value t) (typed sc l.value)))) (owned_value_good sc p types so have t o (as_value (fitting (Value t) (typed sc l.value))) (value_good_of sc p types so have t l.value)))
+
   assigned_good : (sc : Scope) (so : Sound sc.decls p) (have : Have sc.locals types) (q : Place) (e : Expr) (a : Assignee) → target_of sc q ≡ Some a → IfValue a.value_type (as_value (fitting (wanted_by (target_of sc q)) (typed sc e)))
   assigned_good sc so have q e a is = subst (λ (o : Option Assignee). IfValue a.value_type (as_value (fitting (wanted_by o) (typed sc e)))) (sym is) (if_value sc so have a.value_type (as_value (fitting (Value a.value_type) (typed sc e))) (value_good_of sc p types so have a.value_type e))
 
@@ -320,6 +335,7 @@ module _ (decls : List Decl) (p : core.Program) (types : List core_type.ValueTyp
   mutual
     pub stmt_good : (sc : Scope) → sc.decls ≡ decls → (s : Stmt) → Have (after sc s).locals types → GoodPart sc.result (typed_stmt sc s)
     stmt_good sc same (let_local l) have = local_good sc (sound_at sc same) kind.Let l have
+    stmt_good sc same (let_owned l o) have = owned_good sc (sound_at sc same) l o have
     stmt_good sc same (var_local l) have = local_good sc (sound_at sc same) kind.Var l have
     stmt_good sc same (assign q e) have =
         assign_good sc.result (first_name q).span.start (target_of sc q) (as_value (fitting (wanted_by (target_of sc q)) (typed sc e))) (target_good sc (sound_at sc same) have q) (λ a is. assigned_good sc (sound_at sc same) have q e a is)

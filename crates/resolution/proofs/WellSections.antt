@@ -2,7 +2,7 @@
 use Rattle.std.proofs.Common.{◌≡◌, ◌≢◌, ℕ, zero, suc, ◌+◌, ◌<◌, ◌≤◌, List, [], ◌∷◌, ◌++◌, length, Option, Some, None, true, refl, sym, ap, ◌∙◌, subst, arith}
 use Rattle.std.specs.Prelude.{slice_get, option_map, ⊤}
 use Rattle.std.specs.List.{Contains}
-use Rattle.syntax.specs.Trees.{ValueType, Stmt, let_local, var_local, assign, if_then, while, print, return_value, Stmts, no_stmts, stmt, Otherwise, no_else, else_do, Param, Section, Decl}
+use Rattle.syntax.specs.Trees.{ValueType, Stmt, let_local, let_owned, var_local, assign, if_then, while, print, return_value, Stmts, no_stmts, stmt, Otherwise, no_else, else_do, Param, Section, Decl}
 use Rattle.core_lang.specs.declared.value.ValueType as core_type
 use Rattle.core_lang.specs.declared.tree.LocalKind.TheVariants as kind
 use Rattle.core_lang.specs.declared.tree.Local as the_local
@@ -69,6 +69,7 @@ var_is e = cc
 mutual
   none_after : (n : ℕ) (sc : Scope) (s : Stmt) → NoneFrom n sc.locals → NoneFrom n (after sc s).locals
   none_after n sc (let_local l) h = none_push n sc.locals (record { name = l.name.text; kind = kind.Let; value_type = type_of sc l.value_type; is_visible = true }) let_is h
+  none_after n sc (let_owned l o) h = none_push n sc.locals (record { name = l.name.text; kind = kind.Let; value_type = type_of sc l.value_type; is_visible = true }) let_is h
   none_after n sc (var_local l) h = none_push n sc.locals (record { name = l.name.text; kind = kind.Var; value_type = type_of sc l.value_type; is_visible = true }) var_is h
   none_after n sc (assign q e) h = h
   none_after n sc (if_then start e body close other) h = none_else n (left sc (after_all sc body)) other (none_hidden n (length sc.locals) (after_all sc body).locals (none_all n sc body h))

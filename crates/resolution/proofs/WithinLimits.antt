@@ -3,7 +3,7 @@ use Rattle.std.proofs.Common.{◌≡◌, ℕ, zero, suc, ◌+◌, ◌*◌, ◌<�
 use Rattle.std.specs.Prelude.{nat_le, slice_get, take, map}
 use Rattle.std.proofs.lemmas.List.{length-append, length-map, append-nil}
 use Rattle.source.specs.declared.fault.Code.TheVariants.{LimitExceeded}
-use Rattle.syntax.specs.Trees.{Ident, Stmt, let_local, var_local, assign, if_then, while, print, return_value, Stmts, no_stmts, stmt, Otherwise, no_else, else_do, Param, Item, call, repeat, Items, no_items, item, Member, lock_member, final_member, field_member, Thread, Decl, lock, struct, global, array, pool, init, atomic, thread}
+use Rattle.syntax.specs.Trees.{Stmt, let_local, let_owned, var_local, assign, if_then, while, print, return_value, Stmts, no_stmts, stmt, Otherwise, no_else, else_do, Param, Item, call, repeat, Items, no_items, item, Member, lock_member, final_member, field_member, Thread, Decl, lock, struct, global, array, pool, init, atomic, thread}
 use Rattle.core_lang.specs.declared.tree.LocalKind.TheVariants as kind
 use Rattle.core_lang.specs.declared.tree.Section as the_section
 use Rattle.core_lang.specs.declared.typed.Struct as the_struct
@@ -19,12 +19,13 @@ use Rattle.resolution.specs.Numbers.{total, cells_of, calls_in, calls_in_all, ca
 use Rattle.resolution.specs.Expressions.{want}
 use Rattle.resolution.specs.Statements.{after, after_else, after_all}
 use Rattle.resolution.specs.Resolution.{ahead_of, entry, call_of, copies, typed_item, typed_items, resolved}
-use Rattle.resolution.specs.FaultLists.{one_if, taken, local_faults, type_faults, wanted_faults, stmt_faults, else_faults, stmts_faults, param_faults, result_faults, count_faults, total_faults}
+use Rattle.resolution.specs.FaultLists.{one_if, local_faults, type_faults, wanted_faults, binding_faults, owner_faults, stmt_faults, else_faults, stmts_faults, param_faults, result_faults, count_faults, total_faults}
 use Rattle.resolution.specs.declared.wanted.Want.TheVariants as wanted
 use Rattle.resolution.proofs.Parts.{of_place_at}
 use Rattle.resolution.proofs.AllFaults.{of_counts, of_totals}
 use Rattle.resolution.proofs.TrueStatements.{length_push}
 use Rattle.resolution.proofs.FaultlessExpressions.{NoneIn, none_left, none_right, not_if, struct_has, Clean}
+use Rattle.resolution.proofs.FaultlessOwners.{room}
 use Rattle.resolution.proofs.FaultlessMembers.{parts_at}
 use Rattle.resolution.proofs.FaultlessPrograms.{total_push, cells_fit, calls_few, struct_few}
 use Rattle.resolution.proofs.Typed.{get_map}
@@ -206,10 +207,6 @@ parameters_few sc n (p ∷ ps) none le =
     let r = parameters_few (bound sc kind.Parameter p.name t) (n + 1) ps (none_right (a ++ b ++ c) rest none) (let z : n + 1 ≤ PARAMETER_LIMIT = omega (arith, less) in z) in
     omega (arith, r)
 
--- a local that may be bound has room
-room : (sc : Scope) (x : Ident) → NoneIn (local_faults sc x) → length sc.locals < LOCAL_LIMIT
-room sc x none = le_false LOCAL_LIMIT (length sc.locals) (not_if (nat_le LOCAL_LIMIT (length sc.locals)) LimitExceeded x.span.start (none_right (taken x.span.start (the_local sc.locals x.text) (the_decl sc.decls x.text)) _ none))
-
 -- behind a block there are as many locals as at its end
 left_few : (sc end : Scope) → length end.locals ≤ LOCAL_LIMIT → length (left sc end).locals ≤ LOCAL_LIMIT
 left_few sc end le = let l = hidden_length (length sc.locals) end.locals in omega (arith, l, le)
@@ -220,6 +217,14 @@ mutual
       let a = local_faults sc l.name in
       let b = type_faults sc l.value_type in
       let less = room sc l.name (none_left a b (none_left (a ++ b) (wanted_faults sc (want (type_of sc l.value_type)) l.value) none)) in
+      let x : scopes.Local = record { name = l.name.text; kind = kind.Let; value_type = type_of sc l.value_type; is_visible = true } in
+      let n = length_push sc.locals x in
+      omega (arith, less, n)
+  after_few sc (let_owned l o) none le =
+      let a = local_faults sc l.name in
+      let b = type_faults sc l.value_type in
+      let plain = none_left (binding_faults sc l) (owner_faults sc (type_of sc l.value_type) o) none in
+      let less = room sc l.name (none_left a b (none_left (a ++ b) (wanted_faults sc (want (type_of sc l.value_type)) l.value) plain)) in
       let x : scopes.Local = record { name = l.name.text; kind = kind.Let; value_type = type_of sc l.value_type; is_visible = true } in
       let n = length_push sc.locals x in
       omega (arith, less, n)

@@ -5,7 +5,7 @@ use Rattle.std.proofs.Common.{◌≡◌, ℕ, zero, suc, ◌+◌, List, [], ◌�
 use Rattle.std.proofs.Math.Nat.{add-zero, add-suc, suc-add}
 use Rattle.std.proofs.lemmas.Bool.{eqb-true}
 use Rattle.std.proofs.lemmas.Option.{none-some}
-use Rattle.syntax.specs.Trees.{Struct, Decl, lock, struct, global, array, pool, init, atomic, thread, Stmt, let_local, var_local, assign, if_then, while, print, return_value, Otherwise, no_else, else_do}
+use Rattle.syntax.specs.Trees.{Struct, Decl, lock, struct, global, array, pool, init, atomic, thread, Stmt, let_local, let_owned, var_local, assign, if_then, while, print, return_value, Otherwise, no_else, else_do}
 use Rattle.resolution.specs.Scopes.{◌>>=◌, place_from, place_of, bears, the_decl, number_at, the_struct, Scope, left}
 use Rattle.resolution.specs.Statements.{after, after_else, after_all}
 use Rattle.resolution.specs.Constants.{same_init_target}
@@ -94,6 +94,7 @@ after_else_result sc (else_do body close) = refl
 -- the section's result is the same
 pub after_result : (sc : Scope) (s : Stmt) → (after sc s).result ≡ sc.result
 after_result sc (let_local l) = refl
+after_result sc (let_owned l o) = refl
 after_result sc (var_local l) = refl
 after_result sc (assign p e) = refl
 after_result sc (if_then start e body close other) = after_else_result (left sc (after_all sc body)) other

@@ -10,18 +10,21 @@ use Rattle.syntax.specs.declared.tree.Level.TheVariants.{Term, Sum, Conjunction,
 use Rattle.syntax.specs.declared.tree.Comparison as written
 use Rattle.syntax.specs.declared.tree.Comparison.TheVariants as sign
 use Rattle.syntax.specs.Trees as tree
-use Rattle.syntax.specs.Trees.{Ident, ValueType, int_type, ref_type, Const, int_const, negative, null_const, member_const, Place, lone, element, path, Expr, int, null, place, paren, prefix, chain, compare, Links, no_links, link, Stmt, let_local, var_local, assign, if_then, while, print, return_value, Stmts, no_stmts, stmt, Otherwise, no_else, else_do, Protection, Member, lock_member, final_member, field_member, Struct, Variable, Array, Pool, Init, Param, Section, Item, call, repeat, Items, no_items, item, Decl, lock, struct, global, array, pool, init, atomic, thread}
+use Rattle.syntax.specs.Trees.{Ident, ValueType, int_type, ref_type, Const, int_const, negative, null_const, member_const, Place, lone, element, path, Expr, int, null, place, paren, prefix, chain, compare, Links, no_links, link, Stmt, let_local, let_owned, var_local, assign, if_then, while, print, return_value, Stmts, no_stmts, stmt, Otherwise, no_else, else_do, Protection, Member, lock_member, final_member, field_member, Struct, Variable, Array, Pool, Init, Param, Section, Item, call, repeat, Items, no_items, item, Decl, lock, struct, global, array, pool, init, atomic, thread}
+use Rattle.core_lang.specs.declared.value.ValueType as core_type
 use Rattle.core_lang.specs.declared.value.ValueType.TheVariants.{Integer, Reference}
 use Rattle.core_lang.specs.declared.tree.LocalKind.TheVariants.{Parameter}
 use Rattle.resolution.specs.declared.init_target.InitTarget.{InitTarget}
 use Rattle.source.specs.declared.mistake.Mistake.{Mistake}
 use Rattle.resolution.specs.declared.wanted.Sort.{Sort}
+use Rattle.resolution.specs.declared.wanted.Sort.TheVariants as sort
 use Rattle.resolution.specs.declared.wanted.Want.{Want}
 use Rattle.resolution.specs.declared.wanted.Want.TheVariants.{Condition, Value}
 use Rattle.resolution.specs.Limits.{STRUCT_LIMIT, MEMBER_LIMIT, FINAL_LIMIT, CLASS_LIMIT, OBJECT_LIMIT, CELL_LIMIT, SECTION_LIMIT, THREAD_LIMIT, PARAMETER_LIMIT, LOCAL_LIMIT, CALL_LIMIT}
 use Rattle.resolution.specs.Scopes.{Scope, Local, outside, Meaning, a_local, a_decl, nothing, meaning, place_of, count, declared, bears, the_decl, alike, the_struct, member_name, member_bears, the_member, the_local, type_of, has_type, member_has_type, struct_named, bound, left}
 use Rattle.resolution.specs.Numbers.{is_lock, classes_of, objects_of, cells_of, calls_of, total}
-use Rattle.resolution.specs.Expressions.{ResolvedExpr, value, truth, fits, fits_sort, alike_sorts, want, typed, operator_of, Walk, reached, at_lock, lost, stepped, at_local, walk_from}
+use Rattle.resolution.specs.Expressions.{ResolvedExpr, value, truth, fits, fits_type, fits_sort, alike_sorts, want, typed, operator_of, Walk, reached, at_lock, lost, stepped, at_local, walk_from}
+use Rattle.resolution.specs.Owners.{OwnerField, owner_field}
 use Rattle.resolution.specs.Statements.{is_var, last_field, target_of, wanted_by, after, after_all}
 use Rattle.resolution.specs.Constants.{const_sort, want_of, members_of, pool_members, member_want, initialised, init_target_of, giver, given}
 use Rattle.resolution.specs.Annotations.{AnnotationCursor, stepped_on, cursor_at}
@@ -236,9 +239,45 @@ target_faults sc (path x fs) = path_faults sc.decls x.span.start (meaning sc x.t
 abbrev pub binding_faults : Scope → tree.Local → List Mistake
 binding_faults sc l = local_faults sc l.name ++ type_faults sc l.value_type ++ wanted_faults sc (want (type_of sc l.value_type)) l.value
 
+-- a member that is no final reference, where one is named
+abbrev pub no_final : List Decl → ℕ → Option (ℕ × Member) → List Mistake
+no_final decls start None = one UnknownName start
+no_final decls start (Some (i, lock_member x)) = one LockAsValue start
+no_final decls start (Some (i, final_member f)) = []
+no_final decls start (Some (i, field_member f)) = unfit_member decls WrongType start (field_member f)
+
+abbrev pub no_final_in : List Decl → Option Struct → Ident → List Mistake
+no_final_in decls (Some s) f = no_final decls f.span.start (the_member s.members f.text)
+no_final_in decls None f = []
+
+-- the field that is named behind `where`, for a value of this type
+abbrev pub owner_field_faults : List Decl → Option core_type.ValueType → Ident → List Mistake
+owner_field_faults decls (Some (Reference k)) f = no_final_in decls (the_struct decls k) f
+owner_field_faults decls (Some Integer) f = one WrongType f.span.start
+owner_field_faults decls None f = []
+
+-- a local of another type than the final reference's
+abbrev pub other_type : ℕ → Option OwnerField → Option core_type.ValueType → List Mistake
+other_type start (Some f) (Some t) = if fits_type f.value_type (sort.Of t) then [] else one WrongType start
+other_type start (Some f) None = []
+other_type start None t = []
+
+-- the name that is to be a local's
+abbrev pub no_owner : List Decl → ℕ → Option OwnerField → Meaning → List Mistake
+no_owner decls start f (a_local i l) = other_type start f l.value_type
+no_owner decls start f (a_decl i d) = unfit decls WrongType start (a_decl i d)
+no_owner decls start f nothing = one UnknownName start
+
+-- what stands behind `where`, for a value of this type
+abbrev pub owner_faults : Scope → Option core_type.ValueType → tree.Owner → List Mistake
+owner_faults sc t o =
+    owner_field_faults sc.decls t o.field
+    ++ no_owner sc.decls o.local.span.start (owner_field sc.decls t o.field) (meaning sc o.local.text)
+
 abbrev mutual
   pub stmt_faults : Scope → Stmt → List Mistake
   stmt_faults sc (let_local l) = binding_faults sc l
+  stmt_faults sc (let_owned l o) = binding_faults sc l ++ owner_faults sc (type_of sc l.value_type) o
   stmt_faults sc (var_local l) = binding_faults sc l
   stmt_faults sc (assign p e) = target_faults sc p ++ wanted_faults sc (wanted_by (target_of sc p)) e
   stmt_faults sc (if_then start e body close other) = wanted_faults sc Condition e ++ stmts_faults sc body ++ else_faults (left sc (after_all sc body)) other

@@ -13,22 +13,25 @@ use Rattle.syntax.specs.declared.tree.Level.{Level}
 use Rattle.syntax.specs.declared.tree.Level.TheVariants.{Term, Sum}
 use Rattle.syntax.specs.declared.tree.Comparison as written
 use Rattle.syntax.specs.declared.tree.Comparison.TheVariants as sign
-use Rattle.syntax.specs.Trees.{Ident, ref_type, Const, int_const, negative, null_const, member_const, Place, lone, element, path, Expr, int, null, place, paren, prefix, chain, compare, Links, assign, Protection, Member, lock_member, final_member, field_member, Struct, Field, Final, Variable, Array, Pool, Init, Param, Section, Call, Decl, lock, struct, global, array, pool, init, atomic, thread}
+use Rattle.syntax.specs.Trees as tree
+use Rattle.syntax.specs.Trees.{Ident, ref_type, Const, int_const, negative, null_const, member_const, Place, lone, element, path, Expr, int, null, place, paren, prefix, chain, compare, Links, Owner, let_owned, assign, Protection, Member, lock_member, final_member, field_member, Struct, Field, Final, Variable, Array, Pool, Init, Param, Section, Call, Decl, lock, struct, global, array, pool, init, atomic, thread}
 use Rattle.core_lang.specs.declared.value.ValueType as core_type
 use Rattle.core_lang.specs.declared.value.ValueType.TheVariants.{Integer, Reference}
 use Rattle.core_lang.specs.declared.tree.FieldStep.{FieldStep}
 use Rattle.resolution.specs.declared.init_target.InitTarget.{InitTarget}
 use Rattle.resolution.specs.declared.wanted.Sort.{Sort}
+use Rattle.resolution.specs.declared.wanted.Sort.TheVariants as sort
 use Rattle.resolution.specs.declared.wanted.Want.{Want}
 use Rattle.resolution.specs.Core as core
 use Rattle.resolution.specs.Limits.{STRUCT_LIMIT, MEMBER_LIMIT, FINAL_LIMIT, CLASS_LIMIT, OBJECT_LIMIT, CELL_LIMIT, SECTION_LIMIT, THREAD_LIMIT, PARAMETER_LIMIT, LOCAL_LIMIT, CALL_LIMIT}
-use Rattle.resolution.specs.Scopes.{Scope, Local, Meaning, a_local, a_decl, nothing, meaning, place_of, count, declared, bears, the_decl, alike, the_struct, member_name, member_bears, the_member, the_local, has_type, member_has_type, struct_named}
+use Rattle.resolution.specs.Scopes.{Scope, Local, Meaning, a_local, a_decl, nothing, meaning, place_of, count, declared, bears, the_decl, alike, the_struct, member_name, member_bears, the_member, the_local, has_type, member_has_type, type_of, struct_named}
 use Rattle.resolution.specs.Numbers.{is_lock, total, classes_of, objects_of, cells_of, calls_of}
-use Rattle.resolution.specs.Expressions.{ResolvedExpr, value, truth, fits, fits_sort, alike_sorts, typed, operator_of, Walk, reached, at_lock, walk_from}
+use Rattle.resolution.specs.Expressions.{ResolvedExpr, value, truth, fits, fits_type, fits_sort, alike_sorts, typed, operator_of, Walk, reached, at_lock, walk_from}
+use Rattle.resolution.specs.Owners.{OwnerField, owner_field}
 use Rattle.resolution.specs.Statements.{is_var, last_field, first_name}
 use Rattle.resolution.specs.Constants.{const_sort, members_of, pool_members, initialised, init_target_of, giver, given}
 use Rattle.resolution.specs.Annotations.{AnnotationCursor, through_member, cursor_at}
-use Rattle.resolution.specs.Where.{Has, HasLink, HasStmt, HasExpr, HasPlace, Binds, HasType, HasCall, HasConst, HasLock, Annotates}
+use Rattle.resolution.specs.Where.{Has, HasLink, HasStmt, HasExpr, HasPlace, Binds, HasType, NamesOwner, HasCall, HasConst, HasLock, Annotates}
 
 -- ---- where expressions and constants start
 
@@ -122,6 +125,10 @@ pub data IsUnknown (decls : List Decl) : ℕ → Type 0 where
       HasPlace decls sc (path x fs) → fs ≡ before ++ f ∷ behind →
       walk_from decls (meaning sc x.text) before ≡ reached steps (Reference k) → the_struct decls k ≡ Some s →
       the_member s.members f.text ≡ None → IsUnknown decls f.span.start
+  no_final : {ms : List Member} {f : Ident} →
+      NamesOwner decls ms f → the_member ms f.text ≡ None → IsUnknown decls f.span.start
+  no_owner : {sc : Scope} {l : tree.Local} {o : Owner} →
+      HasStmt decls sc (let_owned l o) → meaning sc o.local.text ≡ nothing → IsUnknown decls o.local.span.start
   no_lock : {p : Protection} →
       NamesGlobal decls p → the_decl decls p.first.text ≡ None → IsUnknown decls p.first.span.start
   no_field_passed : {p : Protection} {st : AnnotationCursor} {y : Ident} {ys : List Ident} →
@@ -179,7 +186,7 @@ abbrev pub IsPool : Decl → Type 0
 IsPool (pool p) = Unit {0}
 IsPool _ = ⊥
 
--- an expression or a constant that isn't what is wanted, sides of `==` that are unlike, a name of the wrong kind
+-- an expression, a constant or an owner that isn't what is wanted, sides of `==` that are unlike, a name of the wrong kind
 pub data IsWrongType (decls : List Decl) : ℕ → Type 0 where
   unwanted : {sc : Scope} {w : Want} {e : Expr} {s : ResolvedExpr} →
       HasExpr decls sc w e → typed sc e ≡ Some s → fits w s ≡ false → IsWrongType decls (start_of e)
@@ -214,6 +221,18 @@ pub data IsWrongType (decls : List Decl) : ℕ → Type 0 where
   no_pool_initialised : {j : Init} {i : ℕ} {d : Decl} →
       Has decls (init j) → the_decl decls j.pool.text ≡ Some (i, d) → (IsPool d → ⊥) →
       has_type decls (a_decl i d) ≡ true → IsWrongType decls j.pool.span.start
+  not_final : {ms : List Member} {f : Ident} {i : ℕ} {g : Field} →
+      NamesOwner decls ms f → the_member ms f.text ≡ Some (i, field_member g) →
+      member_has_type decls (field_member g) ≡ true → IsWrongType decls f.span.start
+  number_owned : {sc : Scope} {l : tree.Local} {o : Owner} →
+      HasStmt decls sc (let_owned l o) → type_of sc l.value_type ≡ Some Integer → IsWrongType decls o.field.span.start
+  owner_no_local : {sc : Scope} {l : tree.Local} {o : Owner} {i : ℕ} {d : Decl} →
+      HasStmt decls sc (let_owned l o) → meaning sc o.local.text ≡ a_decl i d → has_type decls (a_decl i d) ≡ true →
+      IsWrongType decls o.local.span.start
+  other_owner : {sc : Scope} {l : tree.Local} {o : Owner} {f : OwnerField} {i : ℕ} {b : Local} {t : core_type.ValueType} →
+      HasStmt decls sc (let_owned l o) → owner_field decls (type_of sc l.value_type) o.field ≡ Some f →
+      meaning sc o.local.text ≡ a_local i b → b.value_type ≡ Some t → fits_type f.value_type (sort.Of t) ≡ false →
+      IsWrongType decls o.local.span.start
   -- an operator of conditions in a chain of numbers; no tree of tokens has one
   misplaced_operator : {sc : Scope} {w : Want} {level : Level} {e f : Expr} {links : Links} {o : Op} →
       HasExpr decls sc w (chain level e links) → IsOfNumbers level → HasLink links o f → operator_of o ≡ None →
@@ -330,7 +349,7 @@ pub data IsOutOfRange (decls : List Decl) : ℕ → Type 0 where
       decls ≡ before ++ init j ∷ behind → init_target_of decls j ≡ Some g → giver decls before g ≡ Some e →
       IsOutOfRange decls j.start.start
 
--- ---- E19: a lock as a value, on the left, or in an `init`
+-- ---- E19: a lock as a value, on the left, in an `init`, or behind `where`
 
 pub data IsLockAsValue (decls : List Decl) : ℕ → Type 0 where
   global_lock : {sc : Scope} {x y : Ident} {i : ℕ} →
@@ -338,6 +357,8 @@ pub data IsLockAsValue (decls : List Decl) : ℕ → Type 0 where
   lock_field : {sc : Scope} {x : Ident} {fs : List Ident} →
       HasPlace decls sc (path x fs) → walk_from decls (meaning sc x.text) fs ≡ at_lock →
       IsLockAsValue decls x.span.start
+  lock_as_owner : {ms : List Member} {f y : Ident} {i : ℕ} →
+      NamesOwner decls ms f → the_member ms f.text ≡ Some (i, lock_member y) → IsLockAsValue decls f.span.start
   lock_initialised : {i : Init} {m : ℕ} {y : Ident} →
       Has decls (init i) → initialised decls i ≡ Some (m, lock_member y) → IsLockAsValue decls i.field.span.start
 

@@ -4,6 +4,7 @@ pub mod Limits
 pub mod Scopes
 pub mod Numbers
 pub mod Expressions
+pub mod Owners
 pub mod Statements
 pub mod Constants
 pub mod Annotations

@@ -1,6 +1,6 @@
 -- Statements with each name replaced by the number of what it means, where everything in them has a type.
 use Rattle.std.specs.Prelude.{ℕ, Bool, true, false, List, [], ◌∷◌, length, Option, Some, None, if◌then◌else◌}
-use Rattle.syntax.specs.Trees.{Ident, Place, lone, element, path, Local, Stmt, let_local, var_local, assign, if_then, while, print, return_value, Stmts, no_stmts, stmt, Otherwise, no_else, else_do, Decl, lock, struct, global, array, pool, init, atomic, thread}
+use Rattle.syntax.specs.Trees.{Ident, Place, lone, element, path, Local, Owner, Stmt, let_local, let_owned, var_local, assign, if_then, while, print, return_value, Stmts, no_stmts, stmt, Otherwise, no_else, else_do, Decl, lock, struct, global, array, pool, init, atomic, thread}
 use Rattle.core_lang.specs.declared.value.ValueType as core_type
 use Rattle.core_lang.specs.declared.tree.FieldStep.{FieldStep}
 use Rattle.core_lang.specs.declared.tree.FieldStep.TheVariants as step
@@ -11,6 +11,7 @@ use Rattle.resolution.specs.declared.wanted.Want.TheVariants.{Anything, Value}
 use Rattle.resolution.specs.Core as core
 use Rattle.resolution.specs.Scopes.{◌>>=◌, Scope, outside, Meaning, a_local, a_decl, nothing, meaning, number_at, type_of, bound, left}
 use Rattle.resolution.specs.Expressions.{want, fitting, as_value, number_resolved, test_resolved, typed, Walk, reached, at_lock, lost, walk_from, local_path, cell_of}
+use Rattle.resolution.specs.Owners.{owned_by}
 
 -- ---- the left side of an assignment
 
@@ -180,6 +181,7 @@ abbrev mutual
   -- the scope behind a statement
   pub after : Scope → Stmt → Scope
   after sc (let_local l) = bound sc Let l.name (type_of sc l.value_type)
+  after sc (let_owned l o) = bound sc Let l.name (type_of sc l.value_type)
   after sc (var_local l) = bound sc Var l.name (type_of sc l.value_type)
   after sc (assign p e) = sc
   after sc (if_then start e body close other) = after_else (left sc (after_all sc body)) other
@@ -196,14 +198,23 @@ abbrev mutual
   after_all sc no_stmts = sc
   after_all sc (stmt s rest) = after_all (after sc s) rest
 
+-- the first value of a local
+abbrev pub first_value : Scope → Local → Option core.Expr
+first_value sc l = as_value (fitting (want (type_of sc l.value_type)) (typed sc l.value))
+
 -- a local with its first value
 abbrev pub local_bound : Scope → Local → Option Part
-local_bound sc l = binds l.start.start (length sc.locals) (type_of sc l.value_type) (as_value (fitting (want (type_of sc l.value_type)) (typed sc l.value)))
+local_bound sc l = binds l.start.start (length sc.locals) (type_of sc l.value_type) (first_value sc l)
+
+-- the same, where the value is tested
+abbrev pub owned_bound : Scope → Local → Owner → Option Part
+owned_bound sc l o = binds l.start.start (length sc.locals) (type_of sc l.value_type) (owned_by sc (type_of sc l.value_type) o (first_value sc l))
 
 abbrev mutual
   -- a statement resolved, if everything in it has a type
   pub typed_stmt : Scope → Stmt → Option Part
   typed_stmt sc (let_local l) = local_bound sc l
+  typed_stmt sc (let_owned l o) = owned_bound sc l o
   typed_stmt sc (var_local l) = local_bound sc l
   typed_stmt sc (assign p e) = assigns (first_name p).span.start (target_of sc p) (as_value (fitting (wanted_by (target_of sc p)) (typed sc e)))
   typed_stmt sc (if_then start e body close other) = typed_if (left sc (after_all sc body)) start.start (test_resolved (typed sc e)) (block_of (typed_body sc body)) other

@@ -9,11 +9,11 @@ use Rattle.syntax.specs.declared.tree.Prefix.{Prefix}
 use Rattle.syntax.specs.declared.tree.Prefix.TheVariants.{Negate, Not}
 use Rattle.syntax.specs.declared.tree.Comparison as written
 use Rattle.syntax.specs.declared.tree.Comparison.TheVariants as sign
-use Rattle.syntax.specs.Trees.{Ident, ValueType, ref_type, Const, Place, element, Expr, place, paren, prefix, chain, compare, Links, link, Local, Stmt, let_local, var_local, assign, if_then, while, print, return_value, Stmts, stmt, Otherwise, else_do, Protection, Final, Field, Member, final_member, field_member, Struct, Variable, Array, Pool, Init, Param, Section, Call, Item, call, repeat, Items, item, Thread, Decl, struct, global, array, pool, init, atomic, thread}
-use Rattle.core_lang.specs.declared.value.ValueType.TheVariants.{Integer}
+use Rattle.syntax.specs.Trees.{Ident, ValueType, ref_type, Const, Place, element, Expr, place, paren, prefix, chain, compare, Links, link, Local, Owner, Stmt, let_local, let_owned, var_local, assign, if_then, while, print, return_value, Stmts, stmt, Otherwise, else_do, Protection, Final, Field, Member, final_member, field_member, Struct, Variable, Array, Pool, Init, Param, Section, Call, Item, call, repeat, Items, item, Thread, Decl, struct, global, array, pool, init, atomic, thread}
+use Rattle.core_lang.specs.declared.value.ValueType.TheVariants.{Integer, Reference}
 use Rattle.resolution.specs.declared.wanted.Want.{Want}
 use Rattle.resolution.specs.declared.wanted.Want.TheVariants.{Anything, Condition, Value}
-use Rattle.resolution.specs.Scopes.{Scope, outside, the_decl, type_of, entered, left}
+use Rattle.resolution.specs.Scopes.{Scope, outside, the_decl, the_struct, type_of, entered, left}
 use Rattle.resolution.specs.Expressions.{want}
 use Rattle.resolution.specs.Statements.{target_of, wanted_by, after, after_all}
 use Rattle.resolution.specs.Constants.{want_of, initialised, member_want}
@@ -85,6 +85,7 @@ pub data Among : Scope → Stmts → Scope → Stmt → Type 0 where
 -- an expression of a statement, and what is wanted of it
 pub data Asks : Scope → Stmt → Want → Expr → Type 0 where
   of_let : {sc : Scope} {l : Local} → Asks sc (let_local l) (want (type_of sc l.value_type)) l.value
+  of_owned : {sc : Scope} {l : Local} {o : Owner} → Asks sc (let_owned l o) (want (type_of sc l.value_type)) l.value
   of_var : {sc : Scope} {l : Local} → Asks sc (var_local l) (want (type_of sc l.value_type)) l.value
   of_assign : {sc : Scope} {p : Place} {e : Expr} → Asks sc (assign p e) (wanted_by (target_of sc p)) e
   of_index : {sc : Scope} {x : Ident} {i e : Expr} → Asks sc (assign (element x i) e) (Value Integer) i
@@ -117,6 +118,7 @@ pub data Binds (decls : List Decl) : Scope → Ident → Type 0 where
   parameter : {x : Section} (p : Param) (before behind : List Param) →
       Has decls (atomic x) → x.params ≡ before ++ p ∷ behind → Binds decls (entered (ahead_of decls x) before) p.name
   a_let : {sc : Scope} {l : Local} → HasStmt decls sc (let_local l) → Binds decls sc l.name
+  an_owned_let : {sc : Scope} {l : Local} {o : Owner} → HasStmt decls sc (let_owned l o) → Binds decls sc l.name
   a_var : {sc : Scope} {l : Local} → HasStmt decls sc (var_local l) → Binds decls sc l.name
 
 -- a type of the program, with the scope there
@@ -132,7 +134,14 @@ pub data HasType (decls : List Decl) : Scope → ValueType → Type 0 where
       Has decls (atomic x) → Has x.params p → HasType decls (outside decls) p.value_type
   of_result : {x : Section} {t : ValueType} → Has decls (atomic x) → x.result ≡ Some t → HasType decls (outside decls) t
   of_a_let : {sc : Scope} {l : Local} → HasStmt decls sc (let_local l) → HasType decls sc l.value_type
+  of_an_owned_let : {sc : Scope} {l : Local} {o : Owner} → HasStmt decls sc (let_owned l o) → HasType decls sc l.value_type
   of_a_var : {sc : Scope} {l : Local} → HasStmt decls sc (var_local l) → HasType decls sc l.value_type
+
+-- a name behind `where` that is to be a final reference's, for a value of the struct with these members
+pub data NamesOwner (decls : List Decl) : List Member → Ident → Type 0 where
+  names_owner : {sc : Scope} {l : Local} {o : Owner} {k : ℕ} {s : Struct} →
+      HasStmt decls sc (let_owned l o) → type_of sc l.value_type ≡ Some (Reference k) → the_struct decls k ≡ Some s →
+      NamesOwner decls s.members o.field
 
 -- ---- threads and constants
 
