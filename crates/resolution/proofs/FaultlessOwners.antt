@@ -10,7 +10,8 @@ use Rattle.resolution.specs.Core as core
 use Rattle.resolution.specs.Limits.{STRUCT_LIMIT, LOCAL_LIMIT, up_to}
 use Rattle.resolution.specs.Scopes.{◌>>=◌, Scope, Local, outside, Meaning, a_local, a_decl, nothing, meaning, count, alike, structs_in, the_struct, the_member, the_local, the_decl, member_has_type}
 use Rattle.resolution.specs.Expressions.{fits_type, member_number}
-use Rattle.resolution.specs.Owners.{OwnerField, final_of, owner_member, owner_field, is_of, owner_local, tested_by, owned_value, owned_by}
+use Rattle.resolution.specs.declared.owner_field.OwnerField.{OwnerField}
+use Rattle.resolution.specs.Owners.{final_of, owner_member, owner_field, is_of, owner_local, tested_by, owned_value, owned_by}
 use Rattle.resolution.specs.Where.{Has, of_final, of_field}
 use Rattle.resolution.specs.FaultLists as list
 use Rattle.resolution.specs.FaultLists.{one, one_if, unfit, unfit_member, taken, local_faults, no_final_in, owner_field_faults, other_type, owner_faults, count_faults}

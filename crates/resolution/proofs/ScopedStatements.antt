@@ -25,7 +25,8 @@ use Rattle.resolution.specs.Scopes.{◌>>=◌, Scope, outside, Meaning, a_local,
 use Rattle.resolution.specs.Expressions.{ResolvedExpr, value, truth, fits, alike_sorts, want, fitting, as_value, number_resolved, test_resolved, number_value, literal, value_of, local_path, cell_of, named_value, member_value, element_value, Walk, reached, at_lock, lost, walk_from, path_value, operator_of, negated, not_so, parenthesised, chained, linked, Tests, one_test, tested, all_hold, one_holds, ordered, equated, compared, typed, typed_place, typed_links, typed_tests}
 use Rattle.resolution.specs.Statements.{Target, to_local, to_global, to_element, to_field, Assignee, assignee, is_var, assignee_at, assignee_at_element, Split, last_field, field_target, assignee_along, target_of, wanted_by, first_name, Part, does, gives, binds, set_to, assigns, prints, returns, repeats, chooses, chooses_between, Body, given_back, preceded, block_without, block_of, after, after_all, first_value, typed_stmt, typed_body}
 use Rattle.resolution.specs.Limits.{STRUCT_LIMIT, LOCAL_LIMIT}
-use Rattle.resolution.specs.Owners.{OwnerField, owner_field, is_of, owner_local, owned_value, owned_by}
+use Rattle.resolution.specs.declared.owner_field.OwnerField.{OwnerField}
+use Rattle.resolution.specs.Owners.{owner_field, is_of, owner_local, owned_value, owned_by}
 use Rattle.resolution.proofs.TypedResolvedExprs.{IsLocal, meant_local}
 use Rattle.resolution.proofs.TypedStatements.{Kept, kept_hidden, Front, all_front}
 use Rattle.resolution.proofs.Scoped.{Names, AllName, TestNames, AllTestName, behind, ActNames, StmtsName, behind_all, binding, all_binding, assigning, all_assigning}

@@ -15,7 +15,8 @@ use Rattle.resolution.specs.declared.wanted.Want.TheVariants.{Condition, Value}
 use Rattle.resolution.specs.Limits.{PARAMETER_LIMIT, LOCAL_LIMIT}
 use Rattle.resolution.specs.Scopes.{Scope, Local, outside, Meaning, a_local, a_decl, nothing, meaning, the_decl, the_struct, the_member, the_local, has_type, member_has_type, type_of, bound, entered, left}
 use Rattle.resolution.specs.Expressions.{fits_type, want, Walk, reached, at_lock, lost, walk_from}
-use Rattle.resolution.specs.Owners.{OwnerField, owner_field}
+use Rattle.resolution.specs.declared.owner_field.OwnerField.{OwnerField}
+use Rattle.resolution.specs.Owners.{owner_field}
 use Rattle.resolution.specs.Statements.{is_var, last_field, target_of, wanted_by, after, after_else, after_all}
 use Rattle.resolution.specs.Resolution.{ahead_of, entry}
 use Rattle.resolution.specs.Where as site

@@ -10,7 +10,8 @@ use Rattle.resolution.specs.Core as core
 use Rattle.resolution.specs.Limits.{STRUCT_LIMIT, LOCAL_LIMIT}
 use Rattle.resolution.specs.Scopes.{◌>>=◌, Scope, Meaning, a_local, a_decl, nothing, meaning, the_struct, the_member, struct_named}
 use Rattle.resolution.specs.Expressions.{fits_type, member_number}
-use Rattle.resolution.specs.Owners.{OwnerField, final_of, owner_member, owner_field, is_of, owner_local, owned_value, owned_by}
+use Rattle.resolution.specs.declared.owner_field.OwnerField.{OwnerField}
+use Rattle.resolution.specs.Owners.{final_of, owner_member, owner_field, is_of, owner_local, owned_value, owned_by}
 use Rattle.resolution.proofs.Named.{member_is}
 use Rattle.resolution.proofs.Typed.{final_in, Is}
 use Rattle.resolution.proofs.TypedResolvedExprs.{Sound, Have, IsLocal, meant_local, GoodValue}

@@ -24,7 +24,8 @@ use Rattle.resolution.specs.Limits.{STRUCT_LIMIT, MEMBER_LIMIT, FINAL_LIMIT, CLA
 use Rattle.resolution.specs.Scopes.{Scope, Local, outside, Meaning, a_local, a_decl, nothing, meaning, place_of, count, declared, bears, the_decl, alike, the_struct, member_name, member_bears, the_member, the_local, type_of, has_type, member_has_type, struct_named, bound, left}
 use Rattle.resolution.specs.Numbers.{is_lock, classes_of, objects_of, cells_of, calls_of, total}
 use Rattle.resolution.specs.Expressions.{ResolvedExpr, value, truth, fits, fits_type, fits_sort, alike_sorts, want, typed, operator_of, Walk, reached, at_lock, lost, stepped, at_local, walk_from}
-use Rattle.resolution.specs.Owners.{OwnerField, owner_field}
+use Rattle.resolution.specs.declared.owner_field.OwnerField.{OwnerField}
+use Rattle.resolution.specs.Owners.{owner_field}
 use Rattle.resolution.specs.Statements.{is_var, last_field, target_of, wanted_by, after, after_all}
 use Rattle.resolution.specs.Constants.{const_sort, want_of, members_of, pool_members, member_want, initialised, init_target_of, giver, given}
 use Rattle.resolution.specs.Annotations.{AnnotationCursor, stepped_on, cursor_at}

@@ -27,7 +27,8 @@ use Rattle.resolution.specs.Limits.{STRUCT_LIMIT, MEMBER_LIMIT, FINAL_LIMIT, CLA
 use Rattle.resolution.specs.Scopes.{Scope, Local, Meaning, a_local, a_decl, nothing, meaning, place_of, count, declared, bears, the_decl, alike, the_struct, member_name, member_bears, the_member, the_local, has_type, member_has_type, type_of, struct_named}
 use Rattle.resolution.specs.Numbers.{is_lock, total, classes_of, objects_of, cells_of, calls_of}
 use Rattle.resolution.specs.Expressions.{ResolvedExpr, value, truth, fits, fits_type, fits_sort, alike_sorts, typed, operator_of, Walk, reached, at_lock, walk_from}
-use Rattle.resolution.specs.Owners.{OwnerField, owner_field}
+use Rattle.resolution.specs.declared.owner_field.OwnerField.{OwnerField}
+use Rattle.resolution.specs.Owners.{owner_field}
 use Rattle.resolution.specs.Statements.{is_var, last_field, first_name}
 use Rattle.resolution.specs.Constants.{const_sort, members_of, pool_members, initialised, init_target_of, giver, given}
 use Rattle.resolution.specs.Annotations.{AnnotationCursor, through_member, cursor_at}

@@ -3,17 +3,12 @@ use Rattle.std.specs.Prelude.{ℕ, Bool, false, List, Option, Some, None, if◌t
 use Rattle.syntax.specs.Trees.{Ident, ref_type, Owner, Member, lock_member, final_member, field_member, Decl}
 use Rattle.core_lang.specs.declared.value.ValueType as core_type
 use Rattle.core_lang.specs.declared.value.ValueType.TheVariants.{Integer, Reference}
+use Rattle.resolution.specs.declared.owner_field.OwnerField.{OwnerField}
 use Rattle.resolution.specs.declared.wanted.Sort.TheVariants as sort
 use Rattle.resolution.specs.Core as core
 use Rattle.resolution.specs.Limits.{STRUCT_LIMIT, LOCAL_LIMIT, up_to}
 use Rattle.resolution.specs.Scopes.{◌>>=◌, Scope, outside, Meaning, a_local, a_decl, nothing, meaning, the_struct, the_member, type_of}
 use Rattle.resolution.specs.Expressions.{fits_type, member_number}
-
--- a final reference: the struct that has it, its number there, and its type
-pub record OwnerField : Type 0 where
-  pub structure : ℕ
-  pub number : ℕ
-  pub value_type : core_type.ValueType
 
 -- a final reference of the struct k, if its type has no fault
 abbrev pub final_of : ℕ → ℕ → Option core_type.ValueType → Option OwnerField

@@ -4,4 +4,5 @@
 
 pub mod init_target;
 pub mod laws;
+pub mod owner_field;
 pub mod wanted;
