@@ -12,7 +12,7 @@ use Rattle.syntax.specs.declared.tree.Block as tree_block
 use Rattle.syntax.specs.declared.tree.Local as tree_local
 use Rattle.syntax.specs.declared.tree.Param as tree_param
 use Rattle.syntax.specs.Views.{expr_of, stmt_of, if_of, local_of, stmts_of, else_of, param_of}
-use Rattle.syntax.specs.Trees.{Decl, Stmt, let_local, var_local, assign, if_then, while, print, return_value, Stmts, no_stmts, stmt, no_else, else_do, Param, Section}
+use Rattle.syntax.specs.Trees.{Decl, Stmt, let_local, let_owned, var_local, assign, if_then, while, print, return_value, Stmts, no_stmts, stmt, no_else, else_do, Param, Section}
 use Rattle.core_lang.specs.declared.value.ValueType as core_type
 use Rattle.syntax.specs.Rows.{while_of, stmt_of-While, if_of-out}
 use Rattle.core_lang.specs.declared.tree.LocalKind.TheVariants.{Parameter}
@@ -160,6 +160,7 @@ param_scope_step sc sc' whole items i item lt is behind before =
 
 after_decls : (sc : Scope) (s : Stmt) → (after sc s).decls ≡ sc.decls
 after_decls sc (let_local l) = refl
+after_decls sc (let_owned l o) = refl
 after_decls sc (var_local l) = refl
 after_decls sc (assign p e) = refl
 after_decls sc (if_then start e body close no_else) = refl

@@ -3,12 +3,14 @@
 //!
 //! - [`section::judge_section`]: a whole section.
 //! - `stmt`: its statements, which bind locals in the checker of `expressions` as they go.
+//! - `owner`: what stands behind the `where` of a `let`.
 //! - `target`: the left sides of assignments.
 //!
 //! Which data a value of these modules is stands in `specs/Targets.antt` and `Whole.antt`. Which section a tree stands
 //! for, and where its faults stand, is defined in `resolution`.
 #![tactic(auto)]
 
+mod owner;
 pub mod section;
 mod stmt;
 mod target;

@@ -1,16 +1,19 @@
 //! Statements.
 
-ghost use Rattle.std.specs.Prelude.{◌≡◌, OnOk, IfOk, Some, None, map, option_map};
-ghost use Rattle.syntax.specs.Trees.{assign};
+ghost use Rattle.std.specs.Prelude.{◌≡◌, OnOk, IfOk, Some, None, length, map, option_map};
+ghost use Rattle.syntax.specs.Trees.{assign, let_owned};
 ghost use Rattle.syntax.specs.Rows.{while_of};
-ghost use Rattle.syntax.specs.Views.{expr_of, place_of, stmt_of, if_of, stmts_of, local_of, else_of};
+ghost use Rattle.syntax.specs.Views.{ident, expr_of, place_of, stmt_of, if_of, stmts_of, local_of, owner_of, else_of};
+ghost use Rattle.core_lang.specs.declared.tree.LocalKind.TheVariants.{Let};
 ghost use Rattle.resolution.specs.CoreViews.{core_expr, core_stmt, core_action};
-ghost use Rattle.resolution.specs.Statements.{does, acts, local_bound, binds, assigns, prints, returns, repeats, chooses, chooses_between, block_of, after, after_else, after_all, typed_stmt, typed_body};
+ghost use Rattle.resolution.specs.Scopes.{bound, type_of};
+ghost use Rattle.resolution.specs.Statements.{does, acts, first_value, local_bound, binds, assigns, prints, returns, repeats, chooses, chooses_between, block_of, after, after_else, after_all, typed_stmt, typed_body};
 ghost use Rattle.source.specs.Mistakes.{least_of};
 ghost use Rattle.resolution.specs.FaultLists.{binding_faults, stmt_faults, else_faults, stmts_faults};
 ghost use Rattle.expressions.specs.Checkers.{scope};
 ghost use Rattle.sections.specs.Targets.{assignee_of, part_of, body_of, test_seen, block_seen, choice_with, behind_local, behind_block, row_of, pushed_to, body_pushed};
 
+use crate::owner::owned_by;
 use crate::target::{Assignee, Target, first_name, judge_target, wanted_by};
 use core_lang::tree::{Action, Condition, Expr, LocalKind, Return, Stmt};
 use core_lang::value::ValueType;
@@ -223,6 +226,42 @@ fn with_part(body: Option<Body>, part: Option<Part>) -> Judged<Body>
     followed_by(body, part)
 }
 
+/// The type of a local, if it has no fault, and its first value, if that has none. What is wrong with the local's name is
+/// noted too.
+fn first_value(
+    checker: &Checker,
+    local: &tree::Local,
+    least: &mut Least,
+) -> Result<(Option<ValueType>, Option<Expr>), AllocError>
+    ensures value_type { IfOk result (λ r. r.0 ≡ type_of (scope checker.now) (local_of local.now).value_type) }
+    ensures value { IfOk result (λ r. option_map core_expr r.1 ≡ first_value (scope checker.now) (local_of local.now)) }
+    ensures faults { OnOk result (least.new ≡ least_of least.old (binding_faults (scope checker.now) (local_of local.now))) }
+{
+    checker.note_name(&local.name, least);
+    let t = checker.local_type(&local.value_type, least);
+    let value = checker.value(want(t), &local.value, least)?;
+    Ok((t, value))
+}
+
+/// The next local is bound to a value. It is in scope from here on, whether the value has a fault or not.
+fn bind_next(
+    checker: &mut Checker,
+    kind: LocalKind,
+    local: &tree::Local,
+    t: Option<ValueType>,
+    value: Option<Expr>,
+) -> Judged<Part>
+    ensures value { IfOk result (λ r. option_map part_of r ≡ binds local.now.start.start (length (scope checker.old).locals) t (option_map core_expr value)) }
+    ensures scope { OnOk result (scope checker.new ≡ bound (scope checker.old) kind (ident local.now.name) t) }
+{
+    let number = checker.next();
+    let Ok(()) = checker.bind(&local.name, kind, t) else {
+        drop(value);
+        return Err(AllocError);
+    };
+    Ok(bind(local.start.start as usize, number, t, value))
+}
+
 /// A `let` or `var`.
 fn judge_local(
     checker: &mut Checker,
@@ -234,15 +273,25 @@ fn judge_local(
     ensures faults { OnOk result (least.new ≡ least_of least.old (binding_faults (scope checker.old) (local_of local.now))) }
     ensures scope { OnOk result (scope checker.new ≡ behind_local (scope checker.old) kind (local_of local.now)) }
 {
-    checker.note_name(&local.name, least);
-    let t = checker.local_type(&local.value_type, least);
-    let value = checker.value(want(t), &local.value, least)?;
-    let number = checker.next();
-    let Ok(()) = checker.bind(&local.name, kind, t) else {
-        drop(value);
-        return Err(AllocError);
-    };
-    Ok(bind(local.start.start as usize, number, t, value))
+    let (t, value) = first_value(checker, local, least)?;
+    bind_next(checker, kind, local, t, value)
+}
+
+/// A `let` whose value is tested by a final reference.
+#[tactic(auto, using(source::specs::Leasts::least_append))]
+fn judge_owned(
+    checker: &mut Checker,
+    local: &tree::Local,
+    owner: &tree::Owner,
+    least: &mut Least,
+) -> Judged<Part>
+    ensures value { IfOk result (λ r. option_map part_of r ≡ typed_stmt (scope checker.old) (let_owned (local_of local.now) (owner_of owner.now))) }
+    ensures faults { OnOk result (least.new ≡ least_of least.old (stmt_faults (scope checker.old) (let_owned (local_of local.now) (owner_of owner.now)))) }
+    ensures scope { OnOk result (scope checker.new ≡ behind_local (scope checker.old) Let (local_of local.now)) }
+{
+    let (t, value) = first_value(checker, local, least)?;
+    let value = owned_by(checker, t, owner, value, least)?;
+    bind_next(checker, LocalKind::Let, local, t, value)
 }
 
 /// An assignment, resolved, if its place and its value have types that fit.
@@ -267,6 +316,7 @@ fn judge_stmt(checker: &mut Checker, s: &tree::Stmt, least: &mut Least) -> Judge
 {
     match s {
         tree::Stmt::Let(local) => judge_local(checker, LocalKind::Let, local, least),
+        tree::Stmt::LetOwned(owned) => { judge_owned(checker, &owned.local, &owned.owner, least) }
         tree::Stmt::Var(local) => judge_local(checker, LocalKind::Var, local, least),
         tree::Stmt::Assign(place, e) => judge_assignment(checker, place, e, least),
         tree::Stmt::If(choice) => judge_choice(checker, choice, least),

@@ -1,0 +1,154 @@
+//! What stands behind the `where` of a `let`.
+
+ghost use Rattle.std.specs.Prelude.{◌≡◌, OnOk, IfOk, Some, option_map};
+ghost use Rattle.syntax.specs.Views.{ident, owner_of};
+ghost use Rattle.core_lang.specs.declared.value.ValueType.TheVariants.{Reference};
+ghost use Rattle.resolution.specs.CoreViews.{core_expr};
+ghost use Rattle.resolution.specs.Limits.{up_to};
+ghost use Rattle.resolution.specs.Scopes.{meaning};
+ghost use Rattle.resolution.specs.Owners.{owner_field, owner_local, tested_by, owned_by};
+ghost use Rattle.source.specs.Mistakes.{least_of};
+ghost use Rattle.resolution.specs.FaultLists.{owner_field_faults, no_owner, owner_faults};
+ghost use Rattle.expressions.specs.Checkers.{scope};
+
+use core_lang::tree::Expr;
+use core_lang::value::ValueType;
+use expressions::checker::Checker;
+use resolution::owner_field::OwnerField;
+use resolution::wanted::Sort;
+use resolved_expressions::judged::{Judged, Least, faulty};
+use resolved_expressions::wanted::fits_type;
+use source::fault::Code;
+use symbols::note::note_if;
+use symbols::scope::Meaning;
+use syntax::tree::{Member, Name, Owner};
+
+/// How many structs there may be.
+const STRUCT_LIMIT: u32 = 64;
+
+/// How many locals a section may have.
+const LOCAL_LIMIT: u32 = 64;
+
+/// The final reference of a struct that the name means. Any other member is told of.
+fn final_named(
+    checker: &Checker,
+    structure: usize,
+    f: &Name,
+    least: &mut Least,
+) -> Option<OwnerField>
+    ensures value { result ≡ owner_field (scope checker.now).decls (Some (Reference structure)) (ident f.now) }
+    ensures faults { least.new ≡ least_of least.old (owner_field_faults (scope checker.now).decls (Some (Reference structure)) (ident f.now)) }
+{
+    let members = checker.structure(structure)?;
+    let start = f.start as usize;
+    let Some((place, m)) = members.find(f.text.as_str()) else {
+        return faulty(Code::UnknownName, start, least);
+    };
+    match m {
+        Member::Lock(_) => faulty(Code::LockAsValue, start, least),
+        Member::Final(reference) => Some(OwnerField {
+            structure,
+            number: members.step(place, m),
+            value_type: checker.reference_to(&reference.target)?,
+        }),
+        Member::Field(field) => {
+            let has_type = checker.type_outside(&field.value_type).is_some();
+            note_if(has_type, Code::WrongType, start, least);
+            None
+        }
+    }
+}
+
+/// The final reference that the name means, for a value of this type.
+fn owner_field(
+    checker: &Checker,
+    t: Option<ValueType>,
+    f: &Name,
+    least: &mut Least,
+) -> Option<OwnerField>
+    ensures value { result ≡ owner_field (scope checker.now).decls t (ident f.now) }
+    ensures faults { least.new ≡ least_of least.old (owner_field_faults (scope checker.now).decls t (ident f.now)) }
+{
+    match t? {
+        ValueType::Integer => faulty(Code::WrongType, f.start as usize, least),
+        ValueType::Reference(structure) => final_named(checker, structure, f, least),
+    }
+}
+
+/// The local that the name means, if it is one of the final reference's type.
+fn owner_local(
+    checker: &Checker,
+    field: Option<OwnerField>,
+    name: &Name,
+    least: &mut Least,
+) -> Option<usize>
+    ensures value { result ≡ owner_local field (meaning (scope checker.now) (ident name.now).text) }
+    ensures faults { least.new ≡ least_of least.old (no_owner (scope checker.now).decls name.now.start field (meaning (scope checker.now) (ident name.now).text)) }
+{
+    let start = name.start as usize;
+    let m = checker.meaning(name);
+    let Meaning::Local(number, local) = m else {
+        return checker.misplaced(Code::WrongType, start, m, least);
+    };
+    let (field, t) = field.zip(local.value_type)?;
+    if !fits_type(field.value_type, Sort::Of(t)) {
+        return faulty(Code::WrongType, start, least);
+    }
+    Some(number)
+}
+
+/// A number in 32 bits, if it is no more than the limit.
+fn up_to(limit: u32, n: usize) -> Option<u32>
+    ensures { result ≡ up_to limit n }
+{
+    if n <= limit as usize {
+        Some(n as u32)
+    } else {
+        None
+    }
+}
+
+/// A value that is tested: the final reference has to name what the local does. `None` where the struct or the local is
+/// one too many, of which a fault tells elsewhere.
+fn tested_by(
+    checker: &Checker,
+    value: Expr,
+    field: OwnerField,
+    start: usize,
+    owner: usize,
+) -> Judged<Expr>
+    ensures { IfOk result (λ r. option_map core_expr r ≡ tested_by start (core_expr value) field owner) }
+{
+    let structure = up_to(STRUCT_LIMIT, field.structure);
+    let Some((structure, owner)) = structure.zip(up_to(LOCAL_LIMIT, owner)) else {
+        drop(value);
+        return Ok(None);
+    };
+    Ok(Some(Expr::Owned {
+        value: Box::new(checker.alloc(), value)?,
+        structure,
+        number: field.number,
+        start,
+        owner,
+    }))
+}
+
+/// The value of a `let` of this type with what stands behind its `where`, of which each name is judged in any case.
+#[tactic(auto, using(source::specs::Leasts::least_append))]
+pub fn owned_by(
+    checker: &Checker,
+    t: Option<ValueType>,
+    owner: &Owner,
+    value: Option<Expr>,
+    least: &mut Least,
+) -> Judged<Expr>
+    ensures value { IfOk result (λ r. option_map core_expr r ≡ owned_by (scope checker.now) t (owner_of owner.now) (option_map core_expr value)) }
+    ensures faults { OnOk result (least.new ≡ least_of least.old (owner_faults (scope checker.now) t (owner_of owner.now))) }
+{
+    let field = owner_field(checker, t, &owner.field, least);
+    let local = owner_local(checker, field, &owner.local, least);
+    let Some((value, (field, local))) = value.zip(field.zip(local)) else {
+        return Ok(None);
+    };
+    tested_by(checker, value, field, owner.local.start as usize, local)
+}
