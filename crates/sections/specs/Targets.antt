@@ -10,6 +10,8 @@ use Rattle.resolution.specs.Core as core
 use Rattle.resolution.specs.CoreViews.{core_expr, core_condition, core_path, core_stmt, core_stmts, core_return}
 use Rattle.resolution.specs.Scopes.{Scope, Meaning, bound, left, type_of}
 use Rattle.resolution.specs.Statements.{Target, to_local, to_global, to_element, to_field, Assignee, Part, does, gives, Body, after_all, typed_if}
+use Rattle.resolution.specs.declared.owner_field.OwnerField.{OwnerField}
+use Rattle.resolution.specs.Owners.{tested_by}
 use Rattle.resolution.specs.FaultLists.{no_array, no_elements}
 use Rattle.expressions.specs.declared.place.Indexed.{Indexed}
 use Rattle.expressions.specs.declared.place.Indexed.TheVariants.{Array, Pool}
@@ -40,6 +42,12 @@ assigned_at None index = None
 -- the faults of a name that takes an index there
 abbrev pub element_faults : List trees.Decl → ℕ → Meaning → List Mistake
 element_faults decls start m = no_elements decls start m ++ no_array decls start m
+
+-- a value that is tested by a final reference and a local, if nothing is missing
+abbrev pub tested_if : ℕ → Option core.Expr → Option (OwnerField × ℕ) → Option core.Expr
+tested_if start (Some e) (Some t) = tested_by start e t.0 t.1
+tested_if start (Some e) None = None
+tested_if start None t = None
 
 abbrev pub part_of : the_part.Part → Part
 part_of (part.Does x) = does (core_stmt x)

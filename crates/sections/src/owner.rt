@@ -6,10 +6,11 @@ ghost use Rattle.core_lang.specs.declared.value.ValueType.TheVariants.{Reference
 ghost use Rattle.resolution.specs.CoreViews.{core_expr};
 ghost use Rattle.resolution.specs.Limits.{up_to};
 ghost use Rattle.resolution.specs.Scopes.{meaning};
-ghost use Rattle.resolution.specs.Owners.{owner_field, owner_local, tested_by, owned_by};
+ghost use Rattle.resolution.specs.Owners.{owner_field, owner_local, owned_by};
 ghost use Rattle.source.specs.Mistakes.{least_of};
 ghost use Rattle.resolution.specs.FaultLists.{owner_field_faults, no_owner, owner_faults};
 ghost use Rattle.expressions.specs.Checkers.{scope};
+ghost use Rattle.sections.specs.Targets.{tested_if};
 
 use core_lang::tree::Expr;
 use core_lang::value::ValueType;
@@ -19,6 +20,7 @@ use resolution::wanted::Sort;
 use resolved_expressions::judged::{Judged, Least, faulty};
 use resolved_expressions::wanted::fits_type;
 use source::fault::Code;
+use std::alloc::AllocError;
 use symbols::note::note_if;
 use symbols::scope::Meaning;
 use syntax::tree::{Member, Name, Owner};
@@ -28,6 +30,15 @@ const STRUCT_LIMIT: u32 = 64;
 
 /// How many locals a section may have.
 const LOCAL_LIMIT: u32 = 64;
+
+/// What a local opens with.
+#[derive(Drop)]
+pub struct Opening {
+    /// Its type, if that has no fault.
+    pub value_type: Option<ValueType>,
+    /// Its first value, if that has none.
+    pub value: Option<Expr>,
+}
 
 /// The final reference of a struct that the name means. Any other member is told of.
 fn final_named(
@@ -108,19 +119,20 @@ fn up_to(limit: u32, n: usize) -> Option<u32>
     }
 }
 
-/// A value that is tested: the final reference has to name what the local does. `None` where the struct or the local is
-/// one too many, of which a fault tells elsewhere.
+/// A value that a final reference and a local test, if nothing is missing.
 fn tested_by(
     checker: &Checker,
-    value: Expr,
-    field: OwnerField,
+    value: Option<Expr>,
+    test: Option<(OwnerField, usize)>,
     start: usize,
-    owner: usize,
 ) -> Judged<Expr>
-    ensures { IfOk result (λ r. option_map core_expr r ≡ tested_by start (core_expr value) field owner) }
+    ensures { IfOk result (λ r. option_map core_expr r ≡ tested_if start (option_map core_expr value) test) }
 {
+    let Some((value, (field, local))) = value.zip(test) else {
+        return Ok(None);
+    };
     let structure = up_to(STRUCT_LIMIT, field.structure);
-    let Some((structure, owner)) = structure.zip(up_to(LOCAL_LIMIT, owner)) else {
+    let Some((structure, owner)) = structure.zip(up_to(LOCAL_LIMIT, local)) else {
         drop(value);
         return Ok(None);
     };
@@ -133,22 +145,24 @@ fn tested_by(
     }))
 }
 
-/// The value of a `let` of this type with what stands behind its `where`, of which each name is judged in any case.
+/// A local's value with what stands behind its `where`, of which each name is judged in any case: the final reference has
+/// to name what the local does. Where the struct or the local is one too many there is no value, and a fault tells of that
+/// elsewhere.
 #[tactic(auto, using(source::specs::Leasts::least_append))]
 pub fn owned_by(
     checker: &Checker,
-    t: Option<ValueType>,
+    opening: Opening,
     owner: &Owner,
-    value: Option<Expr>,
     least: &mut Least,
-) -> Judged<Expr>
-    ensures value { IfOk result (λ r. option_map core_expr r ≡ owned_by (scope checker.now) t (owner_of owner.now) (option_map core_expr value)) }
-    ensures faults { OnOk result (least.new ≡ least_of least.old (owner_faults (scope checker.now) t (owner_of owner.now))) }
+) -> Result<Opening, AllocError>
+    ensures value_type { IfOk result (λ r. r.value_type ≡ opening.value_type) }
+    ensures value { IfOk result (λ r. option_map core_expr r.value ≡ owned_by (scope checker.now) opening.value_type (owner_of owner.now) (option_map core_expr opening.value)) }
+    ensures faults { OnOk result (least.new ≡ least_of least.old (owner_faults (scope checker.now) opening.value_type (owner_of owner.now))) }
 {
-    let field = owner_field(checker, t, &owner.field, least);
+    let Opening { value_type, value } = opening;
+    let field = owner_field(checker, value_type, &owner.field, least);
     let local = owner_local(checker, field, &owner.local, least);
-    let Some((value, (field, local))) = value.zip(field.zip(local)) else {
-        return Ok(None);
-    };
-    tested_by(checker, value, field, owner.local.start as usize, local)
+    let test = field.zip(local);
+    let value = tested_by(checker, value, test, owner.local.start as usize)?;
+    Ok(Opening { value_type, value })
 }

@@ -13,7 +13,7 @@ ghost use Rattle.resolution.specs.FaultLists.{binding_faults, stmt_faults, else_
 ghost use Rattle.expressions.specs.Checkers.{scope};
 ghost use Rattle.sections.specs.Targets.{assignee_of, part_of, body_of, test_seen, block_seen, choice_with, behind_local, behind_block, row_of, pushed_to, body_pushed};
 
-use crate::owner::owned_by;
+use crate::owner::{Opening, owned_by};
 use crate::target::{Assignee, Target, first_name, judge_target, wanted_by};
 use core_lang::tree::{Action, Condition, Expr, LocalKind, Return, Stmt};
 use core_lang::value::ValueType;
@@ -232,15 +232,15 @@ fn first_value(
     checker: &Checker,
     local: &tree::Local,
     least: &mut Least,
-) -> Result<(Option<ValueType>, Option<Expr>), AllocError>
-    ensures value_type { IfOk result (λ r. r.0 ≡ type_of (scope checker.now) (local_of local.now).value_type) }
-    ensures value { IfOk result (λ r. option_map core_expr r.1 ≡ first_value (scope checker.now) (local_of local.now)) }
+) -> Result<Opening, AllocError>
+    ensures value_type { IfOk result (λ r. r.value_type ≡ type_of (scope checker.now) (local_of local.now).value_type) }
+    ensures value { IfOk result (λ r. option_map core_expr r.value ≡ first_value (scope checker.now) (local_of local.now)) }
     ensures faults { OnOk result (least.new ≡ least_of least.old (binding_faults (scope checker.now) (local_of local.now))) }
 {
     checker.note_name(&local.name, least);
-    let t = checker.local_type(&local.value_type, least);
-    let value = checker.value(want(t), &local.value, least)?;
-    Ok((t, value))
+    let value_type = checker.local_type(&local.value_type, least);
+    let value = checker.value(want(value_type), &local.value, least)?;
+    Ok(Opening { value_type, value })
 }
 
 /// The next local is bound to a value. It is in scope from here on, whether the value has a fault or not.
@@ -248,18 +248,18 @@ fn bind_next(
     checker: &mut Checker,
     kind: LocalKind,
     local: &tree::Local,
-    t: Option<ValueType>,
-    value: Option<Expr>,
+    opening: Opening,
 ) -> Judged<Part>
-    ensures value { IfOk result (λ r. option_map part_of r ≡ binds local.now.start.start (length (scope checker.old).locals) t (option_map core_expr value)) }
-    ensures scope { OnOk result (scope checker.new ≡ bound (scope checker.old) kind (ident local.now.name) t) }
+    ensures value { IfOk result (λ r. option_map part_of r ≡ binds local.now.start.start (length (scope checker.old).locals) opening.value_type (option_map core_expr opening.value)) }
+    ensures scope { OnOk result (scope checker.new ≡ bound (scope checker.old) kind (ident local.now.name) opening.value_type) }
 {
+    let Opening { value_type, value } = opening;
     let number = checker.next();
-    let Ok(()) = checker.bind(&local.name, kind, t) else {
+    let Ok(()) = checker.bind(&local.name, kind, value_type) else {
         drop(value);
         return Err(AllocError);
     };
-    Ok(bind(local.start.start as usize, number, t, value))
+    Ok(bind(local.start.start as usize, number, value_type, value))
 }
 
 /// A `let` or `var`.
@@ -273,8 +273,8 @@ fn judge_local(
     ensures faults { OnOk result (least.new ≡ least_of least.old (binding_faults (scope checker.old) (local_of local.now))) }
     ensures scope { OnOk result (scope checker.new ≡ behind_local (scope checker.old) kind (local_of local.now)) }
 {
-    let (t, value) = first_value(checker, local, least)?;
-    bind_next(checker, kind, local, t, value)
+    let opening = first_value(checker, local, least)?;
+    bind_next(checker, kind, local, opening)
 }
 
 /// A `let` whose value is tested by a final reference.
@@ -289,9 +289,9 @@ fn judge_owned(
     ensures faults { OnOk result (least.new ≡ least_of least.old (stmt_faults (scope checker.old) (let_owned (local_of local.now) (owner_of owner.now)))) }
     ensures scope { OnOk result (scope checker.new ≡ behind_local (scope checker.old) Let (local_of local.now)) }
 {
-    let (t, value) = first_value(checker, local, least)?;
-    let value = owned_by(checker, t, owner, value, least)?;
-    bind_next(checker, LocalKind::Let, local, t, value)
+    let opening = first_value(checker, local, least)?;
+    let opening = owned_by(checker, opening, owner, least)?;
+    bind_next(checker, LocalKind::Let, local, opening)
 }
 
 /// An assignment, resolved, if its place and its value have types that fit.

@@ -14,5 +14,5 @@ returns-clause-faults c =
     let l = c.args.local.now in
     let t = type_seen l.value_type in
     let e = expr_of l.value in
-    c.in_ok-value.ensures.faults ∙ ap (λ w. least_of c.local_type-t.new.least (wanted_faults sc w e)) (c.want.ensures ∙ ap want c.local_type-t.ensures.value)
-    ∙ noted_two c.args.least.now c.note_name.new.least c.local_type-t.new.least (local_faults sc (ident l.name)) (type_faults sc t) (wanted_faults sc (want (type_of sc t)) e) c.note_name.ensures c.local_type-t.ensures.faults
+    c.in_ok-value.ensures.faults ∙ ap (λ w. least_of c.local_type-value_type.new.least (wanted_faults sc w e)) (c.want.ensures ∙ ap want c.local_type-value_type.ensures.value)
+    ∙ noted_two c.args.least.now c.note_name.new.least c.local_type-value_type.new.least (local_faults sc (ident l.name)) (type_faults sc t) (wanted_faults sc (want (type_of sc t)) e) c.note_name.ensures c.local_type-value_type.ensures.faults
