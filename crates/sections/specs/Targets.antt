@@ -1,23 +1,25 @@
 -- What the checker's values of statements stand for.
-use Rattle.std.specs.Prelude.{ℕ, List, [], ◌∷◌, ◌++◌, Option, Some, None, map, option_map}
+use Rattle.std.specs.Prelude.{ℕ, List, [], ◌∷◌, ◌++◌, length, Option, Some, None, map, option_map}
 use Rattle.std.proofs.Common.{Vec, Global}
 use Rattle.source.specs.declared.mistake.Mistake.{Mistake}
 use Rattle.syntax.specs.Trees as trees
+use Rattle.core_lang.specs.declared.value.ValueType.TheVariants.{Reference}
 use Rattle.core_lang.specs.declared.tree.LocalKind.{LocalKind}
 use Rattle.core_lang.specs.declared.tree.Condition as the_condition
 use Rattle.core_lang.specs.declared.tree.Stmt as the_stmt
 use Rattle.resolution.specs.Core as core
 use Rattle.resolution.specs.CoreViews.{core_expr, core_condition, core_path, core_stmt, core_stmts, core_return}
-use Rattle.resolution.specs.Scopes.{Scope, Meaning, bound, left, type_of}
-use Rattle.resolution.specs.Statements.{Target, to_local, to_global, to_element, to_field, Assignee, Part, does, gives, Body, after_all, typed_if}
+use Rattle.resolution.specs.Scopes.{Scope, Meaning, meaning, bound, left, type_of}
+use Rattle.resolution.specs.Statements.{Target, to_local, to_global, to_element, to_field, Assignee, Part, does, gives, binds, Body, after_all, typed_if}
 use Rattle.resolution.specs.declared.owner_field.OwnerField.{OwnerField}
-use Rattle.resolution.specs.Owners.{tested_by}
-use Rattle.resolution.specs.FaultLists.{no_array, no_elements}
+use Rattle.resolution.specs.Owners.{tested_by, owned_by}
+use Rattle.resolution.specs.FaultLists.{no_array, no_elements, no_owner, owner_field_faults, owner_faults, stmt_faults}
 use Rattle.expressions.specs.declared.place.Indexed.{Indexed}
 use Rattle.expressions.specs.declared.place.Indexed.TheVariants.{Array, Pool}
 use Rattle.sections.specs.declared.target.Target as t
 use Rattle.sections.specs.declared.target.Target.TheVariants as v
 use Rattle.sections.specs.declared.target.Assignee as the_assignee
+use Rattle.sections.specs.declared.owner.Opening as the_opening
 use Rattle.sections.specs.declared.stmt.Part as the_part
 use Rattle.sections.specs.declared.stmt.Part.TheVariants as part
 use Rattle.sections.specs.declared.stmt.Body as the_body
@@ -42,6 +44,30 @@ assigned_at None index = None
 -- the faults of a name that takes an index there
 abbrev pub element_faults : List trees.Decl → ℕ → Meaning → List Mistake
 element_faults decls start m = no_elements decls start m ++ no_array decls start m
+
+-- ---- what a local opens with
+
+-- the local that is next, bound to that
+abbrev pub next_bound : Scope → trees.Local → the_opening.Opening → Option Part
+next_bound sc l o = binds l.start.start (length sc.locals) o.value_type (option_map core_expr o.value)
+
+-- the faults of a final reference's name, of a struct's
+abbrev pub final_faults_in : Scope → ℕ → trees.Ident → List Mistake
+final_faults_in sc structure f = owner_field_faults sc.decls (Some (Reference structure)) f
+
+-- the faults of a name that is to be a local's
+abbrev pub owner_name_faults : Scope → Option OwnerField → trees.Ident → List Mistake
+owner_name_faults sc field x = no_owner sc.decls x.span.start field (meaning sc x.text)
+
+-- its value, where that is tested, and what is wrong behind its `where`
+abbrev pub owned_opening : Scope → the_opening.Opening → trees.Owner → Option core.Expr
+owned_opening sc opening o = owned_by sc opening.value_type o (option_map core_expr opening.value)
+
+abbrev pub opening_faults : Scope → the_opening.Opening → trees.Owner → List Mistake
+opening_faults sc opening o = owner_faults sc opening.value_type o
+
+abbrev pub owned_faults : Scope → trees.Local → trees.Owner → List Mistake
+owned_faults sc l o = stmt_faults sc (trees.let_owned l o)
 
 -- a value that is tested by a final reference and a local, if nothing is missing
 abbrev pub tested_if : ℕ → Option core.Expr → Option (OwnerField × ℕ) → Option core.Expr

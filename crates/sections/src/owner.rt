@@ -6,11 +6,11 @@ ghost use Rattle.core_lang.specs.declared.value.ValueType.TheVariants.{Reference
 ghost use Rattle.resolution.specs.CoreViews.{core_expr};
 ghost use Rattle.resolution.specs.Limits.{up_to};
 ghost use Rattle.resolution.specs.Scopes.{meaning};
-ghost use Rattle.resolution.specs.Owners.{owner_field, owner_local, owned_by};
+ghost use Rattle.resolution.specs.Owners.{owner_field, owner_local};
 ghost use Rattle.source.specs.Mistakes.{least_of};
-ghost use Rattle.resolution.specs.FaultLists.{owner_field_faults, no_owner, owner_faults};
+ghost use Rattle.resolution.specs.FaultLists.{owner_field_faults};
 ghost use Rattle.expressions.specs.Checkers.{scope};
-ghost use Rattle.sections.specs.Targets.{tested_if};
+ghost use Rattle.sections.specs.Targets.{tested_if, final_faults_in, owner_name_faults, owned_opening, opening_faults};
 
 use core_lang::tree::Expr;
 use core_lang::value::ValueType;
@@ -48,7 +48,7 @@ fn final_named(
     least: &mut Least,
 ) -> Option<OwnerField>
     ensures value { result ≡ owner_field (scope checker.now).decls (Some (Reference structure)) (ident f.now) }
-    ensures faults { least.new ≡ least_of least.old (owner_field_faults (scope checker.now).decls (Some (Reference structure)) (ident f.now)) }
+    ensures faults { least.new ≡ least_of least.old (final_faults_in (scope checker.now) structure (ident f.now)) }
 {
     let members = checker.structure(structure)?;
     let start = f.start as usize;
@@ -94,7 +94,7 @@ fn owner_local(
     least: &mut Least,
 ) -> Option<usize>
     ensures value { result ≡ owner_local field (meaning (scope checker.now) (ident name.now).text) }
-    ensures faults { least.new ≡ least_of least.old (no_owner (scope checker.now).decls name.now.start field (meaning (scope checker.now) (ident name.now).text)) }
+    ensures faults { least.new ≡ least_of least.old (owner_name_faults (scope checker.now) field (ident name.now)) }
 {
     let start = name.start as usize;
     let m = checker.meaning(name);
@@ -156,8 +156,8 @@ pub fn owned_by(
     least: &mut Least,
 ) -> Result<Opening, AllocError>
     ensures value_type { IfOk result (λ r. r.value_type ≡ opening.value_type) }
-    ensures value { IfOk result (λ r. option_map core_expr r.value ≡ owned_by (scope checker.now) opening.value_type (owner_of owner.now) (option_map core_expr opening.value)) }
-    ensures faults { OnOk result (least.new ≡ least_of least.old (owner_faults (scope checker.now) opening.value_type (owner_of owner.now))) }
+    ensures value { IfOk result (λ r. option_map core_expr r.value ≡ owned_opening (scope checker.now) opening (owner_of owner.now)) }
+    ensures faults { OnOk result (least.new ≡ least_of least.old (opening_faults (scope checker.now) opening (owner_of owner.now))) }
 {
     let Opening { value_type, value } = opening;
     let field = owner_field(checker, value_type, &owner.field, least);

@@ -1,17 +1,17 @@
 //! Statements.
 
-ghost use Rattle.std.specs.Prelude.{◌≡◌, OnOk, IfOk, Some, None, length, map, option_map};
-ghost use Rattle.syntax.specs.Trees.{assign, let_owned};
+ghost use Rattle.std.specs.Prelude.{◌≡◌, OnOk, IfOk, Some, None, map, option_map};
+ghost use Rattle.syntax.specs.Trees.{assign};
 ghost use Rattle.syntax.specs.Rows.{while_of};
 ghost use Rattle.syntax.specs.Views.{ident, expr_of, place_of, stmt_of, if_of, stmts_of, local_of, owner_of, else_of};
 ghost use Rattle.core_lang.specs.declared.tree.LocalKind.TheVariants.{Let};
 ghost use Rattle.resolution.specs.CoreViews.{core_expr, core_stmt, core_action};
 ghost use Rattle.resolution.specs.Scopes.{bound, type_of};
-ghost use Rattle.resolution.specs.Statements.{does, acts, first_value, local_bound, binds, assigns, prints, returns, repeats, chooses, chooses_between, block_of, after, after_else, after_all, typed_stmt, typed_body};
+ghost use Rattle.resolution.specs.Statements.{does, acts, first_value, local_bound, owned_bound, binds, assigns, prints, returns, repeats, chooses, chooses_between, block_of, after, after_else, after_all, typed_stmt, typed_body};
 ghost use Rattle.source.specs.Mistakes.{least_of};
 ghost use Rattle.resolution.specs.FaultLists.{binding_faults, stmt_faults, else_faults, stmts_faults};
 ghost use Rattle.expressions.specs.Checkers.{scope};
-ghost use Rattle.sections.specs.Targets.{assignee_of, part_of, body_of, test_seen, block_seen, choice_with, behind_local, behind_block, row_of, pushed_to, body_pushed};
+ghost use Rattle.sections.specs.Targets.{next_bound, owned_faults, assignee_of, part_of, body_of, test_seen, block_seen, choice_with, behind_local, behind_block, row_of, pushed_to, body_pushed};
 
 use crate::owner::{Opening, owned_by};
 use crate::target::{Assignee, Target, first_name, judge_target, wanted_by};
@@ -250,7 +250,7 @@ fn bind_next(
     local: &tree::Local,
     opening: Opening,
 ) -> Judged<Part>
-    ensures value { IfOk result (λ r. option_map part_of r ≡ binds local.now.start.start (length (scope checker.old).locals) opening.value_type (option_map core_expr opening.value)) }
+    ensures value { IfOk result (λ r. option_map part_of r ≡ next_bound (scope checker.old) (local_of local.now) opening) }
     ensures scope { OnOk result (scope checker.new ≡ bound (scope checker.old) kind (ident local.now.name) opening.value_type) }
 {
     let Opening { value_type, value } = opening;
@@ -285,8 +285,8 @@ fn judge_owned(
     owner: &tree::Owner,
     least: &mut Least,
 ) -> Judged<Part>
-    ensures value { IfOk result (λ r. option_map part_of r ≡ typed_stmt (scope checker.old) (let_owned (local_of local.now) (owner_of owner.now))) }
-    ensures faults { OnOk result (least.new ≡ least_of least.old (stmt_faults (scope checker.old) (let_owned (local_of local.now) (owner_of owner.now)))) }
+    ensures value { IfOk result (λ r. option_map part_of r ≡ owned_bound (scope checker.old) (local_of local.now) (owner_of owner.now)) }
+    ensures faults { OnOk result (least.new ≡ least_of least.old (owned_faults (scope checker.old) (local_of local.now) (owner_of owner.now))) }
     ensures scope { OnOk result (scope checker.new ≡ behind_local (scope checker.old) Let (local_of local.now)) }
 {
     let opening = first_value(checker, local, least)?;
