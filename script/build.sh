@@ -1,5 +1,5 @@
-# Proves and builds the program: the crates that it is made of side by side, as many as there are processors and 3 GB of
-# memory for each. ./autolock uses it.
+# Proves and builds the program: the crates that it is made of side by side, as many as there are processors and memory
+# for. ./autolock uses it.
 # shellcheck disable=SC2154
 
 # How many crates the program is made of, with its own.
@@ -17,7 +17,7 @@ count_crates() {
     ' "$top/crates.txt"
 }
 
-# How many proofs may go on side by side.
+# How many proofs may go on side by side: each takes up to 3 GB.
 lanes() {
     local processors memory
     processors=$(nproc 2>/dev/null || echo 1)
@@ -36,13 +36,16 @@ need_rt() {
     }
 }
 
-# Tells of each crate that is done, by the lines that rt writes of it, and keeps them all in the log.
+# Tells of each crate that is done, by the lines that build.py or rt writes of it, and keeps them all in the log.
 tell_progress() {
     local line finished=0
     while IFS= read -r line; do
         printf '%s\n' "$line" >>"$log"
         case $line in
             "== summary") ;;
+            "== "*" done, "*)
+                say "${line#== }"
+                ;;
             "== "*)
                 finished=$((finished + 1))
                 say "$finished of $count done, $((count - finished)) left, $(so_far): ${line#== }"
@@ -51,8 +54,17 @@ tell_progress() {
     done
 }
 
-# A crate waits for those below it; which go on side by side is rt's choice, since two calls of rt would wait for each
-# other where they share a crate.
+# Proves the libraries. Which go on side by side is one process's choice: two calls of rt would wait for each other where
+# they share a crate.
+prove_libraries() {
+    local rt status
+    rt=$(readlink -f -- "$(command -v rt)")
+    python3 "$top/script/build.py" "$(dirname -- "$rt")" 2>&1 </dev/null
+    status=$?
+    [ $status = 5 ] || return $status
+    rt all check --jobs "$most" 2>&1 </dev/null
+}
+
 build() {
     need_rt
     local count most log
@@ -63,7 +75,7 @@ build() {
     say "proving and building the program: $count crates, $most at a time; 45 to 100 minutes of processor time in all where none is proved yet"
     say "(./autolock --unproved WORDS.. runs it within two minutes, without any proof)"
     set -o pipefail
-    if ! (cd -- "$top/crates/autolock" && rt all check --jobs "$most" 2>&1 </dev/null) | tell_progress ||
+    if ! (cd -- "$top/crates/autolock" && prove_libraries) | tell_progress ||
         ! (cd -- "$top/crates/autolock" && rt run --jobs "$most" -- --version) >>"$log" 2>&1 </dev/null; then
         grep -E 'not proved|error|stopped|^rt: ' "$log" | tail -n 20 >&2
         say "the program was not proved and built; the whole log is $log"
