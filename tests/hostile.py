@@ -11,6 +11,9 @@ With no choice of kinds: --cuts --bytes --random 2000, each cut and byte at ever
 --bytes         each program with one byte replaced by each of `(`, `}`, `0`, `.`, 0x00 and 0x80
 --random COUNT  so many programs made from the given ones by a few random changes each
 --every N       only every N-th place of --cuts and --bytes
+--beside BIN    another build of the program, which is to answer each run in the same way, byte for byte; sources with one of
+                the words of --without are passed over
+--without WORDS the words that the other build does not know, joined by commas; by default none
 FILE..          the programs to begin with; by default those of examples/
 
 A run must end within 20 seconds with status 0 or 1, or of `serial` with 7. With 0, standard output is a whole text of
@@ -204,13 +207,15 @@ def wrong_steps(program, path, ended):
     return None if ended.stderr == wanted else f"simulate: {ended.stderr} where it should tell {wanted}"
 
 
-def try_one(program, commands, path):
+def try_one(program, commands, path, other):
     """What is wrong with the runs of these commands over a source, or nothing."""
     told = set()
     for command in commands:
         try:
             words = [path] if command != "simulate" else [path, path + ".steps"]
             ended = run([program, *ARGUMENTS[command], *words])
+            if other and run([other, *ARGUMENTS[command], *words]) != ended:
+                return f"{command}: {other} answers otherwise"
             fault = fault_of(command, ended)
             if not fault and command == "simulate" and ended.returncode != 1:
                 fault = wrong_steps(program, path, ended)
@@ -225,7 +230,7 @@ def try_one(program, commands, path):
 
 
 def try_all(part):
-    program, commands, programs, kind, seeds, every, scratch = part
+    program, commands, programs, kind, seeds, every, scratch, other, without = part
     inputs = {
         "cuts": lambda: cuts(programs, every),
         "bytes": lambda: replaced(programs, every),
@@ -234,12 +239,14 @@ def try_all(part):
     path = os.path.join(scratch, f"source-{os.getpid()}")
     runs, failed = 0, []
     for text in inputs:
+        if without and not without.isdisjoint(TOKEN.findall(text)):
+            continue
         with open(path, "wb") as file:
             file.write(text)
         with open(path + ".steps", "wb") as file:
             file.write(steps_for(text))
         runs += len(commands)
-        fault = try_one(program, commands, path)
+        fault = try_one(program, commands, path, other)
         if fault:
             failed.append((fault, text))
     return runs, failed
@@ -254,6 +261,8 @@ def main():
     p.add_argument("--random", type=int, default=0, metavar="COUNT")
     p.add_argument("--every", type=int, default=0, metavar="N")
     p.add_argument("--seed", type=int, default=1, metavar="N")
+    p.add_argument("--beside", metavar="BIN")
+    p.add_argument("--without", default="", metavar="WORDS")
     p.add_argument("--jobs", type=int, default=os.cpu_count())
     p.add_argument("files", nargs="*", type=pathlib.Path, metavar="FILE")
     a = p.parse_args()
@@ -262,13 +271,14 @@ def main():
     every = a.every or 1
     program = str(pathlib.Path(a.program).resolve())
     commands = a.commands.split(",")
+    last = (str(pathlib.Path(a.beside).resolve()) if a.beside else None, set(a.without.encode().split(b",")) - {b""})
     programs = [f.read_bytes() for f in a.files or sorted((TOP / "examples").glob("*.al"))]
     shm = "/dev/shm" if os.access("/dev/shm", os.W_OK) else None
     with tempfile.TemporaryDirectory(dir=shm) as scratch:
-        parts = [(program, commands, [text], kind, (), every, scratch) for kind in ("cuts", "bytes") if getattr(a, kind) for text in programs]
+        parts = [(program, commands, [text], kind, (), every, scratch, *last) for kind in ("cuts", "bytes") if getattr(a, kind) for text in programs]
         step = 500
         parts += [
-            (program, commands, programs, "random", range(first, min(first + step, a.seed + a.random)), every, scratch)
+            (program, commands, programs, "random", range(first, min(first + step, a.seed + a.random)), every, scratch, *last)
             for first in range(a.seed, a.seed + a.random, step)
         ]
         runs, failed = 0, []
