@@ -8,7 +8,7 @@ use Rattle.worlds.specs.Worlds.{locals_at}
 use Rattle.section_machine.specs.Machines.{at_first}
 use Rattle.runner.specs.Ties.{call_of}
 use Rattle.runner.proofs.Begun.{called_within, first_locals}
-use Rattle.runner.proofs.open.Prepared.new.Goals as goal
+use Rattle.runner.proofs.spare.Spare.prepare.Goals as goal
 
 pub index-called-requires : goal.index-called-requires
 index-called-requires c =
