@@ -1,7 +1,8 @@
 #!/usr/bin/env bash
 # Times `simulate` over 10,000,000 steps of 100,000 calls of a section that counts in a loop under one lock: all of
 # one thread at once, and of two threads in turn; `serial` runs the same calls beside. Then the memory for 25,000 to
-# 100,000 finished sections of one line. Prints the least wall time of the rounds, and peak memory. Needs python3.
+# 100,000 finished sections of one line, and 300 and 3,300 sections that write an element of an array, of 10 cells and of
+# 262,144. Prints the least wall time of the rounds, and peak memory. Needs python3.
 #
 #     bench/simulate/run.sh [ROUNDS]
 set -euo pipefail
@@ -58,4 +59,10 @@ for calls in (25000, 50000, 100000):
     source = write("inc.al", HEAD + INC + f"thread t {{ repeat {calls} {{ inc(); }} }}\n")
     took, peak = run(["simulate", source, at_once])
     print(f"{calls:7} finished sections {' ':10} {took:7.3f} s {peak:8.1f} MiB")
+for cells in (10, 262144):
+    for calls in (300, 3300):
+        source = write("array.al", f"lock G; global int a[{cells}] protected_by(G);\n"
+                       "atomic put(int i) { a[i] = 1; }\n" + f"thread t {{ repeat {calls} {{ put(1); }} }}\n")
+        took, peak = run(["simulate", source, at_once])
+        print(f"{calls:7} sections, {cells:7} cells {' ':6} {took:7.4f} s {peak:8.1f} MiB")
 PYTHON

@@ -15,7 +15,7 @@ use Rattle.held_cells.proofs.Rising.{same_rising, in_order_rises, in_order_value
 
 -- ---- the same values in another order
 
-at_value : (xs : List (ℕ × Value)) (k : ℕ) (x : ℕ × Value) → EachOnce xs → slice_get xs k ≡ Some x → value_at xs x.0 ≡ Some x.1
+pub at_value : (xs : List (ℕ × Value)) (k : ℕ) (x : ℕ × Value) → EachOnce xs → slice_get xs k ≡ Some x → value_at xs x.0 ≡ Some x.1
 at_value [] k x once at = absurd (none-some x at)
 at_value (y ∷ ys) zero x once at =
     let same : y ≡ x = same_Some y x at in
@@ -24,14 +24,14 @@ at_value (y ∷ ys) (suc k) x once at =
     let there : value_at ys x.0 ≡ Some x.1 = at_value ys k x once.1 at in
     past y ys x.0 (λ e. none-some x.1 (sym once.0 ∙ ap (value_at ys) e ∙ there)) ∙ there
 
-value_somewhere : (xs : List (ℕ × Value)) (c : ℕ) (v : Value) → value_at xs c ≡ Some v → Contains xs (c, v)
+pub value_somewhere : (xs : List (ℕ × Value)) (c : ℕ) (v : Value) → value_at xs c ≡ Some v → Contains xs (c, v)
 value_somewhere [] c v is = absurd (none-some v is)
 value_somewhere (y ∷ ys) c v is = elim (eqb_tells y.0 c) [
   | inl h ↦ (0, omega arith, ap (λ (k : ℕ). (k, y.1)) h.1 ∙ ap (λ (w : Value). (c, w)) (same_Some y.1 v (sym (here y ys c h.1) ∙ is)))
   | inr h ↦ (let r = value_somewhere ys c v (sym (past y ys c h.1) ∙ is) in (suc r.0, omega (arith, r.1), r.2))
 ]
 
-none_nowhere : (xs : List (ℕ × Value)) (k : ℕ) (x : ℕ × Value) → value_at xs x.0 ≡ None → slice_get xs k ≡ Some x → ⊥
+pub none_nowhere : (xs : List (ℕ × Value)) (k : ℕ) (x : ℕ × Value) → value_at xs x.0 ≡ None → slice_get xs k ≡ Some x → ⊥
 none_nowhere [] k x none at = none-some x at
 none_nowhere (y ∷ ys) zero x none at =
     let same : y ≡ x = same_Some y x at in

@@ -1,32 +1,23 @@
 -- What a read, a write and a grant leave.
-use Rattle.std.proofs.Common.{◌≡◌, ℕ, ◌+◌, ◌<◌, ◌≤◌, true, false, List, [], ◌∷◌, ◌++◌, length, set, get_or, replicate, Option, Some, None, refl, sym, ap, ◌∙◌, subst, arith, length-set, length-append}
+use Rattle.std.proofs.Common.{◌≡◌, ℕ, ◌+◌, ◌<◌, ◌≤◌, true, false, List, [], ◌∷◌, ◌++◌, length, set, get_or, Option, Some, None, refl, sym, ap, ◌∙◌, subst, arith, length-set, length-append}
 use Rattle.std.specs.Prelude.{slice_get}
-use Rattle.std.specs.List.{AllZip, Contains}
+use Rattle.std.specs.List.{Contains}
 use Rattle.std.proofs.lemmas.List.Elements.{All-set, All-push}
 use Rattle.std.proofs.lemmas.Option.{get_or_from_slice_get}
 use Rattle.core_lang.specs.declared.value.Value.{Value}
 use Rattle.locks.specs.declared.lock.Lock.{Lock}
 use Rattle.code.specs.Memory.{HeldCells, value_at, with_value, with_changed, noted, read_if_held, write_if_held}
-use Rattle.layout.specs.LockCells.{cells_of}
 use Rattle.layout.specs.Layouts.{LayoutOf, AreDistinct}
 use Rattle.moved_cells.specs.Grants.{GrantOf, cells_in, IsWhole, locks_of}
 use Rattle.moved_cells.specs.Laws.{OffsetsFindValues, OffsetsChangeCells}
 use Rattle.held_cells.specs.Held.{HoldingOf, cells_granted, CanHold, with_grant, IsLoad, IsStore}
-use Rattle.held_cells.specs.Noted.{NotesOf, noted_in, in_order, EachOnce, IsEntryOf}
+use Rattle.held_cells.specs.Noted.{NotesOf, number_of, with_note, in_order, EachOnce, AreNotes}
 use Rattle.held_cells.specs.Kept.{cells_under, values_count, IsSpot, IsElsewhere, IsKept, holding_of}
 use Rattle.held_cells.proofs.Lists.{item_there, Distinct}
 use Rattle.held_cells.proofs.Rising.{in_order_values}
-use Rattle.held_cells.proofs.Noting.{noted_at, noted_with, zip_noted, noted_extended, zip_extended, zip_long, once}
+use Rattle.held_cells.proofs.Noting.{found_value, not_found, noted_so, noted_with, with_cells, one_more, same_room}
 use Rattle.held_cells.proofs.Places.{distinct_under, distinct_push, under_append}
 use Rattle.held_cells.proofs.Granted.{locks_append, count_append, granted_append, append_none, length_locks, granted_count, under_count, elsewhere, granted_value, granted_changed, cell_at, locks_set, count_set, whole_at}
-
--- with something noted at a place
-abbrev pub with_note : NotesOf → ℕ → ℕ → Value → NotesOf
-with_note notes place cell v = record notes { entries = set notes.entries place (Some (cell, v)) }
-
--- with places more
-abbrev pub with_places : NotesOf → ℕ → NotesOf
-with_places notes count = record notes { entries = notes.entries ++ replicate count None }
 
 pub item_is : {X : Type 0} (xs : List X) (i : ℕ) (x y : X) → slice_get xs i ≡ Some x → y ≡ get_or xs i y → y ≡ x
 item_is xs i x y at e = e ∙ get_or_from_slice_get xs i x y at
@@ -35,17 +26,11 @@ module _ (layout : LayoutOf) (gs : List GrantOf) (reads writes : NotesOf) (ls cs
   distinct : Distinct (cells_under layout.cell_locks (locks_of gs))
   distinct = distinct_under layout.cell_locks (locks_of gs) kept.distinct
 
-  pub reads_once : EachOnce (noted_in reads.entries)
-  reads_once = once (cells_under layout.cell_locks (locks_of gs)) reads.entries kept.reads_at distinct
+  pub reads_once : EachOnce reads.list
+  reads_once = kept.reads_are.once
 
-  pub writes_once : EachOnce (noted_in writes.entries)
-  writes_once = once (cells_under layout.cell_locks (locks_of gs)) writes.entries kept.writes_at distinct
-
-  pub reads_long : length reads.entries ≡ values_count gs
-  reads_long = zip_long (cells_under layout.cell_locks (locks_of gs)) reads.entries kept.reads_at ∙ under_count layout.cell_locks gs kept.whole
-
-  pub writes_long : length writes.entries ≡ values_count gs
-  writes_long = zip_long (cells_under layout.cell_locks (locks_of gs)) writes.entries kept.writes_at ∙ under_count layout.cell_locks gs kept.whole
+  pub writes_once : EachOnce writes.list
+  writes_once = kept.writes_are.once
 
   pub cells_long : length (cells_granted layout.cell_locks gs) ≡ values_count gs
   cells_long = granted_count layout.cell_locks gs kept.whole
@@ -74,31 +59,48 @@ module _ (layout : LayoutOf) (gs : List GrantOf) (reads writes : NotesOf) (ls cs
     has_value : (v : Value) → slice_get spot.grant.values offset ≡ Some v → value_at (cells_granted layout.cell_locks gs) cell ≡ Some v
     has_value v is = granted_value layout.cell_locks cell offset spot.grant spot.slot read gs index v kept.whole kept.distinct spot.is is
 
-    pub loaded_written : (g : GrantOf) (v : Value) (x : ℕ × Value) → g ≡ get_or gs index g → slice_get g.values offset ≡ Some v →
-        slice_get writes.entries place ≡ Some (Some x) → IsLoad old cell (Some v) old
-    loaded_written g v x at is there =
+    marked : (n : NotesOf) → AreNotes (cells_under layout.cell_locks (locks_of gs)) n → n.room ≡ cs → place < length n.marks
+    marked n are room = omega (arith, spot.place_fits, kept.cells_fit, are.long, room)
+
+    -- there is room for a note more
+    pub fits_room : (n : NotesOf) → n.room ≡ cs → place < n.room
+    fits_room n room = omega (arith, spot.place_fits, kept.cells_fit, room)
+
+    one_more_fits : (n : NotesOf) → AreNotes (cells_under layout.cell_locks (locks_of gs)) n → n.room ≡ cs → Value → number_of n place cell ≡ None → length n.list < n.room
+    one_more_fits n are room v none =
+        let more : length n.list < length (cells_under layout.cell_locks (locks_of gs)) =
+        one_more (cells_under layout.cell_locks (locks_of gs)) n are distinct place cell has_place v (marked n are room) none in
+        omega (arith, more, under_count layout.cell_locks gs kept.whole, kept.cells_fit, room)
+
+    pub read_fits : Value → number_of reads place cell ≡ None → length reads.list < reads.room
+    read_fits v none = one_more_fits reads kept.reads_are kept.reads_room v none
+
+    pub write_fits : Value → number_of writes place cell ≡ None → length writes.list < writes.room
+    write_fits v none = one_more_fits writes kept.writes_are kept.writes_room v none
+
+    pub loaded_written : (g : GrantOf) (v : Value) (k : ℕ) → g ≡ get_or gs index g → slice_get g.values offset ≡ Some v →
+        number_of writes place cell ≡ Some k → IsLoad old cell (Some v) old
+    loaded_written g v k at is there =
         let same : g ≡ spot.grant = item_is gs index spot.grant g spot.is at in
         let value : value_at (cells_granted layout.cell_locks gs) cell ≡ Some v = has_value v (ap (λ (h : GrantOf). slice_get h.values offset) (sym same) ∙ is) in
         let held : HeldCells = (holding_of layout gs reads writes ls cs).memory in
-        let written : value_at held.writes cell ≡ Some x.1 =
-        in_order_values (noted_in writes.entries) cell
-        ∙ noted_at (cells_under layout.cell_locks (locks_of gs)) writes.entries place cell (Some x) kept.writes_at distinct has_place there in
+        let is_noted = found_value (cells_under layout.cell_locks (locks_of gs)) writes kept.writes_are distinct place cell has_place k there in
+        let written : value_at held.writes cell ≡ Some is_noted.0 = in_order_values writes.list cell ∙ is_noted.1 in
         subst (λ (h : HoldingOf). IsLoad h cell (Some v) h) was
         (ap (read_if_held held cell) value ∙ ap (λ (o : Option Value). Some (v, noted held cell v o)) written, refl)
 
     pub loaded_first : (g : GrantOf) (v : Value) (more : NotesOf) → g ≡ get_or gs index g → slice_get g.values offset ≡ Some v →
-        slice_get writes.entries place ≡ Some None → more ≡ with_note reads place cell v → IsLoad old cell (Some v) (holding_of layout gs more writes ls cs)
+        number_of writes place cell ≡ None → more ≡ with_note reads place cell v → IsLoad old cell (Some v) (holding_of layout gs more writes ls cs)
     loaded_first g v more at is there e =
         let same : g ≡ spot.grant = item_is gs index spot.grant g spot.is at in
         let value : value_at (cells_granted layout.cell_locks gs) cell ≡ Some v = has_value v (ap (λ (h : GrantOf). slice_get h.values offset) (sym same) ∙ is) in
         let held : HeldCells = (holding_of layout gs reads writes ls cs).memory in
         let unwritten : value_at held.writes cell ≡ None =
-        in_order_values (noted_in writes.entries) cell
-        ∙ noted_at (cells_under layout.cell_locks (locks_of gs)) writes.entries place cell None kept.writes_at distinct has_place there in
-        let fits : place < length reads.entries = omega (arith, spot.place_fits, reads_long) in
-        let noting : in_order (noted_in more.entries) ≡ with_value held.reads cell v =
-        ap (λ (n : NotesOf). in_order (noted_in n.entries)) e
-        ∙ noted_with (cells_under layout.cell_locks (locks_of gs)) reads.entries place cell v kept.reads_at distinct has_place fits in
+        in_order_values writes.list cell
+        ∙ not_found (cells_under layout.cell_locks (locks_of gs)) writes kept.writes_are distinct place cell has_place there in
+        let noting : in_order more.list ≡ with_value held.reads cell v =
+        ap (λ (n : NotesOf). in_order n.list) e
+        ∙ noted_with (cells_under layout.cell_locks (locks_of gs)) reads kept.reads_are distinct place cell has_place v (marked reads kept.reads_are kept.reads_room) in
         subst (λ (h : HoldingOf). IsLoad h cell (Some v) (holding_of layout gs more writes ls cs)) was (
           ap (read_if_held held cell) value ∙ ap (λ (o : Option Value). Some (v, noted held cell v o)) unwritten
               ∙ ap (λ (rs : List (ℕ × Value)). Some (v, record held { reads = rs })) (sym noting),
@@ -109,9 +111,9 @@ module _ (layout : LayoutOf) (gs : List GrantOf) (reads writes : NotesOf) (ls cs
     kept_noted v more e = subst (λ (n : NotesOf). IsKept layout.cell_locks gs n writes ls cs) (sym e) (record {
       whole = kept.whole;
       distinct = kept.distinct;
-      reads_at = zip_noted (cells_under layout.cell_locks (locks_of gs)) reads.entries place cell v kept.reads_at has_place;
-      writes_at = kept.writes_at;
-      reads_room = kept.reads_room;
+      reads_are = noted_so (cells_under layout.cell_locks (locks_of gs)) reads kept.reads_are distinct place cell has_place v (marked reads kept.reads_are kept.reads_room);
+      writes_are = kept.writes_are;
+      reads_room = same_room reads place cell v ∙ kept.reads_room;
       writes_room = kept.writes_room;
       locks_fit = kept.locks_fit;
       cells_fit = kept.cells_fit;
@@ -142,11 +144,11 @@ module _ (layout : LayoutOf) (gs : List GrantOf) (reads writes : NotesOf) (ls cs
       kept_stored = subst (λ (n : NotesOf). IsKept layout.cell_locks (set gs index h) reads n ls cs) (sym e) (record {
         whole = All-set (IsWhole layout.cell_locks) gs index h whole_still kept.whole;
         distinct = subst AreDistinct (sym same_locks) kept.distinct;
-        reads_at = subst (λ (locks : List Lock). AllZip IsEntryOf (cells_under layout.cell_locks locks) reads.entries) (sym same_locks) kept.reads_at;
-        writes_at = subst (λ (locks : List Lock). AllZip IsEntryOf (cells_under layout.cell_locks locks) (set writes.entries place (Some (cell, v)))) (sym same_locks)
-            (zip_noted (cells_under layout.cell_locks (locks_of gs)) writes.entries place cell v kept.writes_at has_place);
+        reads_are = subst (λ (locks : List Lock). AreNotes (cells_under layout.cell_locks locks) reads) (sym same_locks) kept.reads_are;
+        writes_are = subst (λ (locks : List Lock). AreNotes (cells_under layout.cell_locks locks) (with_note writes place cell v)) (sym same_locks)
+            (noted_so (cells_under layout.cell_locks (locks_of gs)) writes kept.writes_are distinct place cell has_place v (marked writes kept.writes_are kept.writes_room));
         reads_room = kept.reads_room;
-        writes_room = kept.writes_room;
+        writes_room = same_room writes place cell v ∙ kept.writes_room;
         locks_fit = omega (arith, length-set gs index h, kept.locks_fit);
         cells_fit = omega (arith, same_count, kept.cells_fit);
       })
@@ -155,10 +157,9 @@ module _ (layout : LayoutOf) (gs : List GrantOf) (reads writes : NotesOf) (ls cs
       stored change =
           let before = item_there spot.grant.values offset spot.offset_fits in
           let held : HeldCells = (holding_of layout gs reads writes ls cs).memory in
-          let fits : place < length writes.entries = omega (arith, spot.place_fits, writes_long) in
-          let noting : in_order (noted_in more.entries) ≡ with_value held.writes cell v =
-          ap (λ (n : NotesOf). in_order (noted_in n.entries)) e
-          ∙ noted_with (cells_under layout.cell_locks (locks_of gs)) writes.entries place cell v kept.writes_at distinct has_place fits in
+          let noting : in_order more.list ≡ with_value held.writes cell v =
+          ap (λ (n : NotesOf). in_order n.list) e
+          ∙ noted_with (cells_under layout.cell_locks (locks_of gs)) writes kept.writes_are distinct place cell has_place v (marked writes kept.writes_are kept.writes_room) in
           let cells : cells_granted layout.cell_locks (set gs index h) ≡ with_changed held.cells cell v =
           ap (cells_granted layout.cell_locks) set_to
           ∙ granted_changed layout.cell_locks cell offset spot.grant spot.slot read change gs index before.0 v kept.whole kept.distinct spot.is before.1 in
@@ -185,36 +186,32 @@ module _ (layout : LayoutOf) (gs : List GrantOf) (reads writes : NotesOf) (ls cs
     under_more : cells_under layout.cell_locks (locks_of (gs ++ g ∷ [])) ≡ cells_under layout.cell_locks (locks_of gs) ++ cells_under layout.cell_locks (g.lock ∷ [])
     under_more = ap (cells_under layout.cell_locks) (locks_append gs (g ∷ [])) ∙ under_append layout.cell_locks (locks_of gs) (g.lock ∷ [])
 
-    new_places : length (cells_under layout.cell_locks (g.lock ∷ [])) ≡ length g.values
-    new_places = omega (arith, length-append (cells_of layout.cell_locks g.lock) [], all_cells)
+    notes_more : (n : NotesOf) → AreNotes (cells_under layout.cell_locks (locks_of gs)) n → AreNotes (cells_under layout.cell_locks (locks_of (gs ++ g ∷ []))) n
+    notes_more n are =
+        subst (λ (xs : List ℕ). AreNotes xs n) (sym under_more)
+        (with_cells (cells_under layout.cell_locks (locks_of gs)) n are (cells_under layout.cell_locks (g.lock ∷ [])))
 
-    places_more : (es : List (Option (ℕ × Value))) → AllZip IsEntryOf (cells_under layout.cell_locks (locks_of gs)) es →
-        AllZip IsEntryOf (cells_under layout.cell_locks (locks_of (gs ++ g ∷ []))) (es ++ replicate (length g.values) None)
-    places_more es zip =
-        subst (λ (xs : List ℕ). AllZip IsEntryOf xs (es ++ replicate (length g.values) None)) (sym under_more)
-        (zip_extended (cells_under layout.cell_locks (locks_of gs)) (cells_under layout.cell_locks (g.lock ∷ [])) es (length g.values) zip new_places)
-
-    kept_granted : IsKept layout.cell_locks (gs ++ g ∷ []) (with_places reads (length g.values)) (with_places writes (length g.values)) ls cs
+    kept_granted : IsKept layout.cell_locks (gs ++ g ∷ []) reads writes ls cs
     kept_granted = record {
       whole = All-push (IsWhole layout.cell_locks) gs g kept.whole all_cells;
       distinct = subst AreDistinct (sym (locks_append gs (g ∷ []))) (distinct_push (locks_of gs) g.lock kept.distinct new_lock);
-      reads_at = places_more reads.entries kept.reads_at;
-      writes_at = places_more writes.entries kept.writes_at;
+      reads_are = notes_more reads kept.reads_are;
+      writes_are = notes_more writes kept.writes_are;
       reads_room = kept.reads_room;
       writes_room = kept.writes_room;
       locks_fit = omega (arith, length-append gs (g ∷ []), can.lock_fits, length_locks gs, ap (λ (h : HoldingOf). length h.locks) was, ap (λ (h : HoldingOf). h.lock_room) was);
       cells_fit = omega (arith, count_append gs (g ∷ []), room_is);
     }
 
-    granted : holding_of layout (gs ++ g ∷ []) (with_places reads (length g.values)) (with_places writes (length g.values)) ls cs ≡ with_grant old g
+    granted : holding_of layout (gs ++ g ∷ []) reads writes ls cs ≡ with_grant old g
     granted =
         (λ i. record {
           layout = layout;
           locks = locks_append gs (g ∷ []) i;
           memory = record {
             cells = cells i;
-            reads = in_order (noted_extended reads.entries (length g.values) i);
-            writes = in_order (noted_extended writes.entries (length g.values) i);
+            reads = in_order reads.list;
+            writes = in_order writes.list;
           };
           lock_room = ls;
           cell_room = cs;
@@ -227,17 +224,8 @@ module _ (layout : LayoutOf) (gs : List GrantOf) (reads writes : NotesOf) (ls cs
             ∙ ap (λ (xs : List (ℕ × Value)). cells_granted layout.cell_locks gs ++ xs) (append_none (cells_in layout.cell_locks g))
 
     -- as the code makes them
-    pub kept_after : (hs : List GrantOf) (rs ws : NotesOf) → hs ≡ gs ++ g ∷ [] → rs ≡ with_places reads (length g.values) → ws ≡ with_places writes (length g.values) →
-        IsKept layout.cell_locks hs rs ws ls cs
-    kept_after hs rs ws a b c =
-        subst (λ (x : List GrantOf). IsKept layout.cell_locks x rs ws ls cs) (sym a)
-        (subst (λ (x : NotesOf). IsKept layout.cell_locks (gs ++ g ∷ []) x ws ls cs) (sym b)
-        (subst (λ (x : NotesOf). IsKept layout.cell_locks (gs ++ g ∷ []) (with_places reads (length g.values)) x ls cs) (sym c) kept_granted))
+    pub kept_after : (hs : List GrantOf) → hs ≡ gs ++ g ∷ [] → IsKept layout.cell_locks hs reads writes ls cs
+    kept_after hs e = subst (λ (x : List GrantOf). IsKept layout.cell_locks x reads writes ls cs) (sym e) kept_granted
 
-    pub granted_after : (hs : List GrantOf) (rs ws : NotesOf) → hs ≡ gs ++ g ∷ [] → rs ≡ with_places reads (length g.values) → ws ≡ with_places writes (length g.values) →
-        holding_of layout hs rs ws ls cs ≡ with_grant old g
-    granted_after hs rs ws a b c =
-        ap (λ (x : List GrantOf). holding_of layout x rs ws ls cs) a
-        ∙ ap (λ (x : NotesOf). holding_of layout (gs ++ g ∷ []) x ws ls cs) b
-        ∙ ap (λ (x : NotesOf). holding_of layout (gs ++ g ∷ []) (with_places reads (length g.values)) x ls cs) c
-        ∙ granted
+    pub granted_after : (hs : List GrantOf) → hs ≡ gs ++ g ∷ [] → holding_of layout hs reads writes ls cs ≡ with_grant old g
+    granted_after hs e = ap (λ (x : List GrantOf). holding_of layout x reads writes ls cs) e ∙ granted

@@ -1,12 +1,12 @@
 -- Where the cells of grants have their places. Nobody has to believe these.
 use Rattle.std.specs.Prelude.{◌≡◌, ◌<◌, ◌≤◌, ℕ, ◌+◌, List, [], ◌∷◌, ◌++◌, length, take, slice_get, Some}
-use Rattle.std.specs.List.{All, AllZip, Contains}
+use Rattle.std.specs.List.{All, Contains}
 use Rattle.locks.specs.declared.lock.Lock.{Lock}
 use Rattle.layout.specs.LockCells.{cells_of, IsSlot}
 use Rattle.layout.specs.Layouts.{LayoutOf, AreDistinct}
 use Rattle.moved_cells.specs.Grants.{GrantOf, IsWhole, locks_of}
 use Rattle.held_cells.specs.Held.{HoldingOf, cells_granted}
-use Rattle.held_cells.specs.Noted.{NotesOf, noted_in, in_order, IsEntryOf}
+use Rattle.held_cells.specs.Noted.{NotesOf, in_order, AreNotes}
 
 -- the cells of locks, one lock after another
 abbrev pub cells_under : List Lock → List Lock → List ℕ
@@ -38,13 +38,13 @@ pub record IsSpot (cell_locks : List Lock) (grants : List GrantOf) (cell index o
 pub record IsElsewhere (cell_locks : List Lock) (grants : List GrantOf) (cell : ℕ) : Type 0 where
   pub other : (lock : Lock) → slice_get cell_locks cell ≡ Some lock → Contains (locks_of grants) lock → ⊥
 
--- grants with all their cells, each lock once; what is noted at a place is of the cell that has it; and there is room
+-- grants with all their cells, each lock once; what is noted is of these cells; and there is room
 pub record IsKept (cell_locks : List Lock) (grants : List GrantOf) (reads writes : NotesOf) (locks cells : ℕ)
     : Type 0 where
   pub whole : All (IsWhole cell_locks) grants
   pub distinct : AreDistinct (locks_of grants)
-  pub reads_at : AllZip IsEntryOf (cells_under cell_locks (locks_of grants)) reads.entries
-  pub writes_at : AllZip IsEntryOf (cells_under cell_locks (locks_of grants)) writes.entries
+  pub reads_are : AreNotes (cells_under cell_locks (locks_of grants)) reads
+  pub writes_are : AreNotes (cells_under cell_locks (locks_of grants)) writes
   pub reads_room : reads.room ≡ cells
   pub writes_room : writes.room ≡ cells
   pub locks_fit : length grants ≤ locks
@@ -57,8 +57,8 @@ holding_of layout grants reads writes locks cells = record {
   locks = locks_of grants;
   memory = record {
     cells = cells_granted layout.cell_locks grants;
-    reads = in_order (noted_in reads.entries);
-    writes = in_order (noted_in writes.entries);
+    reads = in_order reads.list;
+    writes = in_order writes.list;
   };
   lock_room = locks;
   cell_room = cells;

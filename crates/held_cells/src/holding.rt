@@ -9,7 +9,9 @@ ghost use Rattle.held_cells.specs.Held.{cells_granted, CanHold, no_grants, with_
 use crate::finding::spot_of;
 use crate::notes::Notes;
 use crate::parts::Parts;
+use crate::spare::Spare;
 use core_lang::value::Value;
+use layout::room::Room;
 use layout::table::Layout;
 use moved_cells::grant::Grant;
 use moved_cells::laws::slots_are_cells;
@@ -45,7 +47,8 @@ impl<'p> Model for Holding<'p> {
 }
 
 impl<'p> Holding<'p> {
-    /// Nothing held, and room for so many locks with so many cells together.
+    /// Nothing held, and room for so many locks with so many cells together, in memory that is made larger where it is
+    /// too small.
     ///
     /// # Errors
     ///
@@ -53,21 +56,27 @@ impl<'p> Holding<'p> {
     pub fn none(
         alloc: Global,
         layout: &'p Layout,
-        locks: usize,
-        cells: usize,
+        room: Room,
+        spare: Spare,
     ) -> Result<Holding<'p>, NoMemory>
-        ensures { IfOk result (λ h. h ≡ no_grants layout.now locks cells) }
+        ensures { IfOk result (λ h. h ≡ no_grants layout.now room.locks room.cells) }
     {
-        let reads = Notes::none(alloc, cells)?;
-        let writes = Notes::none(alloc, cells)?;
-        let grants = Vec::with_capacity(alloc, locks)?;
+        let Spare {
+            read_marks,
+            write_marks,
+            reads,
+            writes,
+        } = spare;
+        let reads = Notes::blank(room.cells, read_marks, reads)?;
+        let writes = Notes::blank(room.cells, write_marks, writes)?;
+        let grants = Vec::with_capacity(alloc, room.locks)?;
         Ok(Holding {
             layout,
             grants,
             reads,
             writes,
-            lock_room: locks,
-            cell_room: cells,
+            lock_room: room.locks,
+            cell_room: room.cells,
         })
     }
 
@@ -80,7 +89,7 @@ impl<'p> Holding<'p> {
         match spot_of(self.layout, &self.grants, cell) {
             Some(spot) => {
                 let value = self.grants[spot.index].read(spot.offset);
-                match self.writes.get(spot.place) {
+                match self.writes.number(spot.place, cell) {
                     Some(_) => {}
                     None => self.reads.note(spot.place, cell, value),
                 }
@@ -111,9 +120,6 @@ impl<'p> Holding<'p> {
         requires { CanHold self.old grant }
         ensures { self.new ≡ with_grant self.old grant }
     {
-        let count = grant.values().len();
-        self.reads.extend(count);
-        self.writes.extend(count);
         match self.grants.push(grant) {
             Ok(()) => {}
             Err(_) => unreachable!(),
@@ -136,10 +142,14 @@ impl<'p> Holding<'p> {
             lock_room: _,
             cell_room: _,
         } = self;
+        let (reads, read_marks) = reads.into_list();
+        let (writes, write_marks) = writes.into_list();
         Parts {
             grants,
-            reads: reads.into_list(),
-            writes: writes.into_list(),
+            reads,
+            writes,
+            read_marks,
+            write_marks,
         }
     }
 

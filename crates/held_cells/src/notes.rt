@@ -1,99 +1,100 @@
 //! Values of cells, noted at the cells' places.
 
-ghost use Rattle.std.specs.Prelude.{◌≡◌, ◌+◌, ◌<◌, ◌≤◌, [], ◌++◌, length, replicate, slice_get, slice_set, Some, None, IfOk};
-ghost use Rattle.held_cells.specs.Noted.{noted_in, in_order, EachOnce};
+ghost use Rattle.std.specs.Prelude.{◌≡◌, ◌<◌, ◌≤◌, [], length, None, IfOk};
+ghost use Rattle.held_cells.specs.Noted.{in_order, number_of, with_note, EachOnce};
 
 use core_lang::value::Value;
 use history::entry::CellValue;
 use source::memory::NoMemory;
-use std::alloc::Global;
 use std::marker::Model;
 
-/// Values of cells, noted at the cells' places. As a value it is what is noted at each place.
+/// Values of cells, noted at the cells' places. As a value it is what is noted, and the marks at the places.
 #[derive(Drop)]
 pub struct Notes {
-    entries: Vec<Option<CellValue>>,
+    // By place: where in the list its cell's note stands. A mark counts only where the note there is of this cell, so
+    // what former sections left needs no clearing.
+    marks: Vec<usize>,
+    // In the order in which the cells were first noted.
+    list: Vec<CellValue>,
     // For how many places there is room.
     room: usize,
-    // Empty, with room for all that can be noted: a list is made here when no memory may be taken.
-    list: Vec<CellValue>,
 }
 
 impl Model for Notes {
-    ghost use Rattle.std.specs.Prelude.{◌≡◌, ◌≤◌, [], vec_len, vec_capacity};
+    ghost use Rattle.std.specs.Prelude.{◌≤◌, length, vec_capacity};
     ghost use Rattle.held_cells.specs.Noted.{NotesOf};
 
     ghost Value = { NotesOf };
 
-    ghost view = { λ n. record { entries = n.entries.items; room = n.room } };
+    ghost view = { λ n. record { marks = n.marks.items; list = n.list.items; room = n.room } };
 
-    ghost invariant = { λ n.
-        (vec_len n.entries ≤ n.room) × (n.room ≤ vec_capacity n.entries)
-        × (n.list.items ≡ []) × (vec_len n.list ≡ 0) × (n.room ≤ vec_capacity n.list) };
+    ghost invariant = { λ n. (n.room ≤ length n.marks.items) × (n.room ≤ vec_capacity n.list) };
 }
 
 impl Notes {
-    /// No places, and room for so many.
+    /// Nothing noted, and room for so many places, in memory that is larger or is made larger. What stands in it doesn't
+    /// matter.
     ///
     /// # Errors
     ///
     /// Want of memory.
-    pub fn none(alloc: Global, room: usize) -> Result<Notes, NoMemory>
-        ensures { IfOk result (λ notes. notes ≡ record { entries = []; room = room }) }
+    pub fn blank(
+        room: usize,
+        mut marks: Vec<usize>,
+        mut list: Vec<CellValue>,
+    ) -> Result<Notes, NoMemory>
+        ensures list { IfOk result (λ notes. notes.list ≡ []) }
+        ensures room { IfOk result (λ notes. notes.room ≡ room) }
+        ensures marks { IfOk result (λ notes. room ≤ length notes.marks) }
     {
-        let entries = Vec::with_capacity(alloc, room)?;
-        let list = Vec::with_capacity(alloc, room)?;
-        Ok(Notes {
-            entries,
-            room,
-            list,
-        })
+        if marks.len() < room {
+            marks.resize(room, 0)?;
+        }
+        list.clear();
+        list.reserve(room)?;
+        Ok(Notes { marks, list, room })
     }
 
-    /// So many places more, with nothing noted.
-    pub fn extend(&mut self, count: usize)
-        requires { length self.old.entries + count ≤ self.old.room }
-        ensures { self.new ≡ record self.old { entries = self.old.entries ++ replicate count None } }
-    {
-        let more = self.entries.len() + count;
-        self.entries.resize(more, None).unwrap();
-    }
-
-    /// What is noted at a place.
+    /// Where the note of the cell that has the place stands, if it is noted.
     #[inline]
-    pub fn get(&self, place: usize) -> Option<CellValue>
-        requires { place < length self.now.entries }
-        ensures { slice_get self.now.entries place ≡ Some result }
+    pub fn number(&self, place: usize, cell: u32) -> Option<usize>
+        requires { place < self.now.room }
+        ensures { result ≡ number_of self.now place cell }
     {
-        self.entries[place]
+        let mark = self.marks[place];
+        match self.list.get(mark) {
+            Some(noted) if noted.0 == cell => Some(mark),
+            _ => None,
+        }
     }
 
     /// Notes the value of the cell that has the place.
     #[inline]
     pub fn note(&mut self, place: usize, cell: u32, value: Value)
-        requires { place < length self.old.entries }
-        ensures { self.new ≡ record self.old { entries = slice_set self.old.entries place (Some (cell, value)) } }
+        requires place { place < self.old.room }
+        requires more { number_of self.old place cell ≡ None → length self.old.list < self.old.room }
+        ensures { self.new ≡ with_note self.old place cell value }
     {
-        self.entries[place] = Some((cell, value));
-    }
-
-    /// What is noted, in order of the cells' numbers.
-    pub fn into_list(self) -> Vec<CellValue>
-        requires { EachOnce (noted_in self.entries) }
-        ensures { result.items ≡ in_order (noted_in self.entries) }
-    {
-        let Notes {
-            entries,
-            room: _,
-            mut list,
-        } = self;
-        for entry in &entries {
-            match entry {
-                Some(noted) => list.push(*noted).unwrap(),
-                None => {}
+        match self.number(place, cell) {
+            Some(number) => self.list[number] = (cell, value),
+            None => {
+                self.marks[place] = self.list.len();
+                self.list.push((cell, value)).unwrap();
             }
         }
+    }
+
+    /// What is noted, in order of the cells' numbers, and the memory of the marks.
+    pub fn into_list(self) -> (Vec<CellValue>, Vec<usize>)
+        requires { EachOnce self.list }
+        ensures { result.0.items ≡ in_order self.list }
+    {
+        let Notes {
+            marks,
+            mut list,
+            room: _,
+        } = self;
         list.sort_unstable_by_key(|noted| noted.0);
-        list
+        (list, marks)
     }
 }

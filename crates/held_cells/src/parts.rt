@@ -11,4 +11,8 @@ pub struct Parts {
     pub reads: Vec<CellValue>,
     /// Each cell that was written, with the value that was written last, in the same order.
     pub writes: Vec<CellValue>,
+    /// The memory of the marks of the cells that were read.
+    pub read_marks: Vec<usize>,
+    /// And of those that were written.
+    pub write_marks: Vec<usize>,
 }

@@ -61,17 +61,18 @@ impl History {
         self.lists.promise(cells)
     }
 
-    /// Enters a section that has ended, into room that was made for it.
-    pub fn enter(&mut self, cells: usize, entry: Entry)
+    /// Enters a section that has ended, into room that was made for it. An entry whose memory isn't kept is given back.
+    pub fn enter(&mut self, cells: usize, entry: Entry) -> Option<Entry>
         requires { IsPromised self.old.promised cells }
         ensures promised { self.old.promised ≡ with_promise self.new.promised cells }
         ensures commits { self.new.commits ≡ self.old.commits ++ entry ∷ [] }
     {
-        let stored = self.lists.store(cells, entry);
+        let (stored, unused) = self.lists.store(cells, entry);
         match self.entries.push(stored) {
             Ok(()) => {}
             Err(_) => unreachable!(),
         }
+        unused
     }
 
     /// Forgoes room that was made for a section.

@@ -169,16 +169,17 @@ impl Lists {
         }
     }
 
-    /// Stores an entry, into room that was made for it.
-    pub fn store(&mut self, cells: usize, entry: Entry) -> Stored
+    /// Stores an entry, into room that was made for it. What is packed is given back, for its memory.
+    pub fn store(&mut self, cells: usize, entry: Entry) -> (Stored, Option<Entry>)
         requires { IsPromised self.old.promised cells }
-        ensures { Stores self.old cells entry result self.new }
+        ensures { Stores self.old cells entry result.0 self.new }
     {
         if is_within(cells, &entry) {
-            return Stored::Within(self.pack(cells, &entry));
+            let packed = self.pack(cells, &entry);
+            return (Stored::Within(packed), Some(entry));
         }
         self.forgo(cells);
-        Stored::Aside(entry)
+        (Stored::Aside(entry), None)
     }
 
     /// An entry whose lists stand here.

@@ -83,7 +83,8 @@ fn end<'p>(manager: &mut Manager<'p>, ended: Ended<'p>) -> (State<'p>, Event)
     ensures { EndedSteps manager.old ended.entry result.1 result.0 manager.new }
 {
     let (ready, receipt) = ended.release(manager);
-    (State::Ready(ready), Event::Ended(receipt.position()))
+    let position = receipt.position();
+    (State::Ready(ready.keep(receipt)), Event::Ended(position))
 }
 
 /// The call of a thread of this number, if there is one.

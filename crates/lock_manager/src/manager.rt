@@ -15,7 +15,7 @@ use crate::places::Place;
 use crate::queue::{Queue, Waiter};
 use crate::sections::Sections;
 use crate::session::Session;
-use crate::ticket::{Receipt, Ticket};
+use crate::ticket::{Receipt, Spare, Ticket, waking_room};
 use core_lang::value::Value;
 use history::entries::History;
 use history::entry::Entry;
@@ -90,16 +90,23 @@ impl<'p> Manager<'p> {
     /// # Errors
     ///
     /// Want of memory; the manager is as it was.
-    pub fn begin(&mut self, alloc: Global, thread: u32, room: Room) -> Result<Ticket, NoMemory>
+    pub fn begin(
+        &mut self,
+        alloc: Global,
+        thread: u32,
+        room: Room,
+        spare: Spare,
+    ) -> Result<Ticket, NoMemory>
         requires thread { thread < 64 }
         requires closed { session_of self.old thread ≡ None }
         ensures ok { IfOk result (λ ticket. Begins self.old thread room ticket self.new) }
         ensures err { OnErr result (self.new ≡ self.old) }
     {
         let begun = self.history.len();
-        let session = Session::new(alloc, begun, room)?;
-        let slot = Session::new(alloc, begun, room)?;
-        let wake = Vec::with_capacity(alloc, room.locks)?;
+        let Spare { held, wake } = spare;
+        let session = Session::new(begun, room, held)?;
+        let slot = self.sections.session(alloc, thread, begun, room)?;
+        let wake = waking_room(room.locks, wake)?;
         self.history.promise(room.cells)?;
         self.sections.open(thread, slot);
         Ok(Ticket {
@@ -143,13 +150,18 @@ impl<'p> Manager<'p> {
         history::laws::one_entry_more();
         history::laws::commuting();
         let position = self.history.len();
-        let (thread, wake) = ticket.woken(&self.queue);
+        let (thread, wake, held) = ticket.woken(&self.queue);
         self.committed.overwrite(entry.writes());
         let cells = self.sections.cells(thread);
-        self.history.enter(cells, entry);
+        let entry = self.history.enter(cells, entry);
         self.committed.put_back(&mut self.places, grants);
         self.sections.close(thread);
-        Receipt { position, wake }
+        Receipt {
+            position,
+            wake,
+            held,
+            entry,
+        }
     }
 
     /// Ends a section without an entry, where the grants are exactly those of its thread's slot.

@@ -2,21 +2,25 @@
 
 ghost use Rattle.std.specs.Prelude.{◌≡◌, ◌≢◌, ◌↔◌, ◌<◌, ℕ, IsTrue, length, replicate, slice_get, slice_set, Some, None, IfOk, MatchOption};
 ghost use Rattle.std.specs.List.{Contains};
-ghost use Rattle.lock_manager.specs.Sessions.{SessionOf, with_lock, with_ask};
+ghost use Rattle.lock_manager.specs.Sessions.{SessionOf, fresh, with_lock, with_ask};
 ghost use Rattle.lock_manager.specs.Managers.{session_in, Holds};
 ghost use Rattle.lock_manager.specs.Ties.{HasRoom, IsChanged, cells_if_open};
 
 use crate::fitting::holds;
 use crate::session::Session;
+use layout::room::Room;
 use locks::lock::Lock;
 use source::memory::NoMemory;
 use std::alloc::Global;
 use std::marker::Model;
+use std::mem;
 
 /// For each thread its open section.
 #[derive(Drop)]
 pub struct Sections {
     slots: Vec<Option<Session>>,
+    // For each thread the memory that its next section takes. What stands in it doesn't matter.
+    spare: Vec<Vec<Lock>>,
 }
 
 impl Model for Sections {
@@ -27,7 +31,7 @@ impl Model for Sections {
 
     ghost view = { λ s. s.slots.items };
 
-    ghost invariant = { λ s. length s.slots.items ≡ 64 };
+    ghost invariant = { λ s. (length s.slots.items ≡ 64) × (length s.spare.items ≡ 64) };
 }
 
 impl Sections {
@@ -36,10 +40,12 @@ impl Sections {
         ensures { IfOk result (λ sections. sections ≡ replicate 64 None) }
     {
         let mut slots = Vec::with_capacity(alloc, 64)?;
+        let mut spare = Vec::with_capacity(alloc, 64)?;
         for _ in 0..64usize {
             slots.push(None)?;
+            spare.push(Vec::new(alloc))?;
         }
-        Ok(Sections { slots })
+        Ok(Sections { slots, spare })
     }
 
     /// A thread's section, if one is open.
@@ -73,6 +79,26 @@ impl Sections {
             }
         }
         true
+    }
+
+    /// What is known of a section of a thread that is about to begin, in the memory that the thread's last one had.
+    ///
+    /// # Errors
+    ///
+    /// Want of memory.
+    pub fn session(
+        &mut self,
+        alloc: Global,
+        thread: u32,
+        begun: usize,
+        room: Room,
+    ) -> Result<Session, NoMemory>
+        requires { thread < 64 }
+        ensures ok { IfOk result (λ session. session ≡ fresh begun room) }
+        ensures same { self.new ≡ self.old }
+    {
+        let held = mem::replace(&mut self.spare[thread as usize], Vec::new(alloc));
+        Session::new(begun, room, held)
     }
 
     /// A thread's section begins.
@@ -133,6 +159,9 @@ impl Sections {
         requires { thread < 64 }
         ensures { self.new ≡ slice_set self.old thread None }
     {
-        self.slots[thread as usize] = None;
+        let thread = thread as usize;
+        if let Some(session) = mem::replace(&mut self.slots[thread], None) {
+            self.spare[thread] = session.into_memory();
+        }
     }
 }

@@ -7,7 +7,6 @@ ghost use Rattle.lock_manager.specs.Ties.{MayTake};
 use layout::room::Room;
 use locks::lock::Lock;
 use source::memory::NoMemory;
-use std::alloc::Global;
 use std::marker::Model;
 
 /// What is known of an open section.
@@ -31,17 +30,30 @@ impl Model for Session {
 }
 
 impl Session {
-    /// A section begins; there is room for the locks that it can hold.
-    pub fn new(alloc: Global, begun: usize, room: Room) -> Result<Session, NoMemory>
+    /// A section begins; there is room for the locks that it can hold, in memory that is made larger where it is too
+    /// small.
+    pub fn new(begun: usize, room: Room, mut held: Vec<Lock>) -> Result<Session, NoMemory>
         ensures { IfOk result (λ session. session ≡ fresh begun room) }
     {
-        let held = Vec::with_capacity(alloc, room.locks)?;
+        held.clear();
+        held.reserve(room.locks)?;
         Ok(Session {
             begun,
             held,
             ask: None,
             room,
         })
+    }
+
+    /// The memory that it took.
+    pub fn into_memory(self) -> Vec<Lock> {
+        let Session {
+            begun: _,
+            held,
+            ask: _,
+            room: _,
+        } = self;
+        held
     }
 
     /// A lock is granted.

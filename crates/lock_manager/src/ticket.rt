@@ -1,13 +1,45 @@
-//! Tickets and receipts.
+//! Tickets and receipts, and the memory that they take.
 
-ghost use Rattle.std.specs.Prelude.{◌≡◌, ◌<◌, length, slice_get};
+ghost use Rattle.std.specs.Prelude.{◌≡◌, ◌<◌, ◌≤◌, length, slice_get, IfOk, vec_len, vec_capacity};
 ghost use Rattle.lock_manager.specs.Sessions.{with_lock, with_ask};
 ghost use Rattle.lock_manager.specs.Calls.{ticket_with, first_waiters};
 
 use crate::queue::Queue;
 use crate::session::Session;
+use history::entry::Entry;
 use locks::lock::Lock;
+use source::memory::NoMemory;
+use std::alloc::Global;
 use std::marker::Model;
+
+/// Memory for a ticket. What stands in it doesn't matter.
+#[derive(Drop)]
+pub struct Spare {
+    /// For the locks that are held.
+    pub held: Vec<Lock>,
+    /// For whom to wake.
+    pub wake: Vec<u32>,
+}
+
+impl Spare {
+    /// None yet.
+    pub fn none(alloc: Global) -> Spare {
+        Spare {
+            held: Vec::new(alloc),
+            wake: Vec::new(alloc),
+        }
+    }
+}
+
+// Nobody to wake yet, and room for so many, in memory that is made larger where it is too small.
+pub(crate) fn waking_room(locks: usize, mut wake: Vec<u32>) -> Result<Vec<u32>, NoMemory>
+    ensures none { IfOk result (λ woken. vec_len woken ≡ 0) }
+    ensures room { IfOk result (λ woken. locks ≤ vec_capacity woken) }
+{
+    wake.clear();
+    wake.reserve(locks)?;
+    Ok(wake)
+}
 
 /// The right to ask for locks for a thread's section, and to end it. It can't be copied, and must be used up.
 pub struct Ticket {
@@ -83,8 +115,8 @@ impl Ticket {
         thread
     }
 
-    // Its thread, and for each of its locks the first that waits for it.
-    pub(crate) fn woken(self, queue: &Queue) -> (u32, Vec<u32>)
+    // Its thread, for each of its locks the first that waits for it, and the memory that the locks took.
+    pub(crate) fn woken(self, queue: &Queue) -> (u32, Vec<u32>, Vec<Lock>)
         ensures thread { result.0 ≡ self.thread }
         ensures wake { result.1.items ≡ first_waiters queue.now self.session.held }
     {
@@ -99,7 +131,7 @@ impl Ticket {
                 wake.push(first).unwrap();
             }
         }
-        (thread, wake)
+        (thread, wake, session.into_memory())
     }
 }
 
@@ -108,6 +140,9 @@ impl Ticket {
 pub struct Receipt {
     pub(crate) position: usize,
     pub(crate) wake: Vec<u32>,
+    // The memory of what the section no more needs.
+    pub(crate) held: Vec<Lock>,
+    pub(crate) entry: Option<Entry>,
 }
 
 impl Model for Receipt {
@@ -133,5 +168,16 @@ impl Receipt {
         ensures { result ≡ slice_get self.now.wake i }
     {
         self.wake.get(i).copied()
+    }
+
+    /// The memory that the section's ticket had, and its entry, where the history doesn't keep the entry's memory.
+    pub fn into_memory(self) -> (Spare, Option<Entry>) {
+        let Receipt {
+            position: _,
+            wake,
+            held,
+            entry,
+        } = self;
+        (Spare { held, wake }, entry)
     }
 }

@@ -7,7 +7,7 @@ use history::entry::{CellValue, Entry};
 use layout::room::Room;
 use lock_manager::answer::Answer;
 use lock_manager::manager::Manager;
-use lock_manager::ticket::Ticket;
+use lock_manager::ticket::{Spare, Ticket};
 use locks::lock::Lock;
 use moved_cells::grant::Grant;
 use std::alloc::Global;
@@ -100,7 +100,8 @@ impl<'p> Calls<'p> {
         }
         self.sessions.reserve(1)?;
         let grants = Vec::with_capacity(self.alloc, ROOM.locks)?;
-        match self.manager.begin(self.alloc, thread, ROOM) {
+        let spare = Spare::none(self.alloc);
+        match self.manager.begin(self.alloc, thread, ROOM, spare) {
             Ok(ticket) => {
                 self.sessions.push(Session { ticket, grants }).unwrap();
                 write!(&mut self.said, "{thread} begins\n")?;

@@ -1,5 +1,5 @@
 -- One instruction more.
-use Rattle.std.proofs.Common.{◌≡◌, ℕ, zero, suc, ◌+◌, ◌<◌, ap, ◌∙◌, subst, arith}
+use Rattle.std.proofs.Common.{◌≡◌, ℕ, zero, suc, ◌+◌, ◌<◌, ◌≤◌, ap, ◌∙◌, subst, arith}
 use Rattle.runner.specs.Opens.{OpenOf, IsRunning, moved, moved_by, Ran}
 
 below_next : (P : ℕ → Type 0) (n : ℕ) → ((k : ℕ) → k < n → P k) → P n → (k : ℕ) → k < n + 1 → P k
@@ -19,4 +19,16 @@ ran_on most done o now last lt is running runs next stops =
       running = below_next (λ (k : ℕ). IsRunning (moved_by k o)) done running (subst IsRunning is runs);
       within = omega (arith, lt);
       stops = λ more. stops;
+    }
+
+-- it has done as many as it may
+pub ran_all : (most done : ℕ) (o now : OpenOf) → done ≤ most → most ≤ done → now ≡ moved_by done o → ((k : ℕ) → k < done → IsRunning (moved_by k o)) →
+    Ran most o most now
+ran_all most done o now le ge is running =
+    let all : done ≡ most = omega (arith, le, ge) in
+    record {
+      is = is ∙ ap (λ n. moved_by n o) all;
+      running = λ k lt. running k (omega (arith, lt, all));
+      within = omega arith;
+      stops = λ more. absurd (omega (arith, more));
     }

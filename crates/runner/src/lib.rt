@@ -10,4 +10,5 @@ mod asker;
 mod asking;
 mod open;
 mod opening;
+mod spare;
 pub mod states;

@@ -8,7 +8,6 @@ ghost use Rattle.runner.specs.Ties.{effect_on, HasMoved};
 
 use crate::asker::Asker;
 use crate::asking::{put_last, take_first};
-use crate::opening::opening_locals;
 use code::instr::Instr;
 use core_lang::value::{Outcome, Value};
 use held_cells::parts::Parts;
@@ -21,8 +20,6 @@ use lowering::compiled::Program;
 use moved_cells::grant::Grant;
 use section_machine::answer::Answer;
 use section_machine::machine::{Left, Machine};
-use source::memory::NoMemory;
-use std::alloc::Global;
 use std::marker::Model;
 
 // A section that runs, or that is to be granted locks.
@@ -230,40 +227,8 @@ pub(crate) struct Prepared<'p> {
 }
 
 impl<'p> Prepared<'p> {
-    ghost use Rattle.std.specs.Prelude.{IfOk};
-    ghost use Rattle.core_lang.specs.WellFormed.{CanCall};
     ghost use Rattle.lock_manager.specs.Sessions.{fresh};
     ghost use Rattle.runner.specs.Ties.{IsPrepared, its_call, begun_as};
-
-    // For a call of a program. Errors: want of memory.
-    pub(crate) fn new(
-        alloc: Global,
-        program: &'p Program,
-        section: usize,
-        arguments: &[Value],
-    ) -> Result<Prepared<'p>, NoMemory>
-        requires { CanCall program.now.program section arguments.now }
-        ensures program { IfOk result (λ p. p.program.now ≡ program.now) }
-        ensures call { IfOk result (λ p. its_call p ≡ record { section = section; arguments = arguments.now }) }
-        ensures prepared { IfOk result IsPrepared }
-    {
-        let called = &program.typed().sections[section];
-        let room = program.room(section);
-        let given = Vec::from_slice(alloc, arguments)?;
-        let held = Vec::with_capacity(alloc, room.locks)?;
-        let pending = Vec::with_capacity(alloc, room.locks)?;
-        let locals = opening_locals(alloc, called, arguments)?;
-        let machine = Machine::new(alloc, locals, program.layout(), room)?;
-        Ok(Prepared {
-            program,
-            section,
-            arguments: given,
-            room,
-            machine,
-            held,
-            pending,
-        })
-    }
 
     // Lets it go: it doesn't begin.
     pub(crate) fn let_go(self) {
@@ -287,6 +252,8 @@ impl<'p> Prepared<'p> {
             grants,
             reads: _,
             writes: _,
+            read_marks: _,
+            write_marks: _,
         } = parts;
         let_go(grants);
     }

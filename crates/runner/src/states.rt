@@ -9,12 +9,13 @@ ghost use Rattle.runner.specs.Ties.{over_by};
 ghost use Rattle.runner.specs.Answers as answers;
 
 use crate::open::{Open, Prepared};
+use crate::spare::{LeftOver, Rest, Spare as Memory};
 use core_lang::typed::Call;
 use core_lang::value::{Outcome, Value};
 use held_cells::parts::Parts;
 use history::entry::Entry;
 use lock_manager::manager::Manager;
-use lock_manager::ticket::{Receipt, Ticket};
+use lock_manager::ticket::{Receipt, Spare, Ticket};
 use locks::lock::Lock;
 use lowering::compiled::Program;
 use moved_cells::grant::Grant;
@@ -23,11 +24,15 @@ use section_machine::operands::Operands;
 use std::alloc::Global;
 use std::marker::Model;
 
-/// A thread with no section open. As a value it is the thread and the number of its next call.
+/// A thread with no section open. As a value it is the thread and the number of its next call. It keeps the memory that
+/// its last section took for the next one.
 #[derive(Drop)]
 pub struct Ready {
     thread: u32,
     step: usize,
+    rest: Option<Rest>,
+    entry: Option<Entry>,
+    ticket: Option<Spare>,
 }
 
 impl Model for Ready {
@@ -93,6 +98,8 @@ pub struct Ended<'p> {
     grants: Vec<Grant>,
     entry: Entry,
     asked: bool,
+    // For its thread's next section.
+    memory: LeftOver,
 }
 
 impl<'p> Model for Ended<'p> {
@@ -141,7 +148,7 @@ impl Ready {
     pub fn new(thread: u32) -> Ready
         ensures { result ≡ record { thread = thread; step = 0 } }
     {
-        Ready { thread, step: 0 }
+        without_memory(thread, 0)
     }
 
     /// The thread.
@@ -176,12 +183,23 @@ impl Ready {
         ensures ok { IfOk result (λ p. Prepares self program.now (record { section = section; arguments = arguments.now }) p) }
         ensures err { IfErr result (λ ready. ready ≡ self) }
     {
-        match Prepared::new(alloc, program, section, arguments) {
-            Ok(prepared) => Ok(Poised {
-                ready: self,
-                prepared,
-            }),
-            Err(_) => Err(self),
+        let Ready {
+            thread,
+            step,
+            rest,
+            entry,
+            ticket,
+        } = self;
+        let ready = Ready {
+            thread,
+            step,
+            rest: None,
+            entry: None,
+            ticket,
+        };
+        match Memory::of(alloc, rest, entry).prepare(alloc, program, section, arguments) {
+            Ok(prepared) => Ok(Poised { ready, prepared }),
+            Err(_) => Err(ready),
         }
     }
 
@@ -208,6 +226,33 @@ impl Ready {
             Ok(poised) => poised.begin(alloc, manager),
             Err(ready) => Err(ready),
         }
+    }
+
+    /// With the memory of the section that the receipt is of, for the next one.
+    pub fn keep(self, receipt: Receipt) -> Ready
+        ensures { result ≡ self }
+    {
+        let (ticket, entry) = receipt.into_memory();
+        Ready {
+            thread: self.thread,
+            step: self.step,
+            rest: self.rest,
+            entry,
+            ticket: Some(ticket),
+        }
+    }
+}
+
+// A thread that keeps no memory.
+fn without_memory(thread: u32, step: usize) -> Ready
+    ensures { result ≡ record { thread = thread; step = step } }
+{
+    Ready {
+        thread,
+        step,
+        rest: None,
+        entry: None,
+        ticket: None,
     }
 }
 
@@ -264,14 +309,25 @@ impl<'p> Poised<'p> {
         ensures same { OnErr result (manager.new ≡ manager.old) }
     {
         let Poised { ready, prepared } = self;
+        let Ready {
+            thread,
+            step,
+            rest: _,
+            entry: _,
+            ticket,
+        } = ready;
+        let spare = match ticket {
+            Some(spare) => spare,
+            None => Spare::none(alloc),
+        };
         let room = prepared.room;
-        match manager.begin(alloc, ready.thread, room) {
+        match manager.begin(alloc, thread, room, spare) {
             Ok(ticket) => Ok(Running {
-                open: prepared.open(ticket, ready.step),
+                open: prepared.open(ticket, step),
             }),
             Err(_) => {
                 prepared.let_go();
-                Err(ready)
+                Err(without_memory(thread, step))
             }
         }
     }
@@ -313,8 +369,8 @@ fn end<'p>(opened: Open<'p>, outcome: Outcome) -> Ended<'p>
         section,
         arguments,
         machine,
-        held: _,
-        pending: _,
+        held,
+        pending,
         asked,
     } = opened;
     let thread = ticket.thread();
@@ -330,6 +386,8 @@ fn end<'p>(opened: Open<'p>, outcome: Outcome) -> Ended<'p>
         grants,
         reads,
         writes,
+        read_marks,
+        write_marks,
     } = parts;
     Ended {
         program,
@@ -351,6 +409,12 @@ fn end<'p>(opened: Open<'p>, outcome: Outcome) -> Ended<'p>
             prints,
         },
         asked,
+        memory: LeftOver {
+            held,
+            pending,
+            read_marks,
+            write_marks,
+        },
     }
 }
 
@@ -411,7 +475,7 @@ impl<'p> Running<'p> {
         let (ticket, step, grants) = open.into_parts();
         let thread = ticket.thread();
         manager.give_up(ticket, grants);
-        Ready { thread, step }
+        without_memory(thread, step)
     }
 
     /// It keeps the rules, whatever the others do, and its next instruction has its case.
@@ -477,7 +541,7 @@ impl<'p> Asking<'p> {
         let (ticket, step, grants) = open.into_parts();
         let thread = ticket.thread();
         manager.give_up(ticket, grants);
-        Ready { thread, step }
+        without_memory(thread, step)
     }
 
     /// It keeps the rules, whatever the others do, and the lock that it asks for comes after all that it holds.
@@ -510,11 +574,12 @@ impl<'p> Ended<'p> {
             ticket,
             step,
             place: _,
-            operands: _,
-            locals: _,
+            operands,
+            locals,
             grants,
             entry,
             asked: _,
+            memory,
         } = self;
         let thread = ticket.thread();
         let receipt = manager.release(ticket, grants, entry);
@@ -522,6 +587,13 @@ impl<'p> Ended<'p> {
             Ready {
                 thread,
                 step: step + 1,
+                rest: Some(Rest {
+                    operands: operands.into_memory(),
+                    locals,
+                    left: memory,
+                }),
+                entry: None,
+                ticket: None,
             },
             receipt,
         )
@@ -542,10 +614,11 @@ impl<'p> Ended<'p> {
             grants,
             entry: _,
             asked: _,
+            memory: _,
         } = self;
         let thread = ticket.thread();
         manager.give_up(ticket, grants);
-        Ready { thread, step }
+        without_memory(thread, step)
     }
 
     /// Its entry.

@@ -19,15 +19,11 @@ use core_lang::tree::{Comparison, Operator};
 use core_lang::value::{Failure, Outcome, Value};
 use held_cells::holding::Holding;
 use held_cells::parts::Parts;
-use layout::room::Room;
-use layout::table::Layout;
 use moved_cells::grant::Grant;
 use operations::access::{
     cell_of_element, cell_of_field, member, non_null, owned_by, value_at, value_of_final,
 };
 use operations::operators::{compare, negate, operate};
-use source::memory::NoMemory;
-use std::alloc::Global;
 use std::marker::Model;
 
 /// The machine of an open section: where it is in its code, its operands and locals, the cells that it holds, and what it
@@ -76,37 +72,12 @@ impl<'p> Model for Machine<'p> {
 }
 
 impl<'p> Machine<'p> {
-    ghost use Rattle.std.specs.Prelude.{◌+◌, ◌^◌, slice_index, IfOk};
+    ghost use Rattle.std.specs.Prelude.{◌+◌, ◌^◌, slice_index};
     ghost use Rattle.std.specs.List.{All};
     ghost use Rattle.code.specs.Machine.{passed};
     ghost use Rattle.moved_cells.specs.Grants.{IsWhole, locks_of};
     ghost use Rattle.held_cells.specs.Held.{CanHold, cells_granted, with_grant};
-    ghost use Rattle.section_machine.specs.Machines.{with_machine, with_holding, holding_of, at_first, IsLeftOf};
-
-    /// A machine where a section begins, with these locals, no cells, and all the memory that it can need.
-    ///
-    /// # Errors
-    ///
-    /// Want of memory.
-    pub fn new(
-        alloc: Global,
-        locals: Vec<Value>,
-        layout: &'p Layout,
-        room: Room,
-    ) -> Result<Machine<'p>, NoMemory>
-        ensures { IfOk result (λ machine. machine ≡ at_first locals.items layout.now room) }
-    {
-        let operands = Operands::none(alloc, room.operands)?;
-        let prints = Prints::none(alloc)?;
-        let held = Holding::none(alloc, layout, room.locks, room.cells)?;
-        Ok(Machine {
-            place: 0,
-            operands,
-            locals,
-            held,
-            prints,
-        })
-    }
+    ghost use Rattle.section_machine.specs.Machines.{with_machine, with_holding, holding_of, IsLeftOf};
 
     /// Where it is in its code.
     #[inline]

@@ -5,7 +5,6 @@ ghost use Rattle.section_machine.specs.Operands.{pushed, popped, with_top};
 
 use core_lang::value::Value;
 use source::memory::NoMemory;
-use std::alloc::Global;
 use std::marker::Model;
 
 /// The operand stack of a section, with room for a number of operands. As a value it is the operands, the top first,
@@ -29,16 +28,22 @@ impl Model for Operands {
 }
 
 impl Operands {
-    /// No operands, and room for so many.
+    /// No operands, and room for so many, in memory that is made larger where it is too small.
     ///
     /// # Errors
     ///
     /// Want of memory.
-    pub fn none(alloc: Global, room: usize) -> Result<Operands, NoMemory>
+    pub fn none(room: usize, mut values: Vec<Value>) -> Result<Operands, NoMemory>
         ensures { IfOk result (λ operands. operands ≡ record { stack = []; room = room }) }
     {
-        let values = vec![in alloc; Value::Int(0); room]?;
+        values.resize(room, Value::Int(0))?;
         Ok(Operands { values, depth: 0 })
+    }
+
+    /// The memory that they took.
+    pub fn into_memory(self) -> Vec<Value> {
+        let Operands { values, depth: _ } = self;
+        values
     }
 
     /// Puts one on the top.

@@ -5,7 +5,6 @@ ghost use Rattle.section_machine.specs.Prints.{IsPrinted};
 
 use core_lang::value::{Failure, Trap, Value};
 use source::memory::NoMemory;
-use std::alloc::Global;
 use std::marker::Model;
 
 // How many numbers one run of a section may print.
@@ -28,15 +27,16 @@ impl Model for Prints {
 }
 
 impl Prints {
-    /// None yet.
+    /// None yet, in memory that is made larger where it is too small.
     ///
     /// # Errors
     ///
     /// Want of memory.
-    pub fn none(alloc: Global) -> Result<Prints, NoMemory>
+    pub fn none(mut numbers: Vec<i64>) -> Result<Prints, NoMemory>
         ensures { IfOk result (λ prints. prints ≡ []) }
     {
-        let numbers = Vec::with_capacity(alloc, MOST_PRINTS)?;
+        numbers.clear();
+        numbers.reserve(MOST_PRINTS)?;
         Ok(Prints { numbers })
     }
 

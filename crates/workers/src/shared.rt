@@ -279,7 +279,8 @@ impl<'p, J: Naming> Shared<'p, J> {
         match finished {
             Ok((ready, receipt)) => {
                 self.wake(&receipt);
-                Ok((ready, receipt.position()))
+                let position = receipt.position();
+                Ok((ready.keep(receipt), position))
             }
             Err(ready) => {
                 seen.go_back(self.program, count);

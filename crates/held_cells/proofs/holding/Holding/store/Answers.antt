@@ -1,18 +1,16 @@
-use Rattle.std.proofs.Common.{List, subst, arith}
+use Rattle.std.proofs.Common.{List, subst}
 use Rattle.moved_cells.specs.Grants.{GrantOf}
 use Rattle.held_cells.specs.Kept.{IsSpot, IsElsewhere}
-use Rattle.held_cells.proofs.Steps.{writes_long, none_stored, kept_stored, stored}
+use Rattle.held_cells.proofs.Steps.{write_fits, none_stored, kept_stored, stored}
 use Rattle.held_cells.proofs.holding.Holding.store.Goals as goal
 
-pub note-requires : goal.note-requires
-note-requires c =
+pub note-requires-clause-more : goal.note-requires-clause-more
+note-requires-clause-more c =
     let spot = subst (λ (gs : List GrantOf). IsSpot c.self.inside.layout.now.cell_locks gs c.args.cell c.in-Some.spot.index c.in-Some.spot.offset c.in-Some.spot.place)
     c.deref.ensures.value c.in-Some.ensures.some in
-    omega (
-      arith,
-      spot.place_fits,
-      writes_long c.self.inside.layout.now c.self.inside.grants.items c.self.inside.reads c.self.inside.writes c.self.inside.lock_room c.self.inside.cell_room c.self.invariant.0,
-    )
+    write_fits c.self.inside.layout.now c.self.inside.grants.items c.self.inside.reads c.self.inside.writes c.self.inside.lock_room c.self.inside.cell_room c.self.invariant.0
+    c.args.self.now c.self.view_is c.args.cell c.in-Some.spot.index c.in-Some.spot.offset c.in-Some.spot.place spot c.slots_are_cells.ensures.read
+    c.args.value
 
 pub invariant_of-self : goal.invariant_of-self
 invariant_of-self c =

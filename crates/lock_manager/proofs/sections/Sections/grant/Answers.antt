@@ -30,4 +30,4 @@ returns c = λ s e.
     ∙ ap (λ (x : SessionOf). set c.args.self.now c.args.thread (Some x)) (c.grant.ensures ∙ ap (λ (x : SessionOf). with_lock x c.args.lock) same)
 
 pub invariant_of-self : goal.invariant_of-self
-invariant_of-self c = length-set c.self.inside.slots.items c.args.thread _ ∙ c.self.invariant
+invariant_of-self c = (length-set c.self.inside.slots.items c.args.thread _ ∙ c.self.invariant.0, c.self.invariant.1)

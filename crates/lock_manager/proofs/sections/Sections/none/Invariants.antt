@@ -1,5 +1,8 @@
-use Rattle.std.proofs.Common.{◌≡◌, replicate, None}
+use Rattle.std.proofs.Common.{◌≡◌, length, replicate, None}
 use Rattle.lock_manager.proofs.sections.Sections.none.Given as goal
 
 abbrev pub invariant-loop : goal.invariant-loop
-invariant-loop l = l.slots.items ≡ replicate l.counter None
+invariant-loop l = record {
+  slots : l.slots.items ≡ replicate l.counter None;
+  spare : length l.spare.items ≡ l.counter;
+}

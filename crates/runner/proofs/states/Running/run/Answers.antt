@@ -2,7 +2,7 @@ use Rattle.std.proofs.Common.{◌≡◌, ℕ, ◌<◌, sym, ap, ◌∙◌, subst
 use Rattle.std.proofs.lemmas.Option.{none-some}
 use Rattle.runner.specs.Opens.{OpenOf, IsRunning, moved, moved_by}
 use Rattle.runner.specs.Ties.{over_by}
-use Rattle.runner.proofs.Along.{ran_on}
+use Rattle.runner.proofs.Along.{ran_on, ran_all}
 use Rattle.runner.proofs.Same.{moved_once_more, often_moved}
 use Rattle.runner.proofs.states.Running.run.Goals as goal
 
@@ -47,3 +47,9 @@ pub returns-clause-same : goal.returns-clause-same
 returns-clause-same c =
     often_moved c.args.self c.loop-done.open c.loop-done.done
     (subst (λ (o : OpenOf). c.loop-done.open ≡ moved_by c.loop-done.done o) c.self.view_is c.loop-done.invariant.0)
+
+pub returns-clause-ran : goal.returns-clause-ran
+returns-clause-ran c =
+    ran_all c.args.most c.loop-done.done c.args.self c.loop-done.open c.loop-done.auto.done-end c.loop-done-test.false
+    (subst (λ (o : OpenOf). c.loop-done.open ≡ moved_by c.loop-done.done o) c.self.view_is c.loop-done.invariant.0)
+    (subst (λ (o : OpenOf). (k : ℕ) → k < c.loop-done.done → IsRunning (moved_by k o)) c.self.view_is c.loop-done.invariant.1)

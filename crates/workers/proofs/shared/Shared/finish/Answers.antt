@@ -10,7 +10,7 @@ returns-in-Ok-clause-own g c =
     let thread : c.thread.result ≡ t = c.thread.ensures ∙ ap (λ (e : Commit). e.thread) c.requires.copy.is in
     let seen = subst (λ (n : ℕ). SeesOthers n c.args.seen.now.log c.catch_up.new.self.log) thread c.catch_up.ensures.seen in
     others_own t _ c.args.copy c.args.seen.now.log c.catch_up.new.self.log _ seen
-    (subst (λ (n : ℕ). SeesOwn t n c.args.copy c.catch_up.new.self.log c.finish-finished.new.seen.log) (sym c.position.ensures) c.in-Ok.ensures.own)
+    (subst (λ (n : ℕ). SeesOwn t n c.args.copy c.catch_up.new.self.log c.finish-finished.new.seen.log) (sym c.position-position.ensures) c.in-Ok.ensures.own)
 
 pub returns-in-Err-clause-same : goal.returns-in-Err-clause-same
 returns-in-Err-clause-same g c =

@@ -1,4 +1,4 @@
-use Rattle.section_machine.proofs.machine.Machine.new.Goals as goal
+use Rattle.section_machine.proofs.spare.Spare.machine.Goals as goal
 
 pub returns : goal.returns
 returns c = λ i. record {

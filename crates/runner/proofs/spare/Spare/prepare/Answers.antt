@@ -8,7 +8,7 @@ use Rattle.worlds.specs.Worlds.{locals_at}
 use Rattle.section_machine.specs.Machines.{at_first}
 use Rattle.runner.specs.Ties.{call_of}
 use Rattle.runner.proofs.Begun.{called_within, first_locals}
-use Rattle.runner.proofs.open.Prepared.new.Goals as goal
+use Rattle.runner.proofs.spare.Spare.prepare.Goals as goal
 
 pub index-called-requires : goal.index-called-requires
 index-called-requires c =
@@ -27,7 +27,7 @@ returns-clause-prepared c =
     let arguments = c.in_ok-given.given.items in
     let room = c.room-room.result in
     let x = c.index-called.result.now in
-    let same : arguments ≡ c.args.arguments.now = c.in_ok-given.ensures.items in
+    let same : arguments ≡ c.args.arguments.now = c.in_ok-given.ensures in
     let can : CanCall plan.program section arguments =
     subst (λ (vs : List Value). CanCall plan.program section vs) (sym same) c.requires in
     let read : x ≡ get_or plan.program.sections.items section x =
@@ -41,8 +41,8 @@ returns-clause-prepared c =
       fits = can;
       room_is = c.room-room.ensures;
       run_is = c.in_ok-machine.ensures ∙ (λ i. at_first (locals i) (c.layout.ensures i) room);
-      none_held = c.in_ok-held.ensures.items;
-      none_pending = c.in_ok-pending.ensures.items;
-      held_fits = omega (arith, c.in_ok-held.ensures.exact);
-      pending_fits = omega (arith, c.in_ok-pending.ensures.exact);
+      none_held = c.in_ok-held.ensures.none;
+      none_pending = c.in_ok-pending.ensures.none;
+      held_fits = c.in_ok-held.ensures.room;
+      pending_fits = c.in_ok-pending.ensures.room;
     }
