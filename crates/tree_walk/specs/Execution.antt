@@ -1,11 +1,13 @@
 -- The state of a section under way.
-use Rattle.std.specs.Prelude.{◌≡◌, ℕ, Result}
+use Rattle.std.specs.Prelude.{◌≡◌, ℕ, List, Result}
 use Rattle.core_lang.specs.declared.value.Failure.{Failure}
 use Rattle.core_lang.specs.declared.shape.Shape.{Shape}
+use Rattle.core_lang.specs.declared.tree.Condition.{Condition}
 use Rattle.core_lang.specs.declared.tree.Expr.{Expr}
 use Rattle.core_lang.specs.declared.tree.Section.{Section}
+use Rattle.core_lang.specs.declared.tree.Stmt.{Stmt}
 use Rattle.core_lang.specs.Cells.{element_cell, with}
-use Rattle.core_lang.specs.Meaning.{State, Flow, given, sequence, stored, value_of}
+use Rattle.core_lang.specs.Meaning.{State, Flow, given, sequence, stored, truth_of, turns, value_of}
 use Rattle.core_lang.specs.Whole.{Run, concluded}
 use Rattle.tree_walk.specs.declared.execution.Execution.{Execution}
 
@@ -19,6 +21,10 @@ assigned local e shape s = given (value_of e shape s.locals s.heap) s (λ v. sto
 -- the cell of an array's element at the value of an expression
 abbrev pub cell_at : ℕ → Expr → Shape → State → Result ℕ Failure
 cell_at array index shape s = with (value_of index shape s.locals s.heap) (element_cell shape array)
+
+-- what a loop means, by the list of its statements
+abbrev pub while : Condition → List Stmt → Shape → ℕ → State → Flow
+while c body shape n s = turns n (λ s. truth_of c shape s.locals s.heap) (sequence body shape n) s
 
 -- a section's run from a state on
 abbrev pub run_from : Section → Shape → ℕ → State → Run
