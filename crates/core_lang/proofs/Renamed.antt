@@ -1,6 +1,6 @@
 -- Renamed expressions and conditions have the values of their own.
-use Rattle.std.proofs.Common.{◌≡◌, ℕ, ◌+◌, List, [], ◌∷◌, length, Some, None, Result, Ok, Err, Bool, refl, sym, ap, ◌∙◌}
-use Rattle.std.specs.Prelude.{slice_get, not}
+use Rattle.std.proofs.Common.{◌≡◌, ℕ, ◌+◌, List, [], ◌∷◌, length, Some, None, Option, Result, Ok, Err, Bool, refl, sym, ap, ◌∙◌, zero, suc}
+use Rattle.std.specs.Prelude.{slice_get, not, map, option_map}
 use Rattle.std.specs.List.{Contains}
 use Rattle.core_lang.specs.declared.value.Value.{Value}
 use Rattle.core_lang.specs.declared.value.Value.TheVariants.{Int, Ref}
@@ -19,7 +19,7 @@ use Rattle.core_lang.specs.declared.tree.Condition.{Condition, Compare, Not', An
 use Rattle.core_lang.specs.Arithmetic.{negated, compared}
 use Rattle.core_lang.specs.Cells.{with, found, at_index, element_cell, reference_to, member_of, object_of, field_cell, final_value, if_named, owned, read, step_value}
 use Rattle.core_lang.specs.Meaning.{along, place_of, joined, value_of, chained, and_then, or_else, truth_of, all_true, any_true}
-use Rattle.core_lang.specs.Expansion.{Pair, pair, RenamesPath, Renames, RenamesEach, RenamesTest, RenamesTests, HasSamePlaces}
+use Rattle.core_lang.specs.Expansion.{Pair, pair, RenamesPath, Renames, RenamesEach, RenamesTest, RenamesTests, ArrayData, array_data, PoolData, pool_data, HasSamePlaces}
 
 -- each local in scope has the value of the one that stands for it
 abbrev pub Agree : List Pair → List Value → List Value → Type 0
@@ -29,6 +29,31 @@ Agree scope locals locals' =
 with_same : {A B : Type 0} (r : Result A Failure) (f g : A → Result B Failure) → ((a : A) → f a ≡ g a) → with r f ≡ with r g
 with_same (Ok a) f g h = h a
 with_same (Err e) f g h = refl
+
+get_mapped : {A B : Type 0} (f : A → B) (xs : List A) (k : ℕ) → slice_get (map f xs) k ≡ option_map f (slice_get xs k)
+get_mapped f [] k = refl
+get_mapped f (x ∷ xs) zero = refl
+get_mapped f (x ∷ xs) (suc k) = get_mapped f xs k
+
+get_same : {A B : Type 0} (f : A → B) (xs ys : List A) (k : ℕ) → map f ys ≡ map f xs → option_map f (slice_get ys k) ≡ option_map f (slice_get xs k)
+get_same f xs ys k e = sym (get_mapped f ys k) ∙ ap (λ zs. slice_get zs k) e ∙ get_mapped f xs k
+
+-- which cell, and which member, by an array and a pool as data
+cell_in : Option ArrayData → Value → Result ℕ Failure
+cell_in o v = with (found o) (λ (a : ArrayData). at_index a.first a.count v)
+
+cell_by_data : (o : Option Array) (v : Value) → with (found o) (λ (a : Array). at_index a.first a.length v) ≡ cell_in (option_map array_data o) v
+unfolding cell_in
+cell_by_data None v = refl
+cell_by_data (Some a) v = refl
+
+member_in : Option PoolData → Value → Result Value Failure
+member_in o v = with (found o) (λ (p : PoolData). with (at_index p.first p.count v) reference_to)
+
+member_by_data : (o : Option Pool) (v : Value) → with (found o) (λ (p : Pool). with (at_index p.first p.length v) reference_to) ≡ member_in (option_map pool_data o) v
+unfolding member_in
+member_by_data None v = refl
+member_by_data (Some p) v = refl
 
 module _ (shape shape' : Shape) (same : HasSamePlaces shape shape') where
   object_same : (v : Value) → object_of shape' v ≡ object_of shape v
@@ -51,10 +76,16 @@ module _ (shape shape' : Shape) (same : HasSamePlaces shape shape') where
       ap (λ r. with r (λ named. with (compared Equal named owner) (λ b. if_named b (Ref (Some o))))) (final_same (Ref (Some o)) f)
 
   pub element_same : (array : ℕ) (v : Value) → element_cell shape' array v ≡ element_cell shape array v
-  element_same array v = ap (λ (xs : List Array). with (found (slice_get xs array)) (λ (a : Array). at_index a.first a.length v)) same.arrays
+  element_same array v =
+      cell_by_data (slice_get shape'.arrays.items array) v
+      ∙ ap (λ o. cell_in o v) (get_same array_data shape.arrays.items shape'.arrays.items array same.arrays)
+      ∙ sym (cell_by_data (slice_get shape.arrays.items array) v)
 
   member_same : (pool : ℕ) (v : Value) → member_of shape' pool v ≡ member_of shape pool v
-  member_same pool v = ap (λ (xs : List Pool). with (found (slice_get xs pool)) (λ (p : Pool). with (at_index p.first p.length v) reference_to)) same.pools
+  member_same pool v =
+      member_by_data (slice_get shape'.pools.items pool) v
+      ∙ ap (λ o. member_in o v) (get_same pool_data shape.pools.items shape'.pools.items pool same.pools)
+      ∙ sym (member_by_data (slice_get shape.pools.items pool) v)
 
   step_same : (heap : List Value) (v : Value) (step : FieldStep) → step_value shape' heap v step ≡ step_value shape heap v step
   step_same heap v (Final s f) = final_same v f
