@@ -1,0 +1,5 @@
+pub mod Pairs
+pub mod Rows
+pub mod Steps
+pub mod Growth
+pub mod Sizes

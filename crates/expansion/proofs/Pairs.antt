@@ -1,0 +1,56 @@
+-- The pairs in scope, as the code keeps them and as the relation has them.
+use Rattle.std.proofs.Common.{◌≡◌, ℕ, zero, suc, ◌+◌, ◌<◌, List, [], ◌∷◌, ◌++◌, length, map, reverse, take, refl, sym, ap, ◌∙◌, subst, add-one, arith}
+use Rattle.std.specs.Prelude.{slice_index_or}
+use Rattle.std.specs.List.{Contains}
+use Rattle.std.proofs.lemmas.List.{reverse-append, reverse-reverse, map-append, length-map, take-map}
+use Rattle.std.proofs.lemmas.List.Elements.{Contains-append_left, Contains-append_right}
+use Rattle.std.proofs.Math.Seq.{take-suc, take-append_seam}
+use Rattle.core_lang.specs.Expansion.{Pair, pair, parameters_at}
+use Rattle.expansion.specs.declared.scope.Pair as code
+use Rattle.expansion.specs.Scopes.{pair_of}
+
+-- as many items and the one that follows
+pub take_one : {X : Type 0} (xs : List X) (k : ℕ) (x : X) → k < length xs → x ≡ slice_index_or xs k x → take (k + 1) xs ≡ take k xs ++ x ∷ []
+take_one xs k x lt is = ap (λ n. take n xs) (add-one k) ∙ take-suc xs k x lt ∙ ap (λ y. take k xs ++ y ∷ []) (sym is)
+
+-- a pair that is pushed stands first
+pub pushed : (ps qs : List code.Pair) (p : code.Pair) → qs ≡ ps ++ p ∷ [] → reverse (map pair_of qs) ≡ pair_of p ∷ reverse (map pair_of ps)
+pushed ps qs p e = ap (λ xs. reverse (map pair_of xs)) e ∙ ap reverse (map-append pair_of ps (p ∷ [])) ∙ reverse-append (map pair_of ps) (pair_of p ∷ [])
+
+-- so parameters that are pushed in their order are those that a body begins with
+pub parameter_pushed : (ps qs : List code.Pair) (p : code.Pair) (k first : ℕ) → qs ≡ ps ++ p ∷ [] → p.own ≡ k → p.written ≡ first + k →
+    reverse (map pair_of ps) ≡ parameters_at k first → reverse (map pair_of qs) ≡ parameters_at (k + 1) first
+parameter_pushed ps qs p k first e own written h =
+    pushed ps qs p e ∙ ap (λ n. pair n p.written ∷ reverse (map pair_of ps)) own ∙ ap (λ n. pair k n ∷ reverse (map pair_of ps)) written
+    ∙ ap (λ xs. pair k (first + k) ∷ xs) h ∙ ap (λ n. parameters_at n first) (sym (add-one k))
+
+at_place : {X : Type 0} (xs : List X) (k : ℕ) (x : X) → k < length xs → x ≡ slice_index_or xs k x → Contains xs x
+at_place xs k x lt is = (k, lt, sym is)
+
+mapped : (ps : List code.Pair) (p : code.Pair) → Contains ps p → Contains (map pair_of ps) (pair_of p)
+mapped [] p c = absurd (omega (arith, c.1))
+mapped (q ∷ ps) p (zero, lt, e) = (zero, omega arith, ap pair_of e)
+mapped (q ∷ ps) p (suc k, lt, e) = let r = mapped ps p (k, omega (arith, lt), e) in (suc r.0, omega (arith, r.1), r.2)
+
+turned : {X : Type 0} (xs : List X) (x : X) → Contains xs x → Contains (reverse xs) x
+turned [] x c = absurd (omega (arith, c.1))
+turned (y ∷ xs) x (zero, lt, e) =
+    subst (λ zs. Contains zs x) (sym (reverse-append (y ∷ []) xs)) (Contains-append_right (reverse xs) (y ∷ []) x (0, omega arith, e))
+turned (y ∷ xs) x (suc k, lt, e) =
+    subst (λ zs. Contains zs x) (sym (reverse-append (y ∷ []) xs)) (Contains-append_left (reverse xs) (y ∷ []) x (turned xs x (k, omega (arith, lt), e)))
+
+-- a pair that is found is in scope
+pub found : (ps : List code.Pair) (k : ℕ) (p : code.Pair) (own : ℕ) → k < length ps → p ≡ slice_index_or ps k p → p.own ≡ own →
+    Contains (reverse (map pair_of ps)) (pair own p.written)
+found ps k p own lt is e =
+    subst (λ n. Contains (reverse (map pair_of ps)) (pair n p.written)) e (turned (map pair_of ps) (pair_of p) (mapped ps p (at_place ps k p lt is)))
+
+-- cut back behind a block, the pairs are those before it
+pub cut_back : (ps qs : List code.Pair) (more : List Pair) (n : ℕ) → n ≡ length ps → reverse (map pair_of qs) ≡ more ++ reverse (map pair_of ps) →
+    reverse (map pair_of (take n qs)) ≡ reverse (map pair_of ps)
+cut_back ps qs more n is e =
+    let old = map pair_of ps in
+    let whole : map pair_of qs ≡ old ++ reverse more =
+    sym (reverse-reverse (map pair_of qs)) ∙ ap reverse e ∙ reverse-append more (reverse old) ∙ ap (λ xs. xs ++ reverse more) (reverse-reverse old) in
+    ap reverse (sym (take-map pair_of n qs) ∙ ap (take n) whole ∙ ap (λ k. take k (old ++ reverse more)) (is ∙ sym (length-map ps pair_of))
+    ∙ take-append_seam old (reverse more))
