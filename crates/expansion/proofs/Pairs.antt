@@ -1,9 +1,9 @@
 -- The pairs in scope, as the code keeps them and as the relation has them.
 use Rattle.std.proofs.Common.{◌≡◌, ℕ, zero, suc, ◌+◌, ◌<◌, List, [], ◌∷◌, ◌++◌, length, map, reverse, take, refl, sym, ap, ◌∙◌, subst, add-one, arith}
 use Rattle.std.specs.Prelude.{slice_index_or}
-use Rattle.std.specs.List.{Contains}
+use Rattle.std.specs.List.{Contains, AllZip}
 use Rattle.std.proofs.lemmas.List.{reverse-append, reverse-reverse, map-append, length-map, take-map}
-use Rattle.std.proofs.lemmas.List.Elements.{Contains-append_left, Contains-append_right}
+use Rattle.std.proofs.lemmas.List.Elements.{Contains-append_left, Contains-append_right, AllZip-push}
 use Rattle.std.proofs.Math.Seq.{take-suc, take-append_seam}
 use Rattle.core_lang.specs.Expansion.{Pair, pair, parameters_at}
 use Rattle.expansion.specs.declared.scope.Pair as code
@@ -12,6 +12,18 @@ use Rattle.expansion.specs.Scopes.{pair_of}
 -- as many items and the one that follows
 pub take_one : {X : Type 0} (xs : List X) (k : ℕ) (x : X) → k < length xs → x ≡ slice_index_or xs k x → take (k + 1) xs ≡ take k xs ++ x ∷ []
 take_one xs k x lt is = ap (λ n. take n xs) (add-one k) ∙ take-suc xs k x lt ∙ ap (λ y. take k xs ++ y ∷ []) (sym is)
+
+-- what holds of items made one by one holds of one more
+pub zip_one_more : {X : Type 0} (R : X → X → Type 0) (xs : List X) (k : ℕ) (x y : X) (made new : List X) → k < length xs → x ≡ slice_index_or xs k x →
+    new ≡ made ++ y ∷ [] → AllZip R (take k xs) made → R x y → AllZip R (take (k + 1) xs) new
+zip_one_more R xs k x y made new lt is e h r =
+    subst (λ vs. AllZip R vs new) (sym (take_one xs k x lt is))
+    (subst (λ ys. AllZip R (take k xs ++ x ∷ []) ys) (sym e) (AllZip-push R (take k xs) made x y h r))
+
+any_default : {X : Type 0} (xs : List X) (k : ℕ) (d e : X) → k < length xs → slice_index_or xs k d ≡ slice_index_or xs k e
+any_default [] k d e lt = absurd (omega (arith, lt))
+any_default (x ∷ xs) zero d e lt = refl
+any_default (x ∷ xs) (suc k) d e lt = any_default xs k d e (omega (arith, lt))
 
 -- a pair that is pushed stands first
 pub pushed : (ps qs : List code.Pair) (p : code.Pair) → qs ≡ ps ++ p ∷ [] → reverse (map pair_of qs) ≡ pair_of p ∷ reverse (map pair_of ps)
@@ -40,10 +52,12 @@ turned (y ∷ xs) x (suc k, lt, e) =
     subst (λ zs. Contains zs x) (sym (reverse-append (y ∷ []) xs)) (Contains-append_left (reverse xs) (y ∷ []) x (turned xs x (k, omega (arith, lt), e)))
 
 -- a pair that is found is in scope
-pub found : (ps : List code.Pair) (k : ℕ) (p : code.Pair) (own : ℕ) → k < length ps → p ≡ slice_index_or ps k p → p.own ≡ own →
-    Contains (reverse (map pair_of ps)) (pair own p.written)
-found ps k p own lt is e =
-    subst (λ n. Contains (reverse (map pair_of ps)) (pair n p.written)) e (turned (map pair_of ps) (pair_of p) (mapped ps p (at_place ps k p lt is)))
+pub found : (ps qs : List code.Pair) (k : ℕ) (d : code.Pair) (own : ℕ) → qs ≡ ps → k < length qs → (slice_index_or qs k d).own ≡ own →
+    Contains (reverse (map pair_of ps)) (pair own (slice_index_or qs k d).written)
+found ps qs k d own same lt e =
+    let p = slice_index_or qs k d in
+    let there = turned (map pair_of qs) (pair_of p) (mapped qs p (at_place qs k p lt (any_default qs k d p lt))) in
+    subst (λ n. Contains (reverse (map pair_of ps)) (pair n p.written)) e (subst (λ xs. Contains (reverse (map pair_of xs)) (pair_of p)) same there)
 
 -- cut back behind a block, the pairs are those before it
 pub cut_back : (ps qs : List code.Pair) (more : List Pair) (n : ℕ) → n ≡ length ps → reverse (map pair_of qs) ≡ more ++ reverse (map pair_of ps) →

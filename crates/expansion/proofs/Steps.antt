@@ -87,12 +87,15 @@ helper_written body helper number count first ys r fresh is w =
     subst (λ d. HelpersWritten body.shape.now d number count first ys r fresh) (sym deep) (helper.section.now, is.found, is.count, inner)
 
 -- a helper without a result
-pub call_written : (body helper : Body) (x : Stmt) (number : ℕ) (arguments : Vec Expr Global) (result : Option ℕ) (es : List Expr) (count : ℕ) (scope : Scope) (first fresh : ℕ)
-    (old mid new : List Stmt) → x.action ≡ Call number arguments result → result ≡ None → es ≡ arguments.items → count ≡ length arguments.items → IsCallee body number count helper →
-    HasLets x.start (at_of scope first).scope es first old mid → WroteBody (bodies helper) helper.section.now first mid new None fresh →
+pub call_written : (body helper : Body) (x : Stmt) (number : ℕ) (arguments : Vec Expr Global) (result : Option ℕ) (es : List Expr) (count : ℕ) (scope : Scope) (local first fresh : ℕ)
+    (o : Option Return) (old mid new : List Stmt) → local ≡ first → x.action ≡ Call number arguments result → result ≡ None → es ≡ arguments.items → count ≡ length arguments.items →
+    IsCallee body number count helper → HasLets x.start (at_of scope first).scope es local old mid → WroteBody (bodies helper) helper.section.now local mid new o fresh → o ≡ None →
     Wrote (bodies body) x (at_of scope first) old new (at_of scope fresh)
-call_written body helper x number arguments result es count scope first fresh old mid new is none same many callee (lets, e, h) (ys, f, w) =
+call_written body helper x number arguments result es count scope local first fresh o old mid new start is none same many callee all inner nothing =
     let a = at_of scope first in
+    let (lets, e, h) = subst (λ n. HasLets x.start a.scope es n old mid) start all in
+    let (ys, f, w) = subst (λ n. WroteBody (bodies helper) helper.section.now n mid new None fresh) start
+    (subst (λ r. WroteBody (bodies helper) helper.section.now local mid new r fresh) nothing inner) in
     let inside = helper_written body helper number count first ys None fresh callee w in
     let step : Writes (bodies body) (Call number arguments None) x.start a (lets ++ (ys ++ [])) (at_of scope fresh) =
     (lets, ys, [], None, fresh, subst (λ vs. Arguments x.start a.scope vs first lets) same h, subst (λ n. bodies body number n first ys None fresh) many inside, (refl, refl), refl) in
@@ -106,12 +109,15 @@ last_written (Some k) r a b fresh h = (h.0, refl, h.1)
 
 -- a helper with a result
 pub result_written : (body helper : Body) (x : Stmt) (number : ℕ) (arguments : Vec Expr Global) (result : Option ℕ) (es : List Expr) (count : ℕ) (scope scope' : Scope)
-    (first fresh fresh' : ℕ) (r : Return) (old mid inner new : List Stmt) → x.action ≡ Call number arguments result → es ≡ arguments.items → count ≡ length arguments.items →
-    IsCallee body number count helper → HasLets x.start (at_of scope first).scope es first old mid →
-    WroteBody (bodies helper) helper.section.now first mid inner (Some r) fresh → HasReceived result (at_of scope fresh) (at_of scope' fresh') →
+    (local first fresh fresh' : ℕ) (r : Return) (o : Option Return) (old mid inner new : List Stmt) → local ≡ first → x.action ≡ Call number arguments result → es ≡ arguments.items →
+    count ≡ length arguments.items → IsCallee body number count helper → HasLets x.start (at_of scope first).scope es local old mid →
+    WroteBody (bodies helper) helper.section.now local mid inner o fresh → o ≡ Some r → HasReceived result (at_of scope fresh) (at_of scope' fresh') →
     new ≡ inner ++ one r.start (Bind fresh r.value) → Wrote (bodies body) x (at_of scope first) old new (at_of scope' fresh')
-result_written body helper x number arguments result es count scope scope' first fresh fresh' r old mid inner new is same many callee (lets, e, h) (ys, f, w) received g =
+result_written body helper x number arguments result es count scope scope' local first fresh fresh' r o old mid inner new start is same many callee all within some received g =
     let a = at_of scope first in
+    let (lets, e, h) = subst (λ n. HasLets x.start a.scope es n old mid) start all in
+    let (ys, f, w) = subst (λ n. WroteBody (bodies helper) helper.section.now n mid inner (Some r) fresh) start
+    (subst (λ q. WroteBody (bodies helper) helper.section.now local mid inner q fresh) some within) in
     let last = one r.start (Bind fresh r.value) in
     let inside = helper_written body helper number count first ys (Some r) fresh callee w in
     let step : Writes (bodies body) (Call number arguments result) x.start a (lets ++ (ys ++ last)) (at_of scope' fresh') =

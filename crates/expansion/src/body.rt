@@ -314,7 +314,8 @@ impl<'a> Body<'a> {
         if scope.own != self.section.locals.len() {
             return Err(Stop::Astray);
         }
-        scope.returned(&self.section.result)
+        let result = scope.returned(&self.section.result)?;
+        Ok(result)
     }
 }
 

@@ -1,7 +1,8 @@
-use Rattle.std.proofs.Common.{◌∙◌, ap, arith, subst, refl, sym}
-use Rattle.core_lang.specs.declared.tree.Action.{Action}
+use Rattle.std.proofs.Common.{◌++◌, ◌∙◌, ap, arith, subst, refl, sym}
+use Rattle.core_lang.specs.declared.tree.Action.{Action, Bind, SetField}
 use Rattle.core_lang.specs.Expansion.{Writes, one}
-use Rattle.expansion.specs.Bodies.{bodies, at}
+use Rattle.expansion.specs.Scopes.{at_of, HasLets}
+use Rattle.expansion.specs.Bodies.{bodies, at, WroteBody}
 use Rattle.expansion.proofs.Rows.{if_written, if_else_written, while_written}
 use Rattle.expansion.proofs.Steps.{wrote_one_more, block_written, body_written, call_written, result_written}
 use Rattle.expansion.proofs.Sizes.{size, sizes, size_if, size_if_else, size_while, within, call_falls}
@@ -40,7 +41,7 @@ action-block-requires-in-While t c =
 pub action-returns-in_ok-value-in-SetField : goal.action-returns-in_ok-value-in-SetField
 action-returns-in_ok-value-in-SetField t c start =
     let a = at c.args.scope.now c.args.locals.now.items in
-    subst (λ (y : Action). Writes (bodies c.args.self.now) y start a (one start _) a) (sym c.in-SetField.is)
+    subst (λ (y : Action). Writes (bodies c.args.self.now) y start a (one start (SetField c.in_ok-base-in-SetField.base c.in-SetField.structure c.in-SetField.field c.in_ok-value-in-SetField.value)) a) (sym c.in-SetField.is)
     (c.in_ok-base-in-SetField.base, c.in_ok-value-in-SetField.value, c.in_ok-base-in-SetField.ensures, c.in_ok-value-in-SetField.ensures, refl, refl)
 
 pub action-returns-in_ok-block-in-If : goal.action-returns-in_ok-block-in-If
@@ -66,7 +67,12 @@ action-returns-in_ok-body-in-While t c =
 -- ---- statements
 
 pub block-returns : goal.block-returns
-block-returns t c = ?
+block-returns t c =
+    let many = c.len-in_scope.ensures ∙ c.args.scope.now.pairs.ok.0 in
+    block_written (bodies c.args.self.now) c.args.block.now c.args.scope.now c.statements.new.scope
+    record { alloc = c.statements.new.scope.alloc; pairs = c.truncate.new.self; own = c.statements.new.scope.own }
+    c.len-in_scope.result _ _ c.new-written.result.items c.statements.new.written.items many c.new-written.ensures.items c.in_ok-statements.ensures
+    c.truncate.ensures.items refl
 
 pub statements-statement-requires : goal.statements-statement-requires
 statements-statement-requires t c =
@@ -84,13 +90,33 @@ statements-loop-statement-preserved t c =
 -- ---- bodies and calls
 
 pub body-returns : goal.body-returns
-body-returns t c = ?
+body-returns t c =
+    body_written (bodies c.args.self.now) c.args.self.now.section.now c.args.first c.in_ok-scope.scope c.statements.new.scope _ _ c.deref.result.now
+    c.args.written.now.items c.statements.new.written.items c.in_ok-result.result c.requires c.in_ok-scope.ensures c.deref.ensures.value
+    c.in_ok-statements.ensures (c.if-scope-len.false ∙ c.len.ensures ∙ c.args.self.now.section.now.locals.ok.0) c.in_ok-result.ensures
 
 pub call-body-requires : goal.call-body-requires
-call-body-requires t c = ?
+call-body-requires t c =
+    let first = c.len-first.ensures ∙ c.args.locals.now.ok.0 in
+    let more = c.in_ok-take_arguments.ensures in
+    let less = call_falls c.args.self.now c.in_ok-helper.helper c.in-Call.helper c.len.result c.args.statement.now.action c.in_ok-helper.ensures in
+    let d = c.decreases in
+    (omega (arith, less, d), omega (arith, first, more))
 
 pub call-returns-in_ok-push-in-Some : goal.call-returns-in_ok-push-in-Some
-call-returns-in_ok-push-in-Some t c = ?
+call-returns-in_ok-push-in-Some t c =
+    let first = c.len-first.ensures ∙ c.args.locals.now.ok.0 in
+    let local = c.len-local.ensures ∙ c.body.new.locals.ok.0 in
+    result_written c.args.self.now c.in_ok-helper.helper c.args.statement.now c.in-Call.helper c.in-Call.arguments c.in-Call.result c.deref.result.now c.len.result
+    c.args.scope.now c.receive.new.scope c.len-first.result _ _ _ c.in-Some.returned c.in_ok-returned.field-0 c.args.written.now.items c.lets.new.written.items c.body.new.written.items
+    c.push.new.self.items first c.in-Call.is c.deref.ensures.value (c.len.ensures ∙ c.in-Call.arguments.ok.0) c.in_ok-helper.ensures c.in_ok-lets.ensures
+    c.in_ok-returned.ensures c.in-Some.is c.in_ok-receive-in-Some.ensures
+    (c.in_ok-push-in-Some.ensures.items ∙ ap (λ n. c.body.new.written.items ++ one c.in-Some.returned.start (Bind n c.in-Some.returned.value)) local)
 
 pub call-returns-in-None-result : goal.call-returns-in-None-result
-call-returns-in-None-result t c = ?
+call-returns-in-None-result t c =
+    let first = c.len-first.ensures ∙ c.args.locals.now.ok.0 in
+    call_written c.args.self.now c.in_ok-helper.helper c.args.statement.now c.in-Call.helper c.in-Call.arguments c.in-Call.result c.deref.result.now c.len.result
+    c.args.scope.now c.len-first.result _ _ c.in_ok-returned.field-0 c.args.written.now.items c.lets.new.written.items c.body.new.written.items first c.in-Call.is
+    c.in-None-result.is c.deref.ensures.value (c.len.ensures ∙ c.in-Call.arguments.ok.0) c.in_ok-helper.ensures c.in_ok-lets.ensures
+    c.in_ok-returned.ensures c.in-None.is
