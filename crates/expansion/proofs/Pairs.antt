@@ -1,6 +1,6 @@
 -- The pairs in scope, as the code keeps them and as the relation has them.
 use Rattle.std.proofs.Common.{◌≡◌, ℕ, zero, suc, ◌+◌, ◌<◌, List, [], ◌∷◌, ◌++◌, length, map, reverse, take, refl, sym, ap, ◌∙◌, subst, add-one, arith}
-use Rattle.std.specs.Prelude.{slice_index_or}
+use Rattle.std.specs.Prelude.{slice_get, slice_index_or, Some}
 use Rattle.std.specs.List.{Contains, AllZip}
 use Rattle.std.proofs.lemmas.List.{reverse-append, reverse-reverse, map-append, length-map, take-map}
 use Rattle.std.proofs.lemmas.List.Elements.{Contains-append_left, Contains-append_right, AllZip-push}
@@ -19,6 +19,30 @@ pub zip_one_more : {X : Type 0} (R : X → X → Type 0) (xs : List X) (k : ℕ)
 zip_one_more R xs k x y made new lt is e h r =
     subst (λ vs. AllZip R vs new) (sym (take_one xs k x lt is))
     (subst (λ ys. AllZip R (take k xs ++ x ∷ []) ys) (sym e) (AllZip-push R (take k xs) made x y h r))
+
+-- and so do data of them
+pub map_one_more : {X D : Type 0} (f : X → D) (xs : List X) (k : ℕ) (x y : X) (made new : List X) → k < length xs → x ≡ slice_index_or xs k x →
+    new ≡ made ++ y ∷ [] → f y ≡ f x → map f made ≡ map f (take k xs) → map f new ≡ map f (take (k + 1) xs)
+map_one_more f xs k x y made new lt is e same h =
+    ap (map f) e ∙ map-append f made (y ∷ []) ∙ ap (λ ys. ys ++ f y ∷ []) h ∙ ap (λ v. map f (take k xs) ++ v ∷ []) same
+    ∙ sym (ap (map f) (take_one xs k x lt is) ∙ map-append f (take k xs) (x ∷ []))
+
+-- what holds of items place by place holds at each place
+pub zip_there : {X : Type 0} (R : X → X → Type 0) (xs ys : List X) → AllZip R xs ys → (k : ℕ) (x : X) → slice_get xs k ≡ Some x →
+    (y : X) × (slice_get ys k ≡ Some y) × R x y
+zip_there R [] [] h k x e = absurd cc
+zip_there R [] (y ∷ ys) h k x e = absurd h
+zip_there R (v ∷ xs) [] h k x e = absurd h
+zip_there R (v ∷ xs) (w ∷ ys) h zero x e = let same : v ≡ x = cc in (w, refl, subst (λ z. R z w) same h.0)
+zip_there R (v ∷ xs) (w ∷ ys) h (suc k) x e = zip_there R xs ys h.1 k x e
+
+pub zip_back : {X : Type 0} (R : X → X → Type 0) (xs ys : List X) → AllZip R xs ys → (k : ℕ) (y : X) → slice_get ys k ≡ Some y →
+    (x : X) × (slice_get xs k ≡ Some x) × R x y
+zip_back R [] [] h k y e = absurd cc
+zip_back R [] (w ∷ ys) h k y e = absurd h
+zip_back R (v ∷ xs) [] h k y e = absurd h
+zip_back R (v ∷ xs) (w ∷ ys) h zero y e = let same : w ≡ y = cc in (v, refl, subst (λ z. R v z) same h.0)
+zip_back R (v ∷ xs) (w ∷ ys) h (suc k) y e = zip_back R xs ys h.1 k y e
 
 any_default : {X : Type 0} (xs : List X) (k : ℕ) (d e : X) → k < length xs → slice_index_or xs k d ≡ slice_index_or xs k e
 any_default [] k d e lt = absurd (omega (arith, lt))
