@@ -1,5 +1,5 @@
 -- Statements leave in scope what was: what they bind stands in front of it.
-use Rattle.std.proofs.Common.{◌≡◌, ℕ, List, [], ◌∷◌, ◌++◌, Option, Some, None, refl, sym, ap, ◌∙◌, append_assoc}
+use Rattle.std.proofs.Common.{◌≡◌, ℕ, List, [], ◌∷◌, ◌++◌, Option, Some, None, sym, ap, ◌∙◌, append_assoc}
 use Rattle.core_lang.specs.declared.tree.Stmt.{Stmt}
 use Rattle.core_lang.specs.declared.tree.Action.{Action, Bind, SetLocal, SetGlobal, SetElement, SetField, Call, Print, If', IfElse', While'}
 use Rattle.core_lang.specs.declared.tree.Return.{Return}

@@ -3,3 +3,4 @@ pub mod Rows
 pub mod Steps
 pub mod Growth
 pub mod Sizes
+pub mod Named

@@ -1,6 +1,5 @@
 -- The rows of a tree over the items of each `Vec`: renamed, and written out.
-use Rattle.std.proofs.Common.{◌≡◌, ℕ, List, [], ◌∷◌, Vec, Box, Global, refl, sym, ap, ◌∙◌, subst}
-use Rattle.std.specs.List.{AllZip}
+use Rattle.std.proofs.Common.{◌≡◌, ℕ, List, Vec, Box, Global, refl, sym, ap, ◌∙◌, subst}
 use mathlib.Core.Former.{Count}
 use Rattle.core_lang.specs.declared.tree.Expr.{Expr, Chain, Row_of-Operation, end_of-Operation, more_of-Operation, items-the_row-Operation, items_hidden-the_row-Operation-0}
 use Rattle.core_lang.specs.declared.tree.Operation.{Operation}
@@ -9,7 +8,7 @@ use Rattle.core_lang.specs.declared.tree.Stmt.{Stmt}
 use Rattle.core_lang.specs.declared.tree.Action.{Action, If, IfElse, While, Row_of-Stmt, end_of-Stmt, more_of-Stmt, items-the_row-Stmt, items_hidden-the_row-Stmt-0}
 use Rattle.core_lang.specs.Lists.{row_of, conditions_of, block_of, else_of}
 use Rattle.core_lang.specs.Expansion.{Pair, At, behind_block, one, Renames, RenamesEach, RenamesTest, RenamesTests, Bodies, Writes, WritesRow, WritesAll}
-use Rattle.expansion.specs.Scopes.{RenamesOperation, RenamesOperations, RenamesConditions}
+use Rattle.expansion.specs.Scopes.{RenamesOperations, RenamesConditions}
 use Rattle.expansion.specs.Bodies.{WroteBlock}
 
 -- ---- expressions
@@ -95,6 +94,15 @@ if_else_written Body x c c' block block' other other' ss os a m b is same same' 
     let scope : m.scope ≡ a.scope = ap (λ (z : At). z.scope) e in
     let ends : b ≡ behind_block a after = e' ∙ ap (λ s. record after { scope = s }) scope in
     subst (λ y. Writes Body y start a (one start (IfElse c' block' other')) b) (sym is) (
-      c', block', other', middle, after, test, vec_written Body block row.0 row.1 ss a block'.items middle (items_hidden-the_row-Stmt-0 block) same w,
+      c',
+      block',
+      other',
+      middle,
+      after,
+      test,
+      vec_written Body block row.0 row.1 ss a block'.items middle (items_hidden-the_row-Stmt-0 block) same w,
       subst (λ z. WritesRow Body row'.1 z other'.items after) e
-      (vec_written Body other row'.0 row'.1 os m other'.items after (items_hidden-the_row-Stmt-0 other) same' w'), refl, ends)
+          (vec_written Body other row'.0 row'.1 os m other'.items after (items_hidden-the_row-Stmt-0 other) same' w'),
+      refl,
+      ends,
+    )

@@ -1,5 +1,5 @@
 -- How much there is of statements, and of the helpers: what recursion through the table of helpers goes down by.
-use Rattle.std.proofs.Common.{◌≡◌, ℕ, zero, suc, ◌+◌, ◌-◌, ◌*◌, ◌<◌, ◌≤◌, List, [], ◌∷◌, length, refl, sym, ap, ◌∙◌, add-one, arith, Vec, Global}
+use Rattle.std.proofs.Common.{◌≡◌, ℕ, zero, suc, ◌+◌, ◌*◌, ◌<◌, ◌≤◌, List, [], ◌∷◌, length, refl, ap, ◌∙◌, add-one, arith, Vec, Global}
 use Rattle.std.specs.Prelude.{slice_get, slice_index_or, Some}
 use mathlib.Core.Former.{Count}
 use Rattle.core_lang.specs.declared.tree.Condition.{Condition}

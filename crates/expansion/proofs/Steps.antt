@@ -1,14 +1,14 @@
 -- One more statement is written out, and one more `let`; calls, blocks and bodies as a whole.
-use Rattle.std.proofs.Common.{◌≡◌, ℕ, zero, suc, ◌+◌, ◌<◌, List, [], ◌∷◌, ◌++◌, length, map, reverse, take, drop, Option, Some, None, refl, sym, ap, ◌∙◌, subst, add-one, arith, append_assoc, Vec, Global}
-use Rattle.std.specs.Prelude.{slice_get, slice_index_or}
+use Rattle.std.proofs.Common.{◌≡◌, ℕ, suc, ◌+◌, ◌<◌, List, [], ◌∷◌, ◌++◌, length, map, reverse, take, Option, Some, None, refl, sym, ap, ◌∙◌, subst, add-one, arith, append_assoc, Vec, Global}
+use Rattle.std.specs.Prelude.{slice_index_or}
 use Rattle.std.proofs.lemmas.List.{append-nil, length-take-le}
 use Rattle.core_lang.specs.declared.tree.Expr.{Expr}
 use Rattle.core_lang.specs.declared.tree.Stmt.{Stmt}
-use Rattle.core_lang.specs.declared.tree.Action.{Action, Bind, Call}
+use Rattle.core_lang.specs.declared.tree.Action.{Bind, Call}
 use Rattle.core_lang.specs.declared.tree.Return.{Return}
 use Rattle.core_lang.specs.declared.tree.Section.{Section}
 use Rattle.core_lang.specs.declared.shape.Shape.{Shape}
-use Rattle.core_lang.specs.Expansion.{Pair, At, behind_bound, behind_block, entered, one, Renames, RenamesResult, Arguments, Bound, Bodies, Writes, WritesAll, WritesBody, HelpersWritten}
+use Rattle.core_lang.specs.Expansion.{Pair, At, entered, one, Renames, RenamesResult, Arguments, Bound, Bodies, Writes, WritesAll, WritesBody, HelpersWritten}
 use Rattle.expansion.specs.declared.scope.Scope.{Scope}
 use Rattle.expansion.specs.declared.body.Body.{Body}
 use Rattle.expansion.specs.Scopes.{pair_of, at_of, HasLets}
@@ -27,9 +27,11 @@ one_more Body (v ∷ xs) x a m b ys zs (front, back, middle, w, ws, e) w' =
 
 pub wrote_one_more : (Body : Bodies) (xs : List Stmt) (k : ℕ) (x : Stmt) (a m b : At) (old mid new : List Stmt) → k < length xs → x ≡ slice_index_or xs k x →
     WroteAll Body (take k xs) a old mid m → Wrote Body x m mid new b → WroteAll Body (take (k + 1) xs) a old new b
-wrote_one_more Body xs k x a m b old mid new lt is (ys, e, w) (zs, f, w') =
-    (ys ++ zs, f ∙ ap (λ vs. vs ++ zs) e ∙ append_assoc old ys zs,
-    subst (λ vs. WritesAll Body vs a (ys ++ zs) b) (sym (take_one xs k x lt is)) (one_more Body (take k xs) x a m b ys zs w w'))
+wrote_one_more Body xs k x a m b old mid new lt is (ys, e, w) (zs, f, w') = (
+  ys ++ zs,
+  f ∙ ap (λ vs. vs ++ zs) e ∙ append_assoc old ys zs,
+  subst (λ vs. WritesAll Body vs a (ys ++ zs) b) (sym (take_one xs k x lt is)) (one_more Body (take k xs) x a m b ys zs w w'),
+)
 
 -- ---- arguments
 
@@ -51,9 +53,11 @@ pub wrote_let : (start : ℕ) (scope : List Pair) (es : List Expr) (k : ℕ) (e 
 wrote_let start scope es k e e' first local old mid new lt is number (lets, same, h) r f =
     let many : length (take k es) ≡ k = length-take-le k es (omega (arith, lt)) in
     let count : local ≡ first + length (take k es) = omega (arith, many, number) in (
-      lets ++ let_of start local e' ∷ [], f ∙ ap (λ vs. vs ++ let_of start local e' ∷ []) same ∙ append_assoc old lets (let_of start local e' ∷ []),
+      lets ++ let_of start local e' ∷ [],
+      f ∙ ap (λ vs. vs ++ let_of start local e' ∷ []) same ∙ append_assoc old lets (let_of start local e' ∷ []),
       subst (λ vs. Arguments start scope vs first (lets ++ let_of start local e' ∷ [])) (sym (take_one es k e lt is))
-      (one_more_let start scope (take k es) e e' first local lets count h r))
+          (one_more_let start scope (take k es) e e' first local lets count h r),
+    )
 
 -- ---- blocks and bodies
 
@@ -65,8 +69,10 @@ block_written Body xs before inside behind n fresh fresh' old ys many none (zs, 
     let after = at_of inside fresh' in
     let g = all_grow Body xs (at_of before fresh) after zs w in
     let scope = ap (λ ps. reverse (map pair_of ps)) cut ∙ cut_back before.pairs.items inside.pairs.items g.0 n many g.1 in (
-      after, subst (λ vs. WritesAll Body xs (at_of before fresh) vs after) (sym (e ∙ ap (λ vs. vs ++ zs) none)) w,
-      ap (λ s. record { scope = s; own = behind.own; fresh = fresh' }) scope ∙ ap (λ k. record { scope = (at_of before fresh).scope; own = k; fresh = fresh' }) own)
+      after,
+      subst (λ vs. WritesAll Body xs (at_of before fresh) vs after) (sym (e ∙ ap (λ vs. vs ++ zs) none)) w,
+      ap (λ s. record { scope = s; own = behind.own; fresh = fresh' }) scope ∙ ap (λ k. record { scope = (at_of before fresh).scope; own = k; fresh = fresh' }) own,
+    )
 
 pub body_written : (Body : Bodies) (section : Section) (first : ℕ) (start inside : Scope) (fresh fresh' : ℕ) (ss old new : List Stmt) (r : Option Return) →
     fresh ≡ first + section.parameters → at_of start (first + section.parameters) ≡ entered section.parameters first → ss ≡ section.body.items →
@@ -98,9 +104,11 @@ call_written body helper x number arguments result es count scope local first fr
     (subst (λ r. WroteBody (bodies helper) helper.section.now local mid new r fresh) nothing inner) in
     let inside = helper_written body helper number count first ys None fresh callee w in
     let step : Writes (bodies body) (Call number arguments None) x.start a (lets ++ (ys ++ [])) (at_of scope fresh) =
-    (lets, ys, [], None, fresh, subst (λ vs. Arguments x.start a.scope vs first lets) same h, subst (λ n. bodies body number n first ys None fresh) many inside, (refl, refl), refl) in
-    (lets ++ (ys ++ []), f ∙ ap (λ vs. vs ++ ys) e ∙ append_assoc old lets ys ∙ ap (λ vs. old ++ (lets ++ vs)) (sym (append-nil ys)),
-    subst (λ y. Writes (bodies body) y x.start a (lets ++ (ys ++ [])) (at_of scope fresh)) (sym (is ∙ ap (Call number arguments) none)) step)
+    (lets, ys, [], None, fresh, subst (λ vs. Arguments x.start a.scope vs first lets) same h, subst (λ n. bodies body number n first ys None fresh) many inside, (refl, refl), refl) in (
+      lets ++ (ys ++ []),
+      f ∙ ap (λ vs. vs ++ ys) e ∙ append_assoc old lets ys ∙ ap (λ vs. old ++ (lets ++ vs)) (sym (append-nil ys)),
+      subst (λ y. Writes (bodies body) y x.start a (lets ++ (ys ++ [])) (at_of scope fresh)) (sym (is ∙ ap (Call number arguments) none)) step,
+    )
 
 last_written : (result : Option ℕ) (r : Return) (a b : At) (fresh : ℕ) → HasReceived result (record a { fresh = fresh }) b →
     Bound result (Some r) a fresh (one r.start (Bind fresh r.value)) b
@@ -120,9 +128,19 @@ result_written body helper x number arguments result es count scope scope' local
     (subst (λ q. WroteBody (bodies helper) helper.section.now local mid inner q fresh) some within) in
     let last = one r.start (Bind fresh r.value) in
     let inside = helper_written body helper number count first ys (Some r) fresh callee w in
-    let step : Writes (bodies body) (Call number arguments result) x.start a (lets ++ (ys ++ last)) (at_of scope' fresh') =
-    (lets, ys, last, Some r, fresh, subst (λ vs. Arguments x.start a.scope vs first lets) same h, subst (λ n. bodies body number n first ys (Some r) fresh) many inside,
-    last_written result r a (at_of scope' fresh') fresh received, refl) in
-    (lets ++ (ys ++ last), g ∙ ap (λ vs. vs ++ last) (f ∙ ap (λ vs. vs ++ ys) e ∙ append_assoc old lets ys) ∙ append_assoc old (lets ++ ys) last
-    ∙ ap (λ vs. old ++ vs) (append_assoc lets ys last),
-    subst (λ y. Writes (bodies body) y x.start a (lets ++ (ys ++ last)) (at_of scope' fresh')) (sym is) step)
+    let step : Writes (bodies body) (Call number arguments result) x.start a (lets ++ (ys ++ last)) (at_of scope' fresh') = (
+      lets,
+      ys,
+      last,
+      Some r,
+      fresh,
+      subst (λ vs. Arguments x.start a.scope vs first lets) same h,
+      subst (λ n. bodies body number n first ys (Some r) fresh) many inside,
+      last_written result r a (at_of scope' fresh') fresh received,
+      refl,
+    ) in (
+      lets ++ (ys ++ last),
+      g ∙ ap (λ vs. vs ++ last) (f ∙ ap (λ vs. vs ++ ys) e ∙ append_assoc old lets ys) ∙ append_assoc old (lets ++ ys) last
+          ∙ ap (λ vs. old ++ vs) (append_assoc lets ys last),
+      subst (λ y. Writes (bodies body) y x.start a (lets ++ (ys ++ last)) (at_of scope' fresh')) (sym is) step,
+    )

@@ -1,12 +1,14 @@
 -- What is written out, behind what stood there.
-use Rattle.std.specs.Prelude.{◌≡◌, ℕ, ◌+◌, List, ◌++◌, length, slice_get, Option, Some, None}
+use Rattle.std.specs.Prelude.{◌≡◌, ℕ, ◌+◌, List, ◌++◌, map, take, length, slice_get, Option, Some, None}
 use Rattle.core_lang.specs.declared.tree.Stmt.{Stmt}
+use Rattle.core_lang.specs.declared.value.ValueType.{ValueType}
 use Rattle.core_lang.specs.declared.tree.Expr.{Expr}
 use Rattle.core_lang.specs.declared.tree.Action.{Action, Bind}
 use Rattle.core_lang.specs.declared.tree.Local.{Local}
 use Rattle.core_lang.specs.declared.tree.Return.{Return}
 use Rattle.core_lang.specs.declared.tree.Section.{Section}
 use Rattle.core_lang.specs.Expansion.{At, behind_bound, behind_block, one, Renames, Bodies, Writes, WritesAll, WritesBody, HelpersWritten}
+use Rattle.core_lang.specs.WrittenLocals.{LocalData, local_data, parameter_data, own_local, hidden_local, Brought, locals_by, locals_in_all, brought}
 use Rattle.expansion.specs.declared.scope.Scope.{Scope}
 use Rattle.expansion.specs.declared.body.Body.{Body}
 use Rattle.expansion.specs.Scopes.{at_of}
@@ -58,3 +60,36 @@ pub record IsCallee (body : Body) (number arguments : ℕ) (helper : Body) : Typ
   pub depth : body.depth ≡ helper.depth + 1
   pub found : slice_get body.shape.now.helpers.items number ≡ Some helper.section.now
   pub count : arguments ≡ helper.section.now.parameters
+
+-- ---- the new locals
+
+-- what the helpers that it calls bring
+abbrev pub brings : Body → ℕ → Brought
+brings body = brought body.depth body.shape.now
+
+-- these locals follow those that there were
+abbrev pub HasMore : List Local → List Local → List LocalData → Type 0
+HasMore old new more = map local_data new ≡ map local_data old ++ more
+
+-- the local of this number
+abbrev pub local_at : Body → ℕ → List LocalData
+local_at body local = own_local (slice_get body.section.now.locals.items local)
+
+-- those that an action binds, and statements
+abbrev pub locals_of : Body → Action → List LocalData
+locals_of body action = locals_by (brings body) body.section.now.locals.items action
+
+abbrev pub locals_of_all : Body → List Stmt → List LocalData
+locals_of_all body statements = locals_in_all (brings body) body.section.now.locals.items statements
+
+-- the one that a helper's result is bound to, or a hidden one
+abbrev pub received : Body → Option ℕ → Option ValueType → List LocalData
+received body (Some local) t = local_at body local
+received body None t = hidden_local t
+
+-- its parameters, as they are, and as a helper's
+abbrev pub kept_parameters : Section → List LocalData
+kept_parameters section = map local_data (take section.parameters section.locals.items)
+
+abbrev pub taken_parameters : Section → List LocalData
+taken_parameters section = map parameter_data (take section.parameters section.locals.items)

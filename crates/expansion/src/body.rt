@@ -3,6 +3,7 @@
 ghost use Rattle.std.specs.Prelude.{◌≡◌, ◌+◌, length, IfOk, OnOk};
 ghost use Rattle.core_lang.specs.WrittenLocals.{local_data};
 ghost use Rattle.expansion.specs.Bodies.{bodies, at, WritesOne, WritesBound, Wrote, WroteAll, WroteBlock, WroteBody, HasBound, HasReceived, IsCallee};
+ghost use Rattle.expansion.specs.Bodies.{HasMore, local_at, locals_of, locals_of_all, received, kept_parameters, taken_parameters};
 
 use crate::scope::{Pair, Scope};
 use crate::stop::Stop;
@@ -27,7 +28,8 @@ pub struct Body<'a> {
 impl<'a> Body<'a> {
     // Binds a local.
     fn bind(&self, local: usize, scope: &mut Scope, locals: &mut Vec<Local>) -> Result<(), Stop>
-        ensures { OnOk result (HasBound local (at scope.old locals.old.items) (at scope.new locals.new.items)) }
+        ensures bound { OnOk result (HasBound local (at scope.old locals.old.items) (at scope.new locals.new.items)) }
+        ensures locals { OnOk result (HasMore locals.old.items locals.new.items (local_at self.now local)) }
     {
         if local != scope.own {
             return Err(Stop::Astray);
@@ -53,21 +55,28 @@ impl<'a> Body<'a> {
         scope: &mut Scope,
         locals: &mut Vec<Local>,
     ) -> Result<Action, Stop>
-        ensures { IfOk result (λ y. WritesBound local value.now (at scope.old locals.old.items) y (at scope.new locals.new.items)) }
+        ensures written { IfOk result (λ y. WritesBound local value.now (at scope.old locals.old.items) y (at scope.new locals.new.items)) }
+        ensures locals { OnOk result (HasMore locals.old.items locals.new.items (local_at self.now local)) }
     {
         let value = scope.expr(value)?;
-        let written = locals.len();
+        let fresh = locals.len();
         self.bind(local, scope, locals)?;
         Ok(Action::Bind {
-            local: written,
+            local: fresh,
             value,
         })
     }
 
     // An action other than a call.
     #[cycle(write)]
-    fn action(&self, action: &Action, scope: &mut Scope, locals: &mut Vec<Local>) -> Result<Action, Stop>
-        ensures { IfOk result (λ y. WritesOne (bodies self.now) action.now (at scope.old locals.old.items) y (at scope.new locals.new.items)) }
+    fn action(
+        &self,
+        action: &Action,
+        scope: &mut Scope,
+        locals: &mut Vec<Local>,
+    ) -> Result<Action, Stop>
+        ensures written { IfOk result (λ y. WritesOne (bodies self.now) action.now (at scope.old locals.old.items) y (at scope.new locals.new.items)) }
+        ensures locals { OnOk result (HasMore locals.old.items locals.new.items (locals_of self.now action.now)) }
     {
         match action {
             Action::Bind { local, value } => self.bound(*local, value, scope, locals),
@@ -139,8 +148,14 @@ impl<'a> Body<'a> {
 
     // A block, behind which what it binds is no longer in scope.
     #[cycle(write)]
-    fn block(&self, block: &[Stmt], scope: &mut Scope, locals: &mut Vec<Local>) -> Result<Vec<Stmt>, Stop>
-        ensures { IfOk result (λ ys. WroteBlock (bodies self.now) block.now (at scope.old locals.old.items) ys.items (at scope.new locals.new.items)) }
+    fn block(
+        &self,
+        block: &[Stmt],
+        scope: &mut Scope,
+        locals: &mut Vec<Local>,
+    ) -> Result<Vec<Stmt>, Stop>
+        ensures written { IfOk result (λ ys. WroteBlock (bodies self.now) block.now (at scope.old locals.old.items) ys.items (at scope.new locals.new.items)) }
+        ensures locals { OnOk result (HasMore locals.old.items locals.new.items (locals_of_all self.now block.now)) }
     {
         let in_scope = scope.pairs.len();
         let mut written = Vec::new(self.alloc);
@@ -157,7 +172,8 @@ impl<'a> Body<'a> {
         locals: &mut Vec<Local>,
         written: &mut Vec<Stmt>,
     ) -> Result<(), Stop>
-        ensures { OnOk result (WroteAll (bodies self.now) statements.now (at scope.old locals.old.items) written.old.items written.new.items (at scope.new locals.new.items)) }
+        ensures written { OnOk result (WroteAll (bodies self.now) statements.now (at scope.old locals.old.items) written.old.items written.new.items (at scope.new locals.new.items)) }
+        ensures locals { OnOk result (HasMore locals.old.items locals.new.items (locals_of_all self.now statements.now)) }
     {
         for statement in statements {
             self.statement(statement, scope, locals, written)?;
@@ -173,7 +189,8 @@ impl<'a> Body<'a> {
         locals: &mut Vec<Local>,
         written: &mut Vec<Stmt>,
     ) -> Result<(), Stop>
-        ensures { OnOk result (Wrote (bodies self.now) statement.now (at scope.old locals.old.items) written.old.items written.new.items (at scope.new locals.new.items)) }
+        ensures written { OnOk result (Wrote (bodies self.now) statement.now (at scope.old locals.old.items) written.old.items written.new.items (at scope.new locals.new.items)) }
+        ensures locals { OnOk result (HasMore locals.old.items locals.new.items (locals_of self.now statement.now.action)) }
     {
         if let Action::Call { .. } = &statement.action {
             return self.call(statement, scope, locals, written);
@@ -195,7 +212,8 @@ impl<'a> Body<'a> {
         locals: &mut Vec<Local>,
         written: &mut Vec<Stmt>,
     ) -> Result<(), Stop>
-        ensures { OnOk result (Wrote (bodies self.now) statement.now (at scope.old locals.old.items) written.old.items written.new.items (at scope.new locals.new.items)) }
+        ensures written { OnOk result (Wrote (bodies self.now) statement.now (at scope.old locals.old.items) written.old.items written.new.items (at scope.new locals.new.items)) }
+        ensures locals { OnOk result (HasMore locals.old.items locals.new.items (locals_of self.now statement.now.action)) }
     {
         let Action::Call {
             helper,
@@ -223,9 +241,9 @@ impl<'a> Body<'a> {
                 })?;
                 Ok(())
             }
-            None => match result {
-                Some(_) => Err(Stop::Astray),
-                None => Ok(()),
+            None => match (result, helper.section.result_type) {
+                (None, None) => Ok(()),
+                _ => Err(Stop::Astray),
             },
         }
     }
@@ -250,7 +268,8 @@ impl<'a> Body<'a> {
 
     // A `let` for each parameter.
     fn take_arguments(&self, locals: &mut Vec<Local>) -> Result<(), Stop>
-        ensures { OnOk result (length locals.new.items ≡ length locals.old.items + self.now.section.now.parameters) }
+        ensures count { OnOk result (length locals.new.items ≡ length locals.old.items + self.now.section.now.parameters) }
+        ensures locals { OnOk result (HasMore locals.old.items locals.new.items (taken_parameters self.now.section.now)) }
     {
         for k in 0..self.section.parameters {
             let Some(own) = self.section.locals.get(k) else {
@@ -263,7 +282,8 @@ impl<'a> Body<'a> {
 
     /// The parameters of a section, which stay what they are.
     pub fn keep_parameters(&self, locals: &mut Vec<Local>) -> Result<(), Stop>
-        ensures { OnOk result (length locals.new.items ≡ length locals.old.items + self.now.section.now.parameters) }
+        ensures count { OnOk result (length locals.new.items ≡ length locals.old.items + self.now.section.now.parameters) }
+        ensures locals { OnOk result (HasMore locals.old.items locals.new.items (kept_parameters self.now.section.now)) }
     {
         for k in 0..self.section.parameters {
             let Some(own) = self.section.locals.get(k) else {
@@ -282,7 +302,8 @@ impl<'a> Body<'a> {
         scope: &mut Scope,
         locals: &mut Vec<Local>,
     ) -> Result<(), Stop>
-        ensures { OnOk result (HasReceived local (at scope.old locals.old.items) (at scope.new locals.new.items)) }
+        ensures received { OnOk result (HasReceived local (at scope.old locals.old.items) (at scope.new locals.new.items)) }
+        ensures locals { OnOk result (HasMore locals.old.items locals.new.items (received self.now local result_type)) }
     {
         if let Some(local) = local {
             return self.bind(local, scope, locals);
@@ -307,7 +328,8 @@ impl<'a> Body<'a> {
         written: &mut Vec<Stmt>,
     ) -> Result<Option<Return>, Stop>
         requires { length locals.old.items ≡ first + self.now.section.now.parameters }
-        ensures { IfOk result (λ r. WroteBody (bodies self.now) self.now.section.now first written.old.items written.new.items r (length locals.new.items)) }
+        ensures written { IfOk result (λ r. WroteBody (bodies self.now) self.now.section.now first written.old.items written.new.items r (length locals.new.items)) }
+        ensures locals { OnOk result (HasMore locals.old.items locals.new.items (locals_of_all self.now self.now.section.now.body.items)) }
     {
         let mut scope = Scope::entered(self.alloc, self.section.parameters, first)?;
         self.statements(&self.section.body, &mut scope, locals, written)?;

@@ -5,7 +5,9 @@ ghost use Rattle.core_lang.specs.Expansion.{array_data, pool_data};
 ghost use Rattle.expansion.specs.Data.{lock_field_data, final_data, class_data, field_data, struct_data, global_data, call_data, thread_data};
 
 use core_lang::shape::{Array, Pool};
-use core_lang::typed::{Call, Cell, Field, FinalField, GlobalVariable, LockClass, LockField, Protection, Struct, Thread};
+use core_lang::typed::{
+    Call, Cell, Field, FinalField, GlobalVariable, LockClass, LockField, Protection, Struct, Thread,
+};
 use source::memory::NoMemory;
 use std::alloc::Global;
 

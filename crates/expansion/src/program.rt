@@ -4,6 +4,7 @@ ghost use Rattle.std.specs.Prelude.{◌≡◌, [], map, IfOk};
 ghost use Rattle.std.specs.List.{AllZip};
 ghost use Rattle.core_lang.specs.WellFormed.{IsChecked};
 ghost use Rattle.core_lang.specs.Expansion.{HasSamePlaces, IsWrittenOut, IsExpansion};
+ghost use Rattle.core_lang.specs.WrittenLocals.{AreWrittenLocals};
 ghost use Rattle.expansion.specs.Data.{head_data, IsSameBesides};
 
 use crate::body::Body;
@@ -21,6 +22,7 @@ const DEEPEST: u32 = 8;
 // A section with the helpers that it calls written out.
 fn written_out(alloc: Global, shape: &Shape, section: &Section) -> Result<Section, Stop>
     ensures written { IfOk result (IsWrittenOut shape.now section.now) }
+    ensures locals { IfOk result (AreWrittenLocals shape.now section.now) }
     ensures head { IfOk result (λ made. head_data made ≡ head_data section.now) }
 {
     let body = Body {
@@ -46,6 +48,7 @@ fn written_out(alloc: Global, shape: &Shape, section: &Section) -> Result<Sectio
 // All sections, one after another.
 fn all_written_out(alloc: Global, shape: &Shape, sections: &[Section]) -> Result<Vec<Section>, Stop>
     ensures written { IfOk result (λ made. AllZip (IsWrittenOut shape.now) sections.now made.items) }
+    ensures locals { IfOk result (λ made. AllZip (AreWrittenLocals shape.now) sections.now made.items) }
     ensures heads { IfOk result (λ made. map head_data made.items ≡ map head_data sections.now) }
 {
     let mut made = Vec::new(alloc);
@@ -79,6 +82,8 @@ pub fn expand(alloc: Global, program: &Typed) -> Result<Typed, NoMemory>
     requires { IsChecked program.now }
     // Each section is written out, over the same places and cells, and no helpers are left.
     ensures expansion { IfOk result (IsExpansion program.now) }
+    // Each has the locals that it had, and those that its calls bring.
+    ensures locals { IfOk result (λ made. AllZip (AreWrittenLocals program.now.shape) program.now.sections.items made.sections.items) }
     // The rest is as it was.
     ensures besides { IfOk result (IsSameBesides program.now) }
 {

@@ -9,6 +9,6 @@ loop-argument-preserved c =
     record {
       number = omega (arith, number);
       lets = wrote_let c.args.start (pairs_of c.args.self.now) c.args.arguments.now c.loop-argument.argument-index c.argument-item.result _ c.args.first c.loop-argument.local
-      c.args.written.now.items c.loop-argument.written.items c.push.new.self.items c.loop-argument-test.true c.argument-item.is number
-      c.loop-argument.invariant.lets c.in_ok-expr.ensures c.in_ok-push.ensures.items;
+          c.args.written.now.items c.loop-argument.written.items c.push.new.self.items c.loop-argument-test.true c.argument-item.is number
+          c.loop-argument.invariant.lets c.in_ok-expr.ensures c.in_ok-push.ensures.items;
     }
