@@ -13,3 +13,5 @@ mod copies;
 pub mod program;
 pub mod scope;
 pub mod stop;
+#[cfg(test)]
+mod tests;

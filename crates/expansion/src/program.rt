@@ -20,7 +20,7 @@ use std::alloc::Global;
 const DEEPEST: u32 = 8;
 
 // A section with the helpers that it calls written out.
-fn written_out(alloc: Global, shape: &Shape, section: &Section) -> Result<Section, Stop>
+pub(crate) fn written_out(alloc: Global, shape: &Shape, section: &Section) -> Result<Section, Stop>
     ensures written { IfOk result (IsWrittenOut shape.now section.now) }
     ensures locals { IfOk result (AreWrittenLocals shape.now section.now) }
     ensures head { IfOk result (λ made. head_data made ≡ head_data section.now) }
