@@ -1,0 +1,4 @@
+pub mod Scopes
+pub mod Bodies
+pub mod Data
+pub use Rattle.expansion.specs.Data.{IsSameBesides}

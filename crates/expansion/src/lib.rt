@@ -1,0 +1,17 @@
+//! Writes helpers out in the sections that call them.
+//!
+//! - [`program::expand`]: a program with the helpers of all its sections written out. Which tree a section is then, is
+//!   defined in `core_lang` (`specs/Expansion.antt`), where it is also proved that its runs are those that it had.
+//! - [`body`]: the statements of a section or a helper, one after another, with the calls in them.
+//! - [`scope`]: the locals in scope by their new numbers, and expressions and conditions of them.
+//! - [`copies`]: the parts that stay as they were.
+//! - [`stop`]: why a section is not written out.
+#![tactic(auto)]
+
+pub mod body;
+mod copies;
+pub mod program;
+pub mod scope;
+pub mod stop;
+#[cfg(test)]
+mod tests;

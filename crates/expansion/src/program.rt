@@ -1,0 +1,108 @@
+//! Programs with their helpers written out.
+
+ghost use Rattle.std.specs.Prelude.{◌≡◌, [], map, IfOk};
+ghost use Rattle.std.specs.List.{AllZip};
+ghost use Rattle.core_lang.specs.WellFormed.{IsChecked};
+ghost use Rattle.core_lang.specs.Expansion.{HasSamePlaces, IsWrittenOut, IsExpansion};
+ghost use Rattle.core_lang.specs.WrittenLocals.{AreWrittenLocals};
+ghost use Rattle.expansion.specs.Data.{head_data, IsSameBesides};
+
+use crate::body::Body;
+use crate::copies::{arrays, cells, classes, globals, pools, structs, threads};
+use crate::stop::Stop;
+use core_lang::shape::Shape;
+use core_lang::tree::Section;
+use core_lang::typed::Typed;
+use source::memory::NoMemory;
+use std::alloc::Global;
+
+// How deep the calls of a section go at most.
+const DEEPEST: u32 = 8;
+
+// A section with the helpers that it calls written out.
+pub(crate) fn written_out(alloc: Global, shape: &Shape, section: &Section) -> Result<Section, Stop>
+    ensures written { IfOk result (IsWrittenOut shape.now section.now) }
+    ensures locals { IfOk result (AreWrittenLocals shape.now section.now) }
+    ensures head { IfOk result (λ made. head_data made ≡ head_data section.now) }
+{
+    let body = Body {
+        alloc,
+        shape,
+        section,
+        depth: DEEPEST,
+    };
+    let mut locals = Vec::new(alloc);
+    body.keep_parameters(&mut locals)?;
+    let mut written = Vec::new(alloc);
+    let result = body.body(0, &mut locals, &mut written)?;
+    Ok(Section {
+        name: section.name.clone()?,
+        parameters: section.parameters,
+        locals,
+        result_type: section.result_type,
+        body: written,
+        result,
+    })
+}
+
+// All sections, one after another.
+fn all_written_out(alloc: Global, shape: &Shape, sections: &[Section]) -> Result<Vec<Section>, Stop>
+    ensures written { IfOk result (λ made. AllZip (IsWrittenOut shape.now) sections.now made.items) }
+    ensures locals { IfOk result (λ made. AllZip (AreWrittenLocals shape.now) sections.now made.items) }
+    ensures heads { IfOk result (λ made. map head_data made.items ≡ map head_data sections.now) }
+{
+    let mut made = Vec::new(alloc);
+    for section in sections {
+        made.push(written_out(alloc, shape, section)?)?;
+    }
+    Ok(made)
+}
+
+// The same places, and no helpers.
+fn places(alloc: Global, shape: &Shape) -> Result<Shape, NoMemory>
+    ensures same { IfOk result (HasSamePlaces shape.now) }
+    ensures helpers { IfOk result (λ made. made.helpers.items ≡ []) }
+{
+    let arrays = arrays(alloc, &shape.arrays)?;
+    let pools = pools(alloc, &shape.pools)?;
+    let objects = shape.objects.clone()?;
+    let finals = shape.finals.clone()?;
+    Ok(Shape {
+        arrays,
+        pools,
+        objects,
+        finals,
+        helpers: Vec::new(alloc),
+    })
+}
+
+/// The program with the helpers of all its sections written out. The one error is a refused growth. (A section of which
+/// the calls lead nowhere, or too deep, would be answered as one too: a checked program has none.)
+pub fn expand(alloc: Global, program: &Typed) -> Result<Typed, NoMemory>
+    requires { IsChecked program.now }
+    // Each section is written out, over the same places and cells, and no helpers are left.
+    ensures expansion { IfOk result (IsExpansion program.now) }
+    // Each has the locals that it had, and those that its calls bring.
+    ensures locals { IfOk result (λ made. AllZip (AreWrittenLocals program.now.shape) program.now.sections.items made.sections.items) }
+    // The rest is as it was.
+    ensures besides { IfOk result (IsSameBesides program.now) }
+{
+    let Ok(sections) = all_written_out(alloc, &program.shape, &program.sections) else {
+        return Err(NoMemory);
+    };
+    let shape = places(alloc, &program.shape)?;
+    let classes = classes(alloc, &program.classes)?;
+    let structs = structs(alloc, &program.structs)?;
+    let globals = globals(alloc, &program.globals)?;
+    let cells = cells(&program.cells)?;
+    let threads = threads(alloc, &program.threads)?;
+    Ok(Typed {
+        classes,
+        structs,
+        globals,
+        shape,
+        cells,
+        sections,
+        threads,
+    })
+}
