@@ -14,8 +14,8 @@ use Rattle.core_lang.specs.declared.tree.Path.{Path}
 use Rattle.core_lang.specs.declared.tree.Stmt.{Stmt}
 use Rattle.core_lang.specs.declared.tree.Action.{Action, SetGlobal, SetElement, SetField, Print, If, IfElse}
 use Rattle.core_lang.specs.Cells.{with, found, element_cell, field_cell, not_null}
-use Rattle.core_lang.specs.Lists.{effect_of-If, effect_of-IfElse}
-use Rattle.core_lang.specs.Meaning.{State, Flow, GoesOn, Beyond, Astray, given, choose, after, turns, value_of, place_of, truth_of, effect_of, sequence, stored, written, printed}
+use Rattle.tree_walk.proofs.Rows.{effect_if, effect_if_else}
+use Rattle.core_lang.specs.Meaning.{State, Flow, GoesOn, Beyond, Astray, Helpers, given, choose, after, turns, value_of, place_of, truth_of, effect_by, sequence_by, stored, written, printed}
 use Rattle.tree_walk.specs.declared.execution.Stop.{Stop}
 use Rattle.tree_walk.specs.declared.execution.Stop.TheVariants as stop
 use Rattle.tree_walk.specs.Stops.{stop_of, Follows}
@@ -56,62 +56,62 @@ stops (Err y) Wrong s flow go is e = subst (λ z. Follows (Err z) s flow) (sym i
 
 -- ---- each kind of statement
 
-module _ (x : Action) (shape : Shape) (n : ℕ) (s : State) where
+module _ (call : Helpers) (x : Action) (shape : Shape) (n : ℕ) (s : State) where
   module _ (cell : ℕ) (e : Expr) (is : x ≡ SetGlobal cell e) where
-    pub global_value : (r : Result Value Failure) → value_of e shape s.locals s.heap ≡ r → effect_of x shape n s ≡ given r s (λ v. written cell v s)
-    global_value r at = ap (λ y. effect_of y shape n s) is ∙ ap (λ y. given y s (λ v. written cell v s)) at
+    pub global_value : (r : Result Value Failure) → value_of e shape s.locals s.heap ≡ r → effect_by call x shape n s ≡ given r s (λ v. written cell v s)
+    global_value r at = ap (λ y. effect_by call y shape n s) is ∙ ap (λ y. given y s (λ v. written cell v s)) at
 
   module _ (e : Expr) (is : x ≡ Print e) where
-    pub print_value : (r : Result Value Failure) → value_of e shape s.locals s.heap ≡ r → effect_of x shape n s ≡ given r s (λ v. printed v s)
-    print_value r at = ap (λ y. effect_of y shape n s) is ∙ ap (λ y. given y s (λ v. printed v s)) at
+    pub print_value : (r : Result Value Failure) → value_of e shape s.locals s.heap ≡ r → effect_by call x shape n s ≡ given r s (λ v. printed v s)
+    print_value r at = ap (λ y. effect_by call y shape n s) is ∙ ap (λ y. given y s (λ v. printed v s)) at
 
   module _ (array : ℕ) (index e : Expr) (is : x ≡ SetElement array index e) where
     pub element_index : (r : Result Value Failure) → value_of index shape s.locals s.heap ≡ r →
-        effect_of x shape n s ≡ given r s (λ i. given (element_cell shape array i) s (λ cell. given (value_of e shape s.locals s.heap) s (λ v. written cell v s)))
+        effect_by call x shape n s ≡ given r s (λ i. given (element_cell shape array i) s (λ cell. given (value_of e shape s.locals s.heap) s (λ v. written cell v s)))
     element_index r at =
-        ap (λ y. effect_of y shape n s) is
+        ap (λ y. effect_by call y shape n s) is
         ∙ ap (λ y. given y s (λ i. given (element_cell shape array i) s (λ cell. given (value_of e shape s.locals s.heap) s (λ v. written cell v s)))) at
 
     pub element_at : (i : Value) (r : Result ℕ Failure) → value_of index shape s.locals s.heap ≡ Ok i → element_cell shape array i ≡ r →
-        effect_of x shape n s ≡ given r s (λ cell. given (value_of e shape s.locals s.heap) s (λ v. written cell v s))
+        effect_by call x shape n s ≡ given r s (λ cell. given (value_of e shape s.locals s.heap) s (λ v. written cell v s))
     element_at i r at there = element_index (Ok i) at ∙ ap (λ y. given y s (λ cell. given (value_of e shape s.locals s.heap) s (λ v. written cell v s))) there
 
     pub element_value : (i : Value) (cell : ℕ) (r : Result Value Failure) → value_of index shape s.locals s.heap ≡ Ok i → element_cell shape array i ≡ Ok cell →
-        value_of e shape s.locals s.heap ≡ r → effect_of x shape n s ≡ given r s (λ v. written cell v s)
+        value_of e shape s.locals s.heap ≡ r → effect_by call x shape n s ≡ given r s (λ v. written cell v s)
     element_value i cell r at there gives = element_at i (Ok cell) at there ∙ ap (λ y. given y s (λ v. written cell v s)) gives
 
     pub element_found : (cell : ℕ) (r : Result Value Failure) → with (value_of index shape s.locals s.heap) (element_cell shape array) ≡ Ok cell →
-        value_of e shape s.locals s.heap ≡ r → effect_of x shape n s ≡ given r s (λ v. written cell v s)
+        value_of e shape s.locals s.heap ≡ r → effect_by call x shape n s ≡ given r s (λ v. written cell v s)
     element_found cell r at gives =
         let p = with_split (value_of index shape s.locals s.heap) (element_cell shape array) cell at in
         element_value p.0 cell r p.1 p.2 gives
 
   module _ (path : Path) (structure field : ℕ) (e : Expr) (is : x ≡ SetField path structure field e) where
     pub field_base : (r : Result Value Failure) → with (place_of path shape s.locals s.heap) not_null ≡ r →
-        effect_of x shape n s ≡ given r s (λ base. given (value_of e shape s.locals s.heap) s (λ v. given (field_cell shape base field) s (λ cell. written cell v s)))
+        effect_by call x shape n s ≡ given r s (λ base. given (value_of e shape s.locals s.heap) s (λ v. given (field_cell shape base field) s (λ cell. written cell v s)))
     field_base r at =
-        ap (λ y. effect_of y shape n s) is
+        ap (λ y. effect_by call y shape n s) is
         ∙ ap (λ y. given y s (λ base. given (value_of e shape s.locals s.heap) s (λ v. given (field_cell shape base field) s (λ cell. written cell v s)))) at
 
     pub field_value : (base : Value) (r : Result Value Failure) → with (place_of path shape s.locals s.heap) not_null ≡ Ok base → value_of e shape s.locals s.heap ≡ r →
-        effect_of x shape n s ≡ given r s (λ v. given (field_cell shape base field) s (λ cell. written cell v s))
+        effect_by call x shape n s ≡ given r s (λ v. given (field_cell shape base field) s (λ cell. written cell v s))
     field_value base r at gives = field_base (Ok base) at ∙ ap (λ y. given y s (λ v. given (field_cell shape base field) s (λ cell. written cell v s))) gives
 
     pub field_at : (base v : Value) (r : Result ℕ Failure) → with (place_of path shape s.locals s.heap) not_null ≡ Ok base → value_of e shape s.locals s.heap ≡ Ok v →
-        field_cell shape base field ≡ r → effect_of x shape n s ≡ given r s (λ cell. written cell v s)
+        field_cell shape base field ≡ r → effect_by call x shape n s ≡ given r s (λ cell. written cell v s)
     field_at base v r at gives there = field_value base (Ok v) at gives ∙ ap (λ y. given y s (λ cell. written cell v s)) there
 
   pub if_fails : (c : Condition) (a : Vec Stmt Global) (f : Failure) → x ≡ If c a → truth_of c shape s.locals s.heap ≡ Err f →
-      effect_of x shape n s ≡ given (Err f) s (λ t. choose t (sequence a.items shape n s) (GoesOn s))
+      effect_by call x shape n s ≡ given (Err f) s (λ t. choose t (sequence_by call a.items shape n s) (GoesOn s))
   if_fails c a f is fails =
-      ap (λ y. effect_of y shape n s) is ∙ effect_of-If c a shape n s
-      ∙ ap (λ r. given r s (λ t. choose t (sequence a.items shape n s) (GoesOn s))) fails
+      ap (λ y. effect_by call y shape n s) is ∙ effect_if call c a shape n s
+      ∙ ap (λ r. given r s (λ t. choose t (sequence_by call a.items shape n s) (GoesOn s))) fails
 
   pub if_else_fails : (c : Condition) (a b : Vec Stmt Global) (f : Failure) → x ≡ IfElse c a b → truth_of c shape s.locals s.heap ≡ Err f →
-      effect_of x shape n s ≡ given (Err f) s (λ t. choose t (sequence a.items shape n s) (sequence b.items shape n s))
+      effect_by call x shape n s ≡ given (Err f) s (λ t. choose t (sequence_by call a.items shape n s) (sequence_by call b.items shape n s))
   if_else_fails c a b f is fails =
-      ap (λ y. effect_of y shape n s) is ∙ effect_of-IfElse c a b shape n s
-      ∙ ap (λ r. given r s (λ t. choose t (sequence a.items shape n s) (sequence b.items shape n s))) fails
+      ap (λ y. effect_by call y shape n s) is ∙ effect_if_else call c a b shape n s
+      ∙ ap (λ r. given r s (λ t. choose t (sequence_by call a.items shape n s) (sequence_by call b.items shape n s))) fails
 
 -- ---- a loop whose test fails
 
@@ -130,26 +130,26 @@ stays_stopped stop.Beyond s flow go e = ap (λ f. after f go) e
 stays_stopped stop.Wrong s flow go e = ap (λ f. after f go) e
 stays_stopped stop.NoMemory s flow go e = e
 
-pub sequence_ends : (items : List Stmt) (i : ℕ) (shape : Shape) (n : ℕ) (s : State) (whole : Flow) → length items ≤ i →
-    sequence (drop i items) shape n s ≡ whole → whole ≡ GoesOn s
-sequence_ends items i shape n s whole le e = sym e ∙ ap (λ xs. sequence xs shape n s) (drop_all i items le)
+pub sequence_ends : (call : Helpers) (items : List Stmt) (i : ℕ) (shape : Shape) (n : ℕ) (s : State) (whole : Flow) → length items ≤ i →
+    sequence_by call (drop i items) shape n s ≡ whole → whole ≡ GoesOn s
+sequence_ends call items i shape n s whole le e = sym e ∙ ap (λ xs. sequence_by call xs shape n s) (drop_all i items le)
 
-module _ (items : List Stmt) (i : ℕ) (item : Stmt) (shape : Shape) (n : ℕ) (s : State) (whole : Flow) (lt : i < length items) (is : item ≡ get_or items i item)
-    (same : sequence (drop i items) shape n s ≡ whole) where
-  next : after (effect_of item.action shape n s) (sequence (drop (suc i) items) shape n) ≡ whole
-  next = ap (λ xs. sequence xs shape n s) (ap (λ y. y ∷ drop (suc i) items) is ∙ sym (drop-cons items i item lt)) ∙ same
+module _ (call : Helpers) (items : List Stmt) (i : ℕ) (item : Stmt) (shape : Shape) (n : ℕ) (s : State) (whole : Flow) (lt : i < length items) (is : item ≡ get_or items i item)
+    (same : sequence_by call (drop i items) shape n s ≡ whole) where
+  next : after (effect_by call item.action shape n s) (sequence_by call (drop (suc i) items) shape n) ≡ whole
+  next = ap (λ xs. sequence_by call xs shape n s) (ap (λ y. y ∷ drop (suc i) items) is ∙ sym (drop-cons items i item lt)) ∙ same
 
-  pub sequence_goes : (s' : State) → effect_of item.action shape n s ≡ GoesOn s' → sequence (drop (i + 1) items) shape n s' ≡ whole
+  pub sequence_goes : (s' : State) → effect_by call item.action shape n s ≡ GoesOn s' → sequence_by call (drop (i + 1) items) shape n s' ≡ whole
   sequence_goes s' goes =
-      ap (λ k. sequence (drop k items) shape n s') (add-one i)
-      ∙ sym (ap (λ f. after f (sequence (drop (suc i) items) shape n)) goes) ∙ next
+      ap (λ k. sequence_by call (drop k items) shape n s') (add-one i)
+      ∙ sym (ap (λ f. after f (sequence_by call (drop (suc i) items) shape n)) goes) ∙ next
 
-  pub sequence_stops : (r : Result (Unit {0}) Stop) (y : Stop) (s' : State) → IsErrAnd r (λ z. z ≡ y) → Follows (Err y) s' (effect_of item.action shape n s) →
+  pub sequence_stops : (r : Result (Unit {0}) Stop) (y : Stop) (s' : State) → IsErrAnd r (λ z. z ≡ y) → Follows (Err y) s' (effect_by call item.action shape n s) →
       Follows r s' whole
   sequence_stops (Ok u) y s' fails stopped = absurd fails
   sequence_stops (Err z) y s' fails stopped =
       subst (λ w. Follows (Err w) s' whole) (sym fails)
-      (subst (Follows (Err y) s') next (stays_stopped y s' (effect_of item.action shape n s) (sequence (drop (suc i) items) shape n) stopped))
+      (subst (Follows (Err y) s') next (stays_stopped y s' (effect_by call item.action shape n s) (sequence_by call (drop (suc i) items) shape n) stopped))
 
 -- ---- a write to a local or a cell
 

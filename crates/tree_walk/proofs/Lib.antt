@@ -1,4 +1,7 @@
 pub mod Steps
+pub mod Rows
+pub mod Depths
+pub mod Calls
 pub mod Blocks
 pub mod Kept
 pub mod Opened

@@ -1,6 +1,7 @@
 pub mod Undo
 pub mod Stops
 pub mod Execution
+pub mod Within
 pub mod Chains
 -- what the public clauses cite
 pub use Rattle.tree_walk.specs.Undo.{Changed}

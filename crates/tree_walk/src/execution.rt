@@ -1,21 +1,27 @@
 //! A section under way.
 
 ghost use Rattle.std.specs.Prelude.{◌≡◌, Ok, IfSome};
-ghost use Rattle.core_lang.specs.Meaning.{effect_of, sequence, stored, written, printed};
-ghost use Rattle.tree_walk.specs.Stops.{Follows, Concludes};
-ghost use Rattle.tree_walk.specs.Execution.{state_of, assigned, cell_at, while, run_from, Keeps};
+ghost use Rattle.core_lang.specs.Meaning.{values_of, stored, written, printed, received};
+ghost use Rattle.tree_walk.specs.Stops.{Follows, Concludes, Gives};
+ghost use Rattle.tree_walk.specs.Execution.{state_of, assigned, cell_at, run_from, Keeps};
+ghost use Rattle.tree_walk.specs.Within.{effect_within, sequence_within, while_within, called, helped_within, run_within};
 
 use crate::draft::Draft;
 use crate::evaluate::{evaluate, is_true};
+use crate::opening::with_defaults;
 use crate::short;
 use core_lang::shape::Shape;
 use core_lang::tree::{Action, Condition, Expr, Section, Stmt};
 use core_lang::value::{Failure, Outcome, Trap, Value};
 use operations::access::{cell_of_element, cell_of_field, follow, non_null};
 use std::alloc::AllocError;
+use std::mem;
 
 // How many numbers one run of a section may print.
 const MOST_PRINTS: usize = 256;
+
+// How deep a section's calls of helpers may go.
+const DEEPEST: u32 = 8;
 
 /// Why a statement does not lead on.
 #[derive(Drop)]
@@ -51,6 +57,15 @@ impl From<AllocError> for Stop {
     fn from(_error: AllocError) -> Stop {
         Stop::NoMemory
     }
+}
+
+// How far a run may go.
+#[derive(Clone, Copy)]
+struct Bounds {
+    // How many turns each execution of a loop may make.
+    turns: u64,
+    // How deep calls of helpers may go from here.
+    depth: u32,
 }
 
 /// The locals of a section, the heap with its writes, and what it has printed.
@@ -116,8 +131,8 @@ impl Execution {
     }
 
     #[cycle(run)]
-    fn run(&mut self, action: &Action, shape: &Shape, turns: u64) -> Result<(), Stop>
-        ensures follows { Follows result (state_of self.new) (effect_of action.now shape.now turns (state_of self.old)) }
+    fn run(&mut self, action: &Action, shape: &Shape, bounds: &Bounds) -> Result<(), Stop>
+        ensures follows { Follows result (state_of self.new) (effect_within action.now shape.now bounds.now (state_of self.old)) }
         ensures keeps { Keeps self.old self.new }
     {
         match action {
@@ -148,15 +163,21 @@ impl Execution {
                 let cell = cell_of_field(shape, base, *field)?;
                 self.write(cell, v)
             }
-            // No run of a well-formed program comes here: its helpers are written out. Where one does, it is given up.
-            Action::Call { .. } => Err(Stop::NoMemory),
+            Action::Call {
+                helper,
+                arguments,
+                result,
+            } => {
+                let outcome = self.call(*helper, arguments, shape, bounds)?;
+                self.receive(outcome, *result)
+            }
             Action::Print(e) => {
                 let v = evaluate(e, shape, &self.locals, self.draft.cells())?;
                 self.print(v)
             }
             Action::If { condition, block } => {
                 if is_true(condition, shape, &self.locals, self.draft.cells())? {
-                    self.run_all(block, shape, turns)
+                    self.run_all(block, shape, bounds)
                 } else {
                     Ok(())
                 }
@@ -167,12 +188,12 @@ impl Execution {
                 otherwise,
             } => {
                 if is_true(condition, shape, &self.locals, self.draft.cells())? {
-                    self.run_all(block, shape, turns)
+                    self.run_all(block, shape, bounds)
                 } else {
-                    self.run_all(otherwise, shape, turns)
+                    self.run_all(otherwise, shape, bounds)
                 }
             }
-            Action::While { condition, body } => self.repeat(body, condition, shape, turns),
+            Action::While { condition, body } => self.repeat(body, condition, shape, bounds),
         }
     }
 
@@ -184,39 +205,39 @@ impl Execution {
         body: &[Stmt],
         condition: &Condition,
         shape: &Shape,
-        most: u64,
+        bounds: &Bounds,
     ) -> Result<(), Stop>
-        ensures follows { Follows result (state_of self.new) (while condition.now body.now shape.now most (state_of self.old)) }
+        ensures follows { Follows result (state_of self.new) (while_within condition.now body.now shape.now bounds.now (state_of self.old)) }
         ensures keeps { Keeps self.old self.new }
     {
-        let mut left = most;
+        let mut left = bounds.turns;
         while is_true(condition, shape, &self.locals, self.draft.cells())? {
             if left == 0 {
                 return Err(Stop::Beyond);
             }
             left -= 1;
-            self.steps(body, shape, most)?;
+            self.steps(body, shape, bounds)?;
         }
         Ok(())
     }
 
     #[inline(never)]
     #[cycle(run)]
-    fn run_all(&mut self, block: &[Stmt], shape: &Shape, turns: u64) -> Result<(), Stop>
-        ensures follows { Follows result (state_of self.new) (sequence block.now shape.now turns (state_of self.old)) }
+    fn run_all(&mut self, block: &[Stmt], shape: &Shape, bounds: &Bounds) -> Result<(), Stop>
+        ensures follows { Follows result (state_of self.new) (sequence_within block.now shape.now bounds.now (state_of self.old)) }
         ensures keeps { Keeps self.old self.new }
     {
-        self.steps(block, shape, turns)
+        self.steps(block, shape, bounds)
     }
 
     #[inline(always)]
     #[cycle(run)]
-    fn steps(&mut self, block: &[Stmt], shape: &Shape, turns: u64) -> Result<(), Stop>
-        ensures follows { Follows result (state_of self.new) (sequence block.now shape.now turns (state_of self.old)) }
+    fn steps(&mut self, block: &[Stmt], shape: &Shape, bounds: &Bounds) -> Result<(), Stop>
+        ensures follows { Follows result (state_of self.new) (sequence_within block.now shape.now bounds.now (state_of self.old)) }
         ensures keeps { Keeps self.old self.new }
     {
         for s in block {
-            self.step(&s.action, shape, turns)?;
+            self.step(&s.action, shape, bounds)?;
         }
         Ok(())
     }
@@ -224,8 +245,8 @@ impl Execution {
     // An assignment to a local is made here where it has a number, since a call costs as much as the rest.
     #[inline(always)]
     #[cycle(run)]
-    fn step(&mut self, action: &Action, shape: &Shape, turns: u64) -> Result<(), Stop>
-        ensures follows { Follows result (state_of self.new) (effect_of action.now shape.now turns (state_of self.old)) }
+    fn step(&mut self, action: &Action, shape: &Shape, bounds: &Bounds) -> Result<(), Stop>
+        ensures follows { Follows result (state_of self.new) (effect_within action.now shape.now bounds.now (state_of self.old)) }
         ensures keeps { Keeps self.old self.new }
     {
         if let Action::SetLocal { local, value } = action {
@@ -234,7 +255,7 @@ impl Execution {
             }
             return self.set(*local, value, shape);
         }
-        self.assign(action, shape, turns)
+        self.assign(action, shape, bounds)
     }
 
     // The cell of an array's element, if its index is found the short way.
@@ -249,8 +270,8 @@ impl Execution {
     // is told there.
     #[inline(never)]
     #[cycle(run)]
-    fn assign(&mut self, action: &Action, shape: &Shape, turns: u64) -> Result<(), Stop>
-        ensures follows { Follows result (state_of self.new) (effect_of action.now shape.now turns (state_of self.old)) }
+    fn assign(&mut self, action: &Action, shape: &Shape, bounds: &Bounds) -> Result<(), Stop>
+        ensures follows { Follows result (state_of self.new) (effect_within action.now shape.now bounds.now (state_of self.old)) }
         ensures keeps { Keeps self.old self.new }
     {
         if let Action::SetGlobal { cell, value } = action {
@@ -285,7 +306,99 @@ impl Execution {
                 }
             }
         }
-        self.run(action, shape, turns)
+        self.run(action, shape, bounds)
+    }
+
+    // The values of arguments, from left to right.
+    fn values(&self, arguments: &[Expr], shape: &Shape) -> Result<Vec<Value>, Stop>
+        ensures { Gives result (values_of arguments.now shape.now self.now.locals.items self.now.draft.now) }
+    {
+        let mut values = Vec::with_capacity(*self.locals.allocator(), arguments.len())?;
+        for argument in arguments {
+            let value = evaluate(argument, shape, &self.locals, self.draft.cells())?;
+            if values.push(value).is_err() {
+                return Err(Stop::NoMemory);
+            }
+        }
+        Ok(values)
+    }
+
+    // Runs a helper on the values of arguments.
+    #[inline(never)]
+    #[cycle(run)]
+    fn call(
+        &mut self,
+        helper: usize,
+        arguments: &[Expr],
+        shape: &Shape,
+        bounds: &Bounds,
+    ) -> Result<Outcome, Stop>
+        ensures follows { Concludes result (state_of self.new) (called helper arguments.now shape.now bounds.now (state_of self.old)) }
+        ensures locals { self.new.locals.items ≡ self.old.locals.items }
+        ensures keeps { Keeps self.old self.new }
+    {
+        let arguments = self.values(arguments, shape)?;
+        self.help(helper, arguments, shape, bounds)
+    }
+
+    // Runs a helper with locals of its own, on the same heap, behind what was printed. The locals of its caller are as
+    // they were.
+    #[cycle(run)]
+    fn help(
+        &mut self,
+        helper: usize,
+        arguments: Vec<Value>,
+        shape: &Shape,
+        bounds: &Bounds,
+    ) -> Result<Outcome, Stop>
+        ensures follows { Concludes result (state_of self.new) (helped_within helper arguments.items shape.now bounds.now (state_of self.old)) }
+        ensures locals { self.new.locals.items ≡ self.old.locals.items }
+        ensures keeps { Keeps self.old self.new }
+    {
+        if bounds.depth == 0 {
+            return Err(Stop::Wrong);
+        }
+        let Some(section) = shape.helpers.get(helper) else {
+            return Err(Stop::Wrong);
+        };
+        let deeper = Bounds {
+            turns: bounds.turns,
+            depth: bounds.depth - 1,
+        };
+        let locals = with_defaults(arguments, &section.locals)?;
+        let callers = mem::replace(&mut self.locals, locals);
+        let ended = self.finish(section, shape, &deeper);
+        self.locals = callers;
+        ended
+    }
+
+    // Goes on behind a call: its value is bound to a `let`, or dropped.
+    fn receive(&mut self, outcome: Outcome, local: Option<usize>) -> Result<(), Stop>
+        ensures follows { Follows result (state_of self.new) (received outcome local (state_of self.old)) }
+        ensures keeps { Keeps self.old self.new }
+    {
+        match (outcome, local) {
+            (Outcome::Traps(trap), _) => Err(Stop::Trap(trap)),
+            (Outcome::Returns(value), Some(local)) => self.store(local, value),
+            (Outcome::Ends, Some(_)) => Err(Stop::Wrong),
+            (_, None) => Ok(()),
+        }
+    }
+
+    // Runs the statements of a section or a helper, and says how it ends.
+    #[cycle(run)]
+    fn finish(&mut self, section: &Section, shape: &Shape, bounds: &Bounds) -> Result<Outcome, Stop>
+        ensures follows { Concludes result (state_of self.new) (run_within section.now shape.now bounds.now (state_of self.old)) }
+        ensures keeps { Keeps self.old self.new }
+    {
+        self.run_all(&section.body, shape, bounds)?;
+        match &section.result {
+            None => Ok(Outcome::Ends),
+            Some(result) => {
+                let v = evaluate(&result.value, shape, &self.locals, self.draft.cells())?;
+                Ok(Outcome::Returns(v))
+            }
+        }
     }
 
     /// Runs a section's statements, and says how it ends.
@@ -298,13 +411,10 @@ impl Execution {
         ensures follows { Concludes result (state_of self.new) (run_from section.now shape.now turns (state_of self.old)) }
         ensures keeps { Keeps self.old self.new }
     {
-        self.run_all(&section.body, shape, turns)?;
-        match &section.result {
-            None => Ok(Outcome::Ends),
-            Some(result) => {
-                let v = evaluate(&result.value, shape, &self.locals, self.draft.cells())?;
-                Ok(Outcome::Returns(v))
-            }
-        }
+        let bounds = Bounds {
+            turns,
+            depth: DEEPEST,
+        };
+        self.finish(section, shape, &bounds)
     }
 }
