@@ -10,7 +10,7 @@ use Rattle.core_lang.specs.declared.typed.Typed.{Typed}
 use Rattle.core_lang.specs.Expansion.{IsExpansion}
 use Rattle.core_lang.specs.WrittenLocals.{local_data, written_locals, AreWrittenLocals}
 use Rattle.core_lang.specs.WellFormed.{calls_together, IsWithinLimits, IsChecked}
-use Rattle.expansion.specs.Data.{lock_field_data, final_data, class_data, field_data, StructData, struct_data, global_data, call_data, ThreadData, thread_data, HeadData, head_data, IsSameBesides}
+use Rattle.expansion.specs.Data.{lock_field_data, final_data, class_data, field_data, StructData, struct_data, call_data, ThreadData, thread_data, HeadData, head_data, IsSameBesides}
 use Rattle.expansion.proofs.Pairs.{zip_back}
 
 -- ---- lists that are the same as data
