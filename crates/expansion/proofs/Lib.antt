@@ -4,3 +4,4 @@ pub mod Steps
 pub mod Growth
 pub mod Sizes
 pub mod Named
+pub mod Limits

@@ -2,7 +2,7 @@
 
 ghost use Rattle.std.specs.Prelude.{◌≡◌, [], map, IfOk};
 ghost use Rattle.std.specs.List.{AllZip};
-ghost use Rattle.core_lang.specs.WellFormed.{IsChecked};
+ghost use Rattle.core_lang.specs.WellFormed.{IsWithinLimits, IsChecked};
 ghost use Rattle.core_lang.specs.Expansion.{HasSamePlaces, IsWrittenOut, IsExpansion};
 ghost use Rattle.core_lang.specs.WrittenLocals.{AreWrittenLocals};
 ghost use Rattle.expansion.specs.Data.{head_data, IsSameBesides};
@@ -86,6 +86,8 @@ pub fn expand(alloc: Global, program: &Typed) -> Result<Typed, NoMemory>
     ensures locals { IfOk result (λ made. AllZip (AreWrittenLocals program.now.shape) program.now.sections.items made.sections.items) }
     // The rest is as it was.
     ensures besides { IfOk result (IsSameBesides program.now) }
+    // It keeps to the limits.
+    ensures within { IfOk result IsWithinLimits }
 {
     let Ok(sections) = all_written_out(alloc, &program.shape, &program.sections) else {
         return Err(NoMemory);
