@@ -1,13 +1,15 @@
 /* Preloaded into a program: makes one call of the system fail, and counts the calls.
  *
  * FAIL_GROWTH=N, FAIL_READ=N, FAIL_WRITE=N: the N-th call of malloc or realloc, of read, or of write fails, counted
- * from 1 and from the first one that the program's own code makes: calls before its `main` neither fail nor count.
+ * from 1 and from the first one that the program's own code makes: calls before its `main` neither fail nor count, nor do
+ * calls of realloc that the block has room for, as those that give memory back: no growth is refused there.
  * FAIL_COUNTS=FILE: when the program ends, the numbers of the three kinds of calls are written there.
  */
 #define _GNU_SOURCE
 #include <dlfcn.h>
 #include <errno.h>
 #include <fcntl.h>
+#include <malloc.h>
 #include <stdio.h>
 #include <stdlib.h>
 #include <unistd.h>
@@ -66,6 +68,7 @@ void *malloc(size_t size) {
 
 void *realloc(void *old, size_t size) {
     if (!real_realloc) find();
+    if (old && size <= malloc_usable_size(old)) return real_realloc(old, size);
     if (fails(GROWTH)) {
         errno = ENOMEM;
         return NULL;
