@@ -15,10 +15,12 @@ use Rattle.core_lang.specs.declared.typed.Typed.{Typed}
 use Rattle.resolution.specs.CoreViews.{core_of}
 use Rattle.resolution.specs.Resolution.{resolved}
 use Rattle.resolution.specs.Resolved.{Resolves}
+use Rattle.expansion.specs.Data.{IsExpanded}
 use Rattle.locks.specs.Faults as paths
 use Rattle.lockorder.specs.Faults as order
 use Rattle.compiler.specs.Programs.{HasFault, of_text, of_tokens, of_tree, of_paths, of_order}
 use Rattle.compiler.proofs.Alike.{fault_alike}
+use Rattle.compiler.proofs.ExpandedAlike.{expanded_alike}
 use Rattle.compiler.proofs.OrderAlike.{order_fault_alike}
 
 -- the tokens of a text end with its end
@@ -38,12 +40,12 @@ tokens_faultless source ts tree _ _ has right placed (too_deep d) =
 tokens_faultless source ts tree _ start has right placed (misplaced m) = placed start m
 
 -- the text has no fault where neither it, nor its tokens, nor their tree, nor a program that this means has one
-module _ (source : List ℕ) (ts : List Tok) (tree : List Decl) (program : Typed)
+module _ (source : List ℕ) (ts : List Tok) (tree : List Decl) (program written : Typed)
     (no_text : (code : Code) (start : ℕ) → text.IsFault source code start → ⊥)
     (one : (other : List Tok) → length source ≤ SOURCE_LIMIT → text.HasTokens source other → ts ≡ other)
     (has : text.HasTokens source ts) (right : grammar.HasRightTree ts tree) (placed : (s : ℕ) → IsMisplaced ts s → ⊥)
     (only : (other : List Decl) → grammar.HasRightTree ts other → tree ≡ other) (no_tree : names.HasNoFault tree)
-    (means : Resolves tree program) (no_path : paths.HasNoFault program) (no_cycle : order.HasNoFault program) where
+    (means : Resolves tree program) (expanded : IsExpanded program written) (no_path : paths.HasNoFault written) (no_cycle : order.HasNoFault written) where
   -- there is one tree
   tree_same : (tokens : List Tok) (decls : List Decl) → length source ≤ SOURCE_LIMIT → text.HasTokens source tokens
       → grammar.HasRightTree tokens decls → tree ≡ decls
@@ -56,6 +58,10 @@ module _ (source : List ℕ) (ts : List Tok) (tree : List Decl) (program : Typed
       let both : Some (core_of other) ≡ Some (core_of program) = sym resolves ∙ ap resolved (sym same) ∙ means in
       cc
 
+  -- and with its helpers written out it is one, too
+  written_same : (other out : Typed) (decls : List Decl) → tree ≡ decls → Resolves decls other → IsExpanded other out → core_of out ≡ core_of written
+  written_same other out decls same resolves is = expanded_alike other program out written (program_same other decls same resolves) is expanded
+
   faultless_within : length source ≤ SOURCE_LIMIT → (fault : the_fault.Fault) → HasFault source fault → ⊥
   faultless_within within fault (of_text refused) = no_text _ _ refused.0
   faultless_within within fault (of_tokens tokens others refused) =
@@ -63,11 +69,11 @@ module _ (source : List ℕ) (ts : List Tok) (tree : List Decl) (program : Typed
       (subst (λ (o : List Tok). grammar.IsFault o fault.code fault.start) (sym (one tokens within others)) refused.0)
   faultless_within within fault (of_tree tokens decls others rights refused) =
       no_tree _ _ (subst (λ (d : List Decl). names.IsFault d fault.code fault.start) (sym (tree_same tokens decls within others rights)) refused.0)
-  faultless_within within fault (of_paths tokens decls other others rights resolves refused) =
-      no_path _ _ (fault_alike other program (program_same other decls (tree_same tokens decls within others rights) resolves) _ _ refused.0)
-  faultless_within within fault (of_order tokens decls other others rights resolves wrong) =
+  faultless_within within fault (of_paths tokens decls other out others rights resolves is refused) =
+      no_path _ _ (fault_alike out written (written_same other out decls (tree_same tokens decls within others rights) resolves is) _ _ refused.0)
+  faultless_within within fault (of_order tokens decls other out others rights resolves is wrong) =
       no_cycle fault
-      (order_fault_alike other program (program_same other decls (tree_same tokens decls within others rights) resolves) fault wrong)
+      (order_fault_alike out written (written_same other out decls (tree_same tokens decls within others rights) resolves is) fault wrong)
 
   pub faultless : (fault : the_fault.Fault) → HasFault source fault → ⊥
   faultless fault wrong =

@@ -1,5 +1,5 @@
 -- A refusal by one pass is a refusal of the text.
-use Rattle.std.proofs.Common.{ℕ, List}
+use Rattle.std.proofs.Common.{◌≡◌, ℕ, List}
 use Rattle.source.specs.declared.fault.Refusal.{Refusal}
 use Rattle.source.specs.declared.fault.Refusal.TheVariants.{Fault, NoMemory}
 use Rattle.source.specs.Tokens.{Tok}
@@ -9,6 +9,7 @@ use Rattle.syntax.specs.Faults as grammar
 use Rattle.resolution.specs.Faults as names
 use Rattle.resolution.specs.Resolved.{Resolves}
 use Rattle.core_lang.specs.declared.typed.Typed.{Typed}
+use Rattle.expansion.specs.Data.{IsExpanded}
 use Rattle.locks.specs.Faults as paths
 use Rattle.source.specs.Mistakes.{IsLeastOf}
 use Rattle.compiler.specs.Programs.{IsRefusal, IsOrderRefusal, HasNoTextFault, HasNoTokenFault, in_text, in_tokens, in_tree, in_paths, in_order}
@@ -29,16 +30,21 @@ tree_refused source tokens tree NoMemory no_text has no_token right refused leas
 tree_refused source tokens tree (Fault fault) no_text has no_token right refused least =
     in_tree tokens tree no_text has no_token right refused least
 
-pub paths_refused : (source : List ℕ) (tokens : List Tok) (tree : List Decl) (program : Typed) (e : Refusal) → HasNoTextFault source
+pub paths_refused : (source : List ℕ) (tokens : List Tok) (tree : List Decl) (program written : Typed) (e : Refusal) → HasNoTextFault source
     → text.HasTokens source tokens → HasNoTokenFault tokens → grammar.HasRightTree tokens tree → names.HasNoFault tree
-    → Resolves tree program → paths.IsRefusal program e → paths.IsLeast program e → IsRefusal source e
-paths_refused source tokens tree program NoMemory no_text has no_token right no_name means refused least = tt
-paths_refused source tokens tree program (Fault fault) no_text has no_token right no_name means refused least =
-    in_paths tokens tree program no_text has no_token right no_name means refused least
+    → Resolves tree program → IsExpanded program written → paths.IsRefusal written e → paths.IsLeast written e → IsRefusal source e
+paths_refused source tokens tree program written NoMemory no_text has no_token right no_name means expanded refused least = tt
+paths_refused source tokens tree program written (Fault fault) no_text has no_token right no_name means expanded refused least =
+    in_paths tokens tree program written no_text has no_token right no_name means expanded refused least
 
-pub order_refused : (source : List ℕ) (tokens : List Tok) (tree : List Decl) (program : Typed) (e : Refusal) → HasNoTextFault source
+pub order_refused : (source : List ℕ) (tokens : List Tok) (tree : List Decl) (program written : Typed) (e : Refusal) → HasNoTextFault source
     → text.HasTokens source tokens → HasNoTokenFault tokens → grammar.HasRightTree tokens tree → names.HasNoFault tree
-    → Resolves tree program → paths.HasNoFault program → IsOrderRefusal program e → IsRefusal source e
-order_refused source tokens tree program NoMemory no_text has no_token right no_name means no_path refused = tt
-order_refused source tokens tree program (Fault fault) no_text has no_token right no_name means no_path refused =
-    in_order tokens tree program no_text has no_token right no_name means no_path refused
+    → Resolves tree program → IsExpanded program written → paths.HasNoFault written → IsOrderRefusal written e → IsRefusal source e
+order_refused source tokens tree program written NoMemory no_text has no_token right no_name means expanded no_path refused = tt
+order_refused source tokens tree program written (Fault fault) no_text has no_token right no_name means expanded no_path refused =
+    in_order tokens tree program written no_text has no_token right no_name means expanded no_path refused
+
+-- want of memory is one at any pass
+pub no_memory_refused : (source : List ℕ) (e : Refusal) → e ≡ NoMemory → IsRefusal source e
+no_memory_refused source NoMemory is = tt
+no_memory_refused source (Fault fault) is = absurd cc

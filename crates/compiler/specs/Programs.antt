@@ -12,20 +12,21 @@ use Rattle.syntax.specs.Faults as grammar
 use Rattle.resolution.specs.Faults as names
 use Rattle.source.specs.Mistakes.{IsLeastOf}
 use Rattle.resolution.specs.Resolved.{Resolves}
+use Rattle.expansion.specs.Data.{IsExpanded}
 use Rattle.locks.specs.Faults as paths
 use Rattle.lockorder.specs.Faults as order
 
 -- a fault of the text; of the tokens of a text that has some; of the tree of tokens that have one; of the program that a tree means,
--- in its lock paths or the order of its locks
+-- with its helpers written out, in its lock paths or the order of its locks
 pub data HasFault (source : List ℕ) (fault : the_fault.Fault) : Type 0 where
   of_text : text.IsRefusal source (Fault fault) → HasFault source fault
   of_tokens : (tokens : List Tok) → text.HasTokens source tokens → grammar.IsRefusal tokens (Fault fault) → HasFault source fault
   of_tree : (tokens : List Tok) (tree : List Decl) → text.HasTokens source tokens → grammar.HasRightTree tokens tree
       → names.IsRefusal tree (Fault fault) → HasFault source fault
-  of_paths : (tokens : List Tok) (tree : List Decl) (program : Typed) → text.HasTokens source tokens → grammar.HasRightTree tokens tree
-      → Resolves tree program → paths.IsRefusal program (Fault fault) → HasFault source fault
-  of_order : (tokens : List Tok) (tree : List Decl) (program : Typed) → text.HasTokens source tokens → grammar.HasRightTree tokens tree
-      → Resolves tree program → order.IsFault program fault → HasFault source fault
+  of_paths : (tokens : List Tok) (tree : List Decl) (program written : Typed) → text.HasTokens source tokens → grammar.HasRightTree tokens tree
+      → Resolves tree program → IsExpanded program written → paths.IsRefusal written (Fault fault) → HasFault source fault
+  of_order : (tokens : List Tok) (tree : List Decl) (program written : Typed) → text.HasTokens source tokens → grammar.HasRightTree tokens tree
+      → Resolves tree program → IsExpanded program written → order.IsFault written fault → HasFault source fault
 
 -- the text has these tokens, the tokens this tree, and the program is what the tree means; and the text has no fault
 pub record Accepts (source : List ℕ) (program : Typed) : Type 0 where
@@ -44,8 +45,8 @@ abbrev pub HasNoTokenFault : List Tok → Type 0
 HasNoTokenFault tokens = (code : Code) (start : ℕ) → grammar.IsFault tokens code start → ⊥
 
 -- a true fault of the first pass that has any: of a text, which has one fault of its own at most; of its tokens; of its tree, and there
--- the least; of the lock paths of the program that the tree means, and there the least; or of the order of its locks, and there at the
--- first point that makes the cycle's first edge
+-- the least; of the lock paths of the program that the tree means, with its helpers written out, and there the least; or of the order
+-- of its locks, and there at the first point that makes the cycle's first edge
 pub data IsOfFirstPass (source : List ℕ) (fault : the_fault.Fault) : Type 0 where
   in_text : text.IsRefusal source (Fault fault) → IsOfFirstPass source fault
   in_tokens : (tokens : List Tok) → HasNoTextFault source → text.HasTokens source tokens
@@ -53,12 +54,12 @@ pub data IsOfFirstPass (source : List ℕ) (fault : the_fault.Fault) : Type 0 wh
   in_tree : (tokens : List Tok) (tree : List Decl) → HasNoTextFault source → text.HasTokens source tokens
       → HasNoTokenFault tokens → grammar.HasRightTree tokens tree
       → names.IsRefusal tree (Fault fault) → IsLeastOf (names.IsFault tree) (Fault fault) → IsOfFirstPass source fault
-  in_paths : (tokens : List Tok) (tree : List Decl) (program : Typed) → HasNoTextFault source → text.HasTokens source tokens
-      → HasNoTokenFault tokens → grammar.HasRightTree tokens tree → names.HasNoFault tree → Resolves tree program
-      → paths.IsRefusal program (Fault fault) → paths.IsLeast program (Fault fault) → IsOfFirstPass source fault
-  in_order : (tokens : List Tok) (tree : List Decl) (program : Typed) → HasNoTextFault source → text.HasTokens source tokens
-      → HasNoTokenFault tokens → grammar.HasRightTree tokens tree → names.HasNoFault tree → Resolves tree program
-      → paths.HasNoFault program → order.IsFaultAtFirst program fault → IsOfFirstPass source fault
+  in_paths : (tokens : List Tok) (tree : List Decl) (program written : Typed) → HasNoTextFault source → text.HasTokens source tokens
+      → HasNoTokenFault tokens → grammar.HasRightTree tokens tree → names.HasNoFault tree → Resolves tree program → IsExpanded program written
+      → paths.IsRefusal written (Fault fault) → paths.IsLeast written (Fault fault) → IsOfFirstPass source fault
+  in_order : (tokens : List Tok) (tree : List Decl) (program written : Typed) → HasNoTextFault source → text.HasTokens source tokens
+      → HasNoTokenFault tokens → grammar.HasRightTree tokens tree → names.HasNoFault tree → Resolves tree program → IsExpanded program written
+      → paths.HasNoFault written → order.IsFaultAtFirst written fault → IsOfFirstPass source fault
 
 -- a text was refused for such a fault, or for want of memory
 abbrev pub IsRefusal : List ℕ → Refusal → Type 0

@@ -1,7 +1,9 @@
 //! The passes in order.
 
-ghost use Rattle.std.specs.Prelude.{IfOk, IfErr, OnOk};
-ghost use Rattle.core_lang.specs.WellFormed.{IsWellFormed};
+ghost use Rattle.std.specs.Prelude.{◌≡◌, IfOk, IfErr, OnOk};
+ghost use Rattle.source.specs.declared.fault.Refusal.TheVariants.{NoMemory};
+ghost use Rattle.core_lang.specs.WellFormed.{IsChecked, IsWellFormed};
+ghost use Rattle.expansion.specs.Data.{IsExpanded};
 ghost use Rattle.lockpaths.specs.Paths.{ArePaths};
 ghost use Rattle.lockorder.specs.Edges.{AreRanksOf, RiseIn};
 ghost use Rattle.lockorder.specs.Faults.{HasNoFault};
@@ -9,12 +11,13 @@ ghost use Rattle.lowering.specs.Plans.{IsCompiled};
 ghost use Rattle.compiler.specs.Programs.{Accepts, IsOrderRefusal, IsRefusal};
 
 use core_lang::typed::Typed;
+use expansion::program::expand;
 use lexer::lex;
 use lockorder::order;
 use lockorder::ranks::{OrderRefusal, Ranks};
 use lockpaths::paths;
 use lockpaths::table::Paths;
-use lowering::compiled::Program;
+use lowering::compiled::{Program, Trees};
 use parser::parse;
 use source::fault::Refusal;
 use source::memory::NoMemory;
@@ -41,24 +44,38 @@ fn ranked(alloc: Global, program: &Typed, paths: &Paths) -> Result<Ranks, Refusa
     }
 }
 
+// The program with its helpers written out.
+fn written_out(alloc: Global, program: &Typed) -> Result<Typed, Refusal>
+    requires { IsChecked program.now }
+    ensures expanded { IfOk result (IsExpanded program.now) }
+    ensures well_formed { IfOk result IsWellFormed }
+    ensures fault { IfErr result (λ refusal. refusal ≡ NoMemory) }
+{
+    match expand(alloc, program) {
+        Ok(written) => Ok(written),
+        Err(NoMemory) => Err(Refusal::NoMemory),
+    }
+}
+
 /// The program that the text means, compiled; or the fault of the first pass that has one.
 ///
 /// # Errors
 ///
 /// The fault, or want of memory.
 pub fn compile(alloc: Global, text: &[u8]) -> Result<Program, Refusal>
-    ensures accepts { IfOk result (λ made. Accepts text.now made.program) }
+    ensures accepts { IfOk result (λ made. Accepts text.now made.accepted) }
     ensures compiled { IfOk result IsCompiled }
     ensures fault { IfErr result (IsRefusal text.now) }
 {
     let tokens = lex(alloc, text)?;
     let tree = parse(alloc, &tokens)?;
     drop(tokens);
-    let typed = check(alloc, &tree)?;
+    let accepted = check(alloc, &tree)?;
     drop(tree);
-    let found = paths(alloc, &typed)?;
-    let ranks = ranked(alloc, &typed, &found)?;
-    match Program::of(alloc, typed, found, ranks) {
+    let written = written_out(alloc, &accepted)?;
+    let found = paths(alloc, &written)?;
+    let ranks = ranked(alloc, &written, &found)?;
+    match Program::of(alloc, Trees { accepted, written }, found, ranks) {
         Ok(program) => Ok(program),
         Err(NoMemory) => Err(Refusal::NoMemory),
     }

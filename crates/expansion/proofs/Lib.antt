@@ -5,3 +5,9 @@ pub mod Growth
 pub mod Sizes
 pub mod Named
 pub mod Limits
+pub mod Places
+pub mod Located
+pub mod TypedExprs
+pub mod TypedStatements
+pub mod ScopedStatements
+pub mod WellFormed

@@ -1,5 +1,6 @@
 -- Parts of a program as data, and what of a program stays as it was.
 use Rattle.std.specs.Prelude.{◌≡◌, ℕ, List, map, Option, string_bytes}
+use Rattle.std.specs.List.{AllZip}
 use Rattle.core_lang.specs.declared.value.Value.{Value}
 use Rattle.core_lang.specs.declared.value.ValueType.{ValueType}
 use Rattle.core_lang.specs.declared.tree.Section.{Section}
@@ -13,6 +14,8 @@ use Rattle.core_lang.specs.declared.typed.GlobalVariable.{GlobalVariable}
 use Rattle.core_lang.specs.declared.typed.Call.{Call}
 use Rattle.core_lang.specs.declared.typed.Thread.{Thread}
 use Rattle.core_lang.specs.declared.typed.Typed.{Typed}
+use Rattle.core_lang.specs.Expansion.{IsExpansion}
+use Rattle.core_lang.specs.WrittenLocals.{AreWrittenLocals}
 
 -- a name, and the number of what it stands for: a lock field and its class, a final reference and its struct
 pub record Numbered : Type 0 where
@@ -96,3 +99,9 @@ pub record IsSameBesides (program program' : Typed) : Type 0 where
   pub globals : map global_data program'.globals.items ≡ map global_data program.globals.items
   pub heads : map head_data program'.sections.items ≡ map head_data program.sections.items
   pub threads : map thread_data program'.threads.items ≡ map thread_data program.threads.items
+
+-- a program with the helpers of all its sections written out, each with the locals that it had and those that its calls bring
+pub record IsExpanded (program written : Typed) : Type 0 where
+  pub expansion : IsExpansion program written
+  pub locals : AllZip (AreWrittenLocals program.shape) program.sections.items written.sections.items
+  pub besides : IsSameBesides program written

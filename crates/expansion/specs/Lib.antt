@@ -1,4 +1,4 @@
 pub mod Scopes
 pub mod Bodies
 pub mod Data
-pub use Rattle.expansion.specs.Data.{IsSameBesides}
+pub use Rattle.expansion.specs.Data.{IsSameBesides, IsExpanded}

@@ -2,14 +2,15 @@
 
 ghost use Rattle.std.specs.Prelude.{◌≡◌, [], map, IfOk};
 ghost use Rattle.std.specs.List.{AllZip};
-ghost use Rattle.core_lang.specs.WellFormed.{IsWithinLimits, IsChecked};
-ghost use Rattle.core_lang.specs.Expansion.{HasSamePlaces, IsWrittenOut, IsExpansion};
+ghost use Rattle.core_lang.specs.WellFormed.{IsChecked, IsWellFormed};
+ghost use Rattle.core_lang.specs.Expansion.{HasSamePlaces, IsWrittenOut};
 ghost use Rattle.core_lang.specs.WrittenLocals.{AreWrittenLocals};
-ghost use Rattle.expansion.specs.Data.{head_data, IsSameBesides};
+ghost use Rattle.expansion.specs.Data.{head_data, IsExpanded};
 
 use crate::body::Body;
 use crate::copies::{arrays, cells, classes, globals, pools, structs, threads};
 use crate::stop::Stop;
+use core_lang::laws;
 use core_lang::shape::Shape;
 use core_lang::tree::Section;
 use core_lang::typed::Typed;
@@ -80,15 +81,12 @@ fn places(alloc: Global, shape: &Shape) -> Result<Shape, NoMemory>
 /// the calls lead nowhere, or too deep, would be answered as one too: a checked program has none.)
 pub fn expand(alloc: Global, program: &Typed) -> Result<Typed, NoMemory>
     requires { IsChecked program.now }
-    // Each section is written out, over the same places and cells, and no helpers are left.
-    ensures expansion { IfOk result (IsExpansion program.now) }
-    // Each has the locals that it had, and those that its calls bring.
-    ensures locals { IfOk result (λ made. AllZip (AreWrittenLocals program.now.shape) program.now.sections.items made.sections.items) }
-    // The rest is as it was.
-    ensures besides { IfOk result (IsSameBesides program.now) }
-    // It keeps to the limits.
-    ensures within { IfOk result IsWithinLimits }
+    // Each section is written out, over the same places and cells, no helpers are left, and the rest is as it was.
+    ensures expanded { IfOk result (IsExpanded program.now) }
+    // It is well formed.
+    ensures well_formed { IfOk result IsWellFormed }
 {
+    laws::writing_out_changes_nothing();
     let Ok(sections) = all_written_out(alloc, &program.shape, &program.sections) else {
         return Err(NoMemory);
     };

@@ -14,8 +14,9 @@ use Rattle.lowering.specs.Rooms.{IsRoomOf, AreRoomsOf}
 use Rattle.lowering.specs.Plans.{Plan, IsCompiled}
 
 -- its plan
-abbrev pub plan_of : Typed → List ℕ → Placed → LayoutOf → Plan
-plan_of program ranks placed layout = record {
+abbrev pub plan_of : Typed → Typed → List ℕ → Placed → LayoutOf → Plan
+plan_of accepted program ranks placed layout = record {
+  accepted = accepted;
   program = program;
   ranks = ranks;
   lists = all_lists placed;

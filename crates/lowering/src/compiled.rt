@@ -1,7 +1,8 @@
 //! Compiled programs.
 
 ghost use Rattle.std.specs.Prelude.{◌≡◌, ◌<◌, length, IfOk};
-ghost use Rattle.core_lang.specs.WellFormed.{IsWellFormed};
+ghost use Rattle.core_lang.specs.WellFormed.{IsChecked, IsWellFormed};
+ghost use Rattle.expansion.specs.Data.{IsExpanded};
 ghost use Rattle.inserter.specs.Placement.{all_lists};
 ghost use Rattle.lockorder.specs.Edges.{AreRanksOf, RiseIn};
 ghost use Rattle.lockpaths.specs.Paths.{ArePaths};
@@ -22,9 +23,17 @@ use source::memory::NoMemory;
 use std::alloc::Global;
 use std::marker::Model;
 
+/// A program that is accepted, and the same with its helpers written out.
+#[derive(Drop)]
+pub struct Trees {
+    pub accepted: Typed,
+    pub written: Typed,
+}
+
 /// A program that is accepted, with all that the passes found of it. As a value it is its plan.
 #[derive(Drop)]
 pub struct Program {
+    accepted: Typed,
     typed: Typed,
     paths: Paths,
     ranks: Ranks,
@@ -46,9 +55,9 @@ impl Model for Program {
 
     ghost coded = { Prim.hlevel (codes, action.the_row.coded, expr.the_row.coded, condition.the_row.coded) };
 
-    ghost view = { λ p. plan_of p.typed p.ranks.items p.placed p.layout };
+    ghost view = { λ p. plan_of p.accepted p.typed p.ranks.items p.placed p.layout };
 
-    ghost invariant = { λ p. IsProgram (plan_of p.typed p.ranks.items p.placed p.layout) p.paths p.code p.rooms.items };
+    ghost invariant = { λ p. IsProgram (plan_of p.accepted p.typed p.ranks.items p.placed p.layout) p.paths p.code p.rooms.items };
 }
 
 impl Program {
@@ -56,25 +65,30 @@ impl Program {
     ghost use Rattle.lowering.specs.Lowered.{IsCodeOf};
     ghost use Rattle.lowering.specs.Compiled.{IsRoomAt};
 
-    /// A well-formed program with its lock paths and ranks, compiled.
+    /// A program that is accepted, with its helpers written out and its lock paths and ranks, compiled.
     ///
     /// # Errors
     ///
     /// Want of memory.
-    pub fn of(alloc: Global, typed: Typed, paths: Paths, ranks: Ranks) -> Result<Program, NoMemory>
-        requires program { IsWellFormed typed }
-        requires paths { ArePaths typed paths }
-        requires stable { HasNoFault typed }
-        requires ranked { AreRanksOf typed ranks.items }
-        requires rise { RiseIn typed ranks.items }
-        ensures program { IfOk result (λ made. made.program ≡ typed) }
+    pub fn of(alloc: Global, trees: Trees, paths: Paths, ranks: Ranks) -> Result<Program, NoMemory>
+        requires checked { IsChecked trees.accepted }
+        requires expanded { IsExpanded trees.accepted trees.written }
+        requires program { IsWellFormed trees.written }
+        requires paths { ArePaths trees.written paths }
+        requires stable { HasNoFault trees.written }
+        requires ranked { AreRanksOf trees.written ranks.items }
+        requires rise { RiseIn trees.written ranks.items }
+        ensures accepted { IfOk result (λ made. made.accepted ≡ trees.accepted) }
+        ensures program { IfOk result (λ made. made.program ≡ trees.written) }
         ensures compiled { IfOk result IsCompiled }
     {
+        let typed = trees.written;
         let placed = place(alloc, &typed, &paths, &ranks)?;
         let layout = lay_out(alloc, &typed)?;
         let code = lower(alloc, &typed, &paths, &placed)?;
         let rooms = rooms(alloc, &typed, &paths, &layout)?;
         Ok(Program {
+            accepted: trees.accepted,
             typed,
             paths,
             ranks,
@@ -85,7 +99,16 @@ impl Program {
         })
     }
 
-    /// The program itself. That it is compiled is what later layers stand on.
+    /// The program as it was accepted, with its helpers.
+    #[inline]
+    pub fn accepted(&self) -> &Typed
+        ensures accepted { result.now ≡ self.now.accepted }
+        ensures compiled { IsCompiled self.now }
+    {
+        &self.accepted
+    }
+
+    /// The program with its helpers written out, which is what runs. That it is compiled is what later layers stand on.
     #[inline]
     pub fn typed(&self) -> &Typed
         ensures program { result.now ≡ self.now.program }

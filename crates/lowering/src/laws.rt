@@ -2,7 +2,7 @@
 
 ghost use denote.Param.Send.{IsSync};
 ghost use Rattle.lowering.specs.contracts.compiled.Program as program;
-ghost use Rattle.lowering.specs.Plans.{CodesBehave};
+ghost use Rattle.lowering.specs.Plans.{CodesBehave, CompiledRunAlike};
 ghost use Rattle.lowering.specs.PlanLaws.{NothingIsTaken, ListsDependOnTheSection, RanksStay};
 
 /// The code of each section of a well-formed program behaves as the section, whatever lists stand before its points: alone
@@ -12,6 +12,14 @@ pub fn codes_behave()
     ensures { CodesBehave }
 {
     code::run_laws::sections_behave::<u8>();
+}
+
+/// Calls of a compiled program, each with an argument for each parameter, run one after another as those of the program
+/// that was accepted, whose helpers are not written out.
+pub fn compiled_run_alike()
+    ensures { CompiledRunAlike }
+{
+    core_lang::laws::writing_out_changes_nothing();
 }
 
 /// Nothing is taken in a section that accesses nothing.

@@ -1,7 +1,7 @@
 use Rattle.std.proofs.Common.{sym, subst}
 use Rattle.std.proofs.lemmas.Result.{err_from_is_err_and}
 use Rattle.compiler.specs.Programs.{Accepts}
-use Rattle.compiler.proofs.RefusalLemmas.{tokens_refused, tree_refused, paths_refused, order_refused}
+use Rattle.compiler.proofs.RefusalLemmas.{no_memory_refused, tokens_refused, tree_refused, paths_refused, order_refused}
 use Rattle.compiler.proofs.FaultlessLemmas.{faultless, tokens_faultless}
 use Rattle.compiler.proofs.passes.compile.Goals as goal
 
@@ -11,15 +11,20 @@ returns-in_err-tree-clause-fault c =
     rw (p.1, p.2)
     (tokens_refused _ _ c.in_err-tree.field-0.0 c.in_ok-tokens.ensures.refused c.in_ok-tokens.ensures.found (rw c.deref.ensures.value at c.in_err-tree.ensures.fault))
 
-pub returns-in_err-typed-clause-fault : goal.returns-in_err-typed-clause-fault
-returns-in_err-typed-clause-fault c =
-    let p = err_from_is_err_and c.from_residual-in_err-typed.result c.from_residual-in_err-typed.ensures.1 in
+pub returns-in_err-accepted-clause-fault : goal.returns-in_err-accepted-clause-fault
+returns-in_err-accepted-clause-fault c =
+    let p = err_from_is_err_and c.from_residual-in_err-accepted.result c.from_residual-in_err-accepted.ensures.1 in
     let right = rw c.deref.ensures.value at c.in_ok-tree.ensures.found in
     let placed = rw c.deref.ensures.value at c.in_ok-tree.ensures.misplaced in
     rw (p.1, p.2)
-    (tree_refused _ _ _ c.in_err-typed.field-0.0 c.in_ok-tokens.ensures.refused c.in_ok-tokens.ensures.found
+    (tree_refused _ _ _ c.in_err-accepted.field-0.0 c.in_ok-tokens.ensures.refused c.in_ok-tokens.ensures.found
     (λ code start. tokens_faultless _ _ _ code start c.in_ok-tokens.ensures.found right placed) right
-    c.in_err-typed.ensures.fault c.in_err-typed.ensures.least)
+    c.in_err-accepted.ensures.fault c.in_err-accepted.ensures.least)
+
+pub returns-in_err-written-clause-fault : goal.returns-in_err-written-clause-fault
+returns-in_err-written-clause-fault c =
+    let p = err_from_is_err_and c.from_residual-in_err-written.result c.from_residual-in_err-written.ensures.1 in
+    rw (p.1, p.2) (no_memory_refused _ c.in_err-written.field-0.0 c.in_err-written.ensures.fault)
 
 pub returns-in_err-found-clause-fault : goal.returns-in_err-found-clause-fault
 returns-in_err-found-clause-fault c =
@@ -27,9 +32,9 @@ returns-in_err-found-clause-fault c =
     let right = rw c.deref.ensures.value at c.in_ok-tree.ensures.found in
     let placed = rw c.deref.ensures.value at c.in_ok-tree.ensures.misplaced in
     rw (p.1, p.2)
-    (paths_refused _ _ _ _ c.in_err-found.field-0.0 c.in_ok-tokens.ensures.refused c.in_ok-tokens.ensures.found
-    (λ code start. tokens_faultless _ _ _ code start c.in_ok-tokens.ensures.found right placed) right c.in_ok-typed.ensures.faultless
-    c.in_ok-typed.ensures.resolves c.in_err-found.ensures.fault c.in_err-found.ensures.least)
+    (paths_refused _ _ _ _ _ c.in_err-found.field-0.0 c.in_ok-tokens.ensures.refused c.in_ok-tokens.ensures.found
+    (λ code start. tokens_faultless _ _ _ code start c.in_ok-tokens.ensures.found right placed) right c.in_ok-accepted.ensures.faultless
+    c.in_ok-accepted.ensures.resolves c.in_ok-written.ensures.expanded c.in_err-found.ensures.fault c.in_err-found.ensures.least)
 
 pub returns-in_err-ranks-clause-fault : goal.returns-in_err-ranks-clause-fault
 returns-in_err-ranks-clause-fault c =
@@ -37,20 +42,20 @@ returns-in_err-ranks-clause-fault c =
     let right = rw c.deref.ensures.value at c.in_ok-tree.ensures.found in
     let placed = rw c.deref.ensures.value at c.in_ok-tree.ensures.misplaced in
     rw (p.1, p.2)
-    (order_refused _ _ _ _ c.in_err-ranks.field-0.0 c.in_ok-tokens.ensures.refused c.in_ok-tokens.ensures.found
-    (λ code start. tokens_faultless _ _ _ code start c.in_ok-tokens.ensures.found right placed) right c.in_ok-typed.ensures.faultless
-    c.in_ok-typed.ensures.resolves c.in_ok-found.ensures.faultless c.in_err-ranks.ensures.fault)
+    (order_refused _ _ _ _ _ c.in_err-ranks.field-0.0 c.in_ok-tokens.ensures.refused c.in_ok-tokens.ensures.found
+    (λ code start. tokens_faultless _ _ _ code start c.in_ok-tokens.ensures.found right placed) right c.in_ok-accepted.ensures.faultless
+    c.in_ok-accepted.ensures.resolves c.in_ok-written.ensures.expanded c.in_ok-found.ensures.faultless c.in_err-ranks.ensures.fault)
 
 pub returns-in-Ok-clause-accepts : goal.returns-in-Ok-clause-accepts
 returns-in-Ok-clause-accepts c =
     let right = rw c.deref.ensures.value at c.in_ok-tree.ensures.found in
-    subst (Accepts c.args.text.now) (sym c.in-Ok.ensures.program) (record {
+    subst (Accepts c.args.text.now) (sym c.in-Ok.ensures.accepted) (record {
       tokens = _;
       tree = _;
       has_tokens = c.in_ok-tokens.ensures.found;
       has_tree = right;
-      resolves = c.in_ok-typed.ensures.resolves;
-      faultless = faultless _ _ _ _ c.in_ok-tokens.ensures.refused c.in_ok-tokens.ensures.only c.in_ok-tokens.ensures.found right
+      resolves = c.in_ok-accepted.ensures.resolves;
+      faultless = faultless _ _ _ _ _ c.in_ok-tokens.ensures.refused c.in_ok-tokens.ensures.only c.in_ok-tokens.ensures.found right
           (rw c.deref.ensures.value at c.in_ok-tree.ensures.misplaced) (rw c.deref.ensures.value at c.in_ok-tree.ensures.only)
-          c.in_ok-typed.ensures.faultless c.in_ok-typed.ensures.resolves c.in_ok-found.ensures.faultless c.in_ok-ranks.ensures.faultless;
+          c.in_ok-accepted.ensures.faultless c.in_ok-accepted.ensures.resolves c.in_ok-written.ensures.expanded c.in_ok-found.ensures.faultless c.in_ok-ranks.ensures.faultless;
     })
