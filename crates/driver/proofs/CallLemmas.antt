@@ -5,7 +5,7 @@ use Rattle.core_lang.specs.declared.typed.Call.{Call}
 use Rattle.core_lang.specs.declared.typed.Thread.{Thread}
 use Rattle.core_lang.specs.declared.typed.Typed.{Typed}
 use Rattle.core_lang.specs.Serial.{Scheduled, script_from, scripts_from, all_calls}
-use Rattle.core_lang.specs.WellFormed.{IsWellFormed, CanCall}
+use Rattle.core_lang.specs.WellFormed.{IsChecked, CanCall}
 
 -- each of a list
 abbrev pub Each : {A : Type 0} → (A → Type 0) → List A → Type 0
@@ -50,5 +50,5 @@ can_call_scripts program (x ∷ xs) thread can =
     (can_call_scripts program xs _ (λ t k y call here is. can (suc t) k y call here is))
 
 -- each call of a well-formed program's scripts can be made
-pub can_call_all : (program : Typed) → IsWellFormed program → Each (λ (s : Scheduled). CanCall program s.call.section s.call.arguments) (all_calls program)
+pub can_call_all : (program : Typed) → IsChecked program → Each (λ (s : Scheduled). CanCall program s.call.section s.call.arguments) (all_calls program)
 can_call_all program well = can_call_scripts program program.threads.items 0 well.scripts

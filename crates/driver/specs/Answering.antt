@@ -15,7 +15,7 @@ use Rattle.driver.specs.declared.request.Request.TheVariants.{Check, Listing, Se
 use Rattle.driver.specs.declared.status.Status.{Status}
 use Rattle.driver.specs.declared.status.Status.TheVariants.{Refused, BadInput}
 use Rattle.driver.specs.Answers.{IsRefused}
-use Rattle.driver.specs.Checks.{IsChecked}
+use Rattle.driver.specs.Checks.{IsCheckReport}
 use Rattle.driver.specs.Listings.{IsListed}
 use Rattle.driver.specs.Replays.{IsReplayed, verdict_status, judgement_text}
 use Rattle.driver.specs.Serial.{IsRun}
@@ -54,14 +54,14 @@ IsStrangeAnswer answer = Meets IsStrange answer
 
 -- a text was accepted, or this is the answer to its fault
 abbrev pub IsAccepted : List ℕ → List ℕ → Result Plan Answer → Type 0
-IsAccepted file text (Ok plan) = Accepts text plan.program × IsCompiled plan
+IsAccepted file text (Ok plan) = Accepts text plan.accepted × IsCompiled plan
 IsAccepted file text (Err answer) = Meets (IsRefused file text) answer
 
 -- what is answered to a request for a program
 abbrev pub RequestAnswers : Request → List ℕ → Plan → Status → List ℕ → List ℕ → Type 0
-RequestAnswers Check text plan = IsChecked text plan
+RequestAnswers Check text plan = IsCheckReport text plan
 RequestAnswers Listing text plan = IsListed plan
-RequestAnswers (Serial turns) text plan = IsRun turns plan.program
+RequestAnswers (Serial turns) text plan = IsRun turns plan.accepted
 
 -- to one for a program and the text of another file
 abbrev pub PairWanted : PairRequest → List ℕ → List ℕ → Plan → Status → List ℕ → List ℕ → Type 0

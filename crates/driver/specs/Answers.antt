@@ -19,7 +19,7 @@ pub record IsRefused (file text : List ℕ) (status : Status) (out err : List �
 -- the text is accepted, and the answer is what is wanted for its program; or the text has a fault
 pub data TextAnswers (Wanted : Plan → Status → List ℕ → List ℕ → Type 0) (file text : List ℕ) (status : Status)
     (out err : List ℕ) : Type 0 where
-  accepted : (plan : Plan) → Accepts text plan.program → IsCompiled plan → Wanted plan status out err →
+  accepted : (plan : Plan) → Accepts text plan.accepted → IsCompiled plan → Wanted plan status out err →
       TextAnswers Wanted file text status out err
   refused : IsRefused file text status out err → TextAnswers Wanted file text status out err
 

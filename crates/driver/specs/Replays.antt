@@ -64,9 +64,9 @@ pub record IsJudged (judging : Judging) (text : List ℕ) (plan : Plan) (status 
   pub lines : List (List ℕ)
   pub said : history_in text ≡ Ok (format, lines)
   pub verdict : Verdict
-  pub holds : Holds judging.turns format plan.program lines verdict
+  pub holds : Holds judging.turns format plan.accepted lines verdict
   pub wanted : Option Wanted
-  pub explains : Explains judging.turns format plan.program lines verdict wanted
+  pub explains : Explains judging.turns format plan.accepted lines verdict wanted
   pub ended : status ≡ verdict_status verdict
   pub written : out ≡ judgement_text judging.why verdict wanted lines
   pub told : err ≡ []

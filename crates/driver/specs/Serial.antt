@@ -61,4 +61,4 @@ pub data IsRun (turns : ℕ) (program : Typed) (status : Status) (out err : List
 
 -- what `serial` answers for a text
 abbrev pub SerialAnswers : ℕ → List ℕ → List ℕ → Status → List ℕ → List ℕ → Type 0
-SerialAnswers turns file text = TextAnswers (λ plan. IsRun turns plan.program) file text
+SerialAnswers turns file text = TextAnswers (λ plan. IsRun turns plan.accepted) file text

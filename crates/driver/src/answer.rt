@@ -1,10 +1,10 @@
 //! What an engine answers, as a function of the bytes that it read.
 
 ghost use Rattle.std.specs.Prelude.{◌≡◌, IfOk};
-ghost use Rattle.core_lang.specs.WellFormed.{IsWellFormed};
+ghost use Rattle.core_lang.specs.WellFormed.{IsChecked};
 ghost use Rattle.driver.specs.Answering.{Meets, IsAccepted, IsFaultAnswer, RequestAnswers, PairWanted};
 ghost use Rattle.driver.specs.Answers.{TextAnswers};
-ghost use Rattle.driver.specs.Checks.{IsChecked};
+ghost use Rattle.driver.specs.Checks.{IsCheckReport};
 ghost use Rattle.driver.specs.Listings.{IsListed};
 ghost use Rattle.driver.specs.Serial.{IsRun};
 ghost use Rattle.driver.specs.ThreadRuns.{ThreadsAnswers};
@@ -67,7 +67,7 @@ fn accepted(alloc: Global, file: &str, text: &[u8]) -> Result<Result<Program, An
 
 /// The text of what is found of a program.
 fn checked(alloc: Global, text: &[u8], program: &Program) -> Result<Answer, NoMemory>
-    ensures { IfOk result (Meets (IsChecked text.now program.now)) }
+    ensures { IfOk result (Meets (IsCheckReport text.now program.now)) }
 {
     let check = Check {
         text,
@@ -96,7 +96,7 @@ fn listed(alloc: Global, program: &Program) -> Result<Answer, NoMemory>
 
 /// The text of a program's run.
 fn ran(alloc: Global, program: &Typed, turns: u64) -> Result<Answer, NoMemory>
-    requires { IsWellFormed program.now }
+    requires { IsChecked program.now }
     ensures { IfOk result (Meets (IsRun turns program.now)) }
 {
     laws::settled_are_serial();
@@ -128,7 +128,7 @@ fn of_program(
     match request {
         Request::Check => checked(alloc, text, program),
         Request::Listing => listed(alloc, program),
-        Request::Serial { turns } => ran(alloc, program.typed(), turns),
+        Request::Serial { turns } => ran(alloc, program.accepted(), turns),
     }
 }
 

@@ -87,6 +87,6 @@ pub fn replayed(
         Err(HistoryRefusal::Fault(fault)) => return bad_history(alloc, history_file, fault),
         Err(HistoryRefusal::NoMemory) => return Err(NoMemory),
     };
-    let judgement = replay(alloc, program.typed(), &recorded, judging.turns)?;
+    let judgement = replay(alloc, program.accepted(), &recorded, judging.turns)?;
     judged(alloc, judging.why, &judgement, &recorded)
 }

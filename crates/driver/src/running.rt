@@ -2,7 +2,7 @@
 
 ghost use Rattle.std.specs.Prelude.{◌≡◌, IfOk};
 ghost use Rattle.core_lang.specs.Typing.{HasCells};
-ghost use Rattle.core_lang.specs.WellFormed.{IsWellFormed};
+ghost use Rattle.core_lang.specs.WellFormed.{IsChecked};
 ghost use Rattle.report.specs.{entry_of};
 ghost use Rattle.driver.specs.Running.{scheduled_of, ended_of, IsRan};
 ghost use Rattle.driver.specs.Serial.{entry};
@@ -47,7 +47,7 @@ fn record_of(alloc: Global, call: &ScheduledCall<'_>, end: End) -> Result<Record
 /// Runs all calls of a program one after another, thread 0's whole script first, as far as so many
 /// turns of each execution of a loop settle them.
 pub fn run_scripts(alloc: Global, typed: &Typed, turns: u64) -> Result<Ran, NoMemory>
-    requires { IsWellFormed typed.now }
+    requires { IsChecked typed.now }
     ensures ran { IfOk result (IsRan turns typed.now) }
     ensures cells { IfOk result (λ ran. HasCells typed.now ran.heap) }
 {

@@ -72,17 +72,17 @@ get_taken (x ∷ xs) (suc n) (suc k) lt = get_taken xs n k (omega (arith, lt))
 -- ---- what stands for what
 
 abbrev pub types_of : List LocalData → List ValueType
-types_of data = map (λ (d : LocalData). d.value_type) data
+types_of all = map (λ (d : LocalData). d.value_type) all
 
 -- each local in scope is one of the tree, and the one that stands for it has its type; a `var` stands for a `var`
 abbrev pub StandsFor : List Local → List LocalData → List Pair → Type 0
-StandsFor own data scope =
+StandsFor own all scope =
     (k written : ℕ) → Contains scope (pair k written) →
-    (l : Local) × (d : LocalData) × (slice_get own k ≡ Some l) × (slice_get data written ≡ Some d) × (d.value_type ≡ l.value_type) × (l.kind ≡ Var → d.kind ≡ Var)
+    (l : Local) × (d : LocalData) × (slice_get own k ≡ Some l) × (slice_get all written ≡ Some d) × (d.value_type ≡ l.value_type) × (l.kind ≡ Var → d.kind ≡ Var)
 
 -- a local that may be assigned to
 abbrev pub IsVar : List LocalData → ℕ → Type 0
-IsVar data k = (d : LocalData) × (slice_get data k ≡ Some d) × (d.kind ≡ Var)
+IsVar all k = (d : LocalData) × (slice_get all k ≡ Some d) × (d.kind ≡ Var)
 
 -- none of them is a parameter
 abbrev pub NoParameters : List LocalData → Type 0
@@ -103,36 +103,36 @@ no_parameters [] = tt
 no_parameters (l ∷ ls) = ((λ e. absurd cc), no_parameters ls)
 
 -- a type of the tree's local is that of the one that stands for it
-pub type_there : (own : List Local) (data : List LocalData) (k written : ℕ) (t : ValueType) (l : Local) (d : LocalData) → slice_get own k ≡ Some l →
-    slice_get data written ≡ Some d → d.value_type ≡ l.value_type → slice_get (local_types own) k ≡ Some t → slice_get (types_of data) written ≡ Some t
-type_there own data k written t l d is is' same has =
-    get_mapped (λ (z : LocalData). z.value_type) data written ∙ ap (option_map (λ (z : LocalData). z.value_type)) is' ∙ ap Some same
+pub type_there : (own : List Local) (all : List LocalData) (k written : ℕ) (t : ValueType) (l : Local) (d : LocalData) → slice_get own k ≡ Some l →
+    slice_get all written ≡ Some d → d.value_type ≡ l.value_type → slice_get (local_types own) k ≡ Some t → slice_get (types_of all) written ≡ Some t
+type_there own all k written t l d is is' same has =
+    get_mapped (λ (z : LocalData). z.value_type) all written ∙ ap (option_map (λ (z : LocalData). z.value_type)) is' ∙ ap Some same
     ∙ sym (get_mapped (λ (z : Local). z.value_type) own k ∙ ap (option_map (λ (z : Local). z.value_type)) is) ∙ has
 
 -- one more is bound
-pub stands_more : (own : List Local) (data : List LocalData) (scope : List Pair) (k written : ℕ) (l : Local) (d : LocalData) → StandsFor own data scope →
-    slice_get own k ≡ Some l → slice_get data written ≡ Some d → d.value_type ≡ l.value_type → (l.kind ≡ Var → d.kind ≡ Var) → StandsFor own data (pair k written ∷ scope)
-stands_more own data scope k written l d stands is is' same kind a b c =
+pub stands_more : (own : List Local) (all : List LocalData) (scope : List Pair) (k written : ℕ) (l : Local) (d : LocalData) → StandsFor own all scope →
+    slice_get own k ≡ Some l → slice_get all written ≡ Some d → d.value_type ≡ l.value_type → (l.kind ≡ Var → d.kind ≡ Var) → StandsFor own all (pair k written ∷ scope)
+stands_more own all scope k written l d stands is is' same kind a b c =
     elim (in_cases (pair k written) (pair a b) scope c) [
       | inl e ↦
           let x : k ≡ a = ap (λ (z : Pair). z.own) e in
           let y : written ≡ b = ap (λ (z : Pair). z.written) e in
-          (l, d, ap (slice_get own) (sym x) ∙ is, ap (slice_get data) (sym y) ∙ is', same, kind)
+          (l, d, ap (slice_get own) (sym x) ∙ is, ap (slice_get all) (sym y) ∙ is', same, kind)
       | inr rest ↦ stands a b rest
     ]
 
 -- parameters stand for parameters
-pub parameters_stand : (own : List Local) (data : List LocalData) (p n first : ℕ) → n ≤ p →
-    ((i : ℕ) → i < p → (l : Local) × (d : LocalData) × (slice_get own i ≡ Some l) × (slice_get data (first + i) ≡ Some d) × (d.value_type ≡ l.value_type) × (l.kind ≡ Var → d.kind ≡ Var)) →
-    StandsFor own data (parameters_at n first)
-parameters_stand own data p zero first le each k written c = absurd (not_in_none (pair k written) c)
-parameters_stand own data p (suc n) first le each =
+pub parameters_stand : (own : List Local) (all : List LocalData) (p n first : ℕ) → n ≤ p →
+    ((i : ℕ) → i < p → (l : Local) × (d : LocalData) × (slice_get own i ≡ Some l) × (slice_get all (first + i) ≡ Some d) × (d.value_type ≡ l.value_type) × (l.kind ≡ Var → d.kind ≡ Var)) →
+    StandsFor own all (parameters_at n first)
+parameters_stand own all p zero first le each k written c = absurd (not_in_none (pair k written) c)
+parameters_stand own all p (suc n) first le each k written c =
     let this = each n (omega (arith, le)) in
-    stands_more own data (parameters_at n first) n (first + n) this.0 this.1 (parameters_stand own data p n first (omega (arith, le)) each) this.2 this.3 this.4 this.5
+    stands_more own all (parameters_at n first) n (first + n) this.0 this.1 (parameters_stand own all p n first (omega (arith, le)) each) this.2 this.3 this.4 this.5 k written c
 
--- the data of a parameter, where the list of all has those of the parameters behind others
-pub parameter_there : (f : Local → LocalData) (own : List Local) (data front rest : List LocalData) (p i : ℕ) (l : Local) → i < p → slice_get own i ≡ Some l →
-    data ≡ front ++ (map f (take p own) ++ rest) → slice_get data (length front + i) ≡ Some (f l)
-parameter_there f own data front rest p i l lt is e =
+-- a parameter, where the list of all has those of the parameters behind others
+pub parameter_there : (f : Local → LocalData) (own : List Local) (all front rest : List LocalData) (p i : ℕ) (l : Local) → i < p → slice_get own i ≡ Some l →
+    all ≡ front ++ (map f (take p own) ++ rest) → slice_get all (length front + i) ≡ Some (f l)
+parameter_there f own all front rest p i l lt is e =
     let mine : slice_get (map f (take p own)) i ≡ Some (f l) = get_mapped f (take p own) i ∙ ap (option_map f) (get_taken own p i lt ∙ is) in
     ap (λ (xs : List LocalData). slice_get xs (length front + i)) e ∙ get_past front (map f (take p own) ++ rest) i ∙ get_within (map f (take p own)) rest i (f l) mine

@@ -134,8 +134,8 @@ module _ (program program' : Typed) (expands : IsExpansion program program') (sa
       let found = data_back array_data program.shape.arrays.items program'.shape.arrays.items array x expands.places.arrays is in
       let many = ap (λ (d : ArrayData). d.count) found.2 in
       (found.0, found.1, omega (arith, lt, many), e ∙ ap (λ (d : ArrayData). d.first + index) found.2)
-  cell_of place (owner.Field object field) (x, is, e, s, t, struct, typed) =
-      (x, ap (λ (xs : List Object). slice_get xs object) expands.places.objects ∙ is, e, s, t, struct_same object ∙ struct, field_same s field ∙ typed)
+  cell_of place (owner.Field object field) (x, is, e, (s, t, struct, typed)) =
+      (x, ap (λ (xs : List Object). slice_get xs object) expands.places.objects ∙ is, e, (s, t, struct_same object ∙ struct, field_same s field ∙ typed))
 
   pub laid_out : IsLaidOut program → IsLaidOut program'
   laid_out laid = record {
@@ -215,7 +215,7 @@ module _ (program program' : Typed) (expands : IsExpansion program program') (sa
   class_of number (class.Global n) (class.Global m) e h = tt
   class_of number (class.Global n) (class.Field t l) e h = absurd cc
   class_of number (class.Field t l) (class.Global m) e h = tt
-  class_of number (class.Field t l) (class.Field u m) e (x, is, field, has, numbered) =
+  class_of number (class.Field t l) (class.Field u m) e (x, is, (field, has, numbered)) =
       let s : t ≡ u = cc in
       let k : l ≡ m = cc in
       let found = data_back struct_data program.structs.items program'.structs.items t x same.structs is in

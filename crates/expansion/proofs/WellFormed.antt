@@ -73,20 +73,20 @@ at_least (suc p) zero le = absurd (omega (arith, le))
 at_least (suc p) (suc k) le = let r = at_least p k (omega (arith, le)) in (r.0, let e = r.1 in omega (arith, e))
 
 -- a parameter of what is written out is one of the section
-parameter_kind : (section : Section) (k : ℕ) (l : Local) (data here : List LocalData) → k < section.parameters → section.parameters ≤ length section.locals.items →
-    IsWellScoped section → data ≡ map local_data (take section.parameters section.locals.items) ++ here → slice_get data k ≡ Some (local_data l) → l.kind ≡ Parameter
-parameter_kind section k l data here lt le scoped e is =
+parameter_kind : (section : Section) (k : ℕ) (l : Local) (all here : List LocalData) → k < section.parameters → section.parameters ≤ length section.locals.items →
+    IsWellScoped section → all ≡ map local_data (take section.parameters section.locals.items) ++ here → slice_get all k ≡ Some (local_data l) → l.kind ≡ Parameter
+parameter_kind section k l all here lt le scoped e is =
     let own = section.locals.items in
     let first = get_some own k (omega (arith, lt, le)) in
     let at : 0 + k ≡ k = omega arith in
-    let there = parameter_there local_data own data [] here section.parameters k first.0 lt first.1 e in
-    let same = some_same (slice_get data k) (local_data l) (local_data first.0) is (ap (slice_get data) (sym at) ∙ there) in
+    let there = parameter_there local_data own all [] here section.parameters k first.0 lt first.1 e in
+    let same = some_same (slice_get all k) (local_data l) (local_data first.0) is (ap (slice_get all) (sym at) ∙ there) in
     ap (λ (z : LocalData). z.kind) same ∙ (scoped.kinds k first.0 first.1).0 lt
 
 -- and a further local is none
-further_kind : (data front here : List LocalData) (p k : ℕ) (l : Local) → length front ≡ p → p ≤ k → data ≡ front ++ here → NoParameters here →
-    slice_get data k ≡ Some (local_data l) → l.kind ≢ Parameter
-further_kind data front here p k l many low e none is =
+further_kind : (all front here : List LocalData) (p k : ℕ) (l : Local) → length front ≡ p → p ≤ k → all ≡ front ++ here → NoParameters here →
+    slice_get all k ≡ Some (local_data l) → l.kind ≢ Parameter
+further_kind all front here p k l many low e none is =
     let i = at_least p k low in
     let at : k ≡ length front + i.0 = let j = i.1 in omega (arith, many, j) in
     let there : slice_get here i.0 ≡ Some (local_data l) = sym (get_past front here i.0) ∙ ap (slice_get (front ++ here)) (sym at) ∙ ap (λ (z : List LocalData). slice_get z k) (sym e) ∙ is in
@@ -96,8 +96,8 @@ module _ (program program' : Typed) (checked : IsChecked program) (expands : IsE
     (named : AllZip (AreWrittenLocals program.shape) program.sections.items program'.sections.items) (in_order : WrittenOutBindsInOrder) where
   -- ---- bodies of helpers
 
-  module _ (data : List LocalData) where
-    helpers_keep : (depth : ℕ) → BodiesKeep program program' data (HelpersWritten program.shape depth) (brought depth program.shape)
+  module _ (all : List LocalData) where
+    helpers_keep : (depth : ℕ) → BodiesKeep program program' all (HelpersWritten program.shape depth) (brought depth program.shape)
     helpers_keep zero helper count first body r fresh front rest inside e is = absurd inside
     helpers_keep (suc depth) helper count first body r fresh front rest (h, found, count_is, (b, w, ends, own, f)) e is =
         let p = h.parameters in
@@ -114,20 +114,20 @@ module _ (program program' : Typed) (checked : IsChecked program) (expands : IsE
         let typed = checked.helpers helper h found in
         let le = enough_locals h scoped in
         let many : length taken ≡ p = length-map (take p locals) parameter_data ∙ taken_many locals p le in
-        let at_parameters : data ≡ front ++ (taken ++ (inner ++ rest)) =
+        let at_parameters : all ≡ front ++ (taken ++ (inner ++ rest)) =
             is ∙ ap (λ (z : List LocalData). front ++ (z ++ rest)) brought_is ∙ ap (λ (z : List LocalData). front ++ z) (append_assoc taken inner rest)
         in
-        let stands = parameters_stand locals data p p first (omega arith) (λ i lt.
+        let stands = parameters_stand locals all p p first (omega arith) (λ i lt.
             let l = get_some locals i (omega (arith, lt, le)) in
             let at : first + i ≡ length front + i = omega (arith, e) in
-            let here = parameter_there parameter_data locals data front (inner ++ rest) p i l.0 lt l.1 at_parameters in
-            (l.0, parameter_data l.0, l.1, ap (slice_get data) at ∙ here, refl, λ v. absurd (not_both l.0 v ((scoped.kinds i l.0 l.1).0 lt))))
+            let here = parameter_there parameter_data locals all front (inner ++ rest) p i l.0 lt l.1 at_parameters in
+            (l.0, parameter_data l.0, l.1, ap (slice_get all) at ∙ here, refl, λ v. absurd (not_both l.0 v ((scoped.kinds i l.0 l.1).0 lt))))
         in
-        let ready : Ready program program' data expands same (HelpersWritten program.shape depth) (brought depth program.shape) (helpers_keep depth) locals p
+        let ready : Ready program program' all expands same (HelpersWritten program.shape depth) (brought depth program.shape) (helpers_keep depth) locals p
             (λ k l here. (scoped.kinds k l here).1) (entered p first) (front ++ taken) =
             record { stands = stands; behind = omega arith; count = omega (arith, e, many, length-append front taken) }
         in
-        let keeps = all_keep program program' data expands same (HelpersWritten program.shape depth) (brought depth program.shape) (helpers_keep depth) locals p
+        let keeps = all_keep program program' all expands same (HelpersWritten program.shape depth) (brought depth program.shape) (helpers_keep depth) locals p
             (λ k l here. (scoped.kinds k l here).1) h.body.items (entered p first) b body (front ++ taken) rest ready w typed.body scoped.assigned
             (at_parameters ∙ sym (append_assoc front taken (inner ++ rest)))
         in
@@ -142,7 +142,7 @@ module _ (program program' : Typed) (checked : IsChecked program) (expands : IsE
           result_is = ap (λ (z : Brought). z.result_type) brings;
           enough = taken_many locals p le;
           fits = keeps.fits;
-          result = result_typed program program' expands same locals data b.scope keeps.stands h.result_type h.result r ends typed.result;
+          result = result_typed program program' expands same locals all b.scope keeps.stands h.result_type h.result r ends typed.result;
           fresh_is = omega (arith, f, behind, total, many, length-append taken inner);
           further = subst NoParameters (sym brought_is) (none_of_both taken inner (no_parameters (take p locals)) keeps.further);
         }
@@ -154,7 +154,7 @@ module _ (program program' : Typed) (checked : IsChecked program) (expands : IsE
   section_well section section' typed scoped out locals_are =
       let p = section.parameters in
       let own = section.locals.items in
-      let data : List LocalData = map local_data section'.locals.items in
+      let all : List LocalData = map local_data section'.locals.items in
       let brings = brought deepest program.shape in
       let front : List LocalData = map local_data (take p own) in
       let here : List LocalData = locals_in_all brings own section.body.items in
@@ -163,24 +163,24 @@ module _ (program program' : Typed) (checked : IsChecked program) (expands : IsE
       let b = out.body.0 in
       let ends = out.body.2 in
       let last = out.body.4 in
-      let stands = parameters_stand own data p p 0 (omega arith) (λ i lt.
+      let stands = parameters_stand own all p p 0 (omega arith) (λ i lt.
           let l = get_some own i (omega (arith, lt, le)) in
-          let there = parameter_there local_data own data [] here p i l.0 lt l.1 locals_are in
+          let there = parameter_there local_data own all [] here p i l.0 lt l.1 locals_are in
           (l.0, local_data l.0, l.1, there, refl, λ v. v))
       in
       let kinds : (k : ℕ) (l : Local) → slice_get own k ≡ Some l → p ≤ k → l.kind ≢ Parameter = λ k l is. (scoped.kinds k l is).1 in
-      let ready : Ready program program' data expands same (HelpersWritten program.shape deepest) brings (helpers_keep data deepest) own p kinds (entered p 0) front =
+      let ready : Ready program program' all expands same (HelpersWritten program.shape deepest) brings (helpers_keep all deepest) own p kinds (entered p 0) front =
           record { stands = stands; behind = omega arith; count = omega (arith, many) }
       in
-      let keeps = all_keep program program' data expands same (HelpersWritten program.shape deepest) brings (helpers_keep data deepest) own p kinds
+      let keeps = all_keep program program' all expands same (HelpersWritten program.shape deepest) brings (helpers_keep all deepest) own p kinds
           section.body.items (entered p 0) b section'.body.items front [] ready out.body.1 typed.body scoped.assigned
           (locals_are ∙ ap (λ (z : List LocalData). front ++ z) (sym (append-nil here)))
       in
-      let types : types_of data ≡ local_types section'.locals.items = types_of_locals section'.locals.items in
-      let result = result_typed program program' expands same own data b.scope keeps.stands section.result_type section.result section'.result ends typed.result in
+      let types : types_of all ≡ local_types section'.locals.items = types_of_locals section'.locals.items in
+      let result = result_typed program program' expands same own all b.scope keeps.stands section.result_type section.result section'.result ends typed.result in
       let in_scope = written_out_scoped program.shape section section' out in
       let count : section'.parameters ≡ p = out.parameters in
-      let there : (k : ℕ) (l : Local) → slice_get section'.locals.items k ≡ Some l → slice_get data k ≡ Some (local_data l) =
+      let there : (k : ℕ) (l : Local) → slice_get section'.locals.items k ≡ Some l → slice_get all k ≡ Some (local_data l) =
           λ k l is. get_mapped local_data section'.locals.items k ∙ ap (option_map local_data) is
       in (
         record {
@@ -191,12 +191,12 @@ module _ (program program' : Typed) (checked : IsChecked program) (expands : IsE
         record {
           bound = in_order program.shape section section' out;
           kinds = λ k l is. (
-            λ lt. parameter_kind section k l data here (omega (arith, lt, count)) le scoped locals_are (there k l is),
-            λ low. further_kind data front here p k l many (omega (arith, low, count)) locals_are keeps.further (there k l is),
+            λ lt. parameter_kind section k l all here (omega (arith, lt, count)) le scoped locals_are (there k l is),
+            λ low. further_kind all front here p k l many (omega (arith, low, count)) locals_are keeps.further (there k l is),
           );
           assigned = λ k l c is.
               let var = keeps.fits.assigned k c in
-              let e = some_same (slice_get data k) (local_data l) var.0 (there k l is) var.1 in
+              let e = some_same (slice_get all k) (local_data l) var.0 (there k l is) var.1 in
               ap (λ (z : LocalData). z.kind) e ∙ var.2;
           body = in_scope.0;
           result = in_scope.1;

@@ -7,7 +7,7 @@ use Rattle.core_lang.specs.declared.value.ValueType.{ValueType}
 use Rattle.core_lang.specs.Whole.{Run, Over, Beyond_turns, Gone_astray, run_of}
 use Rattle.core_lang.specs.Serial.{Invocation, run_section, run_call}
 use Rattle.core_lang.specs.Typing.{IsHeap}
-use Rattle.core_lang.specs.WellFormed.{CanCall, IsWellFormed}
+use Rattle.core_lang.specs.WellFormed.{CanCall, IsChecked}
 use Rattle.core_lang.specs.Laws.{StaysTyped, NeverGoAstray}
 use Rattle.core_lang.specs.Checked.{checked}
 use Rattle.meaning.specs.declared.run.End.{End}
@@ -16,7 +16,7 @@ use Rattle.meaning.specs.Laws.{AnswersStayTyped}
 
 -- the run of a call stays typed
 run_stays : NeverGoAstray → (program : Typed) (number n : ℕ) (arguments heap : List Value) →
-    CanCall program number arguments → IsWellFormed program → IsHeap program heap → (result : Option ValueType) ×
+    CanCall program number arguments → IsChecked program → IsHeap program heap → (result : Option ValueType) ×
     StaysTyped program result (run_call program n (record { section = number; arguments = arguments }) heap)
 unfolding CanCall
 run_stays never program number n arguments heap can well typed =

@@ -3,7 +3,7 @@ use Rattle.std.specs.Prelude.{ℕ, List, Option}
 use Rattle.core_lang.specs.declared.value.Value.{Value}
 use Rattle.core_lang.specs.declared.typed.Typed.{Typed}
 use Rattle.core_lang.specs.Typing.{IsHeap}
-use Rattle.core_lang.specs.WellFormed.{CanCall, IsWellFormed}
+use Rattle.core_lang.specs.WellFormed.{CanCall, IsChecked}
 use Rattle.meaning.specs.declared.run.End.{End}
 use Rattle.meaning.specs.Answer.{run_at, Answers, NoneIsBeyond}
 
@@ -13,5 +13,5 @@ AnswersStayTyped =
     (program : Typed) (number n : ℕ) (arguments old new : List Value) (answer : Option End) →
     CanCall program number arguments →
     Answers answer (run_at program n number arguments old) old new →
-    IsWellFormed program → IsHeap program old →
+    IsChecked program → IsHeap program old →
     IsHeap program new × NoneIsBeyond answer (run_at program n number arguments old)

@@ -11,7 +11,7 @@ use Rattle.core_lang.specs.declared.typed.Thread.{Thread}
 use Rattle.core_lang.specs.declared.typed.Typed.{Typed}
 use Rattle.core_lang.specs.Serial.{Scheduled}
 use Rattle.core_lang.specs.Typing.{lookup}
-use Rattle.core_lang.specs.WellFormed.{IsWellFormed, CanCall}
+use Rattle.core_lang.specs.WellFormed.{IsChecked, CanCall}
 use Rattle.recorded.specs.declared.format.Format.{Format}
 use Rattle.recorded.specs.declared.format.Format.TheVariants.{One, Two}
 use Rattle.recorded.specs.Pieces.{begins}
@@ -66,7 +66,7 @@ begins_allowed Two seats order t begun position are is may =
     (omega (arith, most, is), (are.least t begun).1 (leb-true _ _ both.0))
 
 agrees : (format : Format) (program : Typed) (at : Progress) (text : List ℕ) (reader : Reader) (call : Scheduled) (begun : ℕ) (end : List ℕ) →
-    IsWellFormed program → at.position < 2 ^ 63 → IsAt program at reader → IsNextCall format program reader.order text call begun end →
+    IsChecked program → at.position < 2 ^ 63 → IsAt program at reader → IsNextCall format program reader.order text call begun end →
     Agrees format program at text call begun
 agrees format program at text reader call begun end well small is next =
     let bounds = next_bounds program reader.order call.thread call next.scripted well in
@@ -88,7 +88,7 @@ agrees format program at text reader call begun end well small is next =
 
 -- ---- no call
 
-module _ (format : Format) (program : Typed) (at : Progress) (text : List ℕ) (well : IsWellFormed program) (small : at.position < 2 ^ 63) where
+module _ (format : Format) (program : Typed) (at : Progress) (text : List ℕ) (well : IsChecked program) (small : at.position < 2 ^ 63) where
   -- the line does not begin as a call's
   pub no_told : told_in format text ≡ None → IsNoCall format program at text
   no_told none reader call begun end is next =

@@ -3,7 +3,7 @@ use Rattle.std.proofs.Common.{◌≡◌, ◌∙◌, ℕ, suc, false, List, [], �
 use Rattle.core_lang.specs.declared.typed.Typed.{Typed}
 use Rattle.core_lang.specs.Serial.{Scheduled, run_call}
 use Rattle.core_lang.specs.Whole.{Finished, Over, Beyond_turns}
-use Rattle.core_lang.specs.WellFormed.{IsWellFormed}
+use Rattle.core_lang.specs.WellFormed.{IsChecked}
 use Rattle.recorded.specs.declared.format.Format.{Format}
 use Rattle.recorded.specs.Pieces.{before, count_in}
 use Rattle.report.specs.Entry.{scheduled_in}
@@ -14,7 +14,7 @@ use Rattle.replay.specs.Laws.{AtMostOneVerdict}
 use Rattle.replay.proofs.Heads.{thread_head, head_not_cells}
 use Rattle.replay.proofs.Scripts.{next_bounds}
 
-module _ (turns : ℕ) (format : Format) (program : Typed) (well : IsWellFormed program) where
+module _ (turns : ℕ) (format : Format) (program : Typed) (well : IsChecked program) where
   thread_told : (order text : _) (s : Scheduled) (begun : ℕ) (end : List ℕ) → IsNextCall format program order text s begun end →
       count_in (before 32 (drop 5 text)) ≡ Some s.thread
   thread_told order text s begun end next =

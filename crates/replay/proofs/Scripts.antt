@@ -8,7 +8,7 @@ use Rattle.core_lang.specs.declared.typed.Thread.{Thread}
 use Rattle.core_lang.specs.declared.typed.Typed.{Typed}
 use Rattle.core_lang.specs.Serial.{Scheduled, invocation, script_from}
 use Rattle.core_lang.specs.Typing.{lookup}
-use Rattle.core_lang.specs.WellFormed.{IsWellFormed, CanCall, calls_together}
+use Rattle.core_lang.specs.WellFormed.{IsChecked, CanCall, calls_together}
 use Rattle.replay.specs.Readers.{script_of, next_call, calls_by}
 use Rattle.replay.specs.Reading.{call_in}
 
@@ -51,7 +51,7 @@ called_in t n calls (Some call) s here is =
 
 in_thread : (program : Typed) (t n : ℕ) (found : Option Thread) (s : Scheduled) → slice_get program.threads.items t ≡ found →
     slice_get (option_map_or (λ (thread : Thread). script_from t 0 thread.calls.items) found []) n ≡ Some s →
-    IsWellFormed program → (t < 64) × (s.step < 100000)
+    IsChecked program → (t < 64) × (s.step < 100000)
 in_thread program t n None s here is well = absurd (cc)
 in_thread program t n (Some thread) s here is well =
     let found = called_in t n thread.calls.items (slice_get thread.calls.items n) s refl (sym (script_get t 0 thread.calls.items n) ∙ is) in
@@ -63,7 +63,7 @@ in_thread program t n (Some thread) s here is well =
 
 -- a call that comes next is of one of at most 64 threads, and is one of at most 100,000 calls
 pub next_bounds : (program : Typed) (order : List ℕ) (t : ℕ) (s : Scheduled) → next_call program order t ≡ Some s →
-    IsWellFormed program → (t < 64) × (s.step < 100000)
+    IsChecked program → (t < 64) × (s.step < 100000)
 next_bounds program order t s is well = in_thread program t (calls_by t order) (slice_get program.threads.items t) s refl is well
 
 -- ---- the next call
@@ -83,7 +83,7 @@ next_call_in program order t = call_found t (calls_by t order) (slice_get progra
 
 -- a call of a script: one of at most 100,000, and one that can be made
 call_bounds : (program : Typed) (t step : ℕ) (found : Option Thread) (call : Call) → slice_get program.threads.items t ≡ found →
-    lookup found (λ (thread : Thread). slice_get thread.calls.items step) ≡ Some call → IsWellFormed program →
+    lookup found (λ (thread : Thread). slice_get thread.calls.items step) ≡ Some call → IsChecked program →
     (step < 100000) × CanCall program call.section call.arguments.items
 call_bounds program t step None call here is well = absurd (cc)
 call_bounds program t step (Some thread) call here is well =
@@ -92,7 +92,7 @@ call_bounds program t step (Some thread) call here is well =
     let calls = well.within.calls in
     (omega (arith, within, most, calls), well.scripts t step thread call here is)
 
-pub call_in_bounds : (program : Typed) (t step : ℕ) (call : Call) → call_in program t step ≡ Some call → IsWellFormed program →
+pub call_in_bounds : (program : Typed) (t step : ℕ) (call : Call) → call_in program t step ≡ Some call → IsChecked program →
     (step < 100000) × CanCall program call.section call.arguments.items
 call_in_bounds program t step call is well = call_bounds program t step (slice_get program.threads.items t) call refl is well
 

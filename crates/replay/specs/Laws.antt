@@ -3,7 +3,7 @@ use Rattle.std.specs.Prelude.{◌≡◌, ◌≤◌, ℕ, List, [], ◌∷◌, ma
 use Rattle.core_lang.specs.declared.value.Value.{Value}
 use Rattle.core_lang.specs.declared.typed.Typed.{Typed}
 use Rattle.core_lang.specs.Serial.{opening_heap, all_calls, serial_run}
-use Rattle.core_lang.specs.WellFormed.{IsWellFormed}
+use Rattle.core_lang.specs.WellFormed.{IsChecked}
 use Rattle.history.specs.Commits.{Commit, committed, IsLegal, AreTrue}
 use Rattle.recorded.specs.declared.format.Format.{Format}
 use Rattle.recorded.specs.declared.format.Format.TheVariants.{One}
@@ -17,7 +17,7 @@ use Rattle.replay.specs.Histories.{ended_in, FollowScripts, BeginAsTheyMay, hist
 -- of one history one verdict holds at most
 abbrev pub AtMostOneVerdict : Type 0
 AtMostOneVerdict = (turns : ℕ) (format : Format) (program : Typed) (lines : List (List ℕ)) (x y : Verdict) →
-    IsWellFormed program → Holds turns format program lines x → Holds turns format program lines y → x ≡ y
+    IsChecked program → Holds turns format program lines x → Holds turns format program lines y → x ≡ y
 
 -- lines that are the same are those of a history
 abbrev pub SameIsHistory : Type 0

@@ -6,7 +6,7 @@ use Rattle.core_lang.specs.declared.typed.Thread.{Thread}
 use Rattle.core_lang.specs.declared.typed.Typed.{Typed}
 use Rattle.core_lang.specs.Serial.{Scheduled}
 use Rattle.core_lang.specs.Typing.{lookup, IsHeap, HasCells}
-use Rattle.core_lang.specs.WellFormed.{CanCall, IsWellFormed}
+use Rattle.core_lang.specs.WellFormed.{CanCall, IsChecked}
 use Rattle.recorded.specs.declared.format.Format.{Format}
 use Rattle.recorded.specs.declared.format.Format.TheVariants.{One, Two}
 use Rattle.recorded.specs.Pieces.{begins}
@@ -107,7 +107,7 @@ Suggests turns format program at wanted = (reader : Reader) (lines : List (List 
 
 -- a program that is prepared for its calls
 pub record IsReady (replay : Replay) : Type 0 where
-  pub well_formed : IsWellFormed replay.typed.now
+  pub well_formed : IsChecked replay.typed.now
   pub prepared : replay.prepared.program.now ≡ replay.typed.now
 
 -- a thread's next call may tell this begin

@@ -1,7 +1,7 @@
 //! A whole history.
 
 ghost use Rattle.std.specs.Prelude.{◌≡◌, IfOk, Some, None, length};
-ghost use Rattle.core_lang.specs.WellFormed.{IsWellFormed};
+ghost use Rattle.core_lang.specs.WellFormed.{IsChecked};
 ghost use Rattle.recorded.specs.Histories.{recorded_lines};
 ghost use Rattle.replay.specs.Readers.{opened};
 ghost use Rattle.replay.specs.Reading.{IsReady, IsSound, IsAt};
@@ -22,7 +22,7 @@ use tree_walk::heap::Heap;
 
 // The progress at the first line.
 fn start(alloc: Global, typed: &Typed) -> Result<Progress, NoMemory>
-    requires { IsWellFormed typed.now }
+    requires { IsChecked typed.now }
     ensures at { IfOk result (λ at. IsAt typed.now at (opened typed.now)) }
     ensures sound { IfOk result (IsSound typed.now) }
     ensures position { IfOk result (λ at. at.position ≡ 0) }
@@ -75,7 +75,7 @@ pub fn replay(
     recorded: &Recorded<'_>,
     turns: u64,
 ) -> Result<Judgement, NoMemory>
-    requires { IsWellFormed typed.now }
+    requires { IsChecked typed.now }
     ensures holds { IfOk result (λ judgement. Holds turns recorded.now.format typed.now (recorded_lines recorded.now) judgement.verdict) }
     ensures why { IfOk result (λ judgement. Explains turns recorded.now.format typed.now (recorded_lines recorded.now)
         judgement.verdict judgement.wanted) }

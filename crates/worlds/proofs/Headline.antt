@@ -4,10 +4,10 @@ use Rattle.core_lang.specs.Serial.{Serial}
 use Rattle.history.specs.Commits.{call_of, answer_of, committed}
 use Rattle.locks.specs.Order.{PrecedesIsStrict}
 use Rattle.history.specs.Laws.{LegalIsSerial}
-use Rattle.lowering.specs.Plans.{Plan, IsCompiled}
+use Rattle.lowering.specs.Plans.{Plan, IsCompiled, CompiledRunAlike}
 use Rattle.worlds.specs.Asking.{among}
 use Rattle.worlds.specs.Worlds.{World, happens, world_after, opening_world, final}
-use Rattle.worlds.specs.Claims.{IsSerial, HeldCellsAre, EveryRunHasIt, EveryWorldKeepsTheRules}
+use Rattle.worlds.specs.Claims.{IsSerial, HeldCellsAre, FollowsScripts, EveryRunHasIt, EveryWorldKeepsTheRules}
 use Rattle.worlds.specs.Waiting.{RisingHasNoCycle, RisingWaitsForHolders, RisingGoesOn, InstructionsHaveTheirCase, PendingRises}
 use Rattle.worlds.specs.States.{IsSound, OpeningIsSound, StepsKeepSound}
 use Rattle.worlds.specs.Ahead.{IsReadyWorld, WorldsStayReady}
@@ -15,6 +15,7 @@ use Rattle.worlds.proofs.Cells.{contains_among, among_contains}
 use Rattle.worlds.proofs.Well.{opening_size}
 use Rattle.worlds.proofs.Ends.{in_order, have_entries}
 use Rattle.worlds.proofs.Scripts.{follows_scripts}
+use Rattle.worlds.proofs.Filled.{history_fills}
 use Rattle.worlds.proofs.Runs.{ends_are_runs}
 use Rattle.worlds.proofs.Rules.{Once, once_step, once_at_first, keeps_the_rules}
 
@@ -37,10 +38,12 @@ held_cells plan w ok s cell lock is =
           ((s.well h.by h.section h.is_open).all cell (lock, here, contains_among h.section.held lock h.holds)),
     )
 
-serial : LegalIsSerial → (plan : Plan) (w : World) → IsCompiled plan → IsSound plan w → IsSerial plan w (committed plan.layout.opening w.history)
-serial law plan w ok s =
-    subst (λ h. Serial plan.program h (map call_of w.history) (map answer_of w.history) (committed plan.layout.opening w.history)) ok.laid_out.opening
-    (law plan.program plan.layout.opening w.history (opening_size plan ok) s.legal s.true_commits)
+serial : LegalIsSerial → CompiledRunAlike → (plan : Plan) (w : World) → IsCompiled plan → IsSound plan w → FollowsScripts plan w →
+    IsSerial plan w (committed plan.layout.opening w.history)
+serial law alike plan w ok s follows =
+    (alike plan (map call_of w.history) (map answer_of w.history) (committed plan.layout.opening w.history) ok (history_fills plan ok w follows)).1
+    (subst (λ h. Serial plan.program h (map call_of w.history) (map answer_of w.history) (committed plan.layout.opening w.history)) ok.laid_out.opening
+    (law plan.program plan.layout.opening w.history (opening_size plan ok) s.legal s.true_commits))
 
 -- ---- the whole
 
@@ -52,6 +55,7 @@ pub record HeadlineLaws : Type 0 where
   pub waits : RisingWaitsForHolders
   pub goes_on : RisingGoesOn
   pub serial : LegalIsSerial
+  pub alike : CompiledRunAlike
   pub strict : PrecedesIsStrict
 
 record IsKept (plan : Plan) (w : World) : Type 0 where
@@ -95,7 +99,7 @@ headline laws plan steps ok =
     λ n. laws.ready.rises plan (final plan (take n steps)) (there n).ready in
     record {
       heap = committed plan.layout.opening w.history;
-      results_and_prints = serial laws.serial plan w ok is.sound;
+      results_and_prints = serial laws.serial laws.alike plan w ok is.sound (follows_scripts plan steps);
       free_cells = is.sound.values;
       all_cells = is.sound.size ∙ opening_size plan ok;
       order = in_order plan steps;

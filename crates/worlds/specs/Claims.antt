@@ -70,9 +70,9 @@ EveryWorldKeepsTheRules = (plan : Plan) (steps : List ℕ) → IsCompiled plan �
 -- ---- the headline
 
 -- the history's calls, run whole one after another from the opening cells, end and print as the history says, and
--- leave this heap
+-- leave this heap: as calls of the program that was accepted, whose helpers are not written out
 abbrev pub IsSerial : Plan → World → List Value → Type 0
-IsSerial plan w heap = SerialFromOpening plan.program (map call_of w.history) (map answer_of w.history) heap
+IsSerial plan w heap = SerialFromOpening plan.accepted (map call_of w.history) (map answer_of w.history) heap
 
 -- a cell that no section holds has the value that the heap has there
 abbrev pub FreeCellsAre : World → List Value → Type 0

@@ -79,6 +79,7 @@ pub fn every_run()
     ensures { EveryRunHasIt }
 {
     history::laws::legal_is_serial();
+    lowering::laws::compiled_run_alike();
     steps_keep_sound();
     worlds_stay_ready();
     rising_sections_go_on();

@@ -3,7 +3,7 @@ use Rattle.std.proofs.lemmas.List.{map-append}
 use Rattle.core_lang.specs.Serial.{Scheduled, all_calls}
 use Rattle.core_lang.specs.declared.typed.Typed.{Typed}
 use Rattle.core_lang.specs.Typing.{IsHeap}
-use Rattle.core_lang.specs.WellFormed.{IsWellFormed, CanCall}
+use Rattle.core_lang.specs.WellFormed.{IsChecked, CanCall}
 use Rattle.driver.specs.Running.{scheduled_of}
 use Rattle.driver.proofs.CallLemmas.{Each, Each-at, can_call_all, drop_next, map_parts}
 use Rattle.driver.proofs.RunningLemmas.{goes_further, goes_beyond}
@@ -26,7 +26,7 @@ returns-in_default-clause-ran c =
     let same = rw c.in_default.is at c.in_ok-run.ensures.answer in
     let same_program = c.in_ok-prepared.ensures in
     let beyond = rw (same_program, c.in_default.is, c.deref.ensures.value) at
-    (c.in_ok-run.ensures.beyond (subst IsWellFormed (sym same_program) c.requires)
+    (c.in_ok-run.ensures.beyond (subst IsChecked (sym same_program) c.requires)
     (subst (λ (p : Typed). IsHeap p c.loop-next.heap) (sym same_program) c.loop-next.invariant.typed)) in
     let stop = goes_beyond _ _ _ _ (map scheduled_of (take c.loop-next.next-index items)) (scheduled_of c.next-item.result) _ (rw next at c.loop-next.invariant.goes) parts beyond in
     record { records = stop.0; heap = same.1 ∙ stop.1; stop = stop.2 }
@@ -41,6 +41,6 @@ loop-next-preserved c =
       goes = rw (c.in_ok-push.ensures.items, map-append, c.in_ok-record_of.ensures) further;
       cells = rw same_program at c.in_ok-run.ensures.cells;
       typed = rw same_program at
-          (c.in_ok-run.ensures.typed (subst IsWellFormed (sym same_program) c.requires)
+          (c.in_ok-run.ensures.typed (subst IsChecked (sym same_program) c.requires)
           (subst (λ (p : Typed). IsHeap p c.loop-next.heap) (sym same_program) c.loop-next.invariant.typed));
     }

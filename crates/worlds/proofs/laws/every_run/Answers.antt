@@ -10,5 +10,6 @@ returns c = headline (record {
   waits = c.rising_sections_go_on.ensures.waits;
   goes_on = c.rising_sections_go_on.ensures.goes_on;
   serial = c.legal_is_serial.ensures;
+  alike = c.compiled_run_alike.ensures;
   strict = c.precedes_is_strict.ensures;
 })

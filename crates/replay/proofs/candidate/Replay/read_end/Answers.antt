@@ -1,7 +1,7 @@
 use Rattle.std.proofs.Common.{◌∙◌, ◌++◌, sym, ap, arith, subst, refl, List, ℕ}
 use Rattle.core_lang.specs.declared.typed.Typed.{Typed}
 use Rattle.core_lang.specs.Typing.{IsHeap}
-use Rattle.core_lang.specs.WellFormed.{IsWellFormed}
+use Rattle.core_lang.specs.WellFormed.{IsChecked}
 use Rattle.report.specs.Pieces.{outcome_text}
 use Rattle.replay.proofs.Steps.{reads_so, reads_otherwise, call_beyond, call_otherwise, call_comes, call_came}
 use Rattle.replay.proofs.candidate.Replay.read_end.Goals as goal
@@ -13,7 +13,7 @@ pub returns-in_default-clause-reads : goal.returns-in_default-clause-reads
 returns-in_default-clause-reads c reader is =
     let same = c.requires.ready.prepared in
     let beyond = rw (same, c.in_default.is) at
-    (c.in_ok-run.ensures.beyond (subst IsWellFormed (sym same) c.requires.ready.well_formed)
+    (c.in_ok-run.ensures.beyond (subst IsChecked (sym same) c.requires.ready.well_formed)
     (subst (λ (p : Typed). IsHeap p c.args.at.now.heap) (sym same) c.requires.sound.typed)) in
     call_beyond c.args.self.now.turns c.args.self.now.format c.args.self.now.typed.now c.args.at.now reader c.args.line.now _ c.args.call is c.requires.stage c.requires.none_due
     c.requires.only c.requires.head beyond

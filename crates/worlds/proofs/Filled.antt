@@ -1,0 +1,124 @@
+-- Each call in a history has an argument for each parameter of its section.
+use Rattle.std.proofs.Common.{◌≡◌, ◌<◌, ◌≤◌, ◌==◌, ℕ, zero, suc, ◌+◌, Bool, true, false, if◌then◌else◌, List, [], ◌∷◌, length, map, take, slice_get, Option, Some, None, refl, sym, ap, ◌∙◌, subst, arith}
+use Rattle.std.proofs.lemmas.Bool.{cond-true, eq-eqb}
+use Rattle.std.proofs.lemmas.List.{length-append}
+use Rattle.core_lang.specs.declared.value.Value.{Value}
+use Rattle.core_lang.specs.declared.value.ValueType.{ValueType}
+use Rattle.core_lang.specs.declared.shape.Shape.{Shape}
+use Rattle.core_lang.specs.declared.tree.Local.{Local}
+use Rattle.core_lang.specs.declared.tree.Section.{Section}
+use Rattle.core_lang.specs.declared.typed.Call.{Call}
+use Rattle.core_lang.specs.declared.typed.Thread.{Thread}
+use Rattle.core_lang.specs.declared.typed.Typed.{Typed}
+use Rattle.core_lang.specs.Serial.{Invocation, Scheduled, invocation}
+use Rattle.core_lang.specs.Laws.{CallsFill}
+use Rattle.core_lang.specs.Scopes.{bound_in_all, numbers_from, IsWellScoped}
+use Rattle.core_lang.specs.Typing.{HaveTypes, local_types}
+use Rattle.core_lang.specs.WellFormed.{CanCall}
+use Rattle.history.specs.Commits.{Commit, call_of, script_call}
+use Rattle.lowering.specs.Plans.{Plan, IsCompiled}
+use Rattle.worlds.specs.Worlds.{World, script_of, scripts}
+use Rattle.worlds.specs.Claims.{calls_by, numbered, FollowsScripts}
+
+-- ---- lists
+
+get_some : {X : Type 0} (xs : List X) (k : ℕ) → k < length xs → (x : X) × (slice_get xs k ≡ Some x)
+get_some [] k lt = absurd (omega (arith, lt))
+get_some (x ∷ xs) zero lt = (x, refl)
+get_some (x ∷ xs) (suc k) lt = get_some xs k (omega (arith, lt))
+
+some_same : {X : Type 0} (o : Option X) (a b : X) → o ≡ Some a → o ≡ Some b → a ≡ b
+some_same None a b e f = absurd cc
+some_same (Some x) a b e f = let p : x ≡ a = cc in let q : x ≡ b = cc in sym p ∙ q
+
+mapped_there : {X Y : Type 0} (f : X → Y) (xs : List X) (k : ℕ) (y : Y) → slice_get (map f xs) k ≡ Some y → (x : X) × (slice_get xs k ≡ Some x) × (f x ≡ y)
+mapped_there f [] k y is = absurd cc
+mapped_there f (x ∷ xs) zero y is = let same : f x ≡ y = cc in (x, refl, same)
+mapped_there f (x ∷ xs) (suc k) y is = mapped_there f xs k y is
+
+taken_there : {X : Type 0} (n k : ℕ) (xs : List X) (x : X) → slice_get (take n xs) k ≡ Some x → slice_get xs k ≡ Some x
+taken_there zero k xs x is = absurd cc
+taken_there (suc n) k [] x is = is
+taken_there (suc n) zero (y ∷ xs) x is = is
+taken_there (suc n) (suc k) (y ∷ xs) x is = taken_there n k xs x is
+
+numbered_there : (t s k : ℕ) (script : List Invocation) (y : Scheduled) → slice_get (numbered t s script) k ≡ Some y → slice_get script k ≡ Some y.call
+numbered_there t s k [] y is = absurd cc
+numbered_there t s zero (call ∷ script) y is = let same : record { thread = t; step = s; call = call } ≡ y = cc in ap (λ (z : Scheduled). Some z.call) same
+numbered_there t s (suc k) (call ∷ script) y is = numbered_there t (s + 1) k script y is
+
+-- an entry of a thread is among its calls
+among_calls : (t : ℕ) (cs : List Commit) (p : ℕ) (c : Commit) → slice_get cs p ≡ Some c → c.thread ≡ t → (k : ℕ) × (slice_get (calls_by t cs) k ≡ Some (script_call c))
+among_calls t [] p c is mine = absurd cc
+among_calls t (d ∷ cs) zero c is mine =
+    let same : d ≡ c = cc in
+    let first : calls_by t (d ∷ cs) ≡ script_call d ∷ calls_by t cs =
+        cond-true (d.thread == t) (script_call d ∷ calls_by t cs) (calls_by t cs) (eq-eqb d.thread t (ap (λ (z : Commit). z.thread) same ∙ mine))
+    in
+    (0, ap (λ (zs : List Scheduled). slice_get zs 0) first ∙ ap (λ (z : Commit). Some (script_call z)) same)
+among_calls t (d ∷ cs) (suc p) c is mine = behind (d.thread == t) (script_call d) (among_calls t cs p c is mine)
+  where
+    behind : (b : Bool) (y : Scheduled) → (k : ℕ) × (slice_get (calls_by t cs) k ≡ Some (script_call c)) →
+        (k : ℕ) × (slice_get (if b then y ∷ calls_by t cs else calls_by t cs) k ≡ Some (script_call c))
+    behind true y r = (suc r.0, r.1)
+    behind false y r = r
+
+-- ---- arguments
+
+typed_many : (shape : Shape) (ts : List ValueType) (vs : List Value) → HaveTypes shape ts vs → length vs ≡ length ts
+typed_many shape [] [] h = refl
+typed_many shape [] (v ∷ vs) h = absurd h
+typed_many shape (t ∷ ts) [] h = absurd h
+typed_many shape (t ∷ ts) (v ∷ vs) h = ap suc (typed_many shape ts vs h.1)
+
+numbers_many : (first count : ℕ) → length (numbers_from first count) ≡ count
+numbers_many first zero = refl
+numbers_many first (suc count) = let h = numbers_many (first + 1) count in omega arith
+
+taken_many : (n : ℕ) (locals : List Local) → n ≤ length locals → length (local_types (take n locals)) ≡ n
+taken_many zero locals le = refl
+taken_many (suc n) [] le = absurd (omega (arith, le))
+taken_many (suc n) (l ∷ ls) le = ap suc (taken_many n ls (omega (arith, le)))
+
+enough : (section : Section) → IsWellScoped section → section.parameters ≤ length section.locals.items
+enough section scoped =
+    let before = numbers_many 0 section.parameters in
+    let whole = numbers_many 0 (length section.locals.items) in
+    let same = ap (λ (l : List ℕ). length l) scoped.bound in
+    omega (arith, before, whole, same, length-append (numbers_from 0 section.parameters) (bound_in_all section.body.items))
+
+module _ (plan : Plan) (ok : IsCompiled plan) where
+  fills : (call : Invocation) → CanCall plan.program call.section call.arguments → (section : Section) → slice_get plan.accepted.sections.items call.section ≡ Some section →
+      length call.arguments ≡ section.parameters
+  unfolding CanCall
+  fills call (mine, is, fit) section there =
+      let found = ok.expanded.expansion.there call.section section there in
+      let same = some_same (slice_get plan.program.sections.items call.section) found.0 mine found.1 is in
+      let many = typed_many plan.program.shape (local_types (take mine.parameters mine.locals.items)) call.arguments fit in
+      let le = enough mine (ok.well_formed.scopes call.section mine is) in
+      many ∙ taken_many mine.parameters mine.locals.items le ∙ ap (λ (z : Section). z.parameters) (sym same) ∙ found.2.parameters
+
+  -- a call of a script fits
+  scripted : (t k : ℕ) (script : List Invocation) (call : Invocation) → slice_get (scripts plan) t ≡ Some script → slice_get script k ≡ Some call →
+      CanCall plan.program call.section call.arguments
+  scripted t k script call is has =
+      let thread = mapped_there script_of plan.program.threads.items t script is in
+      let mine = mapped_there invocation thread.0.calls.items k call (ap (λ (xs : List Invocation). slice_get xs k) thread.2 ∙ has) in
+      subst (λ (z : Invocation). CanCall plan.program z.section z.arguments) mine.2 (ok.well_formed.scripts t k thread.0 mine.0 thread.1 mine.1)
+
+  all_fill : (cs : List Commit) → ((p : ℕ) (c : Commit) → slice_get cs p ≡ Some c → CanCall plan.program c.section c.arguments) → CallsFill plan.accepted (map call_of cs)
+  all_fill [] each = tt
+  all_fill (c ∷ cs) each = (fills (call_of c) (each 0 c refl), all_fill cs (λ p d is. each (suc p) d is))
+
+  pub history_fills : (w : World) → FollowsScripts plan w → CallsFill plan.accepted (map call_of w.history)
+  history_fills w follows =
+      all_fill w.history (λ p c is.
+      let lt = follows.nobody_else p c is in
+      let all = follows.all_threads in
+      let script = get_some (scripts plan) c.thread lt in
+      let thread = get_some w.threads c.thread (omega (arith, lt, all)) in
+      let mine = among_calls c.thread w.history p c is refl in
+      let calls = follows.calls c.thread thread.0 script.0 thread.1 script.1 in
+      let at = ap (λ (xs : List Scheduled). slice_get xs mine.0) (sym calls) ∙ mine.1 in
+      let numbered_at = taken_there thread.0.step mine.0 (numbered c.thread 0 script.0) (script_call c) at in
+      scripted c.thread mine.0 script.0 (call_of c) script.1 (numbered_there c.thread 0 mine.0 script.0 (script_call c) numbered_at))
