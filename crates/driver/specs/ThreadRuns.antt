@@ -6,7 +6,7 @@ use Rattle.lowering.specs.Plans.{Plan}
 use Rattle.recorded.specs.declared.format.Format.TheVariants.{Two}
 use Rattle.report.specs.Entry.{entry_of_commit}
 use Rattle.report.specs.History.{history_of}
-use Rattle.workers.specs.Answers.{HasScript, IsHistoryOf}
+use Rattle.workers.specs.Answers.{HasScript, IsHistoryOf, RunsAsAccepted}
 use Rattle.driver.specs.declared.status.Status.{Status}
 use Rattle.driver.specs.declared.status.Status.TheVariants.{Done, Strange}
 use Rattle.driver.specs.Answers.{TextAnswers}
@@ -18,6 +18,8 @@ pub record IsWrittenRun (plan : Plan) (status : Status) (out err : List ℕ) : T
   pub log : List Commit
   pub values : List Value
   pub history : IsHistoryOf plan log values
+  -- so they do on the program as it was accepted, with its helpers
+  pub accepted : RunsAsAccepted plan log values
   pub scripts : (t : ℕ) → t < length plan.program.threads.items → HasScript plan log t
   pub ended : status ≡ Done
   pub written : out ≡ history_of Two plan.program (map entry_of_commit log) values

@@ -25,7 +25,7 @@ run_stays never program number n arguments heap can well typed =
     run_of section program.shape n arguments heap
     ≡ run_call program n (record { section = number; arguments = arguments }) heap =
     ap (λ r. run_section r program n arguments heap) (sym can.1) in
-    let stays = never program number n section arguments heap (checked program well) can.1 can.2 typed in
+    let stays = never program number n section arguments heap well can.1 can.2 typed in
     (section.result_type, subst (StaysTyped program section.result_type) same stays)
 
 kept_typed : (program : Typed) (result : Option ValueType) (answer : Option End) (run : Run) (old new : List Value) →

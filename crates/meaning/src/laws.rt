@@ -4,7 +4,7 @@ ghost use Rattle.meaning.specs.Laws.{AnswersStayTyped};
 
 use core_lang::laws;
 
-/// A call of a well-formed program on a heap of the program leaves a heap of the program, and it has no answer only where
+/// A call of an accepted program on a heap of the program leaves a heap of the program, and it has no answer only where
 /// its turns were too few.
 pub fn answers_stay_typed()
     ensures { AnswersStayTyped }

@@ -64,6 +64,10 @@ pub record IsHistoryOf (plan : Plan) (log : List Commit) (values : List Value) :
   pub cells : HasCells plan.program values
   pub serial : SerialFromOpening plan.program (map call_of log) (map answer_of log) values
 
+-- those calls run so on the program as it was accepted, whose helpers are not written out
+abbrev pub RunsAsAccepted : Plan → List Commit → List Value → Type 0
+RunsAsAccepted plan log values = SerialFromOpening plan.accepted (map call_of log) (map answer_of log) values
+
 -- ---- scripts
 
 abbrev pub call_in : ReplyOf → Invocation

@@ -3,7 +3,7 @@
 ghost use Rattle.std.specs.Prelude.{◌≡◌, ◌<◌, ℕ, true, Some, IfOk, IfSome, OnOk, MatchOption, length, map};
 ghost use denote.Param.Send.{IsSend, IsSync};
 ghost use Rattle.lowering.specs.contracts.compiled.Program as program;
-ghost use Rattle.workers.specs.Answers.{HasScript, IsHistoryOf, call_in, script_at};
+ghost use Rattle.workers.specs.Answers.{HasScript, IsHistoryOf, RunsAsAccepted, call_in, script_at};
 ghost use Rattle.workers.specs.Within.{AreInOrder, HasCalls, NoCall, IsCall};
 
 use crate::closed::{Closed, Strange};
@@ -34,6 +34,7 @@ pub fn run_threads<'p, R: Threads + Wait + Sync, G: Gate>(
     gate: &G,
 ) -> Result<Closed<'p>, CallRefusal>
     ensures history { IfOk result (λ c. IsHistoryOf program.now c.history c.values) }
+    ensures accepted { IfOk result (λ c. RunsAsAccepted program.now c.history c.values) }
     ensures scripts { let count = length program.now.program.threads.items in
         IfOk result (λ c. (t : ℕ) → t < count → HasScript program.now c.history t) }
 {
@@ -49,9 +50,12 @@ fn run_named<'p, J: Naming + Send + Sync, R: Threads + Wait + Sync, G: Gate>(
 ) -> Result<Closed<'p>, CallRefusal>
     requires { program.now ≡ J.plan }
     ensures history { IfOk result (λ c. IsHistoryOf J.plan c.history c.values) }
+    ensures accepted { IfOk result (λ c. RunsAsAccepted J.plan c.history c.values) }
     ensures scripts { let count = length program.now.program.threads.items in
         IfOk result (λ c. (t : ℕ) → t < count → HasScript J.plan c.history t) }
 {
+    worlds::laws::of_scripts_run_alike();
+    let _typed = program.typed();
     let count = program.threads();
     if count > 64 {
         return Err(CallRefusal::Strange);

@@ -14,6 +14,9 @@ use Rattle.core_lang.specs.declared.typed.Thread.{Thread}
 use Rattle.core_lang.specs.declared.value.ValueType.TheVariants.{Integer}
 use Rattle.core_lang.specs.Typing.{IsWellTypedSection}
 use Rattle.core_lang.specs.Scopes.{IsWellScoped}
+use Rattle.core_lang.specs.Checked.{checked}
+use Rattle.core_lang.specs.Expansion.{entered, IsWrittenOut}
+use Rattle.expansion.specs.Data.{IsExpanded}
 use Rattle.core_lang.specs.WellFormed.{IsWithinLimits, IsLaidOut, IsProtected, IsGlobalClass, IsCell, IsCellOf, IsClassOf, CanCall, IsWellFormed}
 use Rattle.locks.specs.LockPaths.{LockPath, global_path, lock_path, paths_of, each_once, Uses}
 use Rattle.locks.specs.Accesses.{Access, access, global, accesses}
@@ -271,9 +274,47 @@ module _ (alloc : Global) (name : String Global) where
     finals = λ object final. refl;
   }
 
+  -- ---- no helper is called
+
+  written : IsWrittenOut (inc_program alloc name).shape (inc alloc name) (inc alloc name)
+  written = record {
+    parameters = refl;
+    result_type = refl;
+    body = (
+      entered 0 0,
+      ((inc alloc name).body.items, [], entered 0 0, (_, ((refl, refl), (refl, refl, tt)), refl, refl), (refl, refl), refl),
+      tt,
+      refl,
+      refl,
+    );
+  }
+
+  out_of : (k : ℕ) (x : Section) → slice_get (inc_program alloc name).sections.items k ≡ Some x →
+      (y : Section) × (slice_get (inc_program alloc name).sections.items k ≡ Some y) × IsWrittenOut (inc_program alloc name).shape x y
+  out_of k x e = (x, e, subst (λ (z : Section). IsWrittenOut (inc_program alloc name).shape z z) (the_one (inc alloc name) x k e).0 written)
+
+  back_of : (k : ℕ) (y : Section) → slice_get (inc_program alloc name).sections.items k ≡ Some y →
+      (x : Section) × (slice_get (inc_program alloc name).sections.items k ≡ Some x) × IsWrittenOut (inc_program alloc name).shape x y
+  back_of k y e = (y, e, subst (λ (z : Section). IsWrittenOut (inc_program alloc name).shape z z) (the_one (inc alloc name) y k e).0 written)
+
+  expanded : IsExpanded (inc_program alloc name) (inc_program alloc name)
+  expanded = record {
+    expansion = record {
+      places = record { arrays = refl; pools = refl; objects = refl; finals = refl };
+      helpers = refl;
+      cells = refl;
+      there = out_of;
+      back = back_of;
+    };
+    locals = (refl, tt);
+    besides = record { classes = refl; structs = refl; globals = refl; heads = refl; threads = refl };
+  }
+
   -- it is a plan of a compiled program
   pub lost_update_is_compiled : IsCompiled (lost_update alloc name)
   lost_update_is_compiled = record {
+    checked = checked (inc_program alloc name) well_formed;
+    expanded = expanded;
     well_formed = well_formed;
     stable = faultless;
     ranked = ranked;

@@ -114,6 +114,7 @@ module _ (alloc : Global) (name : String Global) where
 
   abbrev pub lost_update : Plan
   lost_update = record {
+    accepted = inc_program;
     program = inc_program;
     ranks = 0 ∷ [];
     lists = ((0 ∷ []) ∷ []) ∷ [];
@@ -199,17 +200,21 @@ module _ (alloc : Global) (name : String Global) where
     body = vec (record { start = 0; action = SetGlobal cell (Number (pos n)) } ∷ []) (omega arith);
   }
 
+  abbrev disjoint_locks_program : Typed
+  disjoint_locks_program = record {
+    classes = vec (class.Global name ∷ class.Global name ∷ []) (omega arith);
+    structs = none;
+    globals = vec (int_global 0 ∷ int_global 1 ∷ []) (omega arith);
+    shape = no_shape;
+    cells = vec (int_cell (owner.Global 0) 0 ∷ int_cell (owner.Global 1) 0 ∷ []) (omega arith);
+    sections = vec (setting 0 1 ∷ setting 1 2 ∷ []) (omega arith);
+    threads = vec (calling (a_call 0 [] (omega arith)) ∷ calling (a_call 1 [] (omega arith)) ∷ []) (omega arith);
+  }
+
   abbrev disjoint_locks : Plan
   disjoint_locks = record {
-    program = record {
-      classes = vec (class.Global name ∷ class.Global name ∷ []) (omega arith);
-      structs = none;
-      globals = vec (int_global 0 ∷ int_global 1 ∷ []) (omega arith);
-      shape = no_shape;
-      cells = vec (int_cell (owner.Global 0) 0 ∷ int_cell (owner.Global 1) 0 ∷ []) (omega arith);
-      sections = vec (setting 0 1 ∷ setting 1 2 ∷ []) (omega arith);
-      threads = vec (calling (a_call 0 [] (omega arith)) ∷ calling (a_call 1 [] (omega arith)) ∷ []) (omega arith);
-    };
+    accepted = disjoint_locks_program;
+    program = disjoint_locks_program;
     ranks = 0 ∷ 1 ∷ [];
     lists = ((0 ∷ []) ∷ []) ∷ ((0 ∷ []) ∷ []) ∷ [];
     layout = record {
@@ -246,28 +251,32 @@ module _ (alloc : Global) (name : String Global) where
         ∷ record { start = 0; action = SetField (a_path 1 [] (omega arith)) 0 0 (joined Plus (balance 1) (at_local 2)) } ∷ []) (omega arith);
   }
 
+  abbrev transfers_program : (threads : List Thread) → length threads < 2 ^ 63 → Typed
+  transfers_program threads small = record {
+    classes = vec (class.Field 0 0 ∷ []) (omega arith);
+    structs = vec (record {
+      name = name;
+      locks = vec (record { name = name; class = 0 } ∷ []) (omega arith);
+      finals = none;
+      fields = vec (record { name = name; value_type = Integer; protection = record { through = none; class = 0 } } ∷ []) (omega arith);
+    } ∷ []) (omega arith);
+    globals = none;
+    shape = record {
+      arrays = none;
+      pools = vec (record { name = name; first = 0; length = 2; structure = 0 } ∷ []) (omega arith);
+      objects = vec (record { pool = 0; cells = 0; finals = 0 } ∷ record { pool = 0; cells = 1; finals = 0 } ∷ []) (omega arith);
+      finals = none;
+      helpers = none;
+    };
+    cells = vec (int_cell (owner.Field 0 0) 10 ∷ int_cell (owner.Field 1 0) 20 ∷ []) (omega arith);
+    sections = vec (transfer ∷ []) (omega arith);
+    threads = vec threads small;
+  }
+
   abbrev transfers : (threads : List Thread) → length threads < 2 ^ 63 → Plan
   transfers threads small = record {
-    program = record {
-      classes = vec (class.Field 0 0 ∷ []) (omega arith);
-      structs = vec (record {
-        name = name;
-        locks = vec (record { name = name; class = 0 } ∷ []) (omega arith);
-        finals = none;
-        fields = vec (record { name = name; value_type = Integer; protection = record { through = none; class = 0 } } ∷ []) (omega arith);
-      } ∷ []) (omega arith);
-      globals = none;
-      shape = record {
-        arrays = none;
-        pools = vec (record { name = name; first = 0; length = 2; structure = 0 } ∷ []) (omega arith);
-        objects = vec (record { pool = 0; cells = 0; finals = 0 } ∷ record { pool = 0; cells = 1; finals = 0 } ∷ []) (omega arith);
-        finals = none;
-        helpers = none;
-      };
-      cells = vec (int_cell (owner.Field 0 0) 10 ∷ int_cell (owner.Field 1 0) 20 ∷ []) (omega arith);
-      sections = vec (transfer ∷ []) (omega arith);
-      threads = vec threads small;
-    };
+    accepted = transfers_program threads small;
+    program = transfers_program threads small;
     ranks = 0 ∷ [];
     lists = ((0 ∷ 1 ∷ []) ∷ [] ∷ [] ∷ []) ∷ [];
     layout = record {
@@ -332,12 +341,16 @@ module _ (alloc : Global) (name : String Global) where
         ∷ record { start = 0; action = While' (Compare Equal (Number (pos 0)) (Number (pos 0))) none end_of-Stmt } ∷ []) (omega arith);
   }
 
+  abbrev endless_program : Typed
+  endless_program = record inc_program {
+    sections = vec (spin ∷ inc ∷ []) (omega arith);
+    threads = vec (calling (a_call 0 [] (omega arith)) ∷ calling (a_call 1 [] (omega arith)) ∷ []) (omega arith);
+  }
+
   abbrev endless : Plan
   endless = record lost_update {
-    program = record inc_program {
-      sections = vec (spin ∷ inc ∷ []) (omega arith);
-      threads = vec (calling (a_call 0 [] (omega arith)) ∷ calling (a_call 1 [] (omega arith)) ∷ []) (omega arith);
-    };
+    accepted = endless_program;
+    program = endless_program;
     lists = ((0 ∷ []) ∷ [] ∷ []) ∷ ((0 ∷ []) ∷ []) ∷ [];
   }
 
@@ -363,39 +376,43 @@ module _ (alloc : Global) (name : String Global) where
         ∷ record { start = 0; action = SetField (a_path 1 [] (omega arith)) 1 0 (Number (pos 2)) } ∷ []) (omega arith);
   }
 
+  abbrev shared_owner_program : Typed
+  shared_owner_program = record {
+    classes = vec (class.Field 0 0 ∷ []) (omega arith);
+    structs = vec (record {
+      name = name;
+      locks = vec (record { name = name; class = 0 } ∷ []) (omega arith);
+      finals = none;
+      fields = vec (record { name = name; value_type = Integer; protection = record { through = none; class = 0 } } ∷ []) (omega arith);
+    } ∷ record {
+      name = name;
+      locks = none;
+      finals = vec (record { name = name; target = 0 } ∷ []) (omega arith);
+      fields = vec (record {
+        name = name;
+        value_type = Integer;
+        protection = record { through = vec (0 ∷ []) (omega arith); class = 0 };
+      } ∷ []) (omega arith);
+    } ∷ []) (omega arith);
+    globals = none;
+    shape = record {
+      arrays = none;
+      pools = vec (record { name = name; first = 0; length = 1; structure = 0 }
+          ∷ record { name = name; first = 1; length = 2; structure = 1 } ∷ []) (omega arith);
+      objects = vec (record { pool = 0; cells = 0; finals = 0 } ∷ record { pool = 1; cells = 1; finals = 0 }
+          ∷ record { pool = 1; cells = 2; finals = 1 } ∷ []) (omega arith);
+      finals = vec (0 ∷ 0 ∷ []) (omega arith);
+      helpers = none;
+    };
+    cells = vec (int_cell (owner.Field 0 0) 0 ∷ int_cell (owner.Field 1 0) 0 ∷ int_cell (owner.Field 2 0) 0 ∷ []) (omega arith);
+    sections = vec (set_both ∷ []) (omega arith);
+    threads = vec (calling (a_call 0 (Ref (Some 1) ∷ Ref (Some 2) ∷ []) (omega arith)) ∷ []) (omega arith);
+  }
+
   abbrev shared_owner : Plan
   shared_owner = record {
-    program = record {
-      classes = vec (class.Field 0 0 ∷ []) (omega arith);
-      structs = vec (record {
-        name = name;
-        locks = vec (record { name = name; class = 0 } ∷ []) (omega arith);
-        finals = none;
-        fields = vec (record { name = name; value_type = Integer; protection = record { through = none; class = 0 } } ∷ []) (omega arith);
-      } ∷ record {
-        name = name;
-        locks = none;
-        finals = vec (record { name = name; target = 0 } ∷ []) (omega arith);
-        fields = vec (record {
-          name = name;
-          value_type = Integer;
-          protection = record { through = vec (0 ∷ []) (omega arith); class = 0 };
-        } ∷ []) (omega arith);
-      } ∷ []) (omega arith);
-      globals = none;
-      shape = record {
-        arrays = none;
-        pools = vec (record { name = name; first = 0; length = 1; structure = 0 }
-            ∷ record { name = name; first = 1; length = 2; structure = 1 } ∷ []) (omega arith);
-        objects = vec (record { pool = 0; cells = 0; finals = 0 } ∷ record { pool = 1; cells = 1; finals = 0 }
-            ∷ record { pool = 1; cells = 2; finals = 1 } ∷ []) (omega arith);
-        finals = vec (0 ∷ 0 ∷ []) (omega arith);
-        helpers = none;
-      };
-      cells = vec (int_cell (owner.Field 0 0) 0 ∷ int_cell (owner.Field 1 0) 0 ∷ int_cell (owner.Field 2 0) 0 ∷ []) (omega arith);
-      sections = vec (set_both ∷ []) (omega arith);
-      threads = vec (calling (a_call 0 (Ref (Some 1) ∷ Ref (Some 2) ∷ []) (omega arith)) ∷ []) (omega arith);
-    };
+    accepted = shared_owner_program;
+    program = shared_owner_program;
     ranks = 0 ∷ [];
     lists = ((0 ∷ 1 ∷ []) ∷ [] ∷ []) ∷ [];
     layout = record {

@@ -1,5 +1,6 @@
 -- Each call in a history has an argument for each parameter of its section.
 use Rattle.std.proofs.Common.{◌≡◌, ◌<◌, ◌≤◌, ◌==◌, ℕ, zero, suc, ◌+◌, Bool, true, false, if◌then◌else◌, List, [], ◌∷◌, length, map, take, slice_get, Option, Some, None, refl, sym, ap, ◌∙◌, subst, arith}
+use Rattle.std.specs.Option.{option_map_or}
 use Rattle.std.proofs.lemmas.Bool.{cond-true, eq-eqb}
 use Rattle.std.proofs.lemmas.List.{length-append}
 use Rattle.core_lang.specs.declared.value.Value.{Value}
@@ -15,10 +16,10 @@ use Rattle.core_lang.specs.Laws.{CallsFill}
 use Rattle.core_lang.specs.Scopes.{bound_in_all, numbers_from, IsWellScoped}
 use Rattle.core_lang.specs.Typing.{HaveTypes, local_types}
 use Rattle.core_lang.specs.WellFormed.{CanCall}
-use Rattle.history.specs.Commits.{Commit, call_of, script_call}
-use Rattle.lowering.specs.Plans.{Plan, IsCompiled}
-use Rattle.worlds.specs.Worlds.{World, script_of, scripts}
-use Rattle.worlds.specs.Claims.{calls_by, numbered, FollowsScripts}
+use Rattle.history.specs.Commits.{Commit, call_of, answer_of, script_call}
+use Rattle.lowering.specs.Plans.{Plan, IsCompiled, CompiledRunAlike}
+use Rattle.worlds.specs.Worlds.{World, script_of, scripts, call_at}
+use Rattle.worlds.specs.Claims.{calls_by, numbered, FollowsScripts, AreOfScripts, OfScriptsRunAlike}
 
 -- ---- lists
 
@@ -87,6 +88,15 @@ enough section scoped =
     let same = ap (λ (l : List ℕ). length l) scoped.bound in
     omega (arith, before, whole, same, length-append (numbers_from 0 section.parameters) (bound_in_all section.body.items))
 
+call_found : (plan : Plan) (t k : ℕ) (call : Invocation) → call_at plan t k ≡ Some call →
+    (script : List Invocation) × (slice_get (scripts plan) t ≡ Some script) × (slice_get script k ≡ Some call)
+call_found plan t k call is = in_script (slice_get (scripts plan) t) is refl
+  where
+    in_script : (o : Option (List Invocation)) → option_map_or (λ (xs : List Invocation). slice_get xs k) o None ≡ Some call → slice_get (scripts plan) t ≡ o →
+        (script : List Invocation) × (slice_get (scripts plan) t ≡ Some script) × (slice_get script k ≡ Some call)
+    in_script (Some script) has there = (script, there, has)
+    in_script None has there = absurd cc
+
 module _ (plan : Plan) (ok : IsCompiled plan) where
   fills : (call : Invocation) → CanCall plan.program call.section call.arguments → (section : Section) → slice_get plan.accepted.sections.items call.section ≡ Some section →
       length call.arguments ≡ section.parameters
@@ -106,19 +116,31 @@ module _ (plan : Plan) (ok : IsCompiled plan) where
       let mine = mapped_there invocation thread.0.calls.items k call (ap (λ (xs : List Invocation). slice_get xs k) thread.2 ∙ has) in
       subst (λ (z : Invocation). CanCall plan.program z.section z.arguments) mine.2 (ok.well_formed.scripts t k thread.0 mine.0 thread.1 mine.1)
 
-  all_fill : (cs : List Commit) → ((p : ℕ) (c : Commit) → slice_get cs p ≡ Some c → CanCall plan.program c.section c.arguments) → CallsFill plan.accepted (map call_of cs)
-  all_fill [] each = tt
-  all_fill (c ∷ cs) each = (fills (call_of c) (each 0 c refl), all_fill cs (λ p d is. each (suc p) d is))
+  -- and so does each entry of a script
+  pub scripted_fill : (cs : List Commit) → AreOfScripts plan cs → CallsFill plan.accepted (map call_of cs)
+  scripted_fill [] of = tt
+  scripted_fill (c ∷ cs) of =
+      let found = call_found plan c.thread of.0.0 (call_of c) of.0.1 in
+      (fills (call_of c) (scripted c.thread of.0.0 found.0 (call_of c) found.1 found.2), scripted_fill cs of.1)
 
-  pub history_fills : (w : World) → FollowsScripts plan w → CallsFill plan.accepted (map call_of w.history)
-  history_fills w follows =
-      all_fill w.history (λ p c is.
-      let lt = follows.nobody_else p c is in
-      let all = follows.all_threads in
-      let script = get_some (scripts plan) c.thread lt in
-      let thread = get_some w.threads c.thread (omega (arith, lt, all)) in
-      let mine = among_calls c.thread w.history p c is refl in
-      let calls = follows.calls c.thread thread.0 script.0 thread.1 script.1 in
-      let at = ap (λ (xs : List Scheduled). slice_get xs mine.0) (sym calls) ∙ mine.1 in
-      let numbered_at = taken_there thread.0.step mine.0 (numbered c.thread 0 script.0) (script_call c) at in
-      scripted c.thread mine.0 script.0 (call_of c) script.1 (numbered_there c.thread 0 mine.0 script.0 (script_call c) numbered_at))
+-- what a world's history has of a thread are calls of its script
+each_of_scripts : (plan : Plan) (cs : List Commit) → ((p : ℕ) (c : Commit) → slice_get cs p ≡ Some c → (k : ℕ) × (call_at plan c.thread k ≡ Some (call_of c))) → AreOfScripts plan cs
+each_of_scripts plan [] each = tt
+each_of_scripts plan (c ∷ cs) each = (each 0 c refl, each_of_scripts plan cs (λ p d is. each (suc p) d is))
+
+pub history_of_scripts : (plan : Plan) (w : World) → FollowsScripts plan w → AreOfScripts plan w.history
+history_of_scripts plan w follows =
+    each_of_scripts plan w.history (λ p c is.
+    let lt = follows.nobody_else p c is in
+    let count = follows.all_threads in
+    let script = get_some (scripts plan) c.thread lt in
+    let thread = get_some w.threads c.thread (omega (arith, lt, count)) in
+    let mine = among_calls c.thread w.history p c is refl in
+    let calls = follows.calls c.thread thread.0 script.0 thread.1 script.1 in
+    let at = ap (λ (xs : List Scheduled). slice_get xs mine.0) (sym calls) ∙ mine.1 in
+    let numbered_at = taken_there thread.0.step mine.0 (numbered c.thread 0 script.0) (script_call c) at in
+    let here = numbered_there c.thread 0 mine.0 script.0 (script_call c) numbered_at in
+    (mine.0, ap (λ (o : Option (List Invocation)). option_map_or (λ (xs : List Invocation). slice_get xs mine.0) o None) script.1 ∙ here))
+
+pub of_scripts_run_alike : CompiledRunAlike → OfScriptsRunAlike
+of_scripts_run_alike alike plan cs heap ok of serial = (alike plan (map call_of cs) (map answer_of cs) heap ok (scripted_fill plan ok cs of)).1 serial

@@ -15,7 +15,7 @@ use Rattle.worlds.proofs.Cells.{contains_among, among_contains}
 use Rattle.worlds.proofs.Well.{opening_size}
 use Rattle.worlds.proofs.Ends.{in_order, have_entries}
 use Rattle.worlds.proofs.Scripts.{follows_scripts}
-use Rattle.worlds.proofs.Filled.{history_fills}
+use Rattle.worlds.proofs.Filled.{history_of_scripts, of_scripts_run_alike}
 use Rattle.worlds.proofs.Runs.{ends_are_runs}
 use Rattle.worlds.proofs.Rules.{Once, once_step, once_at_first, keeps_the_rules}
 
@@ -41,7 +41,7 @@ held_cells plan w ok s cell lock is =
 serial : LegalIsSerial → CompiledRunAlike → (plan : Plan) (w : World) → IsCompiled plan → IsSound plan w → FollowsScripts plan w →
     IsSerial plan w (committed plan.layout.opening w.history)
 serial law alike plan w ok s follows =
-    (alike plan (map call_of w.history) (map answer_of w.history) (committed plan.layout.opening w.history) ok (history_fills plan ok w follows)).1
+    of_scripts_run_alike alike plan w.history (committed plan.layout.opening w.history) ok (history_of_scripts plan w follows)
     (subst (λ h. Serial plan.program h (map call_of w.history) (map answer_of w.history) (committed plan.layout.opening w.history)) ok.laid_out.opening
     (law plan.program plan.layout.opening w.history (opening_size plan ok) s.legal s.true_commits))
 

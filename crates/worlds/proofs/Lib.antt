@@ -17,6 +17,7 @@ pub mod Ready
 pub mod Sums
 pub mod InOrder
 pub mod Rules
+pub mod Filled
 pub mod Headline
 pub mod Examples
 pub mod Accepted

@@ -1,5 +1,5 @@
 -- What is claimed of every run.
-use Rattle.std.specs.Prelude.{◌≡◌, ◌↔◌, ◌<◌, ◌≤◌, ℕ, ◌+◌, ◌==◌, if◌then◌else◌, List, [], ◌∷◌, length, map, take, slice_get, Some, None}
+use Rattle.std.specs.Prelude.{◌≡◌, ◌↔◌, ◌<◌, ◌≤◌, ℕ, ◌+◌, ◌==◌, if◌then◌else◌, List, [], ◌∷◌, length, map, take, slice_get, Some, None, ⊤}
 use Rattle.std.specs.List.{Contains}
 use Rattle.core_lang.specs.declared.value.Value.{Value}
 use Rattle.core_lang.specs.Serial.{Invocation, Scheduled, SerialFromOpening}
@@ -73,6 +73,18 @@ EveryWorldKeepsTheRules = (plan : Plan) (steps : List ℕ) → IsCompiled plan �
 -- leave this heap: as calls of the program that was accepted, whose helpers are not written out
 abbrev pub IsSerial : Plan → World → List Value → Type 0
 IsSerial plan w heap = SerialFromOpening plan.accepted (map call_of w.history) (map answer_of w.history) heap
+
+-- each entry is of a call of its thread's script
+abbrev pub AreOfScripts : Plan → List Commit → Type 0
+AreOfScripts plan [] = ⊤
+AreOfScripts plan (c ∷ cs) = ((k : ℕ) × (call_at plan c.thread k ≡ Some (call_of c))) × AreOfScripts plan cs
+
+-- such calls, run whole one after another on what is compiled, run so on the program that was accepted
+abbrev pub OfScriptsRunAlike : Type 0
+OfScriptsRunAlike =
+    (plan : Plan) (cs : List Commit) (heap : List Value) → IsCompiled plan → AreOfScripts plan cs →
+    SerialFromOpening plan.program (map call_of cs) (map answer_of cs) heap →
+    SerialFromOpening plan.accepted (map call_of cs) (map answer_of cs) heap
 
 -- a cell that no section holds has the value that the heap has there
 abbrev pub FreeCellsAre : World → List Value → Type 0

@@ -8,7 +8,7 @@ pub mod Ahead
 pub mod InOrder
 -- what the public clauses cite
 pub use Rattle.worlds.specs.Worlds.{World, ThreadState, Activation, happens, final, trace}
-pub use Rattle.worlds.specs.Claims.{Headline, EveryRunHasIt, KeepsTheRules, EveryWorldKeepsTheRules}
+pub use Rattle.worlds.specs.Claims.{Headline, EveryRunHasIt, KeepsTheRules, EveryWorldKeepsTheRules, OfScriptsRunAlike}
 pub use Rattle.worlds.specs.States.{IsSound, OpeningIsSound, StepsKeepSound}
 pub use Rattle.worlds.specs.Waiting.{NobodyWaitsInACircle, SomeoneGoesOn, PendingRises, IsWait, WaitsAreForHolders}
 pub use Rattle.worlds.specs.Waiting.{RisingHasNoCycle, RisingWaitsForHolders, RisingGoesOn}

@@ -1,6 +1,6 @@
 //! What holds of every run: functions that do nothing, and whose contracts are the laws.
 
-ghost use Rattle.worlds.specs.Claims.{EveryRunHasIt, EveryWorldKeepsTheRules};
+ghost use Rattle.worlds.specs.Claims.{EveryRunHasIt, EveryWorldKeepsTheRules, OfScriptsRunAlike};
 ghost use Rattle.worlds.specs.Waiting.{RisingHasNoCycle, RisingWaitsForHolders, RisingGoesOn, InstructionsHaveTheirCase};
 ghost use Rattle.worlds.specs.InTurn.{AskedInTurn};
 ghost use Rattle.worlds.specs.States.{OpeningIsSound, StepsKeepSound};
@@ -84,6 +84,14 @@ pub fn every_run()
     worlds_stay_ready();
     rising_sections_go_on();
     locks::laws::precedes_is_strict();
+}
+
+/// Calls of scripts that are run whole one after another on what is compiled run so on the program that was accepted, whose
+/// helpers are not written out.
+pub fn of_scripts_run_alike()
+    ensures { OfScriptsRunAlike }
+{
+    lowering::laws::compiled_run_alike();
 }
 
 /// In every world that a compiled program reaches: no two sections hold one lock, and none holds one twice; a section has

@@ -1,4 +1,4 @@
-use Rattle.std.proofs.Common.{List, map, sym, ap, subst}
+use Rattle.std.proofs.Common.{◌↔◌, List, map, sym, ap, subst}
 use Rattle.core_lang.specs.declared.typed.Cell.{Cell}
 use Rattle.core_lang.specs.Serial.{Serial, opening_heap}
 use Rattle.lowering.proofs.laws.compiled_run_alike.Goals as goal
