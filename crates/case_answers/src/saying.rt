@@ -14,6 +14,7 @@ use crate::telling_tokens::tokens_said;
 use case_files::asked::Asked;
 use compiler::compile;
 use core_lang::typed::Typed;
+use expansion::program::expand;
 use lockpaths::paths;
 use lockpaths::table::Paths;
 use source::memory::NoMemory;
@@ -22,7 +23,8 @@ use syntax::print_tree;
 use syntax::tree::Tree;
 use types::program::check;
 
-/// The program that the tree of the text means, with its lock paths, or the line of the fault that it has.
+/// The program that the tree of the text means, with its helpers written out, and its lock paths; or the line of the fault
+/// that it has.
 fn analysed(
     alloc: Global,
     text: &str,
@@ -32,10 +34,11 @@ fn analysed(
     ensures program { IfOk result (λ read. IfOk read (λ known. IsWellFormed known.0)) }
     ensures paths { IfOk result (λ read. IfOk read (λ known. ArePaths known.0 known.1)) }
 {
-    let program = match check(alloc, tree) {
+    let accepted = match check(alloc, tree) {
         Ok(program) => program,
         Err(refusal) => return Ok(Err(line_of(alloc, text, &refusal)?)),
     };
+    let program = expand(alloc, &accepted)?;
     match paths(alloc, &program) {
         Ok(paths) => Ok(Ok((program, paths))),
         Err(refusal) => Ok(Err(line_of(alloc, text, &refusal)?)),

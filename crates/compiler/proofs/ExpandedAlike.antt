@@ -28,7 +28,7 @@ use Rattle.compiler.proofs.LocalsAlike.{mapped_twice, locals_alike}
 seen_so : {A B C : Type 0} (f : A → B) (g : B → C) (h : A → C) (xs ys : List A) → ((x : A) → g (f x) ≡ h x) → map f ys ≡ map f xs → map h ys ≡ map h xs
 seen_so f g h xs ys same e = sym (mapped_twice f g h ys same) ∙ ap (map g) e ∙ mapped_twice f g h xs same
 
-class_of : ClassData → LockClass
+abbrev class_of : ClassData → LockClass
 class_of (NamedLock name) = global_lock name
 class_of (FieldLock s l) = lock_field s l
 
@@ -36,16 +36,16 @@ class_is : (c : the_class.LockClass) → class_of (class_data c) ≡ core_class 
 class_is (class_case.Global name) = refl
 class_is (class_case.Field s l) = refl
 
-lock_of : Numbered → LockField
+abbrev lock_of : Numbered → LockField
 lock_of n = record { name = n.name; class = n.number }
 
-final_of : Numbered → FinalField
+abbrev final_of : Numbered → FinalField
 final_of n = record { name = n.name; target = n.number }
 
-field_of : FieldData → Field
+abbrev field_of : FieldData → Field
 field_of f = record { name = f.name; value_type = f.value_type; protection = record { through = f.through; class = f.class } }
 
-struct_of : StructData → Struct
+abbrev struct_of : StructData → Struct
 struct_of x = record { name = x.name; locks = map lock_of x.locks; finals = map final_of x.finals; fields = map field_of x.fields }
 
 struct_is : (x : the_struct.Struct) → struct_of (struct_data x) ≡ core_struct x
@@ -55,19 +55,19 @@ struct_is x =
     let fields = mapped_twice field_data field_of core_field x.fields.items (λ f. refl) in
     λ i. record { name = (core_struct x).name; locks = locks i; finals = finals i; fields = fields i }
 
-global_of : GlobalData → GlobalVariable
+abbrev global_of : GlobalData → GlobalVariable
 global_of g = record { name = g.name; cell = g.cell; class = g.class }
 
-array_of : ArrayData → Array
+abbrev array_of : ArrayData → Array
 array_of a = record { name = a.name; first = a.first; length = a.count; element_type = a.element; class = a.class }
 
-pool_of : PoolData → Pool
+abbrev pool_of : PoolData → Pool
 pool_of p = record { name = p.name; first = p.first; length = p.count; structure = p.structure }
 
-call_of : CallData → Call
+abbrev call_of : CallData → Call
 call_of c = record { section = c.section; arguments = c.arguments }
 
-thread_of : ThreadData → Thread
+abbrev thread_of : ThreadData → Thread
 thread_of t = record { name = t.name; calls = map call_of t.calls }
 
 thread_is : (t : the_thread.Thread) → thread_of (thread_data t) ≡ core_thread t

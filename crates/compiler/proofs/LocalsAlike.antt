@@ -5,8 +5,8 @@ use Rattle.core_lang.specs.declared.value.ValueType.{ValueType}
 use Rattle.core_lang.specs.declared.shape.Shape.{Shape}
 use Rattle.core_lang.specs.declared.tree.LocalKind.TheVariants.{Let}
 use Rattle.core_lang.specs.declared.tree.Local as the_local
-use Rattle.core_lang.specs.declared.tree.Stmt as s
-use Rattle.core_lang.specs.declared.tree.Action as a
+use Rattle.core_lang.specs.declared.tree.Stmt as the_stmt
+use Rattle.core_lang.specs.declared.tree.Action as the_action
 use Rattle.core_lang.specs.declared.tree.Action.{Bind, SetLocal, SetGlobal, SetElement, SetField, Call as CallOf, Print, If', IfElse', While', Row_of-Stmt, end_of-Stmt, more_of-Stmt}
 use Rattle.core_lang.specs.declared.tree.Section as the_section
 use Rattle.core_lang.specs.Meaning.{deepest}
@@ -72,8 +72,8 @@ mapped_both f [] ys = refl
 mapped_both f (x ∷ xs) ys = ap (λ zs. f x ∷ zs) (mapped_both f xs ys)
 
 pub mapped_twice : {A B C : Type 0} (f : A → B) (g : B → C) (h : A → C) (xs : List A) → ((x : A) → g (f x) ≡ h x) → map g (map f xs) ≡ map h xs
-pub mapped_twice f g h [] same = refl
-pub mapped_twice f g h (x ∷ xs) same = λ i. same x i ∷ mapped_twice f g h xs same i
+mapped_twice f g h [] same = refl
+mapped_twice f g h (x ∷ xs) same = λ i. same x i ∷ mapped_twice f g h xs same i
 
 taken_mapped : {A B : Type 0} (f : A → B) (n : ℕ) (xs : List A) → take n (map f xs) ≡ map f (take n xs)
 taken_mapped f zero xs = refl
@@ -96,7 +96,7 @@ brings_of b = record { locals = map local_of b.locals; result_type = b.result_ty
 
 module _ (brings : ℕ → Brought) (out : ℕ → Brings) (same : (k : ℕ) → brings_of (brings k) ≡ out k) (own : List the_local.Local) where
   mutual
-    locals_are : (v : a.Action) → map local_of (locals_by brings own v) ≡ locals_out out (map core_local own) (core_action v)
+    locals_are : (v : the_action.Action) → map local_of (locals_by brings own v) ≡ locals_out out (map core_local own) (core_action v)
     locals_are (Bind k v) = own_at own k
     locals_are (SetLocal k v) = refl
     locals_are (SetGlobal cell v) = refl
@@ -117,7 +117,7 @@ module _ (brings : ℕ → Brought) (out : ℕ → Brings) (same : (k : ℕ) →
     row_locals_are end_of-Stmt = refl
     row_locals_are (more_of-Stmt start v rest) = mapped_both local_of (locals_by brings own v) (locals_in brings own rest) ∙ (λ i. locals_are v i ++ row_locals_are rest i)
 
-  all_locals_are : (xs : List s.Stmt) → map local_of (locals_in_all brings own xs) ≡ all_locals_out out (map core_local own) (core_stmts xs)
+  all_locals_are : (xs : List the_stmt.Stmt) → map local_of (locals_in_all brings own xs) ≡ all_locals_out out (map core_local own) (core_stmts xs)
   all_locals_are [] = refl
   all_locals_are (v ∷ xs) = mapped_both local_of (locals_by brings own v.action) (locals_in_all brings own xs) ∙ (λ i. locals_are v.action i ++ all_locals_are xs i)
 

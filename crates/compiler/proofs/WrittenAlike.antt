@@ -5,12 +5,12 @@ use Rattle.std.specs.List.{Contains}
 use mathlib.Core.Former.{Count}
 use Rattle.core_lang.specs.declared.shape.Shape.{Shape}
 use Rattle.core_lang.specs.declared.tree.Path as the_path
-use Rattle.core_lang.specs.declared.tree.Expr as e
+use Rattle.core_lang.specs.declared.tree.Expr as the_expr
 use Rattle.core_lang.specs.declared.tree.Expr.{Number, Null, Place, Global as GlobalCell, Element', Member', Negate', Owned', Chain', Row_of-Operation, end_of-Operation, more_of-Operation}
-use Rattle.core_lang.specs.declared.tree.Condition as c
+use Rattle.core_lang.specs.declared.tree.Condition as the_condition
 use Rattle.core_lang.specs.declared.tree.Condition.{Compare, Not', And', Or', Row_of-Condition, end_of-Condition, more_of-Condition}
-use Rattle.core_lang.specs.declared.tree.Stmt as s
-use Rattle.core_lang.specs.declared.tree.Action as a
+use Rattle.core_lang.specs.declared.tree.Stmt as the_stmt
+use Rattle.core_lang.specs.declared.tree.Action as the_action
 use Rattle.core_lang.specs.declared.tree.Action.{Bind, SetLocal, SetGlobal, SetElement, SetField, Call as CallOf, Print, If', IfElse', While', If, IfElse, While, Row_of-Stmt, end_of-Stmt, more_of-Stmt, items-the_row-Stmt, items_hidden-the_row-Stmt-0}
 use Rattle.core_lang.specs.declared.tree.Return as the_return
 use Rattle.core_lang.specs.declared.tree.Section as the_section
@@ -116,7 +116,7 @@ module _ (scope : List Pair) where
         λ i. record { start = r.start i; local = found_written own scope p.local q.local falling r.local i; fields = r.fields i; in_parentheses = r.in_parentheses i }
 
     mutual
-      expr_is : (v w : e.Expr) → Renames scope v w → core_expr w ≡ renamed (core_expr v)
+      expr_is : (v w : the_expr.Expr) → Renames scope v w → core_expr w ≡ renamed (core_expr v)
       expr_is (Number n) (Number m) r = ap number r
       expr_is Null Null r = refl
       expr_is (Place p) (Place q) r = ap place (path_is p q r)
@@ -136,7 +136,7 @@ module _ (scope : List Pair) where
       each_is _ _ r = absurd r
 
     mutual
-      test_is : (v w : c.Condition) → RenamesTest scope v w → core_condition w ≡ renamed_test (core_condition v)
+      test_is : (v w : the_condition.Condition) → RenamesTest scope v w → core_condition w ≡ renamed_test (core_condition v)
       test_is (Compare o v w) (Compare o' v' w') r = λ i. compare (r.0 i) (expr_is v v' r.1 i) (expr_is w w' r.2 i)
       test_is (Not' p v) (Not' p' v') r = ap negation (test_is v v' r)
       test_is (And' m before p last) (And' m' before' p' last') r = λ i. all_of (tests_are before before' r.0 i) (test_is last last' r.1 i)
@@ -161,7 +161,7 @@ abbrev joined : Stmts → Stmts → Stmts
 joined no_stmts ys = ys
 joined (stmt start v rest) ys = stmt start v (joined rest ys)
 
-joined_is : (xs ys : List s.Stmt) → core_stmts (xs ++ ys) ≡ joined (core_stmts xs) (core_stmts ys)
+joined_is : (xs ys : List the_stmt.Stmt) → core_stmts (xs ++ ys) ≡ joined (core_stmts xs) (core_stmts ys)
 joined_is [] ys = refl
 joined_is (v ∷ xs) ys = ap (stmt v.start (core_action v.action)) (joined_is xs ys)
 
@@ -169,13 +169,13 @@ row_is : (n : Count) (row : Row_of-Stmt n) → core_stmts_row row ≡ core_stmts
 row_is n end_of-Stmt = refl
 row_is n (more_of-Stmt start v rest) = ap (stmt start (core_action v)) (row_is _ rest)
 
-if_is : (t : c.Condition) (block : Vec s.Stmt Global) → core_action (If t block) ≡ if_true (core_condition t) (core_stmts block.items)
+if_is : (t : the_condition.Condition) (block : Vec the_stmt.Stmt Global) → core_action (If t block) ≡ if_true (core_condition t) (core_stmts block.items)
 if_is t block = let row = block_of (If t block) in ap (if_true (core_condition t)) (row_is row.0 row.1 ∙ ap core_stmts (items_hidden-the_row-Stmt-0 block))
 
-while_is : (t : c.Condition) (block : Vec s.Stmt Global) → core_action (While t block) ≡ while_true (core_condition t) (core_stmts block.items)
+while_is : (t : the_condition.Condition) (block : Vec the_stmt.Stmt Global) → core_action (While t block) ≡ while_true (core_condition t) (core_stmts block.items)
 while_is t block = let row = block_of (While t block) in ap (while_true (core_condition t)) (row_is row.0 row.1 ∙ ap core_stmts (items_hidden-the_row-Stmt-0 block))
 
-if_else_is : (t : c.Condition) (block otherwise : Vec s.Stmt Global) →
+if_else_is : (t : the_condition.Condition) (block otherwise : Vec the_stmt.Stmt Global) →
     core_action (IfElse t block otherwise) ≡ if_else (core_condition t) (core_stmts block.items) (core_stmts otherwise.items)
 if_else_is t block otherwise =
     let row = block_of (IfElse t block otherwise) in
@@ -259,7 +259,7 @@ helpers_written helpers (suc depth) k first = body_if (slice_get helpers k) (λ 
 -- ---- the relation is this function
 
 -- what stands for a local stands for it alone
-record Follows (ys : List s.Stmt) (a b : At) (out : Out) : Type 0 where
+record Follows (ys : List the_stmt.Stmt) (a b : At) (out : Out) : Type 0 where
   stmts : core_stmts ys ≡ out.stmts
   at : b ≡ out.at
   falling : Falling b.own b.scope
@@ -267,13 +267,13 @@ record Follows (ys : List s.Stmt) (a b : At) (out : Out) : Type 0 where
 
 abbrev BodiesFollow : Bodies → BodiesOut → Type 0
 BodiesFollow Body bodies =
-    (helper count first : ℕ) (body : List s.Stmt) (r : Option the_return.Return) (fresh : ℕ) → Body helper count first body r fresh →
+    (helper count first : ℕ) (body : List the_stmt.Stmt) (r : Option the_return.Return) (fresh : ℕ) → Body helper count first body r fresh →
     (core_stmts body ≡ (bodies helper first).stmts) × (option_map core_return r ≡ (bodies helper first).result) × (fresh ≡ (bodies helper first).fresh)
 
 falls : (a b : At) → b ≡ a → Falling a.own a.scope → Falling b.own b.scope
 falls a b e f = subst (λ (z : At). Falling z.own z.scope) (sym e) f
 
-stays : (a b : At) (ys : List s.Stmt) (start : ℕ) (v : a.Action) (w : Action) → ys ≡ one start v → b ≡ a → core_action v ≡ w → Falling a.own a.scope →
+stays : (a b : At) (ys : List the_stmt.Stmt) (start : ℕ) (v : the_action.Action) (w : Action) → ys ≡ one start v → b ≡ a → core_action v ≡ w → Falling a.own a.scope →
     Follows ys a b (record { stmts = lone start w; at = a })
 stays a b ys start v w is e same falling = record {
   stmts = ap core_stmts is ∙ ap (lone start) same;
@@ -282,7 +282,7 @@ stays a b ys start v w is e same falling = record {
   own = let f = ap (λ (z : At). z.own) e in omega (arith, f);
 }
 
-bound_follows : (a b : At) (ys : List s.Stmt) (start : ℕ) (v : e.Expr) (w : Expr) → ys ≡ one start (Bind a.fresh v) → b ≡ behind_bound a → core_expr v ≡ w →
+bound_follows : (a b : At) (ys : List the_stmt.Stmt) (start : ℕ) (v : the_expr.Expr) (w : Expr) → ys ≡ one start (Bind a.fresh v) → b ≡ behind_bound a → core_expr v ≡ w →
     Falling a.own a.scope → Follows ys a b (record { stmts = lone start (bind a.fresh w); at = behind_bound a })
 bound_follows a b ys start v w is e same falling = record {
   stmts = ap core_stmts is ∙ ap (λ z. lone start (bind a.fresh z)) same;
@@ -291,7 +291,7 @@ bound_follows a b ys start v w is e same falling = record {
   own = let f = ap (λ (z : At). z.own) e in omega (arith, f);
 }
 
-block_follows : (a after b : At) (ys inside : List s.Stmt) (start : ℕ) (v : a.Action) (w : Action) (out : Out) → ys ≡ one start v → b ≡ behind_block a after →
+block_follows : (a after b : At) (ys inside : List the_stmt.Stmt) (start : ℕ) (v : the_action.Action) (w : Action) (out : Out) → ys ≡ one start v → b ≡ behind_block a after →
     core_action v ≡ w → Falling a.own a.scope → Follows inside a after out → Follows ys a b (record { stmts = lone start w; at = behind_block a out.at })
 block_follows a after b ys inside start v w out is e same falling inner =
     let le = inner.own in record {
@@ -301,7 +301,7 @@ block_follows a after b ys inside start v w out is e same falling inner =
       own = let f = ap (λ (z : At). z.own) e in omega (arith, f, le);
     }
 
-both_follow : (a m b : At) (xs ys : List s.Stmt) (first second : Out) → Follows xs a m first → Follows ys m b second →
+both_follow : (a m b : At) (xs ys : List the_stmt.Stmt) (first second : Out) → Follows xs a m first → Follows ys m b second →
     Follows (xs ++ ys) a b (record { stmts = joined first.stmts second.stmts; at = second.at })
 both_follow a m b xs ys first second f g = record {
   stmts = joined_is xs ys ∙ (λ i. joined (f.stmts i) (g.stmts i));
@@ -310,7 +310,7 @@ both_follow a m b xs ys first second f g = record {
   own = let h = f.own in let k = g.own in omega (arith, h, k);
 }
 
-lets_follow : (start : ℕ) (scope : List Pair) (own : ℕ) → Falling own scope → (vs : List e.Expr) (fresh : ℕ) (lets : List s.Stmt) → Arguments start scope vs fresh lets →
+lets_follow : (start : ℕ) (scope : List Pair) (own : ℕ) → Falling own scope → (vs : List the_expr.Expr) (fresh : ℕ) (lets : List the_stmt.Stmt) → Arguments start scope vs fresh lets →
     core_stmts lets ≡ lets_out start scope (map core_expr vs) fresh
 lets_follow start scope own falling [] fresh lets w = ap core_stmts w
 lets_follow start scope own falling (v ∷ vs) fresh lets (v', rest, r, w, ws) =
@@ -318,7 +318,7 @@ lets_follow start scope own falling (v ∷ vs) fresh lets (v', rest, r, w, ws) =
     let more = lets_follow start scope own falling vs (fresh + 1) rest ws in
     ap core_stmts w ∙ (λ i. stmt start (bind fresh (this i)) (more i))
 
-last_follows : (result : Option ℕ) (r : Option the_return.Return) (a b : At) (fresh : ℕ) (last : List s.Stmt) → Bound result r a fresh last b → Falling a.own a.scope →
+last_follows : (result : Option ℕ) (r : Option the_return.Return) (a b : At) (fresh : ℕ) (last : List the_stmt.Stmt) → Bound result r a fresh last b → Falling a.own a.scope →
     Follows last a b (last_out result (option_map core_return r) a fresh)
 last_follows None None a b fresh last w falling = record {
   stmts = ap core_stmts w.0;
@@ -342,7 +342,7 @@ last_follows (Some k) (Some r) a b fresh last w falling = record {
 
 module _ (Body : Bodies) (bodies : BodiesOut) (follow : BodiesFollow Body bodies) where
   mutual
-    follows : (v : a.Action) (start : ℕ) (a b : At) (ys : List s.Stmt) → Writes Body v start a ys b → Falling a.own a.scope → Follows ys a b (written bodies (core_action v) start a)
+    follows : (v : the_action.Action) (start : ℕ) (a b : At) (ys : List the_stmt.Stmt) → Writes Body v start a ys b → Falling a.own a.scope → Follows ys a b (written bodies (core_action v) start a)
     follows (Bind k v) start a b ys (v', r, same, w, f) falling = bound_follows a b ys start v' (renamed a.scope (core_expr v)) w f (expr_is a.scope a.own falling v v' r) falling
     follows (SetLocal k v) start a b ys (k', v', c, r, w, f) falling =
         let this = expr_is a.scope a.own falling v v' r in
@@ -401,7 +401,7 @@ module _ (Body : Bodies) (bodies : BodiesOut) (follow : BodiesFollow Body bodies
         block_follows a after b ys body'.items start (While t' body') _ (all_written bodies (core_stmts_row body) a) e f
         (while_is t' body' ∙ (λ i. while_true (test i) (inner.stmts i))) falling inner
 
-    row_follows : {m : _} (row : Row_of-Stmt m) (a b : At) (ys : List s.Stmt) → WritesRow Body row a ys b → Falling a.own a.scope →
+    row_follows : {m : _} (row : Row_of-Stmt m) (a b : At) (ys : List the_stmt.Stmt) → WritesRow Body row a ys b → Falling a.own a.scope →
         Follows ys a b (all_written bodies (core_stmts_row row) a)
     row_follows end_of-Stmt a b ys (e, f) falling = record {
       stmts = ap core_stmts e;
@@ -419,7 +419,7 @@ module _ (Body : Bodies) (bodies : BodiesOut) (follow : BodiesFollow Body bodies
         subst (λ zs. Follows zs a b (all_written bodies (core_stmts_row (more_of-Stmt start v rest)) a)) (sym e)
         (both_follow a middle b front rear out (all_written bodies (core_stmts_row rest) out.at) first moved)
 
-  all_follow : (xs : List s.Stmt) (a b : At) (ys : List s.Stmt) → WritesAll Body xs a ys b → Falling a.own a.scope → Follows ys a b (all_written bodies (core_stmts xs) a)
+  all_follow : (xs : List the_stmt.Stmt) (a b : At) (ys : List the_stmt.Stmt) → WritesAll Body xs a ys b → Falling a.own a.scope → Follows ys a b (all_written bodies (core_stmts xs) a)
   all_follow [] a b ys (e, f) falling = record {
     stmts = ap core_stmts e;
     at = f;
@@ -438,7 +438,7 @@ parameters_fall : (n first : ℕ) → Falling n (parameters_at n first)
 parameters_fall zero first = tt
 parameters_fall (suc n) first = (omega arith, parameters_fall n first)
 
-body_follows : (Body : Bodies) (bodies : BodiesOut) → BodiesFollow Body bodies → (h : the_section.Section) (first : ℕ) (body : List s.Stmt) (r : Option the_return.Return) (fresh : ℕ) →
+body_follows : (Body : Bodies) (bodies : BodiesOut) → BodiesFollow Body bodies → (h : the_section.Section) (first : ℕ) (body : List the_stmt.Stmt) (r : Option the_return.Return) (fresh : ℕ) →
     x.WritesBody Body h first body r fresh →
     (core_stmts body ≡ (body_written bodies (core_section h) first).stmts) × (option_map core_return r ≡ (body_written bodies (core_section h) first).result)
     × (fresh ≡ (body_written bodies (core_section h) first).fresh)

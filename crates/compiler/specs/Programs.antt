@@ -1,5 +1,5 @@
 -- From a text to its program, or to its fault.
-use Rattle.std.specs.Prelude.{ℕ, List}
+use Rattle.std.specs.Prelude.{◌≡◌, ℕ, List}
 use Rattle.source.specs.declared.fault.Code.{Code}
 use Rattle.core_lang.specs.declared.typed.Typed.{Typed}
 use Rattle.source.specs.declared.fault.Fault as the_fault
@@ -65,6 +65,10 @@ pub data IsOfFirstPass (source : List ℕ) (fault : the_fault.Fault) : Type 0 wh
 abbrev pub IsRefusal : List ℕ → Refusal → Type 0
 IsRefusal source NoMemory = Unit {0}
 IsRefusal source (Fault fault) = IsOfFirstPass source fault
+
+-- for want of memory
+abbrev pub IsForMemory : Refusal → Type 0
+IsForMemory refusal = refusal ≡ NoMemory
 
 -- a program was refused for a cycle of its lock classes, or for want of memory
 abbrev pub IsOrderRefusal : Typed → Refusal → Type 0

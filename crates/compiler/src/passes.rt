@@ -1,14 +1,13 @@
 //! The passes in order.
 
-ghost use Rattle.std.specs.Prelude.{◌≡◌, IfOk, IfErr, OnOk};
-ghost use Rattle.source.specs.declared.fault.Refusal.TheVariants.{NoMemory};
+ghost use Rattle.std.specs.Prelude.{IfOk, IfErr, OnOk};
 ghost use Rattle.core_lang.specs.WellFormed.{IsChecked, IsWellFormed};
 ghost use Rattle.expansion.specs.Data.{IsExpanded};
 ghost use Rattle.lockpaths.specs.Paths.{ArePaths};
 ghost use Rattle.lockorder.specs.Edges.{AreRanksOf, RiseIn};
 ghost use Rattle.lockorder.specs.Faults.{HasNoFault};
 ghost use Rattle.lowering.specs.Plans.{IsCompiled};
-ghost use Rattle.compiler.specs.Programs.{Accepts, IsOrderRefusal, IsRefusal};
+ghost use Rattle.compiler.specs.Programs.{Accepts, IsForMemory, IsOrderRefusal, IsRefusal};
 
 use core_lang::typed::Typed;
 use expansion::program::expand;
@@ -49,7 +48,7 @@ fn written_out(alloc: Global, program: &Typed) -> Result<Typed, Refusal>
     requires { IsChecked program.now }
     ensures expanded { IfOk result (IsExpanded program.now) }
     ensures well_formed { IfOk result IsWellFormed }
-    ensures fault { IfErr result (λ refusal. refusal ≡ NoMemory) }
+    ensures fault { IfErr result IsForMemory }
 {
     match expand(alloc, program) {
         Ok(written) => Ok(written),

@@ -1,7 +1,6 @@
 //! What an engine answers, as a function of the bytes that it read.
 
 ghost use Rattle.std.specs.Prelude.{◌≡◌, IfOk};
-ghost use Rattle.core_lang.specs.WellFormed.{IsChecked};
 ghost use Rattle.driver.specs.Answering.{Meets, IsAccepted, IsFaultAnswer, RequestAnswers, PairWanted};
 ghost use Rattle.driver.specs.Answers.{TextAnswers};
 ghost use Rattle.driver.specs.Checks.{IsCheckReport};
@@ -11,7 +10,7 @@ ghost use Rattle.driver.specs.ThreadRuns.{ThreadsAnswers};
 
 use crate::replaying::replayed;
 use crate::request::{Pair, PairRequest, Request};
-use crate::running::run_scripts;
+use crate::running::{prepared, run_scripts};
 use crate::simulating::simulated;
 use crate::status::Status;
 use crate::threads_run::run_by_threads;
@@ -19,10 +18,10 @@ use check_report::Check;
 use code::listing;
 use compiler::compile;
 use core_lang::laws;
-use core_lang::typed::Typed;
 use lowering::compiled::Program;
 use recorded::Format;
 use report::{history_text, unsettled_text};
+use register_machine::prepared::Prepared;
 use source::fault::{Fault, Refusal};
 use source::line::fault_line;
 use source::memory::NoMemory;
@@ -95,12 +94,12 @@ fn listed(alloc: Global, program: &Program) -> Result<Answer, NoMemory>
 }
 
 /// The text of a program's run.
-fn ran(alloc: Global, program: &Typed, turns: u64) -> Result<Answer, NoMemory>
-    requires { IsChecked program.now }
-    ensures { IfOk result (Meets (IsRun turns program.now)) }
+fn ran(alloc: Global, prepared: &Prepared<'_>, turns: u64) -> Result<Answer, NoMemory>
+    ensures { IfOk result (Meets (IsRun turns prepared.now.program.now)) }
 {
     laws::settled_are_serial();
-    let ran = run_scripts(alloc, program, turns)?;
+    let program = prepared.program();
+    let ran = run_scripts(alloc, prepared, turns)?;
     let err = String::new(alloc);
     match ran.unsettled {
         None => Ok(Answer {
@@ -128,7 +127,7 @@ fn of_program(
     match request {
         Request::Check => checked(alloc, text, program),
         Request::Listing => listed(alloc, program),
-        Request::Serial { turns } => ran(alloc, program.accepted(), turns),
+        Request::Serial { turns } => ran(alloc, &prepared(alloc, program)?, turns),
     }
 }
 

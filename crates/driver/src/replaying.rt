@@ -8,6 +8,7 @@ ghost use Rattle.driver.specs.Replays.{IsReplayed, verdict_status, verdict_text}
 
 use crate::answer::Answer;
 use crate::request::Judging;
+use crate::running::prepared;
 use crate::status::Status;
 use crate::why::push_why;
 use lowering::compiled::Program;
@@ -87,6 +88,7 @@ pub fn replayed(
         Err(HistoryRefusal::Fault(fault)) => return bad_history(alloc, history_file, fault),
         Err(HistoryRefusal::NoMemory) => return Err(NoMemory),
     };
-    let judgement = replay(alloc, program.accepted(), &recorded, judging.turns)?;
+    let prepared = prepared(alloc, program)?;
+    let judgement = replay(alloc, prepared, &recorded, judging.turns)?;
     judged(alloc, judging.why, &judgement, &recorded)
 }

@@ -9,6 +9,7 @@ ghost use Rattle.driver.specs.Serial.{entry};
 
 use crate::schedule::{ScheduledCall, schedule};
 use core_lang::typed::Typed;
+use lowering::compiled::Program;
 use meaning::run::End;
 use register_machine::prepared::Prepared;
 use report::Record;
@@ -44,15 +45,42 @@ fn record_of(alloc: Global, call: &ScheduledCall<'_>, end: End) -> Result<Record
     })
 }
 
+/// A compiled program, prepared for its calls: those of the program as it was accepted.
+pub fn prepared(alloc: Global, program: &Program) -> Result<Prepared<'_>, NoMemory>
+    ensures { IfOk result (λ prepared. prepared.program.now ≡ program.now.accepted) }
+{
+    let accepted = program.accepted();
+    let written = program.typed();
+    Prepared::new(alloc, accepted, written)
+}
+
 /// Runs all calls of a program one after another, thread 0's whole script first, as far as so many
 /// turns of each execution of a loop settle them.
-pub fn run_scripts(alloc: Global, typed: &Typed, turns: u64) -> Result<Ran, NoMemory>
-    requires { IsChecked typed.now }
+pub fn run_scripts(
+    alloc: Global,
+    prepared: &Prepared<'_>,
+    turns: u64,
+) -> Result<Ran, NoMemory>
+    ensures ran { IfOk result (IsRan turns prepared.now.program.now) }
+    ensures cells { IfOk result (λ ran. HasCells prepared.now.program.now ran.heap) }
+{
+    let ran = run_calls(alloc, prepared.program(), prepared, turns)?;
+    Ok(ran)
+}
+
+// The same, of the program that was prepared.
+fn run_calls(
+    alloc: Global,
+    typed: &Typed,
+    prepared: &Prepared<'_>,
+    turns: u64,
+) -> Result<Ran, NoMemory>
+    requires checked { IsChecked typed.now }
+    requires same { prepared.now.program.now ≡ typed.now }
     ensures ran { IfOk result (IsRan turns typed.now) }
     ensures cells { IfOk result (λ ran. HasCells typed.now ran.heap) }
 {
     let calls = schedule(alloc, typed)?;
-    let prepared = Prepared::new(alloc, typed)?;
     let mut heap = Heap::open(alloc, typed)?;
     let mut records = Vec::with_capacity(alloc, calls.len())?;
     for next in &calls {

@@ -63,6 +63,38 @@ fn differing(number: usize, wanted: Wanted) -> Judgement
     }
 }
 
+impl Replay<'_> {
+    // The verdict on a recorded history, and what may come where it differs.
+    fn judgement(&self, recorded: &Recorded<'_>) -> Result<Judgement, NoMemory>
+        requires { IsReady self.now }
+        ensures holds { let format = self.now.format in let program = self.now.typed.now in
+            IfOk result (λ judgement. Holds self.now.turns format program (recorded_lines recorded.now) judgement.verdict) }
+        ensures why { let format = self.now.format in let program = self.now.typed.now in
+            IfOk result (λ judgement. Explains self.now.turns format program (recorded_lines recorded.now) judgement.verdict judgement.wanted) }
+    {
+        let mut at = start(self.alloc, self.typed)?;
+        let mut text = String::new(self.alloc);
+        for (i, line) in recorded.lines.iter().enumerate() {
+            match self.read(&mut at, &mut text, line)? {
+                Finding::Came => {}
+                Finding::Other => {
+                    let wanted = self.wanted(&at)?;
+                    return Ok(differing(i + 2, wanted));
+                }
+                Finding::EndsOtherwise => return Ok(differing(i + 2, Wanted::Line(text))),
+                Finding::Beyond => return Ok(settled(Verdict::Unsettled(i + 2))),
+            }
+        }
+        match at.stage {
+            Stage::Ended => Ok(settled(Verdict::Same)),
+            _ => {
+                let wanted = self.wanted(&at)?;
+                Ok(differing(recorded.lines.len() + 2, wanted))
+            }
+        }
+    }
+}
+
 /// The verdict on a recorded history of a program, where each execution of a loop may make at most so many turns; and where it
 /// differs, what may come there.
 ///
@@ -71,41 +103,22 @@ fn differing(number: usize, wanted: Wanted) -> Judgement
 /// Want of memory.
 pub fn replay(
     alloc: Global,
-    typed: &Typed,
+    prepared: Prepared<'_>,
     recorded: &Recorded<'_>,
     turns: u64,
 ) -> Result<Judgement, NoMemory>
-    requires { IsChecked typed.now }
-    ensures holds { IfOk result (λ judgement. Holds turns recorded.now.format typed.now (recorded_lines recorded.now) judgement.verdict) }
-    ensures why { IfOk result (λ judgement. Explains turns recorded.now.format typed.now (recorded_lines recorded.now)
-        judgement.verdict judgement.wanted) }
+    ensures holds { let format = recorded.now.format in let program = prepared.program.now in
+        IfOk result (λ judgement. Holds turns format program (recorded_lines recorded.now) judgement.verdict) }
+    ensures why { let format = recorded.now.format in let program = prepared.program.now in
+        IfOk result (λ judgement. Explains turns format program (recorded_lines recorded.now) judgement.verdict judgement.wanted) }
 {
-    let prepared = Prepared::new(alloc, typed)?;
-    let mut at = start(alloc, typed)?;
     let replay = Replay {
         alloc,
-        typed,
+        typed: prepared.program(),
         prepared,
         format: recorded.format,
         turns,
     };
-    let mut text = String::new(alloc);
-    for (i, line) in recorded.lines.iter().enumerate() {
-        match replay.read(&mut at, &mut text, line)? {
-            Finding::Came => {}
-            Finding::Other => {
-                let wanted = replay.wanted(&at)?;
-                return Ok(differing(i + 2, wanted));
-            }
-            Finding::EndsOtherwise => return Ok(differing(i + 2, Wanted::Line(text))),
-            Finding::Beyond => return Ok(settled(Verdict::Unsettled(i + 2))),
-        }
-    }
-    match at.stage {
-        Stage::Ended => Ok(settled(Verdict::Same)),
-        _ => {
-            let wanted = replay.wanted(&at)?;
-            Ok(differing(recorded.lines.len() + 2, wanted))
-        }
-    }
+    let judgement = replay.judgement(recorded)?;
+    Ok(judgement)
 }

@@ -1,7 +1,7 @@
 use Rattle.recorded.specs.Histories.{recorded_lines}
 use Rattle.replay.proofs.Replays.{HasRead}
-use Rattle.replay.proofs.replaying.replay.Given as goal
+use Rattle.replay.proofs.replaying.Replay.judgement.Given as goal
 
 -- the lines before this one came
 abbrev pub invariant-loop-i : goal.invariant-loop-i
-invariant-loop-i l = HasRead l.turns l.recorded.format l.typed (recorded_lines l.recorded) l.i l.at
+invariant-loop-i l = HasRead l.self.turns l.self.format l.self.typed.now (recorded_lines l.recorded) l.i l.at
