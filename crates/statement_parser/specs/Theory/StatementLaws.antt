@@ -79,7 +79,7 @@ called_is : {t : TypedName} {y : Stmt} {ts rest : List Tok} → Both (IsTok (wor
 called_is (both is_tok (both c (both is_tok done))) = rest_called c
 
 let_is : {start : Span} {y : Stmt} {ts rest : List Tok} → Both (IsTyped start) (λ t. IsLetRest t) y ts rest → IsStmt y (tok (word keyword.Let) start ∷ ts) rest
-let_is (both (is_typed t) (rest_valued e f)) = let_ended (is_local t e) f
+let_is {start = start} (both (is_typed {x = x} {t = t} h) (rest_valued {e = e} i f)) = let_ended {l = record { start = start; name = x; value_type = t; value = e }} (is_local h i) f
 let_is (both (is_typed t) (rest_called c)) = is_let_call t c
 
 var_is : {start : Span} {y : Stmt} {ts rest : List Tok} → Both (IsTyped start) (λ t. Both IsEnded (λ e. Done (var_local (local_with t e)))) y ts rest → IsStmt y (tok (word keyword.Var) start ∷ ts) rest
