@@ -35,7 +35,11 @@ fn arguments(alloc: Global, tokens: &[Token], room: u32) -> Result<(Vec<Expr>, &
 }
 
 /// A call of a helper, behind the word `call`, up to the closing parenthesis.
-pub fn helper_call(alloc: Global, tokens: &[Token], room: u32) -> Result<(HelperCall, &[Token]), Stop>
+pub fn helper_call(
+    alloc: Global,
+    tokens: &[Token],
+    room: u32,
+) -> Result<(HelperCall, &[Token]), Stop>
     ensures { Gives (λ x. (helper_call_of x.0, seen x.1.now)) result (helper_call_at room (seen tokens.now)) }
 {
     let (helper, rest) = take_name(tokens)?;

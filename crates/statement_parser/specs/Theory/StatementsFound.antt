@@ -7,7 +7,7 @@ use Rattle.source.specs.Tokens.{Lexeme, name, word, mark, end, Tok}
 use Rattle.source.specs.Tokens as lexeme
 use Rattle.syntax.specs.Trees.{Ident, Place, Expr, Local, Owner, HelperCall, CalledLocal, Stmt, let_local, let_owned, let_call, var_local, assign, if_then, while, print, return_value, Stmts, no_stmts, stmt, Otherwise, no_else, else_do}
 use Rattle.syntax.specs.Grammar.{tok, name_tok, AreListed, ANY, IsName, is_name, IsType, IsPlace, is_lone, is_element, is_path, IsExpr, IsLocal, is_local, IsOwner, is_owner, IsHelperCall, is_helper_call, IsStmt, is_let, is_let_owned, is_let_call, is_var, is_assign, is_if, is_while, is_print, is_return, is_call_stmt, IsStmts, are_no_stmts, are_stmts, IsBraced, is_braced, IsElse, is_no_else, is_else}
-use Rattle.token_parts.specs.Reading.{◌>>=◌, same_kind, sign_at, open_at, word_at, choose}
+use Rattle.token_parts.specs.Reading.{◌>>=◌, same_kind, sign_at, open_at, word_at, skip_at, choose}
 use Rattle.statement_parser.specs.Expressions.{inside_at, place_at, expr_at, ended_at, condition_at}
 use Rattle.statement_parser.specs.Statements.{TypedName, local_with, called_with, typed_at, owner_at, owned_at, plain_at, helper_call_at, called_at, valued_at, let_at, var_at, call_stmt_at, assign_at, braced_with, some_else, nothing_else, else_with, if_with, while_with, stmt_with, stmt_at, stmts_with, stmts_in, braced_at}
 use Rattle.token_parts.specs.Theory.Law.{IsTok, is_tok}
@@ -17,7 +17,7 @@ use Rattle.statement_parser.specs.Theory.StatementLaws.{IsTyped, is_typed, IsBra
 use Rattle.statement_parser.specs.Theory.StatementTurns.{next_stmt_shortens}
 use Rattle.statement_parser.specs.Theory.Complete.{NoOps, no_ops_close, no_ops_semicolon, no_ops_where, no_place_equals, PlaceFound, place_found, any_found, expr_starts, ended_found, condition_found, ClosesAll, arguments_found}
 use Rattle.token_parts.specs.Theory.Finding.{Finds, found, deep, finds_then, FindsPart, Anything, ends_found, then_found, and_found, production_found, sign_found, word_found, open_then, name_found, NotNext, IsNext, until_none, until_found, choose_left, choose_right}
-use Rattle.token_parts.specs.Theory.PartsFound.{type_found, close_closes}
+use Rattle.token_parts.specs.Theory.PartsFound.{type_found}
 
 -- ---- names with types, and calls
 
@@ -32,7 +32,8 @@ typed_found start =
     (λ y ts rest h. typed_back h)
 
 call_closes : {A : Type 0} {R : Span → A → List Tok → List Tok → Type 0} {y : A} {ts rest : List Tok} → Both (IsTok (mark CloseParen)) R y ts rest → ClosesAll ts
-call_closes (both {x = at} {mid = ts} is_tok r) = (close_closes (both {x = at} is_tok r), no_ops_close at ts)
+unfolding skip_at
+call_closes (both {x = at} {mid = ts} is_tok r) = (record { closing = refl; no_comma = refl }, no_ops_close at ts)
 
 helper_call_back : {y : HelperCall} {ts rest : List Tok} → IsHelperCall y ts rest → Both IsName (λ x. Both (IsTok (mark OpenParen)) (λ b. Both (AreListed (IsExpr ANY)) (λ es. Both (IsTok (mark CloseParen)) (λ c. Done (record { helper = x; arguments = es }))))) y ts rest
 helper_call_back (is_helper_call es) = both is_name (both is_tok (both es (both is_tok done)))

@@ -23,7 +23,7 @@ returns-in_err-rest c =
 pub returns-then-not-is_word_next : goal.returns-then-not-is_word_next
 unfolding choose
 returns-then-not-is_word_next c =
-    rw (c.in_ok-new.ensures.ok, c.with_value.ensures, c.in_ok-value.ensures, sym c.is_word_next.ensures ∙ c.if-not-is_word_next.true, c.in_ok-rest.ensures) refl
+    rw (c.in_ok-new.ensures.ok, c.with_value-local.ensures, c.in_ok-value.ensures, sym c.is_word_next.ensures ∙ c.if-not-is_word_next.true, c.in_ok-rest.ensures) refl
 
 pub returns-in_err-owner : goal.returns-in_err-owner
 unfolding choose
@@ -35,4 +35,4 @@ pub returns : goal.returns
 unfolding choose
 returns c =
     let x0 = ended Semicolon owner_at (seen c.in_ok-value.rest.now) c.owner.result owner_of (λ r. seen r.now) c.in_ok-owner.owner _ c.owner.ensures c.in_ok-owner.ensures in
-    rw (c.in_ok-new-2.ensures.ok, c.with_value.ensures, c.in_ok-value.ensures, sym c.is_word_next.ensures ∙ c.if-not-is_word_next.false, x0.read, x0.sign) refl
+    rw (c.in_ok-new-2.ensures.ok, c.with_value-local.ensures, c.in_ok-value.ensures, sym c.is_word_next.ensures ∙ c.if-not-is_word_next.false, x0.read, x0.sign) refl
