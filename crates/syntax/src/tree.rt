@@ -376,8 +376,8 @@ pub struct Param {
     pub value_type: ValueType,
 }
 
-/// `atomic f(int a, int b): int { .. }`: an atomic section, or `call f(int a, int b): int { .. }`: a helper, which has the
-/// same parts.
+/// `atomic f(int a, int b): int { .. }`: an atomic section, or `call f(int a, int b): int { .. }`: a helper, which has
+/// the same parts.
 #[derive(Drop)]
 pub struct Section {
     pub name: Name,
