@@ -1,6 +1,8 @@
 //! What an engine answers, as a function of the bytes that it read.
 
 ghost use Rattle.std.specs.Prelude.{◌≡◌, IfOk};
+ghost use Rattle.core_lang.specs.Expansion.{IsExpansion};
+ghost use Rattle.core_lang.specs.WellFormed.{IsChecked};
 ghost use Rattle.driver.specs.Answering.{Meets, IsAccepted, IsFaultAnswer, RequestAnswers, PairWanted};
 ghost use Rattle.driver.specs.Answers.{TextAnswers};
 ghost use Rattle.driver.specs.Checks.{IsCheckReport};
@@ -95,6 +97,8 @@ fn listed(alloc: Global, program: &Program) -> Result<Answer, NoMemory>
 
 /// The text of a program's run.
 fn ran(alloc: Global, prepared: &Prepared<'_>, turns: u64) -> Result<Answer, NoMemory>
+    requires checked { IsChecked prepared.now.program.now }
+    requires expansion { IsExpansion prepared.now.program.now prepared.now.written.now }
     ensures { IfOk result (Meets (IsRun turns prepared.now.program.now)) }
 {
     laws::settled_are_serial();

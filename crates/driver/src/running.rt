@@ -1,6 +1,7 @@
 //! The serial run of a program's calls.
 
 ghost use Rattle.std.specs.Prelude.{◌≡◌, IfOk};
+ghost use Rattle.core_lang.specs.Expansion.{IsExpansion};
 ghost use Rattle.core_lang.specs.Typing.{HasCells};
 ghost use Rattle.core_lang.specs.WellFormed.{IsChecked};
 ghost use Rattle.report.specs.{entry_of};
@@ -47,7 +48,9 @@ fn record_of(alloc: Global, call: &ScheduledCall<'_>, end: End) -> Result<Record
 
 /// A compiled program, prepared for its calls: those of the program as it was accepted.
 pub fn prepared(alloc: Global, program: &Program) -> Result<Prepared<'_>, NoMemory>
-    ensures { IfOk result (λ prepared. prepared.program.now ≡ program.now.accepted) }
+    ensures program { IfOk result (λ prepared. prepared.program.now ≡ program.now.accepted) }
+    ensures checked { IfOk result (λ prepared. IsChecked prepared.program.now) }
+    ensures expansion { IfOk result (λ prepared. IsExpansion prepared.program.now prepared.written.now) }
 {
     let accepted = program.accepted();
     let written = program.typed();
@@ -61,6 +64,8 @@ pub fn run_scripts(
     prepared: &Prepared<'_>,
     turns: u64,
 ) -> Result<Ran, NoMemory>
+    requires checked { IsChecked prepared.now.program.now }
+    requires expansion { IsExpansion prepared.now.program.now prepared.now.written.now }
     ensures ran { IfOk result (IsRan turns prepared.now.program.now) }
     ensures cells { IfOk result (λ ran. HasCells prepared.now.program.now ran.heap) }
 {
@@ -77,6 +82,7 @@ fn run_calls(
 ) -> Result<Ran, NoMemory>
     requires checked { IsChecked typed.now }
     requires same { prepared.now.program.now ≡ typed.now }
+    requires expansion { IsExpansion typed.now prepared.now.written.now }
     ensures ran { IfOk result (IsRan turns typed.now) }
     ensures cells { IfOk result (λ ran. HasCells typed.now ran.heap) }
 {

@@ -6,6 +6,7 @@ use Rattle.core_lang.specs.declared.typed.Thread.{Thread}
 use Rattle.core_lang.specs.declared.typed.Typed.{Typed}
 use Rattle.core_lang.specs.Serial.{Scheduled}
 use Rattle.core_lang.specs.Typing.{lookup, IsHeap, HasCells}
+use Rattle.core_lang.specs.Expansion.{IsExpansion}
 use Rattle.core_lang.specs.WellFormed.{CanCall, IsChecked}
 use Rattle.recorded.specs.declared.format.Format.{Format}
 use Rattle.recorded.specs.declared.format.Format.TheVariants.{One, Two}
@@ -109,6 +110,7 @@ Suggests turns format program at wanted = (reader : Reader) (lines : List (List 
 pub record IsReady (replay : Replay) : Type 0 where
   pub well_formed : IsChecked replay.typed.now
   pub prepared : replay.prepared.program.now ≡ replay.typed.now
+  pub expansion : IsExpansion replay.typed.now replay.prepared.written.now
 
 -- a thread's next call may tell this begin
 abbrev pub begins_at : Format → ℕ → ℕ → ℕ → Bool

@@ -1,6 +1,7 @@
 //! A whole history.
 
 ghost use Rattle.std.specs.Prelude.{◌≡◌, IfOk, Some, None, length};
+ghost use Rattle.core_lang.specs.Expansion.{IsExpansion};
 ghost use Rattle.core_lang.specs.WellFormed.{IsChecked};
 ghost use Rattle.recorded.specs.Histories.{recorded_lines};
 ghost use Rattle.replay.specs.Readers.{opened};
@@ -107,6 +108,8 @@ pub fn replay(
     recorded: &Recorded<'_>,
     turns: u64,
 ) -> Result<Judgement, NoMemory>
+    requires checked { IsChecked prepared.program.now }
+    requires expansion { IsExpansion prepared.program.now prepared.written.now }
     ensures holds { let format = recorded.now.format in let program = prepared.program.now in
         IfOk result (λ judgement. Holds turns format program (recorded_lines recorded.now) judgement.verdict) }
     ensures why { let format = recorded.now.format in let program = prepared.program.now in

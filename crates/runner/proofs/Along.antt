@@ -32,3 +32,13 @@ ran_all most done o now le ge is running =
       within = omega arith;
       stops = λ more. absurd (omega (arith, more));
     }
+
+-- a section that has come so far goes on running with one more
+pub one_more_runs : (done : ℕ) (o now last : OpenOf) → now ≡ moved_by done o → ((k : ℕ) → k < done → IsRunning (moved_by k o)) → IsRunning now →
+    last ≡ moved now → IsRunning last → (last ≡ moved_by (done + 1) o) × ((k : ℕ) → k < done + 1 → IsRunning (moved_by k o)) × IsRunning last
+one_more_runs done o now last is running runs next still =
+    let number : suc done ≡ done + 1 = omega arith in (
+      next ∙ ap moved is ∙ ap (λ n. moved_by n o) number,
+      below_next (λ (k : ℕ). IsRunning (moved_by k o)) done running (subst IsRunning is runs),
+      still,
+    )

@@ -2,7 +2,7 @@ use Rattle.std.proofs.Common.{◌≡◌, ℕ, ◌<◌, sym, ap, ◌∙◌, subst
 use Rattle.std.proofs.lemmas.Option.{none-some}
 use Rattle.runner.specs.Opens.{OpenOf, IsRunning, moved, moved_by}
 use Rattle.runner.specs.Ties.{over_by}
-use Rattle.runner.proofs.Along.{ran_on, ran_all}
+use Rattle.runner.proofs.Along.{ran_on, ran_all, one_more_runs}
 use Rattle.runner.proofs.Same.{moved_once_more, often_moved}
 use Rattle.runner.proofs.states.Running.run.Goals as goal
 
@@ -53,3 +53,8 @@ returns-clause-ran c =
     ran_all c.args.most c.loop-done.done c.args.self c.loop-done.open c.loop-done.auto.done-end c.loop-done-test.false
     (subst (λ (o : OpenOf). c.loop-done.open ≡ moved_by c.loop-done.done o) c.self.view_is c.loop-done.invariant.0)
     (subst (λ (o : OpenOf). (k : ℕ) → k < c.loop-done.done → IsRunning (moved_by k o)) c.self.view_is c.loop-done.invariant.1)
+
+pub loop-done-preserved : goal.loop-done-preserved
+loop-done-preserved c =
+    one_more_runs c.loop-done.done c.self.inside.open c.loop-done.open c.step.new.self c.loop-done.invariant.0 c.loop-done.invariant.1 c.loop-done.invariant.2
+    c.in_default.ensures.0 (c.is_running.ensures.0 c.if-not-is_running.false, c.in_default.ensures.1)
