@@ -5,7 +5,7 @@ use Rattle.std.proofs.Common.{◌≡◌, ℕ, zero, suc, ◌+◌, List, [], ◌�
 use Rattle.std.proofs.Math.Nat.{add-zero, add-suc, suc-add}
 use Rattle.std.proofs.lemmas.Bool.{eqb-true}
 use Rattle.std.proofs.lemmas.Option.{none-some}
-use Rattle.syntax.specs.Trees.{Struct, Decl, lock, struct, global, array, pool, init, atomic, thread, Stmt, let_local, let_owned, var_local, assign, if_then, while, print, return_value, Otherwise, no_else, else_do}
+use Rattle.syntax.specs.Trees.{Struct, Decl, lock, struct, global, array, pool, init, atomic, helper, thread, Stmt, let_local, let_owned, let_call, var_local, assign, if_then, while, print, return_value, call, Otherwise, no_else, else_do}
 use Rattle.resolution.specs.Scopes.{◌>>=◌, place_from, place_of, bears, the_decl, number_at, the_struct, Scope, left}
 use Rattle.resolution.specs.Statements.{after, after_else, after_all}
 use Rattle.resolution.specs.Constants.{same_init_target}
@@ -75,6 +75,7 @@ struct_at (array a ∷ ds) zero s e = absurd (none-some s (ap as_struct e))
 struct_at (pool p ∷ ds) zero s e = absurd (none-some s (ap as_struct e))
 struct_at (init j ∷ ds) zero s e = absurd (none-some s (ap as_struct e))
 struct_at (atomic x ∷ ds) zero s e = absurd (none-some s (ap as_struct e))
+struct_at (helper x ∷ ds) zero s e = absurd (none-some s (ap as_struct e))
 struct_at (thread t ∷ ds) zero s e = absurd (none-some s (ap as_struct e))
 struct_at (struct r ∷ ds) (suc n) s e = struct_at ds n s e
 struct_at (lock x ∷ ds) (suc n) s e = struct_at ds n s e
@@ -83,6 +84,7 @@ struct_at (array a ∷ ds) (suc n) s e = struct_at ds n s e
 struct_at (pool p ∷ ds) (suc n) s e = struct_at ds n s e
 struct_at (init j ∷ ds) (suc n) s e = struct_at ds n s e
 struct_at (atomic x ∷ ds) (suc n) s e = struct_at ds n s e
+struct_at (helper x ∷ ds) (suc n) s e = struct_at ds n s e
 struct_at (thread t ∷ ds) (suc n) s e = struct_at ds n s e
 
 -- ---- behind statements
@@ -91,16 +93,18 @@ after_else_result : (sc : Scope) (o : Otherwise) → (after_else sc o).result �
 after_else_result sc no_else = refl
 after_else_result sc (else_do body close) = refl
 
--- the section's result is the same
+-- the result is the same
 pub after_result : (sc : Scope) (s : Stmt) → (after sc s).result ≡ sc.result
 after_result sc (let_local l) = refl
 after_result sc (let_owned l o) = refl
+after_result sc (let_call l) = refl
 after_result sc (var_local l) = refl
 after_result sc (assign p e) = refl
 after_result sc (if_then start e body close other) = after_else_result (left sc (after_all sc body)) other
 after_result sc (while start e body close) = refl
 after_result sc (print start e) = refl
 after_result sc (return_value start e) = refl
+after_result sc (call start c) = refl
 
 -- ---- what an `init` gives a value to
 
