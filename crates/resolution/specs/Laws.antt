@@ -49,7 +49,7 @@ FaultlessAreResolved = (decls : List Decl) → ReturnsRight decls → the_least 
 
 -- calls of helpers keep to the limits: no helper is too deep, and no section gets too many locals or points from helpers
 pub record CallsKeepLimits (program : Typed) : Type 0 where
-  pub helper_depths : (k : ℕ) (helper : the_section.Section) → slice_get program.shape.helpers.items k ≡ Some helper →
+  pub helper_depths : (k : ℕ) (h : the_section.Section) → slice_get program.shape.helpers.items k ≡ Some h →
       IsAtMostDeep program.shape deepest k
   pub written_locals : (k : ℕ) (section : the_section.Section) → slice_get program.sections.items k ≡ Some section →
       length (written_locals program.shape section) ≤ 64
