@@ -1,12 +1,12 @@
 -- What holds of names, structs, scopes and `init`s. Nobody has to believe these facts: they are proved here, for proofs of this crate
 -- and of the crates above.
 use Rattle.std.specs.Prelude.{slice_get, ◌==◌, ◌&&◌, if◌then◌else◌}
-use Rattle.std.proofs.Common.{◌≡◌, ℕ, zero, suc, ◌+◌, List, [], ◌∷◌, Option, Some, None, Bool, true, false, refl, sym, ap, ◌∙◌}
+use Rattle.std.proofs.Common.{◌≡◌, ℕ, zero, suc, ◌+◌, List, [], ◌∷◌, Option, Some, None, Bool, true, false, refl, sym, ap, ◌∙◌, arith}
 use Rattle.std.proofs.Math.Nat.{add-zero, add-suc, suc-add}
 use Rattle.std.proofs.lemmas.Bool.{eqb-true}
 use Rattle.std.proofs.lemmas.Option.{none-some}
-use Rattle.syntax.specs.Trees.{Struct, Decl, lock, struct, global, array, pool, init, atomic, helper, thread, Stmt, let_local, let_owned, let_call, var_local, assign, if_then, while, print, return_value, call, Otherwise, no_else, else_do}
-use Rattle.resolution.specs.Scopes.{◌>>=◌, place_from, place_of, bears, the_decl, number_at, the_struct, Scope, left}
+use Rattle.syntax.specs.Trees.{Struct, Section, Decl, lock, struct, global, array, pool, init, atomic, helper, thread, Stmt, let_local, let_owned, let_call, var_local, assign, if_then, while, print, return_value, call, Otherwise, no_else, else_do}
+use Rattle.resolution.specs.Scopes.{◌>>=◌, place_from, place_of, count, bears, the_decl, alike, has_body, number_at, the_struct, Scope, left}
 use Rattle.resolution.specs.Statements.{after, after_else, after_all}
 use Rattle.resolution.specs.Constants.{same_init_target}
 use Rattle.resolution.specs.declared.init_target.InitTarget.{InitTarget}
@@ -86,6 +86,21 @@ struct_at (init j ∷ ds) (suc n) s e = struct_at ds n s e
 struct_at (atomic x ∷ ds) (suc n) s e = struct_at ds n s e
 struct_at (helper x ∷ ds) (suc n) s e = struct_at ds n s e
 struct_at (thread t ∷ ds) (suc n) s e = struct_at ds n s e
+
+-- ---- sections and helpers
+
+-- together they are those of the one kind and those of the other
+pub bodies_counted : (decls : List Decl) (s r : Section) → count has_body decls ≡ count (alike (atomic s)) decls + count (alike (helper r)) decls
+bodies_counted [] s r = refl
+bodies_counted (lock x ∷ ds) s r = bodies_counted ds s r
+bodies_counted (struct x ∷ ds) s r = bodies_counted ds s r
+bodies_counted (global x ∷ ds) s r = bodies_counted ds s r
+bodies_counted (array x ∷ ds) s r = bodies_counted ds s r
+bodies_counted (pool x ∷ ds) s r = bodies_counted ds s r
+bodies_counted (init x ∷ ds) s r = bodies_counted ds s r
+bodies_counted (atomic x ∷ ds) s r = let n = bodies_counted ds s r in omega (arith, n)
+bodies_counted (helper x ∷ ds) s r = let n = bodies_counted ds s r in omega (arith, n)
+bodies_counted (thread x ∷ ds) s r = bodies_counted ds s r
 
 -- ---- behind statements
 
