@@ -8,7 +8,7 @@ use Rattle.source.specs.Mistakes.{least_of}
 use Rattle.syntax.specs.declared.tree.Decl as rust
 use Rattle.syntax.specs.declared.tree.Decl.TheVariants as variant
 use Rattle.syntax.specs.declared.tree.Struct as rust_struct
-use Rattle.syntax.specs.Trees.{Decl, lock, struct, global, array, pool, init, atomic, thread, Struct, Member, lock_member, final_member, field_member}
+use Rattle.syntax.specs.Trees.{Decl, lock, struct, global, array, pool, init, atomic, helper, thread, Struct, Member, lock_member, final_member, field_member}
 use Rattle.syntax.specs.Views.{decl_of, struct_of}
 use Rattle.resolution.specs.Scopes.{structs_in}
 use Rattle.resolution.specs.Numbers.{new_field}
@@ -49,6 +49,7 @@ structs_push (array x ∷ ds) d = structs_push ds d
 structs_push (pool x ∷ ds) d = structs_push ds d
 structs_push (init x ∷ ds) d = structs_push ds d
 structs_push (atomic x ∷ ds) d = structs_push ds d
+structs_push (helper x ∷ ds) d = structs_push ds d
 structs_push (thread x ∷ ds) d = structs_push ds d
 
 -- what a declaration adds
@@ -63,6 +64,7 @@ faults_more (array x) ds = refl
 faults_more (pool x) ds = refl
 faults_more (init x) ds = refl
 faults_more (atomic x) ds = refl
+faults_more (helper x) ds = refl
 faults_more (thread x) ds = refl
 
 -- a struct
