@@ -7,7 +7,7 @@ use Rattle.token_parts.specs.Reading.{name_at}
 use Rattle.statement_parser.specs.Statements.{owner_at}
 use Rattle.token_parts.specs.Theory.Readers.{fails_on}
 use Rattle.token_parts.specs.Theory.Ended.{ended, unended}
-use Rattle.statement_parser.proofs.stmt.owner.Goals as goal
+use Rattle.statement_parser.proofs.local.owner.Goals as goal
 
 pub returns-in_err-rest : goal.returns-in_err-rest
 unfolding owner_at
