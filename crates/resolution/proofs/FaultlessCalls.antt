@@ -1,5 +1,5 @@
 -- Calls of helpers for which no fault is listed are resolved, and what they give back fits.
-use Rattle.std.proofs.Common.{◌≡◌, ℕ, List, [], ◌∷◌, ◌++◌, length, Option, Some, None, Bool, true, false, refl, sym, ap, ◌∙◌, subst, if◌then◌else◌, arith}
+use Rattle.std.proofs.Common.{◌≡◌, ℕ, List, [], ◌∷◌, length, Option, Some, None, Bool, true, false, refl, ap, ◌∙◌, subst, if◌then◌else◌, arith}
 use Rattle.std.specs.Prelude.{not, is_some, ◌==◌}
 use Rattle.std.proofs.lemmas.Bool.{eqb-true}
 use Rattle.source.specs.declared.fault.Code.TheVariants.{UnknownName, WrongType, WrongArgumentCount}
@@ -8,7 +8,7 @@ use Rattle.core_lang.specs.declared.value.ValueType as core_type
 use Rattle.resolution.specs.declared.wanted.Sort.TheVariants as sort
 use Rattle.resolution.specs.Core as core
 use Rattle.resolution.specs.Limits.{helper_limits}
-use Rattle.resolution.specs.Scopes.{◌>>=◌, Scope, outside, Meaning, a_local, a_decl, nothing, meaning, helper_meant, number_at, has_type, type_of, result_of}
+use Rattle.resolution.specs.Scopes.{◌>>=◌, Scope, outside, Meaning, a_local, a_decl, nothing, meaning, helper_meant, number_at, type_of}
 use Rattle.resolution.specs.Expressions.{want, fits_type, fitting, as_value, typed}
 use Rattle.resolution.specs.Owners.{is_of}
 use Rattle.resolution.specs.Constants.{added, want_of}

@@ -12,7 +12,7 @@ use Rattle.resolution.specs.Scopes as scope
 use Rattle.resolution.specs.Scopes.{◌>>=◌, Scope, outside, bears, the_decl, type_of, result_of, number_at, bound, entered}
 use Rattle.resolution.specs.Expressions.{want}
 use Rattle.resolution.specs.Statements.{Body, typed_body, after_all}
-use Rattle.resolution.specs.Constants.{typed_const, added, want_of, typed_arguments}
+use Rattle.resolution.specs.Constants.{typed_const, want_of, typed_arguments}
 use Rattle.resolution.specs.Resolution.{ahead_of, entry, core_locals, section_with, section_of, typed_section, call_of, copies, joined, one_call, typed_item, typed_items, nothing_yet, resolved}
 use Rattle.resolution.proofs.Named.{named_is}
 use Rattle.resolution.proofs.TrueStatements.{length_push}

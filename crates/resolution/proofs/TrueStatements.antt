@@ -23,7 +23,7 @@ use Rattle.resolution.specs.Statements.{is_var, last_field, target_of, wanted_by
 use Rattle.resolution.specs.Constants.{want_of}
 use Rattle.resolution.specs.Resolution.{ahead_of, entry}
 use Rattle.resolution.specs.Where as site
-use Rattle.resolution.specs.Where.{Has, first, further, Among, here, later, in_then, in_else, in_while, IsArgument, for_parameter, for_nothing, Asks, of_let, of_owned, of_let_call, of_var, of_assign, of_index, of_while, of_print, of_return, of_call, HasBody, HasStmt, in_body, HasHelperCall, by_let, by_itself, HasExpr, in_stmt, HasPlace, is_written, Binds, parameter, a_let, an_owned_let, a_called_let, a_var, HasType, of_parameter, of_result, of_a_let, of_an_owned_let, of_a_called_let, of_a_var, NamesOwner, names_owner}
+use Rattle.resolution.specs.Where.{Has, first, further, Among, here, later, in_then, in_else, in_while, IsArgument, for_parameter, for_nothing, Asks, of_let, of_owned, of_let_call, of_var, of_assign, of_index, of_while, of_print, of_return, of_call_alone, HasBody, HasStmt, in_body, HasHelperCall, by_let, by_itself, HasExpr, in_stmt, HasPlace, is_written, Binds, parameter, a_let, an_owned_let, a_called_let, a_var, HasType, of_parameter, of_result, of_a_let, of_an_owned_let, of_a_called_let, of_a_var, NamesOwner, names_owner}
 use Rattle.resolution.specs.Faults as fault
 use Rattle.resolution.specs.Faults.{IsNoValue, IsNoHelper, declared_twice, unknown, wrong_type, miscounted, not_assignable, over_limit, lock_as_value}
 use Rattle.resolution.specs.FaultLists as list
@@ -297,7 +297,7 @@ mutual
   true_stmt decls sc (return_value start e) h same up f i = moved decls sc f same (true_asked sc (return_value start e) (want sc.result) e (has_moved decls sc (return_value start e) same h) of_return f i)
   true_stmt decls sc (call start c) h same up f i =
       let g = has_moved decls sc (call start c) same h in
-      moved decls sc f same (true_helper_call sc (call start c) g c (by_itself g) (λ w e p. of_call p) f i)
+      moved decls sc f same (true_helper_call sc (call start c) g c (by_itself g) (λ w e p. of_call_alone p) f i)
 
   true_else : (decls : List Decl) (sc : Scope) (start : Span) (e : Expr) (body : Stmts) (close : Span) (other : Otherwise) → sc.decls ≡ decls →
       ((sc' : Scope) (r : Stmt) → Among sc (stmt (if_then start e body close other) no_stmts) sc' r → HasStmt decls sc' r) → (f : Mistake) → IsAmong f (else_faults (left sc (after_all sc body)) other) → IsTrue_of decls f

@@ -1,14 +1,12 @@
 -- Resolved calls of helpers are well typed.
-use Rattle.std.proofs.Common.{◌≡◌, ℕ, List, [], ◌∷◌, Option, Some, None, Bool, true, false, refl, sym, ap, ◌∙◌, subst}
+use Rattle.std.proofs.Common.{◌≡◌, ℕ, List, [], ◌∷◌, Option, Some, None, true, refl, sym, ap, ◌∙◌, subst}
 use Rattle.std.specs.Prelude.{slice_get, take, ⊤}
 use Rattle.syntax.specs.Trees.{Expr, Param, Section, Decl, lock, struct, global, array, pool, init, atomic, helper, thread}
 use Rattle.core_lang.specs.declared.value.ValueType.{ValueType}
-use Rattle.resolution.specs.declared.wanted.Sort.TheVariants as sort
 use Rattle.resolution.specs.declared.wanted.Want.TheVariants.{Value}
 use Rattle.resolution.specs.Core as core
 use Rattle.resolution.specs.Scopes.{◌>>=◌, Scope, outside, Meaning, a_local, a_decl, nothing, helper_meant, number_at, type_of, result_of}
-use Rattle.resolution.specs.Expressions.{want, fits_type, fitting, as_value, typed}
-use Rattle.resolution.specs.Owners.{is_of}
+use Rattle.resolution.specs.Expressions.{want, fitting, as_value, typed}
 use Rattle.resolution.specs.Constants.{want_of}
 use Rattle.resolution.specs.Statements.{typed_values, called, type_given, can_take}
 use Rattle.resolution.proofs.FaultlessExpressions.{IsMeant}

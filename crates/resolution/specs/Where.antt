@@ -110,7 +110,7 @@ pub data Asks : Scope → Stmt → Want → Expr → Type 0 where
       Asks sc (while start e body close) Condition e
   of_print : {sc : Scope} {start : Span} {e : Expr} → Asks sc (print start e) (Value Integer) e
   of_return : {sc : Scope} {start : Span} {e : Expr} → Asks sc (return_value start e) (want sc.result) e
-  of_call : {sc : Scope} {start : Span} {c : HelperCall} {w : Want} {e : Expr} → Passes sc c w e → Asks sc (call start c) w e
+  of_call_alone : {sc : Scope} {start : Span} {c : HelperCall} {w : Want} {e : Expr} → Passes sc c w e → Asks sc (call start c) w e
 
 -- a section or a helper of the program, with how many parameters and locals it may have
 pub data HasBody (decls : List Decl) : BodyLimits → Section → Type 0 where
