@@ -87,6 +87,7 @@ none_struct (variant.Array x) h = refl
 none_struct (variant.Pool x) h = refl
 none_struct (variant.Init x) h = refl
 none_struct (variant.Atomic x) h = refl
+none_struct (variant.Helper x) h = refl
 none_struct (variant.Thread x) h = refl
 
 pub none_added : (d : rust.Decl) (ss : List rust_struct.Struct) → ((x : rust_struct.Struct) → d ≡ variant.Struct x → ⊥) → map struct_of ss ≡ map struct_of ss ++ structs_in (decl_of d ∷ [])
@@ -100,4 +101,5 @@ none_blamed (variant.Array x) f h = refl
 none_blamed (variant.Pool x) f h = refl
 none_blamed (variant.Init x) f h = refl
 none_blamed (variant.Atomic x) f h = refl
+none_blamed (variant.Helper x) f h = refl
 none_blamed (variant.Thread x) f h = refl
