@@ -3,19 +3,18 @@ use Rattle.std.specs.Prelude.{ℕ, List, length, Option, Some, None, Bool, optio
 use Rattle.std.specs.Borrow.{Bor}
 use Rattle.std.proofs.Common.{Vec, Global}
 use Rattle.source.specs.declared.mistake.Mistake.{Mistake}
-use Rattle.syntax.specs.declared.tree.HelperCall as the_call
 use Rattle.syntax.specs.declared.tree.Section as the_section
 use Rattle.syntax.specs.declared.tree.Expr as the_written
 use Rattle.syntax.specs.declared.tree.Param as the_param
-use Rattle.syntax.specs.Trees.{Ident, Expr, HelperCall, Section, helper}
-use Rattle.syntax.specs.Views.{section_of, expr_of, param_of, helper_call_of}
+use Rattle.syntax.specs.Trees.{Expr, HelperCall, Section, helper}
+use Rattle.syntax.specs.Views.{section_of, expr_of, param_of}
 use Rattle.core_lang.specs.declared.tree.Expr as the_expr
 use Rattle.core_lang.specs.declared.value.ValueType.{ValueType}
 use Rattle.resolution.specs.Core as core
 use Rattle.resolution.specs.CoreViews.{core_expr}
-use Rattle.resolution.specs.Scopes.{Scope, Meaning, meaning, helper_meant, number_at}
-use Rattle.resolution.specs.Statements.{Part, typed_values, call_resolved, type_given, can_take, acts_if}
-use Rattle.resolution.specs.FaultLists.{no_helper, values_faults, each_value_faults, passed_values_faults, helper_call_faults, given_back_faults}
+use Rattle.resolution.specs.Scopes.{Scope, meaning, helper_meant, number_at}
+use Rattle.resolution.specs.Statements.{Part, typed_values, type_given, can_take, acts_if}
+use Rattle.resolution.specs.FaultLists.{no_helper, values_faults, each_value_faults, passed_values_faults, given_back_faults}
 
 -- the helper that a call names, and its place
 abbrev pub helper_named : Scope → HelperCall → Option (ℕ × Section)

@@ -320,11 +320,7 @@ fn judge_owned(
 
 /// A `let` of what a helper gives back.
 #[tactic(auto, using(source::specs::Leasts::least_append))]
-fn judge_called(
-    checker: &mut Checker,
-    local: &tree::CalledLocal,
-    least: &mut Least,
-) -> Judged<Part>
+fn judge_called(checker: &mut Checker, local: &tree::CalledLocal, least: &mut Least) -> Judged<Part>
     ensures value { IfOk result (λ r. option_map part_of r ≡ called_bound (scope checker.old) (called_local_of local.now)) }
     ensures faults { OnOk result (least.new ≡ least_of least.old (called_faults (scope checker.old) (called_local_of local.now))) }
     ensures scope { OnOk result (scope checker.new ≡ behind_called (scope checker.old) (called_local_of local.now)) }

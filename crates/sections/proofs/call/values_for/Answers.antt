@@ -1,4 +1,4 @@
-use Rattle.std.proofs.Common.{◌<◌, subst, length}
+use Rattle.std.proofs.Common.{◌<◌, subst}
 use Rattle.std.specs.Prelude.{option_map}
 use Rattle.resolution.specs.CoreViews.{core_expr}
 use Rattle.expressions.specs.Checkers.{scope}
