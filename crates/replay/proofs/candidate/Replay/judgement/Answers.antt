@@ -5,7 +5,7 @@ use Rattle.replay.specs.declared.wanted.Wanted.TheVariants.{Line}
 use Rattle.replay.specs.Reading.{IsAt}
 use Rattle.replay.specs.Wanted.{IsWantedAt}
 use Rattle.replay.proofs.Replays.{read_more, read_other, read_beyond, read_short, wanted_here, wanted_short, explained}
-use Rattle.replay.proofs.replaying.Replay.judgement.Goals as goal
+use Rattle.replay.proofs.candidate.Replay.judgement.Goals as goal
 
 pub returns-in-Other-clause-holds : goal.returns-in-Other-clause-holds
 returns-in-Other-clause-holds c =

@@ -1,6 +1,6 @@
 use Rattle.recorded.specs.Histories.{recorded_lines}
 use Rattle.replay.proofs.Replays.{HasRead}
-use Rattle.replay.proofs.replaying.Replay.judgement.Given as goal
+use Rattle.replay.proofs.candidate.Replay.judgement.Given as goal
 
 -- the lines before this one came
 abbrev pub invariant-loop-i : goal.invariant-loop-i
