@@ -1,7 +1,6 @@
 -- Helpers that are at most so deep.
-use Rattle.std.proofs.Common.{◌≡◌, ℕ, zero, suc, ◌+◌, ◌<◌, ◌≤◌, max, Bool, true, false, List, [], ◌∷◌, length, ◌⊎◌, inl, inr, refl, sym, ap, ◌∙◌, subst, arith}
-use Rattle.std.specs.Prelude.{nat_lt, slice_get, Option, Some, None}
-use Rattle.std.proofs.lemmas.Option.{slice_get_past, none-some}
+use Rattle.std.proofs.Common.{◌≡◌, ℕ, zero, suc, ◌+◌, ◌<◌, ◌≤◌, List, [], ◌∷◌, length, refl, sym, ap, subst, arith}
+use Rattle.std.specs.Prelude.{slice_get, Option, Some}
 use Rattle.call_graph.specs.declared.graph.CallSite.{CallSite}
 use Rattle.call_graph.specs.Graphs.{Body}
 use Rattle.call_graph.specs.Depths.{of_body, deepest_of, depth_within, CallsOnly, IsAtMostDeep}
@@ -30,9 +29,12 @@ deep_at helpers right zero (suc n) f lt le less =
 deep_at helpers right (suc d) (suc n) f lt le less =
     let b = there helpers f lt in
     let is : depth_within (suc n) helpers f ≡ 1 + deepest_of (depth_within n helpers) b.0.calls = deep_is helpers n f b.0 b.1 in
-    let called : deepest_of (depth_within n helpers) b.0.calls ≤ d = omega (arith, is, le) in
-    (b.0, b.1, all_called (depth_within n helpers) (λ (g : ℕ). g < length helpers) (IsAtMostDeep helpers d) d
-        (λ g shallow here. deep_at helpers right d n g here shallow (omega (arith, less))) b.0.calls called (right f b.0 b.1))
+    let called : deepest_of (depth_within n helpers) b.0.calls ≤ d = omega (arith, is, le) in (
+      b.0,
+      b.1,
+      all_called (depth_within n helpers) (λ (g : ℕ). g < length helpers) (IsAtMostDeep helpers d) d
+          (λ g shallow here. deep_at helpers right d n g here shallow (omega (arith, less))) b.0.calls called (right f b.0 b.1),
+    )
 
 only_like : (P Q : ℕ → Type 0) → ((g : ℕ) → P g → Q g) → (cs : List CallSite) → CallsOnly P cs → CallsOnly Q cs
 only_like P Q go [] only = tt

@@ -1,7 +1,7 @@
 -- Calls go further than there are helpers exactly where a recursion is reached.
-use Rattle.std.proofs.Common.{◌≡◌, ℕ, zero, suc, ◌+◌, ◌<◌, ◌≤◌, max, Bool, true, false, ◌&&◌, List, [], ◌∷◌, length, ◌⊎◌, inl, inr, refl, sym, ap, ◌∙◌, subst, arith}
-use Rattle.std.specs.Prelude.{nat_lt, slice_get, Option, Some, None}
-use Rattle.std.proofs.lemmas.Bool.{cases_eq, cases_lt, cases_Bool, and_parts, and_from, both_ways, false_from_ne_true, lt-ltb, le-ltb, ltb-true}
+use Rattle.std.proofs.Common.{◌≡◌, ℕ, zero, suc, ◌+◌, ◌<◌, ◌≤◌, Bool, true, false, ◌&&◌, List, [], ◌∷◌, length, ◌⊎◌, inl, inr, refl, sym, ap, ◌∙◌, arith}
+use Rattle.std.specs.Prelude.{slice_get, Option, Some, None}
+use Rattle.std.proofs.lemmas.Bool.{cases_eq, cases_lt, cases_Bool, and_parts, and_from, both_ways, false_from_ne_true, lt-ltb, le-ltb}
 use Rattle.std.proofs.lemmas.Option.{slice_get_past}
 use Rattle.call_graph.specs.declared.graph.CallSite.{CallSite}
 use Rattle.call_graph.specs.Graphs.{Body}
@@ -9,7 +9,7 @@ use Rattle.call_graph.specs.Recursion.{HasCall, Calls, Reaches, calls, calls_one
 use Rattle.call_graph.specs.Depths.{of_body, deepest_of, depth_within, far, depth, is_endless}
 use Rattle.call_graph.specs.Counts.{one_for}
 use Rattle.call_graph.specs.Tables.{reaches}
-use Rattle.call_graph.proofs.Closing.{reaches_on, first_there, reaches_all, all_reaches}
+use Rattle.call_graph.proofs.Closing.{first_there, reaches_all, all_reaches}
 
 -- ---- how many pass a test
 
@@ -36,18 +36,18 @@ count_le p q (suc n) h =
     omega (arith, one, rest)
 
 count_lt : (p q : ℕ → Bool) (n j : ℕ) → ((k : ℕ) → p k ≡ true → q k ≡ true) → j < n → p j ≡ false → q j ≡ true → count_to p n < count_to q n
-count_lt p q zero j h lt no yes = absurd (omega (arith, lt))
-count_lt p q (suc n) j h lt no yes =
+count_lt p q zero j h lt fails passes = absurd (omega (arith, lt))
+count_lt p q (suc n) j h lt fails passes =
     elim (cases_eq j n) [
       | inl same ↦
-          let none : one_for (p n) ≡ 0 = one_none (p n) (ap p (sym same) ∙ no) in
-          let some : one_for (q n) ≡ 1 = one_some (q n) (ap q (sym same) ∙ yes) in
+          let none : one_for (p n) ≡ 0 = one_none (p n) (ap p (sym same) ∙ fails) in
+          let some : one_for (q n) ≡ 1 = one_some (q n) (ap q (sym same) ∙ passes) in
           let rest : count_to p n ≤ count_to q n = count_le p q n h in
           omega (arith, none, some, rest)
       | inr ne ↦
           let less : j < n = omega (arith, lt, ne) in
           let one : one_for (p n) ≤ one_for (q n) = one_le (p n) (q n) (h n) in
-          let rest : count_to p n < count_to q n = count_lt p q n j h less no yes in
+          let rest : count_to p n < count_to q n = count_lt p q n j h less fails passes in
           omega (arith, one, rest)
     ]
 
@@ -63,11 +63,11 @@ search_below : (p : ℕ → Bool) (n : ℕ) → ((k : ℕ) × (p k ≡ true)) �
 search_below p zero = inr (λ k lt. absurd (omega (arith, lt)))
 search_below p (suc n) =
     elim (cases_Bool (p n)) [
-      | inl yes ↦ inl (n, yes)
-      | inr no ↦ elim (search_below p n) [
-          | inl found ↦ inl found
-          | inr none ↦ inr (λ k lt. elim (cases_eq k n) [ inl same ↦ ap p same ∙ no | inr ne ↦ none k (omega (arith, lt, ne)) ])
-        ]
+      | inl passes ↦ inl (n, passes)
+      | inr fails ↦ elim (search_below p n) [
+        | inl found ↦ inl found
+        | inr none ↦ inr (λ k lt. elim (cases_eq k n) [ inl same ↦ ap p same ∙ fails | inr ne ↦ none k (omega (arith, lt, ne)) ])
+      ]
     ]
 
 -- ---- the deepest of calls
@@ -134,7 +134,7 @@ pub free_depth : (helpers : List Body) (n f : ℕ) → NoCircle helpers f → de
 free_depth helpers n f free = elim (cases_lt f (length helpers)) [
   | inl lt ↦
       let less : reached helpers f < count_to any (length helpers) = count_lt (reaches helpers f) any (length helpers) f (λ k e. refl) lt
-          (false_from_ne_true (reaches helpers f f) (λ e. let r = all_reaches helpers f f e in free f r r)) refl in
+      (false_from_ne_true (reaches helpers f f) (λ e. let r = all_reaches helpers f f e in free f r r)) refl in
       let all : count_to any (length helpers) ≡ length helpers = count_any (length helpers) in
       let deep : depth_within n helpers f ≤ reached helpers f + 1 = depth_reached helpers n f free in
       omega (arith, less, all, deep)
@@ -149,7 +149,7 @@ free_ends helpers f free = le-ltb (length helpers) (depth helpers f) (free_depth
 called_deeper : (helpers : List Body) (n f g : ℕ) → Calls helpers f g → depth_within n helpers g + 1 ≤ depth_within (suc n) helpers f
 called_deeper helpers n f g c =
     let is : depth_within (suc n) helpers f ≡ 1 + deepest_of (depth_within n helpers) c.0.calls =
-        ap (λ (o : Option Body). of_body o (λ (b : Body). 1 + deepest_of (depth_within n helpers) b.calls)) c.1 in
+    ap (λ (o : Option Body). of_body o (λ (b : Body). 1 + deepest_of (depth_within n helpers) b.calls)) c.1 in
     let deep : depth_within n helpers g ≤ deepest_of (depth_within n helpers) c.0.calls = deepest_ge (depth_within n helpers) c.0.calls g c.2 in
     omega (arith, is, deep)
 
@@ -177,7 +177,7 @@ endless_circle helpers f e =
           (found.0, all_reaches helpers f found.0 p.0, all_reaches helpers found.0 found.0 p.1)
       | inr none ↦
           let free : NoCircle helpers f = λ g r circle.
-              both_ways (reaches helpers f g && reaches helpers g g) (none g (first_there helpers g g circle))
-              (and_from (reaches helpers f g) (reaches helpers g g) (reaches_all helpers f g r) (reaches_all helpers g g circle)) in
+          both_ways (reaches helpers f g && reaches helpers g g) (none g (first_there helpers g g circle))
+          (and_from (reaches helpers f g) (reaches helpers g g) (reaches_all helpers f g r) (reaches_all helpers g g circle)) in
           absurd (both_ways (is_endless helpers f) (free_ends helpers f free) e)
     ]

@@ -1,5 +1,5 @@
 -- What helpers come to, one call further.
-use Rattle.std.proofs.Common.{◌≡◌, ℕ, zero, suc, ◌+◌, ◌<◌, ◌≤◌, min, max, List, [], ◌∷◌, ◌++◌, length, map, replicate, get_or, take, ◌⊎◌, inl, inr, refl, sym, ap, ◌∙◌, subst, add-one, arith, Bool, true, false}
+use Rattle.std.proofs.Common.{◌≡◌, ℕ, zero, suc, ◌+◌, ◌<◌, max, List, [], ◌∷◌, ◌++◌, length, map, replicate, get_or, take, inl, inr, refl, sym, ap, ◌∙◌, subst, add-one, arith}
 use Rattle.std.specs.Prelude.{slice_get, Option, Some, None}
 use Rattle.std.specs.List.{sum_by}
 use Rattle.std.proofs.lemmas.List.{length-map, length-replicate, get_or-replicate, get_or_past, take_more}
@@ -63,12 +63,12 @@ module _ (helpers : List Body) (table : List Extent) (n : ℕ) (right : (h : ℕ
       let k' : CallSite → ℕ = λ c. points_within n helpers c.helper in
       same_extent _ _ _ _ _ _
       (up_both FAR 1 1 (deepest_of f b.calls) (deepest_of (depth_within n helpers) b.calls) refl (up_deepest FAR f (depth_within n helpers) depths b.calls)
-        ∙ ap (λ (o : Option Body). up_to FAR (of_body o (λ (b : Body). 1 + deepest_of (depth_within n helpers) b.calls))) (sym is))
+      ∙ ap (λ (o : Option Body). up_to FAR (of_body o (λ (b : Body). 1 + deepest_of (depth_within n helpers) b.calls))) (sym is))
       (up_both LOCAL_LIMIT b.locals b.locals (sum_by g b.calls) (sum_by g' b.calls) refl (up_sum LOCAL_LIMIT g g' locals b.calls)
-        ∙ ap (λ (o : Option Body). up_to LOCAL_LIMIT (of_body o (λ (b : Body). b.locals + sum_by g' b.calls))) (sym is))
+      ∙ ap (λ (o : Option Body). up_to LOCAL_LIMIT (of_body o (λ (b : Body). b.locals + sum_by g' b.calls))) (sym is))
       (up_both POINT_LIMIT (b.parameters + b.points + sum_by k b.calls) (b.parameters + b.points + sum_by k' b.calls) (one_for b.has_result) (one_for b.has_result)
-          (up_both POINT_LIMIT (b.parameters + b.points) (b.parameters + b.points) (sum_by k b.calls) (sum_by k' b.calls) refl (up_sum POINT_LIMIT k k' points b.calls)) refl
-        ∙ ap (λ (o : Option Body). up_to POINT_LIMIT (of_body o (λ (b : Body). b.parameters + b.points + sum_by k' b.calls + one_for b.has_result))) (sym is))
+      (up_both POINT_LIMIT (b.parameters + b.points) (b.parameters + b.points) (sum_by k b.calls) (sum_by k' b.calls) refl (up_sum POINT_LIMIT k k' points b.calls)) refl
+      ∙ ap (λ (o : Option Body). up_to POINT_LIMIT (of_body o (λ (b : Body). b.parameters + b.points + sum_by k' b.calls + one_for b.has_result))) (sym is))
 
   further_none : (h : ℕ) → slice_get helpers h ≡ None → no_extent ≡ extent_within (suc n) helpers h
   further_none h none =
@@ -121,3 +121,34 @@ deepest_push deep (x ∷ cs) c = let rest : deepest_of deep (cs ++ c ∷ []) ≡
 
 pub taken : {X : Type 0} (xs : List X) (i : ℕ) (x : X) → i < length xs → x ≡ get_or xs i x → take (i + 1) xs ≡ take i xs ++ x ∷ []
 taken xs i x lt is = take_more xs i x lt ∙ ap (λ y. take i xs ++ y ∷ []) (sym is)
+
+-- ---- as the code goes over calls
+
+module _ (table : List Extent) (helpers : List Body) (b : Body) (cs : List CallSite) (i : ℕ) (d : CallSite) (lt : i < length cs) where
+  abbrev local_sum : CallSite → ℕ
+  local_sum c = (extent_at table c.helper).locals + hidden helpers c
+
+  abbrev point_sum : CallSite → ℕ
+  point_sum c = (extent_at table c.helper).points
+
+  pub depth_next : (depth callee new : ℕ) → depth ≡ deepest_of (λ h. (extent_at table h).depth) (take i cs) → callee ≡ (extent_at table (get_or cs i d).helper).depth →
+      new ≡ max depth callee → new ≡ deepest_of (λ h. (extent_at table h).depth) (take (i + 1) cs)
+  depth_next depth callee new before at is =
+      let deep : ℕ → ℕ = λ h. (extent_at table h).depth in
+      let next : deepest_of deep (take (i + 1) cs) ≡ max (deepest_of deep (take i cs)) (deep (get_or cs i d).helper) =
+      ap (deepest_of deep) (take_more cs i d lt) ∙ deepest_push deep (take i cs) (get_or cs i d) in
+      omega (arith, before, at, is, next)
+
+  pub locals_next : (locals callee more brought new : ℕ) → locals ≡ up_to LOCAL_LIMIT (b.locals + sum_by local_sum (take i cs)) →
+      callee ≡ (extent_at table (get_or cs i d).helper).locals → more ≡ hidden helpers (get_or cs i d) → brought ≡ up_to LOCAL_LIMIT (callee + more) →
+      new ≡ up_to LOCAL_LIMIT (locals + brought) → new ≡ up_to LOCAL_LIMIT (b.locals + sum_by local_sum (take (i + 1) cs))
+  locals_next locals callee more brought new before at hid both is =
+      let next : sum_by local_sum (take (i + 1) cs) ≡ sum_by local_sum (take i cs) + local_sum (get_or cs i d) = sum_by_more local_sum cs i d lt in
+      omega (arith, before, at, hid, both, is, next)
+
+  pub points_next : (points callee new : ℕ) → points ≡ up_to POINT_LIMIT (b.parameters + b.points + sum_by point_sum (take i cs)) →
+      callee ≡ (extent_at table (get_or cs i d).helper).points → new ≡ up_to POINT_LIMIT (points + callee) →
+      new ≡ up_to POINT_LIMIT (b.parameters + b.points + sum_by point_sum (take (i + 1) cs))
+  points_next points callee new before at is =
+      let next : sum_by point_sum (take (i + 1) cs) ≡ sum_by point_sum (take i cs) + point_sum (get_or cs i d) = sum_by_more point_sum cs i d lt in
+      omega (arith, before, at, is, next)

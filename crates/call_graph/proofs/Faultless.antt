@@ -1,18 +1,16 @@
 -- Graphs without faults.
-use Rattle.std.proofs.Common.{◌≡◌, ℕ, zero, suc, ◌+◌, ◌<◌, ◌≤◌, Bool, true, false, List, [], ◌∷◌, ◌++◌, length, ◌⊎◌, inl, inr, refl, sym, ap, ◌∙◌, subst, append_assoc, append-nil, arith}
-use Rattle.std.specs.Prelude.{slice_get, Option, Some, None}
+use Rattle.std.proofs.Common.{◌≡◌, ℕ, suc, ◌+◌, ◌<◌, ◌≤◌, ◌-◌, List, [], ◌∷◌, ◌++◌, length, inl, inr, refl, sym, ap, ◌∙◌, subst, append_assoc, append-nil, arith}
+use Rattle.std.specs.Prelude.{slice_get, Some, None}
 use Rattle.std.specs.List.{sum_by}
 use Rattle.std.proofs.lemmas.Bool.{cases_lt}
 use Rattle.std.proofs.lemmas.List.Sums.{sum_by_push}
-use Rattle.std.proofs.lemmas.Option.{same_Some}
-use Rattle.source.specs.declared.fault.Code.{Code}
 use Rattle.source.specs.declared.fault.Code.TheVariants.{LimitExceeded, RecursiveHelper}
 use Rattle.call_graph.specs.declared.graph.CallSite.{CallSite}
 use Rattle.call_graph.specs.Graphs.{Body, Graph}
 use Rattle.call_graph.specs.Recursion.{HasCall, Calls, Reaches, calls, calls_one, LeadsTo}
-use Rattle.call_graph.specs.Depths.{depth, far, is_endless, IsAtMostDeep}
+use Rattle.call_graph.specs.Depths.{depth, far, IsAtMostDeep}
 use Rattle.call_graph.specs.Counts.{brought_locals, brought_points}
-use Rattle.call_graph.specs.Faults.{DEPTH_LIMIT, LOCAL_LIMIT, POINT_LIMIT, IsRecursive, recursive_call, IsOverLimit, too_deep, too_many_locals, too_many_points, IsGraphFault, recursive, over_limit}
+use Rattle.call_graph.specs.Faults.{DEPTH_LIMIT, LOCAL_LIMIT, POINT_LIMIT, IsRecursive, recursive_call, too_deep, too_many_locals, too_many_points, IsGraphFault, recursive, over_limit}
 use Rattle.call_graph.specs.Laws.{HasNoGraphFault, CallsAreOfHelpers}
 use Rattle.call_graph.proofs.Endless.{NoCircle, free_depth, free_ends}
 use Rattle.call_graph.proofs.Deep.{there, deep_at, deeper_by}
@@ -60,10 +58,10 @@ module _ (graph : Graph) (none : HasNoGraphFault graph) (s : ℕ) (b : Body) (is
   few_locals before [] all le = subst (λ (cs : List CallSite). b.locals + sum_by (brought_locals graph.helpers) cs ≤ LOCAL_LIMIT) (sym (append-nil before)) le
   few_locals before (c ∷ cs) all le =
       elim (cases_lt LOCAL_LIMIT (b.locals + sum_by (brought_locals graph.helpers) before + brought_locals graph.helpers c)) [
-        | inl over ↦ absurd (none LimitExceeded c.start (over_limit (too_many_locals s before cs is all le over)))
+        | inl over ↦ absurd (none LimitExceeded c.start (over_limit (too_many_locals s before cs c is all le over)))
         | inr within ↦
             let e : sum_by (brought_locals graph.helpers) (before ++ c ∷ []) ≡ sum_by (brought_locals graph.helpers) before + brought_locals graph.helpers c =
-                sum_by_push (brought_locals graph.helpers) before c in
+            sum_by_push (brought_locals graph.helpers) before c in
             subst (λ (l : List CallSite). b.locals + sum_by (brought_locals graph.helpers) l ≤ LOCAL_LIMIT) (append_assoc before (c ∷ []) cs)
             (few_locals (before ++ c ∷ []) cs (all ∙ sym (append_assoc before (c ∷ []) cs)) (omega (arith, e, within)))
       ]
@@ -73,10 +71,10 @@ module _ (graph : Graph) (none : HasNoGraphFault graph) (s : ℕ) (b : Body) (is
   few_points before [] all le = subst (λ (cs : List CallSite). sum_by (brought_points graph.helpers) cs ≤ POINT_LIMIT) (sym (append-nil before)) le
   few_points before (c ∷ cs) all le =
       elim (cases_lt POINT_LIMIT (sum_by (brought_points graph.helpers) before + brought_points graph.helpers c)) [
-        | inl over ↦ absurd (none LimitExceeded c.start (over_limit (too_many_points s before cs is all le over)))
+        | inl over ↦ absurd (none LimitExceeded c.start (over_limit (too_many_points s before cs c is all le over)))
         | inr within ↦
             let e : sum_by (brought_points graph.helpers) (before ++ c ∷ []) ≡ sum_by (brought_points graph.helpers) before + brought_points graph.helpers c =
-                sum_by_push (brought_points graph.helpers) before c in
+            sum_by_push (brought_points graph.helpers) before c in
             subst (λ (l : List CallSite). sum_by (brought_points graph.helpers) l ≤ POINT_LIMIT) (append_assoc before (c ∷ []) cs)
             (few_points (before ++ c ∷ []) cs (all ∙ sym (append_assoc before (c ∷ []) cs)) (omega (arith, e, within)))
       ]
@@ -88,7 +86,7 @@ module _ (graph : Graph) (none : HasNoGraphFault graph) (s : ℕ) (b : Body) (is
 
 pub no_calls : (graph : Graph) → ((f : ℕ) (b : Body) → slice_get graph.helpers f ≡ Some b → b.calls ≡ []) → (p : ℕ) → IsRecursive graph p → ⊥
 no_calls graph none p (recursive_call f k {body = b} {c = c} is at leads) =
-    let no : None ≡ Some c = ap (λ (cs : List CallSite). slice_get cs k) (sym (none f b is)) ∙ at in absurd cc
+    let fails : None ≡ Some c = ap (λ (cs : List CallSite). slice_get cs k) (sym (none f b is)) ∙ at in absurd cc
 
 pub no_recursion : (graph : Graph) → ((f : ℕ) (b : Body) → slice_get graph.helpers f ≡ Some b → b.calls ≡ []) → (p : ℕ) → IsGraphFault graph RecursiveHelper p → ⊥
 no_recursion graph none p (recursive h) = no_calls graph none p h

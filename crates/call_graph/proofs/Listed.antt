@@ -1,6 +1,6 @@
 -- The listed faults are the faults of the graph.
-use Rattle.std.proofs.Common.{◌≡◌, ℕ, zero, suc, ◌+◌, ◌<◌, ◌≤◌, Bool, true, false, ◌||◌, ◌&&◌, not, List, [], ◌∷◌, ◌++◌, length, ◌⊎◌, inl, inr, refl, sym, ap, ◌∙◌, subst, append_assoc, arith}
-use Rattle.std.specs.Prelude.{nat_lt, nat_le, ◌==◌, slice_get, Option, Some, None}
+use Rattle.std.proofs.Common.{◌≡◌, ℕ, zero, suc, ◌+◌, ◌<◌, ◌≤◌, Bool, true, false, not, List, [], ◌∷◌, ◌++◌, ◌⊎◌, inl, inr, refl, sym, ◌∙◌, subst, append_assoc, arith}
+use Rattle.std.specs.Prelude.{nat_lt, nat_le, ◌==◌, slice_get, Some}
 use Rattle.std.specs.List.{flat_map, sum_by}
 use Rattle.std.proofs.lemmas.Bool.{and_parts, and_from, or_cases, or_left, or_right, eq-eqb, eqb-true, lt-ltb, ltb-true, le-leb, leb-true, not-true, not_from_false}
 use Rattle.std.proofs.lemmas.List.Sums.{sum_by_push, sum_by-cons}
@@ -136,15 +136,15 @@ module _ (graph : Graph) where
       let rest : List Mistake = call_faults graph.helpers (locals + L) (points + P) cs in
       elim (in_either f (one ++ two) rest h) [
         | inl here ↦ elim (in_either f one two here) [
-            | inl x ↦
-                let t = told (first_too_many LOCAL_LIMIT locals L) LimitExceeded c.start f x in
-                let p = first_parts LOCAL_LIMIT locals L t.0 in
-                held f _ t.1 (over_limit (too_many_locals s before cs is all (omega (arith, l_is, p.0)) (omega (arith, l_is, p.1))))
-            | inr y ↦
-                let t = told (first_too_many POINT_LIMIT points P) LimitExceeded c.start f y in
-                let p = first_parts POINT_LIMIT points P t.0 in
-                held f _ t.1 (over_limit (too_many_points s before cs is all (omega (arith, p_is, p.0)) (omega (arith, p_is, p.1))))
-          ]
+          | inl x ↦
+              let t = told (first_too_many LOCAL_LIMIT locals L) LimitExceeded c.start f x in
+              let p = first_parts LOCAL_LIMIT locals L t.0 in
+              held f _ t.1 (over_limit (too_many_locals s before cs c is all (omega (arith, l_is, p.0)) (omega (arith, l_is, p.1))))
+          | inr y ↦
+              let t = told (first_too_many POINT_LIMIT points P) LimitExceeded c.start f y in
+              let p = first_parts POINT_LIMIT points P t.0 in
+              held f _ t.1 (over_limit (too_many_points s before cs c is all (omega (arith, p_is, p.0)) (omega (arith, p_is, p.1))))
+        ]
         | inr later ↦
             calls_true s b is f (before ++ c ∷ []) cs (all ∙ sym (append_assoc before (c ∷ []) cs)) (locals + L) (points + P)
             (let e = sum_by_push (brought_locals graph.helpers) before c in omega (arith, l_is, e))
@@ -154,7 +154,7 @@ module _ (graph : Graph) where
   -- the faults of a call behind others
   calls_all : (f : Mistake) (before behind : List CallSite) (c : CallSite) (locals points : ℕ) →
       IsAmong f (told_if (first_too_many LOCAL_LIMIT (locals + sum_by (brought_locals graph.helpers) before) (brought_locals graph.helpers c)) LimitExceeded c.start
-          ++ told_if (first_too_many POINT_LIMIT (points + sum_by (brought_points graph.helpers) before) (brought_points graph.helpers c)) LimitExceeded c.start) →
+      ++ told_if (first_too_many POINT_LIMIT (points + sum_by (brought_points graph.helpers) before) (brought_points graph.helpers c)) LimitExceeded c.start) →
       IsAmong f (call_faults graph.helpers locals points (before ++ c ∷ behind))
   calls_all f [] behind c locals points h =
       let L : ℕ = brought_locals graph.helpers c in
@@ -164,21 +164,21 @@ module _ (graph : Graph) where
       in_left f (told_if (first_too_many LOCAL_LIMIT locals L) LimitExceeded c.start ++ told_if (first_too_many POINT_LIMIT points P) LimitExceeded c.start)
       (call_faults graph.helpers (locals + L) (points + P) behind)
       (subst (λ (n : ℕ). IsAmong f (told_if (first_too_many LOCAL_LIMIT locals L) LimitExceeded c.start ++ told_if (first_too_many POINT_LIMIT n P) LimitExceeded c.start)) p_is
-        (subst (λ (n : ℕ). IsAmong f (told_if (first_too_many LOCAL_LIMIT n L) LimitExceeded c.start ++ told_if (first_too_many POINT_LIMIT (points + 0) P) LimitExceeded c.start)) l_is h))
+      (subst (λ (n : ℕ). IsAmong f (told_if (first_too_many LOCAL_LIMIT n L) LimitExceeded c.start ++ told_if (first_too_many POINT_LIMIT (points + 0) P) LimitExceeded c.start)) l_is h))
   calls_all f (x ∷ before) behind c locals points h =
       let L : ℕ = brought_locals graph.helpers x in
       let P : ℕ = brought_points graph.helpers x in
       let C : ℕ = brought_locals graph.helpers c in
       let D : ℕ = brought_points graph.helpers c in
       let l_is : locals + sum_by (brought_locals graph.helpers) (x ∷ before) ≡ locals + L + sum_by (brought_locals graph.helpers) before =
-          let e = sum_by-cons (brought_locals graph.helpers) x before in omega (arith, e) in
+      let e = sum_by-cons (brought_locals graph.helpers) x before in omega (arith, e) in
       let p_is : points + sum_by (brought_points graph.helpers) (x ∷ before) ≡ points + P + sum_by (brought_points graph.helpers) before =
-          let e = sum_by-cons (brought_points graph.helpers) x before in omega (arith, e) in
+      let e = sum_by-cons (brought_points graph.helpers) x before in omega (arith, e) in
       in_right f (told_if (first_too_many LOCAL_LIMIT locals L) LimitExceeded x.start ++ told_if (first_too_many POINT_LIMIT points P) LimitExceeded x.start)
       (call_faults graph.helpers (locals + L) (points + P) (before ++ c ∷ behind))
       (calls_all f before behind c (locals + L) (points + P)
-        (subst (λ (n : ℕ). IsAmong f (told_if (first_too_many LOCAL_LIMIT (locals + L + sum_by (brought_locals graph.helpers) before) C) LimitExceeded c.start ++ told_if (first_too_many POINT_LIMIT n D) LimitExceeded c.start)) p_is
-          (subst (λ (n : ℕ). IsAmong f (told_if (first_too_many LOCAL_LIMIT n C) LimitExceeded c.start ++ told_if (first_too_many POINT_LIMIT (points + sum_by (brought_points graph.helpers) (x ∷ before)) D) LimitExceeded c.start)) l_is h)))
+      (subst (λ (n : ℕ). IsAmong f (told_if (first_too_many LOCAL_LIMIT (locals + L + sum_by (brought_locals graph.helpers) before) C) LimitExceeded c.start ++ told_if (first_too_many POINT_LIMIT n D) LimitExceeded c.start)) p_is
+      (subst (λ (n : ℕ). IsAmong f (told_if (first_too_many LOCAL_LIMIT n C) LimitExceeded c.start ++ told_if (first_too_many POINT_LIMIT (points + sum_by (brought_points graph.helpers) (x ∷ before)) D) LimitExceeded c.start)) l_is h)))
 
   section_true : (s : ℕ) (b : Body) (f : Mistake) → slice_get graph.sections s ≡ Some b → IsAmong f (section_faults graph.helpers b) → Holds f
   section_true s b f is h = calls_true s b is f [] b.calls refl b.locals 0 (omega arith) refl h
@@ -206,7 +206,7 @@ module _ (graph : Graph) where
 
   listed_call : (f : Mistake) (s : ℕ) (b : Body) (before behind : List CallSite) (c : CallSite) → slice_get graph.sections s ≡ Some b → b.calls ≡ before ++ c ∷ behind →
       IsAmong f (told_if (first_too_many LOCAL_LIMIT (b.locals + sum_by (brought_locals graph.helpers) before) (brought_locals graph.helpers c)) LimitExceeded c.start
-          ++ told_if (first_too_many POINT_LIMIT (0 + sum_by (brought_points graph.helpers) before) (brought_points graph.helpers c)) LimitExceeded c.start) →
+      ++ told_if (first_too_many POINT_LIMIT (0 + sum_by (brought_points graph.helpers) before) (brought_points graph.helpers c)) LimitExceeded c.start) →
       IsAmong f (graph_faults graph)
   listed_call f s b before behind c is all h =
       in_sections f s b is (subst (λ (cs : List CallSite). IsAmong f (call_faults graph.helpers b.locals 0 cs)) (sym all) (calls_all f before behind c b.locals 0 h))
@@ -214,18 +214,20 @@ module _ (graph : Graph) where
   over_listed : (p : ℕ) → IsOverLimit graph p → IsAmong (record { code = LimitExceeded; start = p }) (graph_faults graph)
   over_listed p (too_deep k {body = b} is ends deep) =
       in_helpers _ k b is (in_left _ (told_if (is_too_deep graph.helpers k) LimitExceeded b.start) (flat_map (recursion_faults graph.helpers k) b.calls)
-        (is_told (is_too_deep graph.helpers k) LimitExceeded b.start
-          (and_from (nat_lt DEPTH_LIMIT (depth graph.helpers k)) (not (is_endless graph.helpers k)) (lt-ltb DEPTH_LIMIT (depth graph.helpers k) deep) (not_from_false (is_endless graph.helpers k) ends))))
-  over_listed p (too_many_locals s before behind {section = b} {c = c} is all le lt) =
+      (is_told (is_too_deep graph.helpers k) LimitExceeded b.start
+      (and_from (nat_lt DEPTH_LIMIT (depth graph.helpers k)) (not (is_endless graph.helpers k)) (lt-ltb DEPTH_LIMIT (depth graph.helpers k) deep) (not_from_false (is_endless graph.helpers k) ends))))
+  over_listed p (too_many_locals s before behind c {section = b} is all le lt) =
       listed_call _ s b before behind c is all (in_left _ _ _ (is_told _ LimitExceeded c.start (first_from LOCAL_LIMIT _ (brought_locals graph.helpers c) le lt)))
-  over_listed p (too_many_points s before behind {section = b} {c = c} is all le lt) =
-      let zero_is : sum_by (brought_points graph.helpers) before ≡ 0 + sum_by (brought_points graph.helpers) before = omega arith in
-      listed_call _ s b before behind c is all (in_right _ _ _ (is_told _ LimitExceeded c.start (first_from POINT_LIMIT _ (brought_points graph.helpers c) (omega (arith, le)) (omega (arith, lt)))))
+  over_listed p (too_many_points s before behind c {section = b} is all le lt) =
+      let sum : ℕ = sum_by (brought_points graph.helpers) before in
+      let le' : 0 + sum ≤ POINT_LIMIT = omega (arith, le) in
+      let lt' : POINT_LIMIT < 0 + sum + brought_points graph.helpers c = omega (arith, lt) in
+      listed_call _ s b before behind c is all (in_right _ _ _ (is_told _ LimitExceeded c.start (first_from POINT_LIMIT (0 + sum) (brought_points graph.helpers c) le' lt')))
 
   recursive_listed : (p : ℕ) → IsRecursive graph p → IsAmong (record { code = RecursiveHelper; start = p }) (graph_faults graph)
   recursive_listed p (recursive_call f k {body = b} {c = c} is at leads) =
       in_helpers _ f b is (in_right _ (told_if (is_too_deep graph.helpers f) LimitExceeded b.start) (flat_map (recursion_faults graph.helpers f) b.calls)
-        (in_all (recursion_faults graph.helpers f) b.calls _ k c at (is_told (leads_back graph.helpers f c) RecursiveHelper c.start (forth f c leads))))
+      (in_all (recursion_faults graph.helpers f) b.calls _ k c at (is_told (leads_back graph.helpers f c) RecursiveHelper c.start (forth f c leads))))
 
   pub true_listed : (code : Code) (p : ℕ) → IsGraphFault graph code p → IsAmong (record { code = code; start = p }) (graph_faults graph)
   true_listed code p (recursive h) = recursive_listed p h

@@ -1,14 +1,13 @@
 -- The table of what is reached, as the code makes it.
-use Rattle.std.proofs.Common.{◌≡◌, ◌≢◌, ℕ, zero, suc, ◌+◌, ◌<◌, ◌≤◌, Bool, true, false, ◌||◌, ◌&&◌, List, [], ◌∷◌, ◌++◌, length, get_or, set, ◌⊎◌, inl, inr, refl, sym, ap, ◌∙◌, subst, add-one, arith}
-use Rattle.std.specs.Prelude.{◌==◌, slice_get, Option, Some, None}
-use Rattle.std.specs.List.{list_any}
+use Rattle.std.proofs.Common.{◌≡◌, ◌≢◌, ℕ, ◌+◌, ◌<◌, ◌≤◌, Bool, true, false, ◌||◌, ◌&&◌, List, [], ◌∷◌, ◌++◌, length, get_or, set, inl, inr, refl, sym, ap, ◌∙◌, subst, add-one, arith}
+use Rattle.std.specs.Prelude.{◌==◌, slice_get, Option, Some}
 use Rattle.std.proofs.lemmas.Bool.{cases_lt, cases_eq}
 use Rattle.std.proofs.lemmas.List.{length-append, length-set, get_or_append_left, get_or_push, get_or_past, get_or-set_same, get_or-set_other, get_or_read}
 use Rattle.std.proofs.lemmas.Option.{slice_get_past}
 use Rattle.call_graph.specs.declared.graph.CallSite.{CallSite}
 use Rattle.call_graph.specs.declared.helper_set.HelperSet.{HelperSet}
 use Rattle.call_graph.specs.Graphs.{Body}
-use Rattle.call_graph.specs.Tables.{has_helper, no_helpers, leads, is_called, called_by, reaches_over, reaches, AddsThrough, IsReach}
+use Rattle.call_graph.specs.Tables.{has_helper, no_helpers, leads, is_called, called_by, reaches_over, AddsThrough, IsReach}
 use Rattle.call_graph.proofs.Sets.{none_has}
 
 or_none : (b : Bool) → b ≡ (b || false)
@@ -77,8 +76,8 @@ none_added old m = record { long = refl; done = λ f g lt. absurd (omega (arith,
 
 module _ (old rows : List HelperSet) (m k : ℕ) (adding : IsAdding old rows m k) (lt : k < length old) where
   pub skipped : leads rows k m ≡ false → IsAdding old rows m (k + 1)
-  skipped no =
-      let none : leads old k m ≡ false = sym (adding.left k m (omega arith)) ∙ no in
+  skipped fails =
+      let none : leads old k m ≡ false = sym (adding.left k m (omega arith)) ∙ fails in
       record {
         long = adding.long;
         done = λ f g less. elim (cases_lt f k) [
@@ -100,8 +99,8 @@ module _ (old rows : List HelperSet) (m k : ℕ) (adding : IsAdding old rows m k
         ∙ ap (λ (set : HelperSet). leads old k g || has_helper set g) (get_or_read old m middle there middle_is no_helpers)
 
     pub added : leads rows k m ≡ true → IsAdding old (set rows k union) m (k + 1)
-    added yes =
-        let all : leads old k m ≡ true = sym (adding.left k m (omega arith)) ∙ yes in
+    added passes =
+        let all : leads old k m ≡ true = sym (adding.left k m (omega arith)) ∙ passes in
         record {
           long = length-set rows k union ∙ adding.long;
           done = λ f g less. elim (cases_eq f k) [

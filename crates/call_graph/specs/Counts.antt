@@ -1,5 +1,5 @@
 -- What calls bring where helpers are written out: locals and points.
-use Rattle.std.specs.Prelude.{ℕ, zero, suc, ◌+◌, Bool, true, false, if◌then◌else◌, List, slice_get, Option, Some, None}
+use Rattle.std.specs.Prelude.{ℕ, zero, suc, ◌+◌, Bool, true, false, if◌then◌else◌, List, slice_get}
 use Rattle.std.specs.List.{sum_by}
 use Rattle.call_graph.specs.declared.graph.CallSite.{CallSite}
 use Rattle.call_graph.specs.Graphs.{Body}

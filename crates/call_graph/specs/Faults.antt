@@ -33,12 +33,12 @@ pub data IsOverLimit (graph : Graph) : ℕ → Type 0 where
       slice_get graph.helpers f ≡ Some body → is_endless graph.helpers f ≡ false → DEPTH_LIMIT < depth graph.helpers f →
       IsOverLimit graph body.start
   -- the call of a section by which there are first too many: of locals, all that the section has itself come first
-  too_many_locals : (s : ℕ) (before behind : List CallSite) {section : Body} {c : CallSite} →
+  too_many_locals : (s : ℕ) (before behind : List CallSite) (c : CallSite) {section : Body} →
       slice_get graph.sections s ≡ Some section → section.calls ≡ before ++ c ∷ behind →
       section.locals + sum_by (brought_locals graph.helpers) before ≤ LOCAL_LIMIT →
       LOCAL_LIMIT < section.locals + sum_by (brought_locals graph.helpers) before + brought_locals graph.helpers c →
       IsOverLimit graph c.start
-  too_many_points : (s : ℕ) (before behind : List CallSite) {section : Body} {c : CallSite} →
+  too_many_points : (s : ℕ) (before behind : List CallSite) (c : CallSite) {section : Body} →
       slice_get graph.sections s ≡ Some section → section.calls ≡ before ++ c ∷ behind →
       sum_by (brought_points graph.helpers) before ≤ POINT_LIMIT →
       POINT_LIMIT < sum_by (brought_points graph.helpers) before + brought_points graph.helpers c →

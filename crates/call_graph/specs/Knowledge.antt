@@ -1,5 +1,5 @@
 -- What is known of helpers when they are judged. Nobody has to believe these: what the faults are, says `Faults`.
-use Rattle.std.specs.Prelude.{ℕ, ◌+◌, ◌≤◌, List, length}
+use Rattle.std.specs.Prelude.{◌+◌, ◌≤◌, List, length}
 use Rattle.call_graph.specs.declared.judge.Known.{Known}
 use Rattle.call_graph.specs.Graphs.{Body, bodies_of}
 use Rattle.call_graph.specs.Tables.{IsReach, IsExtents}

@@ -1,5 +1,5 @@
 -- What holds of graphs and of their faults, as `src/laws.rt` claims it.
-use Rattle.std.specs.Prelude.{◌≡◌, ◌↔◌, ℕ, ◌+◌, ◌<◌, ◌≤◌, List, [], length, slice_get, Some, true, false}
+use Rattle.std.specs.Prelude.{◌≡◌, ◌↔◌, ℕ, ◌+◌, ◌<◌, ◌≤◌, List, [], length, slice_get, Some, true}
 use Rattle.std.specs.List.{sum_by}
 use Rattle.source.specs.declared.fault.Code.{Code}
 use Rattle.source.specs.declared.fault.Code.TheVariants.{RecursiveHelper}
@@ -7,10 +7,16 @@ use Rattle.source.specs.declared.mistake.Mistake.{Mistake}
 use Rattle.source.specs.Leasts.{IsAmong}
 use Rattle.call_graph.specs.Graphs.{Body, Graph}
 use Rattle.call_graph.specs.Recursion.{ReachesRecursion}
-use Rattle.call_graph.specs.Depths.{CallsOnly, IsAtMostDeep, depth, is_endless}
+use Rattle.call_graph.specs.Depths.{CallsOnly, IsAtMostDeep, is_endless}
 use Rattle.call_graph.specs.Counts.{brought_locals, brought_points}
 use Rattle.call_graph.specs.Faults.{DEPTH_LIMIT, LOCAL_LIMIT, POINT_LIMIT, IsGraphFault}
 use Rattle.call_graph.specs.FaultLists.{graph_faults}
+use Rattle.core_lang.specs.declared.tree.Section.{Section}
+use Rattle.core_lang.specs.declared.typed.Typed.{Typed}
+use Rattle.core_lang.specs.Typing.{IsWellTypedSection}
+use Rattle.core_lang.specs.Scopes.{IsWellScoped}
+use Rattle.core_lang.specs.WellFormed.{IsWithinLimits}
+use Rattle.call_graph.specs.Programs.{IsGraphOf, CallsKeepLimits}
 
 -- the listed faults are faults
 abbrev pub ListedAreFaults : Type 0
@@ -46,3 +52,9 @@ FaultlessBringFew = (graph : Graph) → HasNoGraphFault graph → (s : ℕ) (sec
 abbrev pub WithoutCallsNoRecursion : Type 0
 WithoutCallsNoRecursion = (graph : Graph) → ((f : ℕ) (b : Body) → slice_get graph.helpers f ≡ Some b → b.calls ≡ []) →
     (p : ℕ) → IsGraphFault graph RecursiveHelper p → ⊥
+
+-- a program whose graph has no fault, and which is right besides, keeps to the limits of calls
+abbrev pub FaultlessKeepLimits : Type 0
+FaultlessKeepLimits = (program : Typed) (graph : Graph) → IsGraphOf program graph → HasNoGraphFault graph → IsWithinLimits program →
+    ((k : ℕ) (helper : Section) → slice_get program.shape.helpers.items k ≡ Some helper → IsWellTypedSection program helper) →
+    ((k : ℕ) (section : Section) → slice_get program.sections.items k ≡ Some section → IsWellScoped section) → CallsKeepLimits program

@@ -1,5 +1,5 @@
 -- What the tables of the code hold. Nobody has to believe these: what the faults are, says `Faults`.
-use Rattle.std.specs.Prelude.{◌≡◌, ℕ, zero, suc, ◌+◌, ◌<◌, ◌-◌, min, nat_lt, ◌==◌, ◌&&◌, ◌||◌, Bool, true, false, List, length, map, slice_get, slice_index_or, Option, Some, None}
+use Rattle.std.specs.Prelude.{◌≡◌, ℕ, zero, suc, ◌+◌, ◌<◌, ◌-◌, min, nat_lt, ◌==◌, ◌&&◌, ◌||◌, Bool, true, false, List, length, slice_get, slice_index_or, Option, Some, None}
 use Rattle.std.specs.List.{list_any, sum_by}
 use Rattle.std.specs.Int.{bit_at}
 use Rattle.call_graph.specs.declared.graph.CallSite.{CallSite}
@@ -7,7 +7,7 @@ use Rattle.call_graph.specs.declared.helper_set.Half.{Half}
 use Rattle.call_graph.specs.declared.helper_set.HelperSet.{HelperSet}
 use Rattle.call_graph.specs.declared.extents.Extent.{Extent}
 use Rattle.call_graph.specs.Graphs.{Body}
-use Rattle.call_graph.specs.Depths.{of_body, deepest_of, depth_within}
+use Rattle.call_graph.specs.Depths.{deepest_of, depth_within}
 use Rattle.call_graph.specs.Counts.{one_for, hidden, locals_within, points_within}
 use Rattle.call_graph.specs.Faults.{LOCAL_LIMIT, POINT_LIMIT}
 

@@ -70,13 +70,7 @@ pub(crate) fn hidden_local(helpers: &[Body], call: CallSite) -> usize
         return 0;
     }
     match helpers.get(call.helper) {
-        Some(helper) => {
-            if helper.has_result {
-                1
-            } else {
-                0
-            }
-        }
+        Some(helper) => { if helper.has_result { 1 } else { 0 } }
         None => 0,
     }
 }
@@ -85,7 +79,7 @@ pub(crate) fn hidden_local(helpers: &[Body], call: CallSite) -> usize
 fn extent_from(table: &[Extent], helpers: &[Body], body: &Body) -> Extent
     ensures { result ≡ extent_by table.now (bodies_of helpers.now) (body_of body.now) }
 {
-    let mut depth = 0;
+    let mut depth: usize = 0;
     let mut locals = sum_up_to(LOCAL_LIMIT, body.locals, 0);
     let mut points = sum_up_to(POINT_LIMIT, body.parameters, body.points);
     for call in &body.calls {
@@ -103,11 +97,7 @@ fn extent_from(table: &[Extent], helpers: &[Body], body: &Body) -> Extent
 }
 
 // Of each helper, where calls are followed one further than in a table.
-fn one_further(
-    alloc: Global,
-    table: &[Extent],
-    helpers: &[Body],
-) -> Result<Vec<Extent>, AllocError>
+fn one_further(alloc: Global, table: &[Extent], helpers: &[Body]) -> Result<Vec<Extent>, AllocError>
     ensures { IfOk result (λ further. further.items ≡ map (extent_by table.now (bodies_of helpers.now)) (bodies_of helpers.now)) }
 {
     let mut further = Vec::new(alloc);

@@ -11,7 +11,8 @@ ghost use Rattle.call_graph.specs.Knowledge.{IsKnown, bodies};
 ghost use Rattle.call_graph.specs.FaultLists.{told_if, first_too_many, is_too_deep, recursion_faults, helpers_faults, section_faults, graph_faults};
 
 use crate::extents::{
-    DEPTH_LIMIT, Extent, Extents, LOCAL_LIMIT, POINT_LIMIT, extent_of, hidden_local, nothing, sum_up_to,
+    DEPTH_LIMIT, Extent, Extents, LOCAL_LIMIT, POINT_LIMIT, extent_of, hidden_local, nothing,
+    sum_up_to,
 };
 use crate::graph::{Body, CallGraph, CallSite};
 use crate::reach::Reach;
@@ -20,6 +21,7 @@ use source::mistake::{Mistake, note};
 use std::alloc::{AllocError, Global};
 
 /// How many there are so far of what has a limit; no further than one past it.
+#[derive(Drop)]
 struct Counter {
     limit: usize,
     count: usize,
@@ -42,6 +44,7 @@ impl Counter {
 }
 
 /// The helpers of a graph, and what is known of them.
+#[derive(Drop)]
 struct Known<'a> {
     helpers: &'a [Body],
     reach: Reach,
