@@ -36,7 +36,7 @@ deep_at helpers right (suc d) (suc n) f lt le less =
           (λ g shallow here. deep_at helpers right d n g here shallow (omega (arith, less))) b.0.calls called (right f b.0 b.1),
     )
 
-only_like : (P Q : ℕ → Type 0) → ((g : ℕ) → P g → Q g) → (cs : List CallSite) → CallsOnly P cs → CallsOnly Q cs
+pub only_like : (P Q : ℕ → Type 0) → ((g : ℕ) → P g → Q g) → (cs : List CallSite) → CallsOnly P cs → CallsOnly Q cs
 only_like P Q go [] only = tt
 only_like P Q go (c ∷ cs) only = (go c.helper only.0, only_like P Q go cs only.1)
 

@@ -31,10 +31,10 @@ no_circle : (graph : Graph) → HasNoGraphFault graph → (f : ℕ) → Reaches 
 no_circle graph none f (calls c) = closes graph none f f c (inl refl)
 no_circle graph none f (calls_one {g = g} c r) = closes graph none f g c (inr r)
 
-free : (graph : Graph) → HasNoGraphFault graph → (f : ℕ) → NoCircle graph.helpers f
+pub free : (graph : Graph) → HasNoGraphFault graph → (f : ℕ) → NoCircle graph.helpers f
 free graph none f = λ g r circle. no_circle graph none g circle
 
-shallow : (graph : Graph) → HasNoGraphFault graph → (f : ℕ) → f < length graph.helpers → depth graph.helpers f ≤ DEPTH_LIMIT
+pub shallow : (graph : Graph) → HasNoGraphFault graph → (f : ℕ) → f < length graph.helpers → depth graph.helpers f ≤ DEPTH_LIMIT
 shallow graph none f lt = elim (cases_lt DEPTH_LIMIT (depth graph.helpers f)) [
   | inl deep ↦
       let b = there graph.helpers f lt in

@@ -7,3 +7,4 @@ pub mod Reaching
 pub mod Noting
 pub mod Listed
 pub mod Faultless
+pub mod Written

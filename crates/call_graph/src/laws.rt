@@ -1,6 +1,6 @@
 //! What holds of graphs and of their faults: functions that do nothing, and whose contracts are the laws.
 
-ghost use Rattle.call_graph.specs.Laws.{ListedAreFaults, FaultsAreListed, EndlessReachRecursion, FaultlessAreAtMostDeep, FaultlessBringFew, WithoutCallsNoRecursion};
+ghost use Rattle.call_graph.specs.Laws.{ListedAreFaults, FaultsAreListed, EndlessReachRecursion, FaultlessAreAtMostDeep, FaultlessBringFew, WithoutCallsNoRecursion, FaultlessKeepLimits};
 
 /// The faults that are looked for are the faults of the graph, and all of them.
 pub fn listed_faults()
@@ -26,4 +26,10 @@ pub fn faultless_bring_few()
 /// Where no helper calls another one, there is no recursion.
 pub fn without_calls_no_recursion()
     ensures { WithoutCallsNoRecursion }
+{}
+
+/// A program whose graph has no fault, and which is well typed, well scoped and within the other limits, keeps to the limits
+/// of calls.
+pub fn faultless_keep_limits()
+    ensures { FaultlessKeepLimits }
 {}
