@@ -2,6 +2,7 @@
 use Rattle.std.specs.Prelude.{List, Option}
 use Rattle.core_lang.specs.declared.value.ValueType.{ValueType}
 use Rattle.syntax.specs.declared.tree.Decl.{Decl}
+use Rattle.resolution.specs.declared.body_limits.BodyLimits.{BodyLimits}
 use Rattle.resolution.specs.Scopes.{Local, Scope}
 use Rattle.symbols.specs.Views.{decls_of}
 
@@ -10,6 +11,7 @@ pub record Known : Type 0 where
   pub decls : List Decl
   pub locals : List Local
   pub result : Option ValueType
+  pub limits : BodyLimits
 
 abbrev pub scope : Known → Scope
-scope k = record { decls = decls_of k.decls; locals = k.locals; result = k.result }
+scope k = record { decls = decls_of k.decls; locals = k.locals; result = k.result; limits = k.limits }

@@ -1,4 +1,4 @@
-//! The checker of a section: what is declared, and the section's locals so far.
+//! The checker of a section or a helper: what is declared, and the locals so far.
 
 ghost use Rattle.std.specs.Prelude.{◌≡◌, OnOk, None, length, map, option_map};
 ghost use Rattle.syntax.specs.Trees.{ref_type};
@@ -13,6 +13,7 @@ ghost use Rattle.expressions.specs.Misplaced.{misplaced, taken_name_faults};
 
 use core_lang::tree::LocalKind;
 use core_lang::value::ValueType;
+use resolution::body_limits::BodyLimits;
 use resolved_expressions::judged::Least;
 use source::fault::Code;
 use source::mistake::note;
@@ -28,10 +29,7 @@ use symbols::table::SymbolTable;
 use syntax::tree;
 use syntax::tree::{Decl, Name};
 
-/// How many locals a section may have.
-const LOCAL_LIMIT: usize = 64;
-
-/// Checks a section: knows what is declared, and the section's locals up to the place that is judged.
+/// Checks a section or a helper: knows what is declared, and the locals up to the place that is judged.
 #[derive(Drop)]
 pub struct Checker<'a> {
     alloc: Global,
@@ -48,18 +46,23 @@ impl<'a> Model for Checker<'a> {
 
     ghost coded = { Prim.hlevel (codes, the_decl.the_row.coded) };
 
-    ghost view = { λ c. record { decls = c.symbols.now; locals = c.locals.locals; result = c.locals.result } };
+    ghost view = { λ c. record { decls = c.symbols.now; locals = c.locals.locals; result = c.locals.result; limits = c.locals.limits } };
 }
 
 impl<'a> Checker<'a> {
-    /// At the start of a section whose result has this type.
-    pub fn new(alloc: Global, symbols: &'a SymbolTable<'a>, given: Option<ValueType>) -> Checker<'a>
-        ensures { scope result ≡ record (outside (decls_of symbols.now)) { result = given } }
+    /// At the start of a section or a helper whose result has this type, and which may have so many parameters and locals.
+    pub fn new(
+        alloc: Global,
+        symbols: &'a SymbolTable<'a>,
+        given: Option<ValueType>,
+        most: BodyLimits,
+    ) -> Checker<'a>
+        ensures { scope result ≡ record (outside (decls_of symbols.now)) { result = given; limits = most } }
     {
         Checker {
             alloc,
             symbols,
-            locals: Locals::new(alloc, given),
+            locals: Locals::new(alloc, given, most),
         }
     }
 
@@ -129,7 +132,14 @@ impl<'a> Checker<'a> {
 
     // ---- locals
 
-    /// The type of the section's result.
+    /// How many parameters and locals there may be.
+    pub fn limits(&self) -> BodyLimits
+        ensures { result ≡ (scope self.now).limits }
+    {
+        self.locals.limits()
+    }
+
+    /// The type of the result.
     pub fn result(&self) -> Option<ValueType>
         ensures { result ≡ (scope self.now).result }
     {
@@ -157,7 +167,7 @@ impl<'a> Checker<'a> {
         ensures { least.new ≡ least_of least.old (local_faults (scope self.now) (ident name.now)) }
     {
         self.note_taken(name, least);
-        let is_one_more = self.next() >= LOCAL_LIMIT;
+        let is_one_more = self.next() >= self.limits().locals;
         note_if(is_one_more, Code::LimitExceeded, name.start as usize, least);
     }
 

@@ -5,8 +5,8 @@ use Rattle.source.specs.declared.token.Keyword.TheVariants as keyword
 use Rattle.source.specs.declared.token.Sign.TheVariants.{OpenBrace, CloseBrace, OpenParen, CloseParen, OpenBracket, CloseBracket, Semicolon, Colon, Dot, Equals}
 use Rattle.source.specs.Tokens.{Lexeme, word, mark, end, Tok}
 use Rattle.syntax.specs.Trees as tree
-use Rattle.syntax.specs.Trees.{Ident, ValueType, int_type, no_stmts, Member, lock_member, final_member, field_member, Section, Items, no_items, Decl, lock, struct, global, array, pool, init, atomic, thread}
-use Rattle.syntax.specs.Grammar.{tok, name_tok, IsOptional, left_out, AreMany, no_more, one_more, IsAfter, AreListed, none_listed, IsName, is_name, IsType, is_int_type, IsConst, is_int_const, are_no_stmts, is_braced, is_block, IsIndex, is_index, IsProtection, is_variable, is_array, is_final, is_field, IsMember, is_lock_member, is_final_member, is_field_member, IsStruct, is_struct, IsPool, is_pool, IsInit, is_init, IsSection, is_section, IsCall, is_call, IsItem, is_call_item, is_repeat, IsItems, are_no_items, are_items, IsThread, is_thread, IsDecl, is_lock, is_struct_decl, is_global, is_array_decl, is_pool_decl, is_init_decl, is_atomic, is_thread_decl}
+use Rattle.syntax.specs.Trees.{Ident, ValueType, int_type, no_stmts, Member, lock_member, final_member, field_member, Section, Items, no_items, Decl, lock, struct, global, array, pool, init, atomic, helper, thread}
+use Rattle.syntax.specs.Grammar.{tok, name_tok, IsOptional, left_out, AreMany, no_more, one_more, IsAfter, AreListed, none_listed, IsName, is_name, IsType, is_int_type, IsConst, is_int_const, are_no_stmts, is_braced, is_block, IsIndex, is_index, IsProtection, is_variable, is_array, is_final, is_field, IsMember, is_lock_member, is_final_member, is_field_member, IsStruct, is_struct, IsPool, is_pool, IsInit, is_init, IsSection, is_section, IsCall, is_call, IsItem, is_call_item, is_repeat, IsItems, are_no_items, are_items, IsThread, is_thread, IsDecl, is_lock, is_struct_decl, is_global, is_array_decl, is_pool_decl, is_init_decl, is_atomic, is_helper, is_thread_decl}
 use Rattle.token_parts.specs.Reading.{Reader, next_until, choose}
 use Rattle.parser.specs.Declarations.{array_at, variable_at, global_at, section_at, consts_in, call_at, call_item, repeat_with, item_with, item_at, items_with, items_in, thread_at, lock_at, field_at, final_at, lock_member_at, member_at, members_with, members_in, struct_at, pool_at, init_at, decl_from, decl_at, decls_at}
 use Rattle.token_parts.specs.Theory.Law.{implies, Says, Law, at_rest, Head, refuses, takes, first_law, IsTok, is_tok, IsInt, is_int_tok}
@@ -68,7 +68,7 @@ section_is (both is_name (both (is_params ps) (both r (both b done)))) = is_sect
 call_is : {y : tree.Call} {ts rest : List Tok} → Both IsName (λ x. Both (IsTok (mark OpenParen)) (λ b. Both (AreListed IsConst) (λ cs. Both (IsTok (mark CloseParen)) (λ c. Both (IsTok (mark Semicolon)) (λ s. Done (record { section = x; arguments = cs })))))) y ts rest → IsCall y ts rest
 call_is (both is_name (both is_tok (both cs (both is_tok (both is_tok done))))) = is_call cs
 
-item_is : {y : tree.Item} {ts rest : List Tok} → Both IsCall (λ c. Done (tree.call c)) y ts rest → IsItem y ts rest
+item_is : {y : tree.Item} {ts rest : List Tok} → Both IsCall (λ c. Done (tree.Item.call c)) y ts rest → IsItem y ts rest
 item_is (both c done) = is_call_item c
 
 repeat_is : {y : tree.Item} {ts rest : List Tok} → Both (IsTok (word keyword.Repeat)) (λ w. Both IsInt (λ n. Both (IsTok (mark OpenBrace)) (λ b. Both IsItems (λ is. Both (IsTok (mark CloseBrace)) (λ c. Done (tree.repeat n is)))))) y ts rest → IsItem y ts rest
@@ -237,7 +237,7 @@ module _ (limit : ℕ) where
     }
 
     call_item_law : Law limit IsItem (call_item room) 1 d d
-    call_item_law = production limit IsItem (then_part limit call_part (ends_with limit (λ x. tree.call x.1))) (λ y ts rest r. item_is r)
+    call_item_law = production limit IsItem (then_part limit call_part (ends_with limit (λ x. tree.Item.call x.1))) (λ y ts rest r. item_is r)
 
     module _ (body : Reader Items) (law : 0 < room → Law limit IsItems body 0 (suc d) (suc d)) where
       items_part : Part limit (0 < room) IsItems body 0 (suc d) (suc d)
@@ -291,6 +291,7 @@ module _ (limit : ℕ) where
     decl_head (word keyword.Pool) at = takes 1 (λ e. cc) (λ o. absurd o) (production limit (at_rest IsDecl (tok (word keyword.Pool) at)) (then_part limit (pool_part room d sum) (ends_with limit (λ x. pool x.1))) (one_is _ (λ x ts rest h. is_pool_decl h)))
     decl_head (word keyword.Init) at = takes 1 (λ e. cc) (λ o. absurd o) (production limit (at_rest IsDecl (tok (word keyword.Init) at)) (then_part limit (init_part room d sum at) (ends_with limit (λ x. init x.1))) (one_is _ (λ x ts rest h. init_decl_is h)))
     decl_head (word keyword.Atomic) at = takes 1 (λ e. cc) (λ o. absurd o) (production limit (at_rest IsDecl (tok (word keyword.Atomic) at)) (then_part limit (section_part room d sum) (ends_with limit (λ x. atomic x.1))) (one_is _ (λ x ts rest h. is_atomic h)))
+    decl_head (word keyword.Call) at = takes 1 (λ e. cc) (λ o. absurd o) (production limit (at_rest IsDecl (tok (word keyword.Call) at)) (then_part limit (section_part room d sum) (ends_with limit (λ x. helper x.1))) (one_is _ (λ x ts rest h. is_helper h)))
     decl_head (word keyword.Thread) at = takes 1 (λ e. cc) (λ o. absurd o) (production limit (at_rest IsDecl (tok (word keyword.Thread) at)) (then_part limit thread_part (ends_with limit (λ x. thread x.1))) (one_is _ (λ x ts rest h. is_thread_decl h)))
     decl_head _ at = refuses (λ ts. refl)
 

@@ -8,9 +8,9 @@ use Rattle.parser.specs.Declarations.{consts_in, items_with, item_at, items_in, 
 use Rattle.source.specs.declared.token.Keyword.TheVariants as keyword
 use Rattle.source.specs.declared.token.Number.{Number}
 use Rattle.source.specs.declared.token.Sign.TheVariants.{Colon, Dot, Equals, Semicolon, OpenParen, CloseParen, OpenBrace, CloseBrace}
-use Rattle.syntax.specs.Trees.{Ident, ValueType, Const, Protection, Param, Stmts, pool, init, atomic, array, global, field_member, final_member, Items}
+use Rattle.syntax.specs.Trees.{Ident, ValueType, Const, Protection, Param, Stmts, pool, init, array, global, field_member, final_member, Items}
 use Rattle.statement_parser.specs.Statements.{braced_at}
-use Rattle.parser.specs.Rests.{pool_decl, init_decl, section_decl}
+use Rattle.parser.specs.Rests.{pool_decl, init_decl}
 use Rattle.syntax.specs.Trees as tree
 
 -- ---- behind an opening sign, where one may be opened
@@ -44,7 +44,7 @@ module _ (ts : List Tok) where
     init_done room start h2 h3 h4 h5 h6 h7 = rw (first, h2, h3, h4, h5, h6, h7) refl
 
     pub section_done : {t2 t3 t4 : List Tok} {ps : List Param} {r : Option ValueType} {b : Stmts × Span} (room : ℕ) → params_at room t1 ≡ Ok (ps, t2) → maybe_at (mark Colon) (after_at Colon type_at) t2 ≡ Ok (r, t3) → braced_at room t3 ≡ Ok (b, t4) →
-        section_decl room ts ≡ Ok (atomic (record { name = x; params = ps; result = r; body = record { stmts = b.0; close = b.1 } }), t4)
+        section_at room ts ≡ Ok (record { name = x; params = ps; result = r; body = record { stmts = b.0; close = b.1 } }, t4)
     unfolding section_at
     section_done room h2 h3 h4 = rw (first, h2, h3, h4) refl
 

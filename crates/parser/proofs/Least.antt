@@ -9,11 +9,11 @@ use Rattle.syntax.specs.declared.tree.Stmt.{While, If, Return}
 use Rattle.syntax.specs.declared.tree.If as the_if
 use Rattle.syntax.specs.declared.tree.If.{out-If}
 use Rattle.syntax.specs.declared.tree.While as the_while
-use Rattle.syntax.specs.Returns.{IsReturn, is_return, HasReturn, this_returns, returns_inside, later_returns, HasReturnInside, in_then, in_else, in_while, HasStrayReturn, this_early, stray_inside, later_stray, EndsInReturn, last_returns, ends_later, IsSectionFault, no_result, stray, missing, IsReturnFault, this_section, later_section, ReturnsRight, IsFirstReturnFault}
-use Rattle.syntax.specs.Trees.{Ident, ValueType, Expr, Variable, Array, Struct, Pool, Init, Thread, Stmt, let_local, let_owned, var_local, assign, if_then, while, print, return_value, Stmts, no_stmts, stmt, Otherwise, no_else, else_do, Section, Decl, lock, struct, global, array, pool, init, atomic, thread}
+use Rattle.syntax.specs.Returns.{IsReturn, is_return, HasReturn, this_returns, returns_inside, later_returns, HasReturnInside, in_then, in_else, in_while, HasStrayReturn, this_early, stray_inside, later_stray, EndsInReturn, last_returns, ends_later, IsSectionFault, no_result, stray, missing, IsReturnFault, this_section, this_helper, later_section, ReturnsRight, IsFirstReturnFault}
+use Rattle.syntax.specs.Trees.{Ident, ValueType, Expr, Variable, Array, Struct, Pool, Init, Thread, Stmt, let_local, let_owned, let_call, var_local, assign, if_then, while, print, return_value, Stmts, no_stmts, stmt, Otherwise, no_else, else_do, Section, Decl, lock, struct, global, array, pool, init, atomic, helper, thread}
 use Rattle.syntax.specs.Views.{stmt_of, stmts_of, else_of}
 use Rattle.syntax.specs.Rows.{stmt_of-While, if_of-out}
-use Rattle.parser.specs.Returning.{earlier, own_return, least_return, inner_return, other_return, least_stray, is_return as returns, does_end, missing_at, section_fault_of, decl_fault, least_fault}
+use Rattle.parser.specs.Returning.{earlier, own_return, least_return, inner_return, other_return, least_stray, is_return as returns, does_end, missing_at, section_fault_of, section_fault, least_fault}
 
 -- ---- the lesser of places
 
@@ -55,21 +55,25 @@ IsOther s = (at : Span) (e : the_expr.Expr) → s ≡ Return at e → ⊥
 pub other_returns : (s : the_stmt.Stmt) → IsOther s → false ≡ returns (stmt_of s)
 other_returns (the_stmt.Let l) h = refl
 other_returns (the_stmt.LetOwned l) h = refl
+other_returns (the_stmt.LetCall l) h = refl
 other_returns (the_stmt.Var l) h = refl
 other_returns (the_stmt.Assign p e) h = refl
 other_returns (the_stmt.If' x (the_if.If' start e n row close other)) h = refl
 other_returns (the_stmt.While' x start e n row close) h = refl
 other_returns (the_stmt.Print at e) h = refl
+other_returns (the_stmt.Call at c) h = refl
 other_returns (the_stmt.Return at e) h = absurd (h at e refl)
 
 pub other_own : (s : the_stmt.Stmt) → IsOther s → None ≡ own_return (stmt_of s)
 other_own (the_stmt.Let l) h = refl
 other_own (the_stmt.LetOwned l) h = refl
+other_own (the_stmt.LetCall l) h = refl
 other_own (the_stmt.Var l) h = refl
 other_own (the_stmt.Assign p e) h = refl
 other_own (the_stmt.If' x (the_if.If' start e n row close other)) h = refl
 other_own (the_stmt.While' x start e n row close) h = refl
 other_own (the_stmt.Print at e) h = refl
+other_own (the_stmt.Call at c) h = refl
 other_own (the_stmt.Return at e) h = absurd (h at e refl)
 
 -- the last statement
@@ -114,11 +118,13 @@ own_least : (s : Stmt) → IsLeast (IsReturn s) (own_return s)
 own_least (return_value at e) = (is_return, λ n h. same_place h)
 own_least (let_local l) = λ n h. elim h [ ]
 own_least (let_owned l o) = λ n h. elim h [ ]
+own_least (let_call l) = λ n h. elim h [ ]
 own_least (var_local l) = λ n h. elim h [ ]
 own_least (if_then start e body close other) = λ n h. elim h [ ]
 own_least (while start e body close) = λ n h. elim h [ ]
 own_least (assign p e) = λ n h. elim h [ ]
 own_least (print at e) = λ n h. elim h [ ]
+own_least (Stmt.call at c) = λ n h. elim h [ ]
 
 -- a `return` that is the statement, or in a block of it
 abbrev IsHere : Stmt → ℕ → Type 0
@@ -161,12 +167,14 @@ mutual
   inside_least : (s : Stmt) → IsLeast (HasReturnInside s) (inner_return s)
   inside_least (let_local l) = λ n h. elim h [ ]
   inside_least (let_owned l o) = λ n h. elim h [ ]
+  inside_least (let_call l) = λ n h. elim h [ ]
   inside_least (var_local l) = λ n h. elim h [ ]
   inside_least (assign p e) = λ n h. elim h [ ]
   inside_least (if_then start e body close other) = least_of_both (HasReturn body) (HasElse other) (HasReturnInside (if_then start e body close other)) (λ n h. in_then h) in_other split_if (least_return body) (other_return other) (return_least body) (other_least other)
   inside_least (while start e body close) = least_same (HasReturn body) (HasReturnInside (while start e body close)) (least_return body) (λ n h. in_while h) while_back (return_least body)
   inside_least (print at e) = λ n h. elim h [ ]
   inside_least (return_value at e) = λ n h. elim h [ ]
+  inside_least (Stmt.call at c) = λ n h. elim h [ ]
 
   other_least : (o : Otherwise) → IsLeast (HasElse o) (other_return o)
   other_least no_else = λ n h. elim h [ ]
@@ -195,11 +203,13 @@ is_last : (s : Stmt) → returns s ≡ true → EndsInReturn (stmt s no_stmts)
 is_last (return_value at e) h = last_returns is_return
 is_last (let_local l) h = absurd cc
 is_last (let_owned l o) h = absurd cc
+is_last (let_call l) h = absurd cc
 is_last (var_local l) h = absurd cc
 is_last (if_then start e body close other) h = absurd cc
 is_last (while start e body close) h = absurd cc
 is_last (assign p e) h = absurd cc
 is_last (print at e) h = absurd cc
+is_last (Stmt.call at c) h = absurd cc
 
 last_is : {s : Stmt} {n : ℕ} → IsReturn s n → returns s ≡ true
 last_is is_return = refl
@@ -252,6 +262,10 @@ split_section : {s : Section} {ds : List Decl} (n : ℕ) → IsReturnFault (atom
 split_section n (this_section h) = inl h
 split_section n (later_section h) = inr h
 
+split_helper : {s : Section} {ds : List Decl} (n : ℕ) → IsReturnFault (helper s ∷ ds) n → IsSectionFault s n ⊎ IsReturnFault ds n
+split_helper n (this_helper h) = inl h
+split_helper n (later_section h) = inr h
+
 lock_back : {x : Ident} {ds : List Decl} (n : ℕ) → IsReturnFault (lock x ∷ ds) n → IsReturnFault ds n
 lock_back n (later_section h) = h
 
@@ -275,7 +289,8 @@ thread_back n (later_section h) = h
 
 pub fault_least : (ds : List Decl) → IsLeast (IsReturnFault ds) (least_fault ds)
 fault_least [] = λ n h. elim h [ ]
-fault_least (atomic s ∷ ds) = least_of_both (IsSectionFault s) (IsReturnFault ds) (IsReturnFault (atomic s ∷ ds)) (λ n h. this_section h) (λ n h. later_section h) split_section (decl_fault (atomic s)) (least_fault ds) (section_by s s.result refl) (fault_least ds)
+fault_least (atomic s ∷ ds) = least_of_both (IsSectionFault s) (IsReturnFault ds) (IsReturnFault (atomic s ∷ ds)) (λ n h. this_section h) (λ n h. later_section h) split_section (section_fault s) (least_fault ds) (section_by s s.result refl) (fault_least ds)
+fault_least (helper s ∷ ds) = least_of_both (IsSectionFault s) (IsReturnFault ds) (IsReturnFault (helper s ∷ ds)) (λ n h. this_helper h) (λ n h. later_section h) split_helper (section_fault s) (least_fault ds) (section_by s s.result refl) (fault_least ds)
 fault_least (lock x ∷ ds) = least_same (IsReturnFault ds) (IsReturnFault (lock x ∷ ds)) (least_fault ds) (λ n h. later_section h) lock_back (fault_least ds)
 fault_least (struct x ∷ ds) = least_same (IsReturnFault ds) (IsReturnFault (struct x ∷ ds)) (least_fault ds) (λ n h. later_section h) struct_back (fault_least ds)
 fault_least (global x ∷ ds) = least_same (IsReturnFault ds) (IsReturnFault (global x ∷ ds)) (least_fault ds) (λ n h. later_section h) global_back (fault_least ds)

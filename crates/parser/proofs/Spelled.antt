@@ -6,8 +6,8 @@ use Rattle.source.specs.declared.token.Sign.TheVariants.{OpenBrace, CloseBrace, 
 use Rattle.source.specs.Tokens.{word, mark, end, Tok}
 use Rattle.source.specs.declared.token.Number.{Number}
 use Rattle.syntax.specs.Trees as tree
-use Rattle.syntax.specs.Trees.{Ident, ValueType, Const, Stmts, Member, lock_member, final_member, field_member, Section, Items, no_items, Decl, lock, struct, global, array, pool, init, atomic, thread}
-use Rattle.syntax.specs.Grammar.{tok, name_tok, int_tok, IsOptional, left_out, given, AreMany, no_more, one_more, IsAfter, after, AreListed, IsName, is_name, IsType, is_int_type, is_ref_type, IsConst, is_braced, is_block, IsIndex, is_index, IsProtection, is_protection, is_variable, is_array, is_final, is_field, IsMember, is_lock_member, is_final_member, is_field_member, IsStruct, is_struct, IsPool, is_pool, IsInit, is_init, IsSection, is_section, IsCall, is_call, IsItem, is_call_item, is_repeat, IsItems, are_no_items, are_items, IsThread, is_thread, IsDecl, is_lock, is_struct_decl, is_global, is_array_decl, is_pool_decl, is_init_decl, is_atomic, is_thread_decl, Spells, spells}
+use Rattle.syntax.specs.Trees.{Ident, ValueType, Const, Stmts, Member, lock_member, final_member, field_member, Section, Items, no_items, Decl, lock, struct, global, array, pool, init, atomic, helper, thread}
+use Rattle.syntax.specs.Grammar.{tok, name_tok, int_tok, IsOptional, left_out, given, AreMany, no_more, one_more, IsAfter, after, AreListed, IsName, is_name, IsType, is_int_type, is_ref_type, IsConst, is_braced, is_block, IsIndex, is_index, IsProtection, is_protection, is_variable, is_array, is_final, is_field, IsMember, is_lock_member, is_final_member, is_field_member, IsStruct, is_struct, IsPool, is_pool, IsInit, is_init, IsSection, is_section, IsCall, is_call, IsItem, is_call_item, is_repeat, IsItems, are_no_items, are_items, IsThread, is_thread, IsDecl, is_lock, is_struct_decl, is_global, is_array_decl, is_pool_decl, is_init_decl, is_atomic, is_helper, is_thread_decl, Spells, spells}
 use Rattle.token_parts.specs.Reading.{◌>>=◌, sign_at, open_at, word_at, name_at, int_at, choose}
 use Rattle.token_parts.specs.Parts.{type_at, const_at}
 use Rattle.parser.specs.Declarations.{array_at, variable_at, global_at, section_at, consts_in, call_at, call_item, repeat_with, item_with, item_at, items_with, items_in, thread_at, lock_at, field_at, final_at, lock_member_at, member_at, members_with, members_in, struct_at, pool_at, init_at, decl_at, decls_at, end_from, program_at}
@@ -186,15 +186,15 @@ call_found room =
     (ends_found (λ x. record { section = x.0.0.0.0.1; arguments = x.0.0.1 })))))))
     (λ y ts rest h. call_back h)
 
-call_item_found : (room : ℕ) (c : tree.Call) (ts rest : List Tok) → IsCall c ts rest → Finds (call_item room ts) (tree.call c, rest)
-call_item_found room c ts rest h = finds_then (call_at room ts) (λ c. Ok (tree.call c.0, c.1)) (c, rest) (tree.call c, rest) (call_found room c ts rest h tt) (found refl)
+call_item_found : (room : ℕ) (c : tree.Call) (ts rest : List Tok) → IsCall c ts rest → Finds (call_item room ts) (tree.Item.call c, rest)
+call_item_found room c ts rest h = finds_then (call_at room ts) (λ c. Ok (tree.Item.call c.0, c.1)) (c, rest) (tree.Item.call c, rest) (call_found room c ts rest h tt) (found refl)
 
 call_no_repeat : {c : tree.Call} {ts rest : List Tok} → IsCall c ts rest → NotNext (word keyword.Repeat) ts
 call_no_repeat (is_call h) = refl
 
-item_of_call : (room : ℕ) (c : tree.Call) (ts rest : List Tok) → IsCall c ts rest → Finds (item_at room ts) (tree.call c, rest)
+item_of_call : (room : ℕ) (c : tree.Call) (ts rest : List Tok) → IsCall c ts rest → Finds (item_at room ts) (tree.Item.call c, rest)
 unfolding item_with
-item_of_call room c ts rest h = choose_right (word keyword.Repeat) (repeat_with room (items_in room)) (call_item room) ts (tree.call c, rest) (call_no_repeat h) (call_item_found room c ts rest h)
+item_of_call room c ts rest h = choose_right (word keyword.Repeat) (repeat_with room (items_in room)) (call_item room) ts (tree.Item.call c, rest) (call_no_repeat h) (call_item_found room c ts rest h)
 
 repeat_found : (room : ℕ) (n : Number) (is : Items) (start begin close : Span) (ts rest : List Tok) → ((r : ℕ) → Finds (items_with (item_at r) ts) (is, tok (mark CloseBrace) close ∷ rest)) → Finds (item_at room (tok (word keyword.Repeat) start ∷ int_tok n ∷ tok (mark OpenBrace) begin ∷ ts)) (tree.repeat n is, rest)
 unfolding item_with choose repeat_with word_at int_at open_at items_in sign_at
@@ -257,6 +257,7 @@ decl_found room _ ts rest (is_array_decl {a = a} {ts = us} (is_array {ts2 = mid}
 decl_found room _ ts rest (is_pool_decl {p = p} {ts = us} h) follow = finds_then (pool_at room us) (λ p. Ok (pool p.0, p.1)) (p, rest) (pool p, rest) (pool_found room p us rest h tt) (found refl)
 decl_found room _ ts rest (is_init_decl {i = i} {ts = us} h) follow = finds_then (init_at room i.start us) (λ i. Ok (init i.0, i.1)) (i, rest) (init i, rest) (init_found room i.start i us rest (init_back h) tt) (found refl)
 decl_found room _ ts rest (is_atomic {s = s} {ts = us} h) follow = finds_then (section_at room us) (λ s. Ok (atomic s.0, s.1)) (s, rest) (atomic s, rest) (section_found room s us rest h tt) (found refl)
+decl_found room _ ts rest (is_helper {s = s} {ts = us} h) follow = finds_then (section_at room us) (λ s. Ok (helper s.0, s.1)) (s, rest) (helper s, rest) (section_found room s us rest h tt) (found refl)
 decl_found room _ ts rest (is_thread_decl {t = t} {ts = us} h) follow = finds_then (thread_at room us) (λ t. Ok (thread t.0, t.1)) (t, rest) (thread t, rest) (thread_found room t us rest h tt) (found refl)
 
 decl_begins : {d : Decl} {ts rest : List Tok} → IsDecl d ts rest → NotNext end ts
@@ -267,6 +268,7 @@ decl_begins (is_array_decl h) = refl
 decl_begins (is_pool_decl h) = refl
 decl_begins (is_init_decl h) = refl
 decl_begins (is_atomic h) = refl
+decl_begins (is_helper h) = refl
 decl_begins (is_thread_decl h) = refl
 
 decls_found : (room : ℕ) → FindsPart (IsNext end) (AreMany IsDecl) (decls_at room)

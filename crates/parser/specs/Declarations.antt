@@ -1,11 +1,11 @@
 -- Reading declarations and programs.
 use Rattle.std.specs.Prelude.{ℕ, zero, suc, List, [], ◌∷◌, length, Result, Ok, Err}
 use Rattle.source.specs.declared.span.Span.{Span}
-use Rattle.source.specs.declared.token.Keyword.TheVariants.{Lock, Struct, Final, Ref, Global, Pool, Init, Atomic, Thread, Repeat}
+use Rattle.source.specs.declared.token.Keyword.TheVariants.{Lock, Struct, Final, Ref, Global, Pool, Init, Atomic, Thread, Repeat, Call}
 use Rattle.source.specs.declared.token.Sign.TheVariants.{OpenBrace, CloseBrace, OpenParen, CloseParen, OpenBracket, Semicolon, Colon, Dot, Equals}
 use Rattle.source.specs.Tokens.{Lexeme, word, mark, end, Tok}
 use Rattle.syntax.specs.Trees as tree
-use Rattle.syntax.specs.Trees.{Ident, ValueType, Const, Member, lock_member, final_member, field_member, Section, Items, no_items, Decl, lock, struct, global, array, pool, init, atomic, thread}
+use Rattle.syntax.specs.Trees.{Ident, ValueType, Const, Member, lock_member, final_member, field_member, Section, Items, no_items, Decl, lock, struct, global, array, pool, init, atomic, helper, thread}
 use Rattle.token_parts.specs.declared.stop.Stop.{Stop}
 use Rattle.token_parts.specs.declared.stop.Stop.TheVariants.{Unexpected}
 use Rattle.token_parts.specs.Reading.{◌>>=◌, Reader, many_at, first_at, refused, sign_at, open_at, word_at, name_at, int_at, next_until, listed_at, maybe_at, after_at, choose}
@@ -34,7 +34,7 @@ global_at room ts = do
   x ← name_at t.1
   choose (mark OpenBracket) (array_at room t.0 x.0) (variable_at room t.0 x.0) x.1
 
--- behind the word `atomic`
+-- behind the word `atomic` of a section, or `call` of a helper
 unfoldable pub section_at : ℕ → Reader Section
 section_at room ts = do
   x ← name_at ts
@@ -60,7 +60,7 @@ call_at room ts = do
 abbrev pub call_item : ℕ → Reader tree.Item
 call_item room ts = do
   c ← call_at room ts
-  Ok (tree.call c.0, c.1)
+  Ok (tree.Item.call c.0, c.1)
 
 unfoldable pub repeat_with : ℕ → Reader Items → Reader tree.Item
 repeat_with room body ts = do
@@ -183,6 +183,9 @@ decl_from room (word Init) at ts = do
 decl_from room (word Atomic) at ts = do
   s ← section_at room ts
   Ok (atomic s.0, s.1)
+decl_from room (word Call) at ts = do
+  s ← section_at room ts
+  Ok (helper s.0, s.1)
 decl_from room (word Thread) at ts = do
   t ← thread_at room ts
   Ok (thread t.0, t.1)

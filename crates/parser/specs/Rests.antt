@@ -1,9 +1,9 @@
--- What stands behind the words `pool`, `init` and `atomic`, each read as the declaration that it is.
+-- What stands behind the words `pool` and `init`, each read as the declaration that it is.
 use Rattle.std.specs.Prelude.{ℕ, Ok}
 use Rattle.source.specs.declared.span.Span.{Span}
-use Rattle.syntax.specs.Trees.{Decl, pool, init, atomic}
+use Rattle.syntax.specs.Trees.{Decl, pool, init}
 use Rattle.token_parts.specs.Reading.{◌>>=◌, Reader}
-use Rattle.parser.specs.Declarations.{pool_at, init_at, section_at}
+use Rattle.parser.specs.Declarations.{pool_at, init_at}
 
 abbrev pub pool_decl : ℕ → Reader Decl
 pool_decl room ts = do
@@ -14,8 +14,3 @@ abbrev pub init_decl : ℕ → Span → Reader Decl
 init_decl room start ts = do
   i ← init_at room start ts
   Ok (init i.0, i.1)
-
-abbrev pub section_decl : ℕ → Reader Decl
-section_decl room ts = do
-  s ← section_at room ts
-  Ok (atomic s.0, s.1)

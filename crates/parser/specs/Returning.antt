@@ -1,6 +1,6 @@
 -- The first misplaced or missing `return`: what the functions of this crate compute.
 use Rattle.std.specs.Prelude.{ℕ, Bool, true, false, List, [], ◌∷◌, Option, Some, None, min}
-use Rattle.syntax.specs.Trees.{ValueType, Stmt, if_then, while, return_value, Stmts, no_stmts, stmt, Otherwise, no_else, else_do, Decl, atomic}
+use Rattle.syntax.specs.Trees.{ValueType, Stmt, if_then, while, return_value, Stmts, no_stmts, stmt, Otherwise, no_else, else_do, Section, Decl, atomic, helper}
 
 -- the lesser place of two, where there is one
 abbrev pub earlier : Option ℕ → Option ℕ → Option ℕ
@@ -51,8 +51,12 @@ abbrev pub section_fault_of : Option ValueType → Stmts → ℕ → Option ℕ
 section_fault_of None ss close = least_return ss
 section_fault_of (Some t) ss close = earlier (least_stray ss) (missing_at (does_end ss) close)
 
+abbrev pub section_fault : Section → Option ℕ
+section_fault s = section_fault_of s.result s.body.stmts s.body.close.start
+
 abbrev pub decl_fault : Decl → Option ℕ
-decl_fault (atomic s) = section_fault_of s.result s.body.stmts s.body.close.start
+decl_fault (atomic s) = section_fault s
+decl_fault (helper s) = section_fault s
 decl_fault _ = None
 
 abbrev pub least_fault : List Decl → Option ℕ

@@ -2,10 +2,10 @@
 
 ghost use Rattle.std.specs.Prelude.{◌≡◌, map};
 ghost use Rattle.source.specs.Tokens.{seen};
-ghost use Rattle.syntax.specs.Views.{ident, type_of, decl_of, tree_of};
+ghost use Rattle.syntax.specs.Views.{ident, type_of, section_of, decl_of, tree_of};
 ghost use Rattle.token_parts.specs.Reading.{Gives};
-ghost use Rattle.parser.specs.Declarations.{array_at, variable_at, global_at, decl_at, decls_at, program_at};
-ghost use Rattle.parser.specs.Rests.{pool_decl, init_decl, section_decl};
+ghost use Rattle.parser.specs.Declarations.{array_at, variable_at, global_at, section_at, decl_at, decls_at, program_at};
+ghost use Rattle.parser.specs.Rests.{pool_decl, init_decl};
 
 use crate::member::{lock, structure};
 use crate::thread::thread;
@@ -109,9 +109,9 @@ fn init(alloc: Global, start: Span, tokens: &[Token], room: u32) -> Result<(Decl
     Ok((Decl::Init(init), rest))
 }
 
-/// A section, behind its first word.
-fn section(alloc: Global, tokens: &[Token], room: u32) -> Result<(Decl, &[Token]), Stop>
-    ensures { Gives (λ x. (decl_of x.0, seen x.1.now)) result (section_decl room (seen tokens.now)) }
+/// A section or a helper, behind its first word.
+fn section(alloc: Global, tokens: &[Token], room: u32) -> Result<(Section, &[Token]), Stop>
+    ensures { Gives (λ x. (section_of x.0, seen x.1.now)) result (section_at room (seen tokens.now)) }
 {
     let (name, rest) = take_name(tokens)?;
     let (params, rest) = params(alloc, rest, room)?;
@@ -123,7 +123,7 @@ fn section(alloc: Global, tokens: &[Token], room: u32) -> Result<(Decl, &[Token]
         result,
         body,
     };
-    Ok((Decl::Atomic(section), rest))
+    Ok((section, rest))
 }
 
 #[tactic(auto, unfolding(crate::specs::Declarations::decl_at))]
@@ -145,7 +145,14 @@ fn decl(alloc: Global, tokens: &[Token], room: u32) -> Result<(Decl, &[Token]), 
         Token::Word(_, Keyword::Global) => global(alloc, rest, room),
         Token::Word(_, Keyword::Pool) => pool(alloc, rest, room),
         Token::Word(span, Keyword::Init) => init(alloc, *span, rest, room),
-        Token::Word(_, Keyword::Atomic) => section(alloc, rest, room),
+        Token::Word(_, Keyword::Atomic) => {
+            let (section, rest) = section(alloc, rest, room)?;
+            Ok((Decl::Atomic(section), rest))
+        }
+        Token::Word(_, Keyword::Call) => {
+            let (helper, rest) = section(alloc, rest, room)?;
+            Ok((Decl::Helper(helper), rest))
+        }
         Token::Word(_, Keyword::Thread) => {
             let (thread, rest) = thread(alloc, rest, room)?;
             Ok((Decl::Thread(thread), rest))

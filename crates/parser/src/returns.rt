@@ -2,7 +2,6 @@
 
 ghost use Rattle.std.specs.Prelude.{◌≡◌, map};
 ghost use Rattle.syntax.specs.Views.{stmt_of, stmts_of, else_of, section_of, decl_of};
-ghost use Rattle.syntax.specs.Trees.{atomic};
 ghost use Rattle.parser.specs.Returning as returning;
 
 use syntax::tree::{Block, Decl, Section, Stmt};
@@ -53,10 +52,12 @@ fn inner_return(stmt: &Stmt) -> Option<usize>
         Stmt::While(repetition) => least_return(&repetition.block.stmts),
         Stmt::Let(_)
         | Stmt::LetOwned(_)
+        | Stmt::LetCall(_)
         | Stmt::Var(_)
         | Stmt::Assign(_, _)
         | Stmt::Print(_, _)
-        | Stmt::Return(_, _) => None,
+        | Stmt::Return(_, _)
+        | Stmt::Call(_, _) => None,
     }
 }
 
@@ -97,9 +98,9 @@ fn ends_in_return(stmts: &[Stmt]) -> bool
     }
 }
 
-/// The first fault of a section's returns.
+/// The first fault of the returns of a section or a helper.
 fn section_fault(section: &Section) -> Option<usize>
-    ensures { result ≡ returning.decl_fault (atomic (section_of section.now)) }
+    ensures { result ≡ returning.section_fault (section_of section.now) }
 {
     let stmts = section.body.stmts.as_slice();
     if section.result.is_none() {
@@ -113,15 +114,30 @@ fn section_fault(section: &Section) -> Option<usize>
     earlier(least_stray(stmts), missing)
 }
 
+/// The first fault of a declaration's returns.
+fn decl_fault(decl: &Decl) -> Option<usize>
+    ensures { result ≡ returning.decl_fault (decl_of decl.now) }
+{
+    match decl {
+        Decl::Atomic(section) => section_fault(section),
+        Decl::Helper(helper) => section_fault(helper),
+        Decl::Lock(_)
+        | Decl::Struct(_)
+        | Decl::Global(_)
+        | Decl::Array(_)
+        | Decl::Pool(_)
+        | Decl::Init(_)
+        | Decl::Thread(_) => None,
+    }
+}
+
 /// The first place of a misplaced or missing `return`.
 pub fn return_fault(decls: &[Decl]) -> Option<usize>
     ensures { result ≡ returning.least_fault (map decl_of decls.now) }
 {
     let mut least = None;
     for decl in decls {
-        if let Decl::Atomic(section) = decl {
-            least = earlier(least, section_fault(section));
-        }
+        least = earlier(least, decl_fault(decl));
     }
     least
 }

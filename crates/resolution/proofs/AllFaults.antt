@@ -12,7 +12,7 @@ use Rattle.syntax.specs.declared.tree.Level.TheVariants.{Term, Sum, Conjunction,
 use Rattle.syntax.specs.declared.tree.Comparison as written
 use Rattle.syntax.specs.declared.tree.Comparison.TheVariants as sign
 use Rattle.syntax.specs.Trees as tree
-use Rattle.syntax.specs.Trees.{Ident, ref_type, Const, int_const, negative, member_const, Place, lone, element, path, Expr, int, place, chain, compare, Owner, let_owned, assign, Protection, Member, lock_member, final_member, field_member, Struct, Pool, Init, Call, Decl, lock, struct, global, array, pool, init, atomic, thread}
+use Rattle.syntax.specs.Trees.{Ident, ref_type, Const, int_const, negative, member_const, Place, lone, element, path, ValueType, Expr, int, place, chain, compare, Owner, let_owned, let_call, assign, Protection, Member, lock_member, final_member, field_member, Struct, Pool, Init, Call, Decl, lock, struct, global, array, pool, init, atomic, helper, thread}
 use Rattle.core_lang.specs.declared.value.ValueType as core_type
 use Rattle.core_lang.specs.declared.value.ValueType.TheVariants.{Integer, Reference}
 use Rattle.core_lang.specs.declared.tree.FieldStep.{FieldStep}
@@ -20,8 +20,8 @@ use Rattle.source.specs.declared.mistake.Mistake.{Mistake}
 use Rattle.resolution.specs.declared.wanted.Sort.TheVariants as sort
 use Rattle.resolution.specs.declared.wanted.Want.{Want}
 use Rattle.resolution.specs.declared.wanted.Want.TheVariants.{Value}
-use Rattle.resolution.specs.Limits.{STRUCT_LIMIT, MEMBER_LIMIT, FINAL_LIMIT, CLASS_LIMIT, OBJECT_LIMIT, CELL_LIMIT, SECTION_LIMIT, THREAD_LIMIT, PARAMETER_LIMIT, LOCAL_LIMIT, CALL_LIMIT}
-use Rattle.resolution.specs.Scopes.{Scope, Local, outside, Meaning, a_local, a_decl, nothing, meaning, place_of, count, declared, the_decl, alike, the_struct, member_name, member_bears, the_member, the_local, has_type, member_has_type, type_of, struct_named, entered}
+use Rattle.resolution.specs.Limits.{STRUCT_LIMIT, MEMBER_LIMIT, FINAL_LIMIT, CLASS_LIMIT, OBJECT_LIMIT, CELL_LIMIT, SECTION_LIMIT, THREAD_LIMIT, CALL_LIMIT}
+use Rattle.resolution.specs.Scopes.{Scope, Local, outside, Meaning, a_local, a_decl, nothing, meaning, place_of, count, declared, the_decl, alike, has_body, the_struct, member_name, member_bears, the_member, the_local, has_type, member_has_type, type_of, result_of, struct_named, entered}
 use Rattle.resolution.specs.Numbers.{is_lock, total, classes_of, objects_of, cells_of, calls_of}
 use Rattle.resolution.specs.Expressions.{ResolvedExpr, value, truth, fits, fits_type, fits_sort, alike_sorts, want, typed, operator_of, Walk, reached, at_lock, lost, stepped, walked, at_local, walk_from}
 use Rattle.resolution.specs.declared.owner_field.OwnerField.{OwnerField}
@@ -36,19 +36,15 @@ use Rattle.resolution.specs.Faults.{start_of, const_start, IsTooLarge, IsDeclare
 use Rattle.resolution.specs.FaultLists as list
 use Rattle.resolution.specs.FaultLists.{one, one_if, unfit, unfit_member, no_struct, type_faults, number_faults, index_faults, own_faults, sort_misfit, const_faults, argument_faults, no_elements, no_member, no_field, step_faults, end_faults, walk_faults, path_faults, misfit, unlike, side_faults, operator_faults, expr_faults, place_faults, wanted_faults, taken, local_faults, no_target, no_array, final_faults, target_faults, no_final_in, owner_field_faults, other_type, owner_faults, global_lock_faults, lock_faults, passed_faults, last_faults, passed, along_faults, annotation_faults, protection_faults, opening_faults, some_lacks, is_at, is_due, lacks, missing_faults, field_faults, named_faults, null_faults, init_faults, call_faults, again, twice, twice_faults, member_twice_faults, struct_faults, first_too_many, lock_count, member_counts, count_faults, total_faults, given_before, init_target_again, repeated, repeated_faults, each_faults, program_faults}
 use Rattle.source.specs.Leasts.{IsAmong}
+use Rattle.resolution.specs.declared.body_limits.BodyLimits.{BodyLimits}
+use Rattle.resolution.proofs.TrueStatements.{entered_limits}
 use Rattle.resolution.proofs.Members.{at, at_if}
 use Rattle.resolution.proofs.Members as m
 use Rattle.resolution.proofs.Named.{member_is}
-use Rattle.resolution.proofs.Parts.{chain_link, of_place_at, of_decl, of_stmt, of_owner, stmt_decls, of_wanted, expr_decls, of_expr, own, of_param, of_local, local_decls, in_members_field, of_type, of_call, of_const}
+use Rattle.resolution.proofs.Parts.{chain_link, of_place_at, of_decl, of_stmt, of_owner, helper_call_decls, stmt_decls, of_wanted, expr_decls, of_expr, own, of_param, of_local, local_decls, in_members_field, of_type, of_call, of_const}
+use Rattle.resolution.proofs.HelperFaults.{listed, unfit_in, misfit_is, other_count, of_helper_name, of_result, no_helper_is, no_result_is, counted_is}
 use Rattle.resolution.proofs.Tests.{lt_true, le_true, both_true}
 use Rattle.std.proofs.lemmas.List.{append-nil}
-
-abbrev listed : List Decl → Code → ℕ → Type 0
-listed decls c p = IsAmong (record { code = c; start = p }) (program_faults decls)
-
--- what is noted unless the type has a fault
-unfit_in : (decls : List Decl) (c : Code) (p : ℕ) (x : Meaning) → has_type decls x ≡ true → unfit decls c p x ≡ one c p
-unfit_in decls c p x e = ap (λ (b : Bool). one_if b c p) e
 
 unfit_member_in : (decls : List Decl) (c : Code) (p : ℕ) (x : Member) → member_has_type decls x ≡ true → unfit_member decls c p x ≡ one c p
 unfit_member_in decls c p x e = ap (λ (b : Bool). one_if b c p) e
@@ -85,6 +81,7 @@ in_structs (array a ∷ ds) r (further h) f i = in_structs ds r h f i
 in_structs (pool p ∷ ds) r (further h) f i = in_structs ds r h f i
 in_structs (init j ∷ ds) r (further h) f i = in_structs ds r h f i
 in_structs (atomic s ∷ ds) r (further h) f i = in_structs ds r h f i
+in_structs (helper s ∷ ds) r (further h) f i = in_structs ds r h f i
 in_structs (thread t ∷ ds) r (further h) f i = in_structs ds r h f i
 
 of_twice : (decls : List Decl) (f : Mistake) → IsAmong f (twice_faults [] decls) → IsAmong f (program_faults decls)
@@ -259,6 +256,7 @@ unknown_in : (decls : List Decl) (p : ℕ) → IsUnknown decls p → listed decl
 unknown_in decls p (fault.in_place {sc = sc} {p = q} h is) = unknown_place decls sc q h is
 unknown_in decls p (fault.in_type {sc = sc} {x = x} h is) = of_type decls sc (ref_type x) h _ (at UnknownName x.span.start _ (ap (no_struct x.span.start) is))
 unknown_in decls p (fault.in_call {c = c} h e) = call_at decls c UnknownName h (ap (λ (o : Option (ℕ × Decl)). call_faults decls c.section.span.start o c.arguments) e)
+unknown_in decls p (fault.in_helper_call {sc = sc} {c = c} h e) = of_helper_name decls sc c h UnknownName (ap (list.no_helper sc.decls c.helper.span.start (length c.arguments)) e)
 unknown_in decls p (fault.in_const {w = w} {p = x} {n = n} h e) = const_own decls w x n h _ (at UnknownName x.span.start _ (ap (λ (o : Option (ℕ × Decl)). index_faults decls x.span.start o n) e))
 unknown_in decls p (fault.in_init {i = x} h e) = of_init_index decls x h _ (at UnknownName x.pool.span.start _ (ap (λ (o : Option (ℕ × Decl)). index_faults decls x.pool.span.start o x.index) e))
 unknown_in decls p (fault.no_field_initialised {i = x} {ms = ms} h is e) = of_init_field decls x ms h is _ (at UnknownName x.field.span.start _ (ap (field_faults x.field.span.start) e))
@@ -270,9 +268,6 @@ unknown_in decls p (fault.no_lock {p = q} h e) = of_global_lock decls q h _ (at 
 unknown_in decls p (fault.no_field_passed {p = q} {st = st} {y = y} {ys = ys} h e) = unknown_passed decls q st y ys h e
 
 -- ---- E07
-
-misfit_is : (p : ℕ) (b : Bool) → b ≡ false → (if b then [] else one WrongType p) ≡ one WrongType p
-misfit_is p b e = ap (λ (t : Bool). if t then [] else one WrongType p) e
 
 unlike_is : (a b : ℕ) (s t : ResolvedExpr) → AreUnlike s t → unlike a b (Some s) (Some t) ≡ one WrongType b
 unlike_is a b (value x s) (value y t) h = misfit_is b (alike_sorts s t) h
@@ -301,6 +296,7 @@ no_value_is decls p k (array a) h e = unfit_in decls WrongType p (a_decl k (arra
 no_value_is decls p k (pool q) h e = unfit_in decls WrongType p (a_decl k (pool q)) e
 no_value_is decls p k (init j) h e = unfit_in decls WrongType p (a_decl k (init j)) e
 no_value_is decls p k (atomic s) h e = unfit_in decls WrongType p (a_decl k (atomic s)) e
+no_value_is decls p k (helper s) h e = unfit_in decls WrongType p (a_decl k (helper s)) e
 no_value_is decls p k (thread t) h e = unfit_in decls WrongType p (a_decl k (thread t)) e
 
 no_elements_is : (decls : List Decl) (p : ℕ) (x : Meaning) → HasNoElements x → has_type decls x ≡ true → no_elements decls p x ≡ one WrongType p
@@ -312,6 +308,7 @@ no_elements_is decls p (a_decl n (struct s)) h e = unfit_in decls WrongType p (a
 no_elements_is decls p (a_decl n (global v)) h e = unfit_in decls WrongType p (a_decl n (global v)) e
 no_elements_is decls p (a_decl n (init j)) h e = unfit_in decls WrongType p (a_decl n (init j)) e
 no_elements_is decls p (a_decl n (atomic s)) h e = unfit_in decls WrongType p (a_decl n (atomic s)) e
+no_elements_is decls p (a_decl n (helper s)) h e = unfit_in decls WrongType p (a_decl n (helper s)) e
 no_elements_is decls p (a_decl n (thread t)) h e = unfit_in decls WrongType p (a_decl n (thread t)) e
 no_elements_is decls p nothing h e = absurd h
 
@@ -330,6 +327,7 @@ no_struct_is p (a_decl n (array a)) h = refl
 no_struct_is p (a_decl n (pool q)) h = refl
 no_struct_is p (a_decl n (init j)) h = refl
 no_struct_is p (a_decl n (atomic s)) h = refl
+no_struct_is p (a_decl n (helper s)) h = refl
 no_struct_is p (a_decl n (thread t)) h = refl
 no_struct_is p nothing h = absurd h
 
@@ -341,6 +339,7 @@ no_section_is decls p k (array a) cs h e = unfit_in decls WrongType p (a_decl k 
 no_section_is decls p k (pool q) cs h e = unfit_in decls WrongType p (a_decl k (pool q)) e
 no_section_is decls p k (init j) cs h e = refl
 no_section_is decls p k (atomic s) cs h e = absurd (h tt)
+no_section_is decls p k (helper s) cs h e = refl
 no_section_is decls p k (thread t) cs h e = refl
 
 no_pool_is : (decls : List Decl) (p k : ℕ) (d : Decl) (n : Number) → (IsPool d → ⊥) → has_type decls (a_decl k d) ≡ true → index_faults decls p (Some (k, d)) n ≡ one WrongType p
@@ -351,6 +350,7 @@ no_pool_is decls p k (global v) n h e = unfit_in decls WrongType p (a_decl k (gl
 no_pool_is decls p k (array a) n h e = unfit_in decls WrongType p (a_decl k (array a)) e
 no_pool_is decls p k (init j) n h e = refl
 no_pool_is decls p k (atomic s) n h e = refl
+no_pool_is decls p k (helper s) n h e = refl
 no_pool_is decls p k (thread t) n h e = refl
 
 operators_are : (level : Level) (p : ℕ) (o : Op) → IsOfNumbers level → operator_of o ≡ None → operator_faults level p o ≡ one WrongType p
@@ -383,6 +383,13 @@ wrong_in decls p (fault.no_reference {sc = sc} {x = x} {fs = fs} before behind y
     (at WrongType x.span.start _ (no_reference_is sc.decls x.span.start (walk_from sc.decls (meaning sc x.text) before) y (subst (λ (cs : List Decl). IsNoReference (walk_from cs (meaning sc x.text) before)) (sym same) not_so))))
 wrong_in decls p (fault.no_struct {sc = sc} {x = x} h not_so) = of_type decls sc (ref_type x) h _ (at WrongType x.span.start _ (no_struct_is x.span.start (meaning sc x.text) not_so))
 wrong_in decls p (fault.no_section {c = c} {i = k} {d = d} h is not_so t) = call_at decls c WrongType h (ap (λ (o : Option (ℕ × Decl)). call_faults decls c.section.span.start o c.arguments) is ∙ no_section_is decls c.section.span.start k d c.arguments not_so t)
+wrong_in decls p (fault.no_helper {sc = sc} {c = c} h not_so t) =
+    of_helper_name decls sc c h WrongType (no_helper_is sc.decls c.helper.span.start (length c.arguments) (meaning sc c.helper.text) not_so (has_same decls sc.decls (meaning sc c.helper.text) (helper_call_decls decls sc c h) t))
+wrong_in decls p (fault.no_result {sc = sc} {l = l} {t = t} {i = n} {s = s} h is meant none) =
+    of_result decls sc l h t n s is meant (ap (λ (r : Option ValueType). list.no_result l.call.helper.span.start t r (result_of sc.decls s)) none)
+wrong_in decls p (fault.other_result {sc = sc} {l = l} {t = t} {u = u} {i = n} {s = s} h is meant of no_fit) =
+    of_result decls sc l h t n s is meant
+    (no_result_is sc.decls l.call.helper.span.start t u s.result (ap (λ (ds : List Decl). result_of ds s) (stmt_decls decls sc (let_call l) h) ∙ of) no_fit)
 wrong_in decls p (fault.no_pool {w = w} {p = x} {n = n} {i = k} {d = d} h is not_so t) = const_own decls w x n h _ (at WrongType x.span.start _ (ap (λ (o : Option (ℕ × Decl)). index_faults decls x.span.start o n) is ∙ no_pool_is decls x.span.start k d n not_so t))
 wrong_in decls p (fault.no_pool_initialised {j = x} {i = k} {d = d} h is not_so t) = of_init_index decls x h _ (at WrongType x.pool.span.start _ (ap (λ (o : Option (ℕ × Decl)). index_faults decls x.pool.span.start o x.index) is ∙ no_pool_is decls x.pool.span.start k d x.index not_so t))
 wrong_in decls p (fault.not_final {ms = ms} {f = y} {g = g} h e t) =
@@ -405,16 +412,11 @@ wrong_in decls p (fault.misplaced_operator {sc = sc} {w = w} {level = level} {e 
 
 -- ---- E08, E09, E10
 
-other_count : (n k : ℕ) → (n ≡ k → ⊥) → (n == k) ≡ false
-other_count n k e = decide (n == k) refl
-  where
-    decide : (b : Bool) → (n == k) ≡ b → b ≡ false
-    decide true is = let s : n ≡ k = grind (arith, nat_tests) in absurd (e s)
-    decide false is = refl
-
 counted : (decls : List Decl) (p : ℕ) → IsWrongCount decls p → listed decls WrongArgumentCount p
 counted decls p (fault.wrong_count {c = c} {i = k} {s = s} h is other) =
     call_at decls c WrongArgumentCount h (ap (λ (o : Option (ℕ × Decl)). call_faults decls c.section.span.start o c.arguments) is ∙ ap (λ (b : Bool). if b then argument_faults decls s.params c.arguments else one WrongArgumentCount c.section.span.start) (other_count (length c.arguments) (length s.params) other))
+counted decls p (fault.wrong_helper_count {sc = sc} {c = c} {i = k} {s = s} h is other) =
+    of_helper_name decls sc c h WrongArgumentCount (counted_is sc.decls c.helper.span.start (length c.arguments) k s (meaning sc c.helper.text) is other)
 
 of_target : (decls : List Decl) (sc : Scope) (q : Place) (e : Expr) (c : Code) (p : ℕ) → HasStmt decls sc (assign q e) → (sc.decls ≡ decls → IsAmong (record { code = c; start = p }) (target_faults sc q)) → listed decls c p
 of_target decls sc q e c p h i = of_stmt decls sc (assign q e) h _ (m.in_left _ (target_faults sc q) _ (i (stmt_decls decls sc (assign q e) h)))
@@ -427,6 +429,7 @@ no_target_is decls p k (array a) h e = unfit_in decls NotAssignable p (a_decl k 
 no_target_is decls p k (pool q) h e = unfit_in decls NotAssignable p (a_decl k (pool q)) e
 no_target_is decls p k (init j) h e = unfit_in decls NotAssignable p (a_decl k (init j)) e
 no_target_is decls p k (atomic s) h e = unfit_in decls NotAssignable p (a_decl k (atomic s)) e
+no_target_is decls p k (helper s) h e = unfit_in decls NotAssignable p (a_decl k (helper s)) e
 no_target_is decls p k (thread t) h e = unfit_in decls NotAssignable p (a_decl k (thread t)) e
 
 fixed_in : (decls : List Decl) (p : ℕ) → IsNotAssignable decls p → listed decls NotAssignable p
@@ -466,6 +469,7 @@ global_lock_is decls p k (array a) ys h e = unfit_in decls ProtectedByNoLock p (
 global_lock_is decls p k (pool q) ys h e = unfit_in decls ProtectedByNoLock p (a_decl k (pool q)) e
 global_lock_is decls p k (init j) ys h e = refl
 global_lock_is decls p k (atomic s) ys h e = refl
+global_lock_is decls p k (helper s) ys h e = refl
 global_lock_is decls p k (thread t) ys h e = refl
 
 ends_in : (decls : List Decl) (p : ℕ) → EndsAtNoLock decls p → listed decls ProtectedByNoLock p
@@ -512,8 +516,8 @@ passes_true limit n own a b = both_true (nat_le n limit) (nat_lt limit (n + own)
 many_in : (decls before : List Decl) (d : Decl) (x : Ident) (n : ℕ) → declared d ≡ Some x → limit_of d ≡ Some n → n ≤ count (alike d) before → IsAmong (record { code = LimitExceeded; start = x.span.start }) (count_faults decls before d)
 many_in decls before (struct s) x n is l le =
     same_start s.name x LimitExceeded 0 _ is (m.in_left _ (one_if (nat_le STRUCT_LIMIT (count (alike (struct s)) before)) LimitExceeded s.name.span.start) _ (at_if (nat_le STRUCT_LIMIT (count (alike (struct s)) before)) LimitExceeded s.name.span.start (let e : STRUCT_LIMIT ≡ n = cc in le_true STRUCT_LIMIT (count (alike (struct s)) before) (subst (λ (k : ℕ). k ≤ count (alike (struct s)) before) (sym e) le))))
-many_in decls before (atomic s) x n is l le =
-    same_start s.name x LimitExceeded 0 _ is (at_if (nat_le SECTION_LIMIT (count (alike (atomic s)) before)) LimitExceeded s.name.span.start (let e : SECTION_LIMIT ≡ n = cc in le_true SECTION_LIMIT (count (alike (atomic s)) before) (subst (λ (k : ℕ). k ≤ count (alike (atomic s)) before) (sym e) le)))
+many_in decls before (atomic s) x n is l le = cc
+many_in decls before (helper s) x n is l le = cc
 many_in decls before (thread t) x n is l le =
     same_start t.name x LimitExceeded 0 _ is (m.in_left _ (one_if (nat_le THREAD_LIMIT (count (alike (thread t)) before)) LimitExceeded t.name.span.start) _ (at_if (nat_le THREAD_LIMIT (count (alike (thread t)) before)) LimitExceeded t.name.span.start (let e : THREAD_LIMIT ≡ n = cc in le_true THREAD_LIMIT (count (alike (thread t)) before) (subst (λ (k : ℕ). k ≤ count (alike (thread t)) before) (sym e) le))))
 many_in decls before (lock y) x n is l le = cc
@@ -522,11 +526,23 @@ many_in decls before (array a) x n is l le = cc
 many_in decls before (pool q) x n is l le = cc
 many_in decls before (init j) x n is l le = cc
 
+sections_in : (decls before : List Decl) (d : Decl) (x : Ident) → has_body d ≡ true → declared d ≡ Some x → SECTION_LIMIT ≤ count has_body before → IsAmong (record { code = LimitExceeded; start = x.span.start }) (count_faults decls before d)
+sections_in decls before (atomic s) x has is le = same_start s.name x LimitExceeded 0 _ is (at_if (nat_le SECTION_LIMIT (count has_body before)) LimitExceeded s.name.span.start (le_true SECTION_LIMIT (count has_body before) le))
+sections_in decls before (helper s) x has is le = same_start s.name x LimitExceeded 0 _ is (at_if (nat_le SECTION_LIMIT (count has_body before)) LimitExceeded s.name.span.start (le_true SECTION_LIMIT (count has_body before) le))
+sections_in decls before (struct s) x has is le = cc
+sections_in decls before (thread t) x has is le = cc
+sections_in decls before (lock y) x has is le = cc
+sections_in decls before (global v) x has is le = cc
+sections_in decls before (array a) x has is le = cc
+sections_in decls before (pool q) x has is le = cc
+sections_in decls before (init j) x has is le = cc
+
 objects_in : (decls before : List Decl) (d : Decl) (x : Ident) → declared d ≡ Some x → total objects_of before ≤ OBJECT_LIMIT → OBJECT_LIMIT < total objects_of before + objects_of d → IsAmong (record { code = LimitExceeded; start = x.span.start }) (count_faults decls before d)
 objects_in decls before (pool q) x is a b =
     same_start q.name x LimitExceeded 0 _ is (m.in_left _ (one_if (first_too_many OBJECT_LIMIT (total objects_of before) (objects_of (pool q))) LimitExceeded q.name.span.start) _ (at_if (first_too_many OBJECT_LIMIT (total objects_of before) (objects_of (pool q))) LimitExceeded q.name.span.start (passes_true OBJECT_LIMIT (total objects_of before) (objects_of (pool q)) a b)))
 objects_in decls before (struct s) x is a b = absurd (omega (arith, a, b))
 objects_in decls before (atomic s) x is a b = absurd (omega (arith, a, b))
+objects_in decls before (helper s) x is a b = absurd (omega (arith, a, b))
 objects_in decls before (thread t) x is a b = absurd (omega (arith, a, b))
 objects_in decls before (lock y) x is a b = absurd (omega (arith, a, b))
 objects_in decls before (global v) x is a b = absurd (omega (arith, a, b))
@@ -542,6 +558,7 @@ cells_in decls before (pool q) x is a b =
     same_start q.name x LimitExceeded 0 _ is (m.in_right _ (one_if (first_too_many OBJECT_LIMIT (total objects_of before) (objects_of (pool q))) LimitExceeded q.name.span.start) _ (at_if (first_too_many CELL_LIMIT (total (cells_of decls) before) (cells_of decls (pool q))) LimitExceeded q.name.span.start (passes_true CELL_LIMIT (total (cells_of decls) before) (cells_of decls (pool q)) a b)))
 cells_in decls before (struct s) x is a b = absurd (omega (arith, a, b))
 cells_in decls before (atomic s) x is a b = absurd (omega (arith, a, b))
+cells_in decls before (helper s) x is a b = absurd (omega (arith, a, b))
 cells_in decls before (thread t) x is a b = absurd (omega (arith, a, b))
 cells_in decls before (lock y) x is a b = absurd (omega (arith, a, b))
 cells_in decls before (init j) x is a b = absurd (omega (arith, a, b))
@@ -551,6 +568,7 @@ calls_in decls before (thread t) x is a b =
     same_start t.name x LimitExceeded 0 _ is (m.in_right _ (one_if (nat_le THREAD_LIMIT (count (alike (thread t)) before)) LimitExceeded t.name.span.start) _ (at_if (first_too_many CALL_LIMIT (total calls_of before) (calls_of (thread t))) LimitExceeded t.name.span.start (passes_true CALL_LIMIT (total calls_of before) (calls_of (thread t)) a b)))
 calls_in decls before (struct s) x is a b = absurd (omega (arith, a, b))
 calls_in decls before (atomic s) x is a b = absurd (omega (arith, a, b))
+calls_in decls before (helper s) x is a b = absurd (omega (arith, a, b))
 calls_in decls before (lock y) x is a b = absurd (omega (arith, a, b))
 calls_in decls before (global v) x is a b = absurd (omega (arith, a, b))
 calls_in decls before (array y) x is a b = absurd (omega (arith, a, b))
@@ -583,6 +601,7 @@ of_member_counts decls before behind s ahead rest x parts inner f i =
 
 over_in : (decls : List Decl) (p : ℕ) → IsOverLimit decls p → listed decls LimitExceeded p
 over_in decls p (fault.too_many before behind d {x = x} n parts is l le) = of_counts decls before behind d parts _ (many_in decls before d x n is l le)
+over_in decls p (fault.too_many_sections before behind d {x = x} parts has is le) = of_counts decls before behind d parts _ (sections_in decls before d x has is le)
 over_in decls p (fault.too_many_members {s = s} ahead rest x h inner le) =
     let r = has_parts decls (struct s) h in
     of_member_counts decls r.0 r.1 s ahead rest x r.2 inner _ (m.in_left _ (one_if (nat_le MEMBER_LIMIT (length ahead)) LimitExceeded (member_name x).span.start) _ (at_if (nat_le MEMBER_LIMIT (length ahead)) LimitExceeded (member_name x).span.start (le_true MEMBER_LIMIT (length ahead) le)))
@@ -593,11 +612,13 @@ over_in decls p (fault.too_many_lock_fields before behind s ahead rest x parts i
 over_in decls p (fault.too_many_objects before behind d {x = x} parts is a b) = of_counts decls before behind d parts _ (objects_in decls before d x is a b)
 over_in decls p (fault.too_many_cells before behind d {x = x} parts is a b) = of_counts decls before behind d parts _ (cells_in decls before d x is a b)
 over_in decls p (fault.too_many_calls before behind d {x = x} parts is a b) = of_counts decls before behind d parts _ (calls_in decls before d x is a b)
-over_in decls p (fault.too_many_parameters {x = x} q before behind h parts le) =
-    of_param decls x before behind q h parts _ (m.in_left _ (local_faults (entered (ahead_of decls x) before) q.name ++ one_if (nat_le PARAMETER_LIMIT (length before)) LimitExceeded q.name.span.start) _
-    (m.in_right _ (local_faults (entered (ahead_of decls x) before) q.name) _ (at_if (nat_le PARAMETER_LIMIT (length before)) LimitExceeded q.name.span.start (le_true PARAMETER_LIMIT (length before) le))))
+over_in decls p (fault.too_many_parameters {limits = limits} {x = x} q before behind h parts le) =
+    let sc = entered (ahead_of decls limits x) before in
+    let few = subst (λ (l : BodyLimits). l.parameters ≤ length before) (sym (entered_limits (ahead_of decls limits x) before)) le in
+    of_param decls limits x before behind q h parts _ (m.in_left _ (local_faults sc q.name ++ one_if (nat_le sc.limits.parameters (length before)) LimitExceeded q.name.span.start) _
+    (m.in_right _ (local_faults sc q.name) _ (at_if (nat_le sc.limits.parameters (length before)) LimitExceeded q.name.span.start (le_true sc.limits.parameters (length before) few))))
 over_in decls p (fault.too_many_locals {sc = sc} {x = x} h le) =
-    of_local decls sc x h _ (m.in_right _ (taken x.span.start (the_local sc.locals x.text) (the_decl sc.decls x.text)) _ (at_if (nat_le LOCAL_LIMIT (length sc.locals)) LimitExceeded x.span.start (le_true LOCAL_LIMIT (length sc.locals) le)))
+    of_local decls sc x h _ (m.in_right _ (taken x.span.start (the_local sc.locals x.text) (the_decl sc.decls x.text)) _ (at_if (nat_le sc.limits.locals (length sc.locals)) LimitExceeded x.span.start (le_true sc.limits.locals (length sc.locals) le)))
 over_in decls p (fault.too_many_finals {p = q} {st = st} {y = y} {z = z} {zs = zs} {i = n} {f = g} h is le) =
     of_passed decls q st y z zs h _ (subst (IsAmong _) (sym (ap (passed_faults decls q.first.span.start y.span.start (length st.through)) is)) (at_if (nat_le FINAL_LIMIT (length st.through)) LimitExceeded q.first.span.start (le_true FINAL_LIMIT (length st.through) le)))
 

@@ -5,7 +5,7 @@ use Rattle.source.specs.declared.span.Span.{Span}
 use Rattle.source.specs.declared.fault.Code.{Code}
 use Rattle.source.specs.declared.fault.Code.TheVariants.{UnknownName, WrongType, NeitherFinalNorProtected, ProtectedByNoLock, ProtectedByPassesNonFinal, InitOutOfRangeOrRepeated}
 use Rattle.source.specs.declared.token.Number.{Number}
-use Rattle.syntax.specs.Trees.{Ident, ref_type, Const, int_const, negative, null_const, member_const, Protection, Member, lock_member, final_member, field_member, Struct, Param, Decl, lock, struct, global, array, pool, init, atomic, thread}
+use Rattle.syntax.specs.Trees.{Ident, ref_type, Const, int_const, negative, null_const, member_const, Protection, Member, lock_member, final_member, field_member, Struct, Param, Decl, lock, struct, global, array, pool, init, atomic, helper, thread}
 use Rattle.core_lang.specs.declared.value.Value.{Value}
 use Rattle.core_lang.specs.declared.value.Value.TheVariants.{Int, Ref}
 use Rattle.core_lang.specs.declared.value.ValueType.TheVariants.{Integer, Reference}
@@ -52,6 +52,7 @@ member_valued decls clean p n (Some (k, global v)) up none = absurd (unfit_not d
 member_valued decls clean p n (Some (k, array a)) up none = absurd (unfit_not decls WrongType p (a_decl k (array a)) (decl_typed decls clean k (array a) (up k (array a) refl)) none)
 member_valued decls clean p n (Some (k, init j)) up none = absurd (unfit_not decls WrongType p (a_decl k (init j)) refl none)
 member_valued decls clean p n (Some (k, atomic s)) up none = absurd (unfit_not decls WrongType p (a_decl k (atomic s)) refl none)
+member_valued decls clean p n (Some (k, helper s)) up none = absurd (unfit_not decls WrongType p (a_decl k (helper s)) refl none)
 member_valued decls clean p n (Some (k, thread t)) up none = absurd (unfit_not decls WrongType p (a_decl k (thread t)) refl none)
 
 const_valued : (decls : List Decl) → Clean decls → (c : Const) → NoneIn (own_faults decls c) → Valued decls c
@@ -107,6 +108,7 @@ member_object decls (Some (k, global y)) n v e = cc
 member_object decls (Some (k, array y)) n v e = cc
 member_object decls (Some (k, init y)) n v e = cc
 member_object decls (Some (k, atomic y)) n v e = cc
+member_object decls (Some (k, helper y)) n v e = cc
 member_object decls (Some (k, thread y)) n v e = cc
 member_object decls None n v e = cc
 
@@ -136,6 +138,7 @@ global_lock_is decls clean p (Some (n, array a)) ys up none = absurd (no_lock de
 global_lock_is decls clean p (Some (n, pool q)) ys up none = absurd (no_lock decls clean p n (pool q) (up n (pool q) refl) none)
 global_lock_is decls clean p (Some (n, init j)) ys up none = absurd (no_lock decls clean p n (init j) (up n (init j) refl) none)
 global_lock_is decls clean p (Some (n, atomic s)) ys up none = absurd (no_lock decls clean p n (atomic s) (up n (atomic s) refl) none)
+global_lock_is decls clean p (Some (n, helper s)) ys up none = absurd (no_lock decls clean p n (helper s) (up n (helper s) refl) none)
 global_lock_is decls clean p (Some (n, thread t)) ys up none = absurd (no_lock decls clean p n (thread t) (up n (thread t) refl) none)
 
 -- the global lock that an annotation names
@@ -155,6 +158,7 @@ named_struct decls (Some (n, array x)) k e = cc
 named_struct decls (Some (n, pool x)) k e = cc
 named_struct decls (Some (n, init x)) k e = cc
 named_struct decls (Some (n, atomic x)) k e = cc
+named_struct decls (Some (n, helper x)) k e = cc
 named_struct decls (Some (n, thread x)) k e = cc
 named_struct decls None k e = cc
 

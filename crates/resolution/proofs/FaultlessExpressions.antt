@@ -1,9 +1,10 @@
 -- Expressions for which no fault is listed have a type.
-use Rattle.std.proofs.Common.{◌≡◌, ℕ, zero, suc, List, [], ◌∷◌, ◌++◌, Option, Some, None, Bool, true, false, refl, sym, ap, ◌∙◌, subst, inl, if◌then◌else◌}
+use Rattle.std.proofs.Common.{◌≡◌, ℕ, zero, suc, ◌≤◌, List, [], ◌∷◌, ◌++◌, Option, Some, None, Bool, true, false, refl, sym, ap, ◌∙◌, subst, inl, if◌then◌else◌}
 use Rattle.std.specs.Prelude.{not, is_some, slice_get}
+use Rattle.source.specs.Texts.{SOURCE_LIMIT}
 use Rattle.source.specs.declared.fault.Code.{Code}
 use Rattle.source.specs.declared.fault.Code.TheVariants.{UnknownName, WrongType, LockAsValue}
-use Rattle.syntax.specs.Trees.{Ident, ValueType, int_type, ref_type, Member, lock_member, final_member, field_member, Struct, Decl, lock, struct, global, array, pool, init, atomic, thread}
+use Rattle.syntax.specs.Trees.{Ident, ValueType, int_type, ref_type, Member, lock_member, final_member, field_member, Struct, Decl, lock, struct, global, array, pool, init, atomic, helper, thread}
 use Rattle.core_lang.specs.declared.value.ValueType as core_type
 use Rattle.core_lang.specs.declared.value.ValueType.TheVariants.{Integer, Reference}
 use Rattle.core_lang.specs.declared.tree.FieldStep.{FieldStep}
@@ -70,6 +71,7 @@ struct_has (array a ∷ ds) k s e = further (struct_has ds k s e)
 struct_has (pool p ∷ ds) k s e = further (struct_has ds k s e)
 struct_has (init j ∷ ds) k s e = further (struct_has ds k s e)
 struct_has (atomic x ∷ ds) k s e = further (struct_has ds k s e)
+struct_has (helper x ∷ ds) k s e = further (struct_has ds k s e)
 struct_has (thread t ∷ ds) k s e = further (struct_has ds k s e)
 
 -- ---- types
@@ -116,6 +118,7 @@ known_struct decls p (a_decl n (array a)) here h = absurd (not_one WrongType p h
 known_struct decls p (a_decl n (pool q)) here h = absurd (not_one WrongType p h)
 known_struct decls p (a_decl n (init j)) here h = absurd (not_one WrongType p h)
 known_struct decls p (a_decl n (atomic s)) here h = absurd (not_one WrongType p h)
+known_struct decls p (a_decl n (helper s)) here h = absurd (not_one WrongType p h)
 known_struct decls p (a_decl n (thread t)) here h = absurd (not_one WrongType p h)
 known_struct decls p nothing here h = absurd (not_one UnknownName p h)
 
@@ -150,6 +153,8 @@ AllTyped decls ls = (n : ℕ) (l : Local) → slice_get ls n ≡ Some l → Typi
 pub record Context (sc : Scope) : Type 0 where
   pub clean : Clean sc.decls
   pub locals : AllTyped sc.decls sc.locals
+  -- no more locals than have numbers
+  pub few : sc.limits.locals ≤ SOURCE_LIMIT
 
 -- a meaning that is all right
 abbrev pub IsKnown : List Decl → Meaning → Type 0
@@ -203,6 +208,7 @@ decl_typed decls clean n (array a) h = array_typed decls clean n a h
 decl_typed decls clean n (pool p) h = pool_typed decls clean n p h
 decl_typed decls clean n (init j) h = refl
 decl_typed decls clean n (atomic s) h = refl
+decl_typed decls clean n (helper s) h = refl
 decl_typed decls clean n (thread t) h = refl
 
 local_typed : (decls : List Decl) (n : ℕ) (l : Local) → Typing decls l.value_type → has_type decls (a_local n l) ≡ true
@@ -223,6 +229,7 @@ name_resolved decls clean p (a_decl n (array a)) k h = absurd (unfit_not decls W
 name_resolved decls clean p (a_decl n (pool q)) k h = absurd (unfit_not decls WrongType p (a_decl n (pool q)) (pool_typed decls clean n q k) h)
 name_resolved decls clean p (a_decl n (init j)) k h = absurd (unfit_not decls WrongType p (a_decl n (init j)) refl h)
 name_resolved decls clean p (a_decl n (atomic s)) k h = absurd (unfit_not decls WrongType p (a_decl n (atomic s)) refl h)
+name_resolved decls clean p (a_decl n (helper s)) k h = absurd (unfit_not decls WrongType p (a_decl n (helper s)) refl h)
 name_resolved decls clean p (a_decl n (thread t)) k h = absurd (unfit_not decls WrongType p (a_decl n (thread t)) refl h)
 name_resolved decls clean p nothing k h = absurd (not_one UnknownName p h)
 
@@ -235,6 +242,7 @@ element_resolved decls clean p (a_decl n (struct s)) index k h = absurd (unfit_n
 element_resolved decls clean p (a_decl n (global v)) index k h = absurd (unfit_not decls WrongType p (a_decl n (global v)) (global_typed decls clean n v k) h)
 element_resolved decls clean p (a_decl n (init j)) index k h = absurd (unfit_not decls WrongType p (a_decl n (init j)) refl h)
 element_resolved decls clean p (a_decl n (atomic s)) index k h = absurd (unfit_not decls WrongType p (a_decl n (atomic s)) refl h)
+element_resolved decls clean p (a_decl n (helper s)) index k h = absurd (unfit_not decls WrongType p (a_decl n (helper s)) refl h)
 element_resolved decls clean p (a_decl n (thread t)) index k h = absurd (unfit_not decls WrongType p (a_decl n (thread t)) refl h)
 element_resolved decls clean p nothing index k h = absurd (not_one UnknownName p h)
 

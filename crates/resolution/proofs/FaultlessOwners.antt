@@ -2,12 +2,13 @@
 use Rattle.std.proofs.Common.{◌≡◌, ℕ, zero, suc, ◌<◌, ◌≤◌, List, [], ◌∷◌, ◌++◌, length, Option, Some, None, Bool, true, false, refl, sym, ap, ◌∙◌, subst, if◌then◌else◌, arith}
 use Rattle.std.specs.Prelude.{nat_le, is_some, slice_get}
 use Rattle.source.specs.declared.fault.Code.TheVariants.{UnknownName, WrongType, LimitExceeded, LockAsValue}
-use Rattle.syntax.specs.Trees.{Ident, ref_type, Owner, Member, lock_member, final_member, field_member, Struct, Decl, lock, struct, global, array, pool, init, atomic, thread}
+use Rattle.syntax.specs.Trees.{Ident, ref_type, Owner, Member, lock_member, final_member, field_member, Struct, Decl, lock, struct, global, array, pool, init, atomic, helper, thread}
 use Rattle.core_lang.specs.declared.value.ValueType as core_type
 use Rattle.core_lang.specs.declared.value.ValueType.TheVariants.{Integer, Reference}
 use Rattle.resolution.specs.declared.wanted.Sort.TheVariants as sort
 use Rattle.resolution.specs.Core as core
-use Rattle.resolution.specs.Limits.{STRUCT_LIMIT, LOCAL_LIMIT, up_to}
+use Rattle.source.specs.Texts.{SOURCE_LIMIT}
+use Rattle.resolution.specs.Limits.{STRUCT_LIMIT, up_to}
 use Rattle.resolution.specs.Scopes.{◌>>=◌, Scope, Local, outside, Meaning, a_local, a_decl, nothing, meaning, count, alike, structs_in, the_struct, the_member, the_local, the_decl, member_has_type}
 use Rattle.resolution.specs.Expressions.{fits_type, member_number}
 use Rattle.resolution.specs.declared.owner_field.OwnerField.{OwnerField}
@@ -50,6 +51,7 @@ struct_at (array a ∷ ds) k s e = behind_other (array a) ds k s refl (struct_at
 struct_at (pool p ∷ ds) k s e = behind_other (pool p) ds k s refl (struct_at ds k s e)
 struct_at (init j ∷ ds) k s e = behind_other (init j) ds k s refl (struct_at ds k s e)
 struct_at (atomic x ∷ ds) k s e = behind_other (atomic x) ds k s refl (struct_at ds k s e)
+struct_at (helper x ∷ ds) k s e = behind_other (helper x) ds k s refl (struct_at ds k s e)
 struct_at (thread t ∷ ds) k s e = behind_other (thread t) ds k s refl (struct_at ds k s e)
 
 -- a struct's number is within the limit
@@ -63,8 +65,8 @@ struct_few decls clean k s e =
     omega (arith, less, a)
 
 -- a local that may be bound has room
-pub room : (sc : Scope) (x : Ident) → NoneIn (local_faults sc x) → length sc.locals < LOCAL_LIMIT
-room sc x none = le_false LOCAL_LIMIT (length sc.locals) (not_if (nat_le LOCAL_LIMIT (length sc.locals)) LimitExceeded x.span.start (none_right (taken x.span.start (the_local sc.locals x.text) (the_decl sc.decls x.text)) _ none))
+pub room : (sc : Scope) (x : Ident) → NoneIn (local_faults sc x) → length sc.locals < sc.limits.locals
+room sc x none = le_false sc.limits.locals (length sc.locals) (not_if (nat_le sc.limits.locals (length sc.locals)) LimitExceeded x.span.start (none_right (taken x.span.start (the_local sc.locals x.text) (the_decl sc.decls x.text)) _ none))
 
 got_less : {A : Type 0} (xs : List A) (n : ℕ) (x : A) → slice_get xs n ≡ Some x → n < length xs
 got_less [] n x e = cc
@@ -143,13 +145,13 @@ owner_local_is sc c g p nothing k loc none = absurd (not_one UnknownName p none)
 within : (limit n : ℕ) → n ≤ limit → up_to limit n ≡ Some n
 within limit n le = ap (λ (b : Bool). if b then Some n else None) (le_true n limit le)
 
-tested_is : (start : ℕ) (x : core.Expr) (g : OwnerField) (n : ℕ) → g.structure ≤ STRUCT_LIMIT → n ≤ LOCAL_LIMIT → tested_by start x g n ≡ Some (core.owned x g.structure g.number start n)
+tested_is : (start : ℕ) (x : core.Expr) (g : OwnerField) (n : ℕ) → g.structure ≤ STRUCT_LIMIT → n ≤ SOURCE_LIMIT → tested_by start x g n ≡ Some (core.owned x g.structure g.number start n)
 tested_is start x g n few less =
-    ap (λ (o : Option ℕ). ◌>>=◌ {B = core.Expr} o (λ k. up_to LOCAL_LIMIT n >>= λ m. Some (core.owned x k g.number start m))) (within STRUCT_LIMIT g.structure few)
-    ∙ ap (λ (o : Option ℕ). ◌>>=◌ {B = core.Expr} o (λ m. Some (core.owned x g.structure g.number start m))) (within LOCAL_LIMIT n less)
+    ap (λ (o : Option ℕ). ◌>>=◌ {B = core.Expr} o (λ k. up_to SOURCE_LIMIT n >>= λ m. Some (core.owned x k g.number start m))) (within STRUCT_LIMIT g.structure few)
+    ∙ ap (λ (o : Option ℕ). ◌>>=◌ {B = core.Expr} o (λ m. Some (core.owned x g.structure g.number start m))) (within SOURCE_LIMIT n less)
 
 -- a value that is tested has its form
-pub owned_is : (sc : Scope) → Context sc → length sc.locals < LOCAL_LIMIT → (t : Option core_type.ValueType) → Typing sc.decls t → (o : Owner) → NoneIn (owner_faults sc t o) → (v : Option core.Expr) (x : core.Expr) → v ≡ Some x → (y : core.Expr) × (owned_by sc t o v ≡ Some y)
+pub owned_is : (sc : Scope) → Context sc → length sc.locals < sc.limits.locals → (t : Option core_type.ValueType) → Typing sc.decls t → (o : Owner) → NoneIn (owner_faults sc t o) → (v : Option core.Expr) (x : core.Expr) → v ≡ Some x → (y : core.Expr) × (owned_by sc t o v ≡ Some y)
 owned_is sc c few t typing o none v x is =
     let p = o.local.span.start in
     let m = meaning sc o.local.text in
@@ -159,7 +161,8 @@ owned_is sc c few t typing o none v x is =
     let g = f.field in
     let n = owner_local_is sc c g p m (meaning_known sc c o.local.text) (meant_local sc o.local.text) (subst (λ (q : Option OwnerField). NoneIn (list.no_owner sc.decls p q m)) f.is (none_right a b none)) in
     let less = n.less in
-    let le : n.number ≤ LOCAL_LIMIT = omega (arith, less, few) in (
+    let all = c.few in
+    let le : n.number ≤ SOURCE_LIMIT = omega (arith, less, few, all) in (
       core.owned x g.structure g.number p n.number,
       ap (λ (e : Option core.Expr). owned_value p e (owner_field sc.decls t o.field) (owner_local (owner_field sc.decls t o.field) m)) is
           ∙ ap (λ (q : Option OwnerField). owned_value p (Some x) q (owner_local q m)) f.is

@@ -3,21 +3,21 @@ use Rattle.std.proofs.Common.{◌≡◌, ℕ, zero, suc, ◌+◌, ◌*◌, ◌<�
 use Rattle.std.specs.Prelude.{nat_le, nat_lt, slice_get}
 use Rattle.source.specs.declared.fault.Code.TheVariants.{LimitExceeded}
 use Rattle.syntax.specs.Returns.{ReturnsRight}
-use Rattle.syntax.specs.Trees.{ref_type, Const, Member, lock_member, final_member, field_member, Struct, Variable, Array, Pool, Decl, lock, struct, global, array, pool, init, atomic, thread}
+use Rattle.syntax.specs.Trees.{ref_type, Const, Member, lock_member, final_member, field_member, Struct, Variable, Array, Pool, Decl, lock, struct, global, array, pool, init, atomic, helper, thread}
 use Rattle.core_lang.specs.declared.value.Value.{Value}
 use Rattle.core_lang.specs.declared.value.ValueType as core_type
 use Rattle.core_lang.specs.declared.typed.Owner.{Owner}
 use Rattle.core_lang.specs.declared.typed.Owner.TheVariants as owner
 use Rattle.resolution.specs.declared.wanted.Want.TheVariants as wanted
 use Rattle.resolution.specs.Core as core
-use Rattle.resolution.specs.Limits.{MEMBER_LIMIT, OBJECT_LIMIT, CELL_LIMIT, CALL_LIMIT, up_to, object_at, cell_at, final_at, STRUCT_LIMIT}
+use Rattle.resolution.specs.Limits.{MEMBER_LIMIT, OBJECT_LIMIT, CELL_LIMIT, CALL_LIMIT, section_limits, helper_limits, up_to, object_at, cell_at, final_at, STRUCT_LIMIT}
 use Rattle.resolution.specs.Scopes.{◌>>=◌, outside, bears, the_decl, type_of, count, alike}
 use Rattle.resolution.specs.Numbers.{width, total, classes_of, objects_of, cells_of, calls_of}
 use Rattle.resolution.specs.Expressions.{want}
 use Rattle.resolution.specs.Constants.{members_of, members_in, default_of}
 use Rattle.resolution.specs.Annotations.{protection_of}
-use Rattle.resolution.specs.Resolution.{few_calls, typed_items, StructBuilder, lock_added, final_added, field_added, members_added, empty_struct, nothing_yet, with_class, with_struct, with_cell, with_section, with_thread, global_added, with_global, opening_of, with_elements, array_added, with_array, Slot, slot_given, final_cell, field_cell, with_members, object_added, with_object, with_objects, pool_added, with_pool, extended, resolved_from, resolved}
-use Rattle.resolution.specs.Where.{Has, first, further, of_pool, of_global, of_array, of_final, of_field}
+use Rattle.resolution.specs.Resolution.{few_calls, typed_items, StructBuilder, lock_added, final_added, field_added, members_added, empty_struct, nothing_yet, with_class, with_struct, with_cell, with_section, with_helper, with_thread, global_added, with_global, opening_of, with_elements, array_added, with_array, Slot, slot_given, final_cell, field_cell, with_members, object_added, with_object, with_objects, pool_added, with_pool, extended, resolved_from, resolved}
+use Rattle.resolution.specs.Where.{Has, first, further, of_section, of_helper, of_pool, of_global, of_array, of_final, of_field}
 use Rattle.resolution.specs.FaultLists.{one_if, first_too_many, member_twice_faults, member_counts, count_faults, total_faults, type_faults, lock_faults, opening_faults, const_faults, protection_faults, members_faults, decl_faults}
 use Rattle.resolution.proofs.Members.{in_right}
 use Rattle.resolution.proofs.Named.{named_is}
@@ -55,6 +55,7 @@ cells_fit decls before (lock x) none le = omega (arith, le)
 cells_fit decls before (struct x) none le = omega (arith, le)
 cells_fit decls before (init x) none le = omega (arith, le)
 cells_fit decls before (atomic x) none le = omega (arith, le)
+cells_fit decls before (helper x) none le = omega (arith, le)
 cells_fit decls before (thread x) none le = omega (arith, le)
 
 pub objects_fit : (decls before : List Decl) (d : Decl) → NoneIn (count_faults decls before d) → total objects_of before ≤ OBJECT_LIMIT → total objects_of before + objects_of d ≤ OBJECT_LIMIT
@@ -67,6 +68,7 @@ objects_fit decls before (lock x) none le = omega (arith, le)
 objects_fit decls before (struct x) none le = omega (arith, le)
 objects_fit decls before (init x) none le = omega (arith, le)
 objects_fit decls before (atomic x) none le = omega (arith, le)
+objects_fit decls before (helper x) none le = omega (arith, le)
 objects_fit decls before (thread x) none le = omega (arith, le)
 
 calls_fit : (decls before : List Decl) (d : Decl) → NoneIn (count_faults decls before d) → total calls_of before ≤ CALL_LIMIT → total calls_of before + calls_of d ≤ CALL_LIMIT
@@ -79,6 +81,7 @@ calls_fit decls before (lock x) none le = omega (arith, le)
 calls_fit decls before (struct x) none le = omega (arith, le)
 calls_fit decls before (init x) none le = omega (arith, le)
 calls_fit decls before (atomic x) none le = omega (arith, le)
+calls_fit decls before (helper x) none le = omega (arith, le)
 
 pub calls_few : (decls before ds : List Decl) → NoneIn (total_faults decls before ds) → total calls_of before ≤ CALL_LIMIT → total calls_of (before ++ ds) ≤ CALL_LIMIT
 calls_few decls before [] none le = subst (λ (xs : List Decl). total calls_of xs ≤ CALL_LIMIT) (sym (nil before)) le
@@ -344,9 +347,13 @@ extended_is decls before i (array a) p st = array_is decls before i a p st
 extended_is decls before i (pool q) p st = pool_is decls before i q p st
 extended_is decls before i (init j) p st = (p, refl, same_counted decls before (init j) p p st.counted refl refl refl refl refl)
 extended_is decls before i (atomic s) p st =
-    let x = section_is decls st.clean st.right s (at_has decls i (atomic s) st.at) st.own in
+    let x = section_is decls st.clean st.right section_limits s (of_section (at_has decls i (atomic s) st.at)) st.own in
     let q : core.Program = record p { sections = p.sections ++ x.0 ∷ [] } in
     (q, ap (with_section p) x.1, same_counted decls before (atomic s) p q st.counted refl refl refl refl refl)
+extended_is decls before i (helper s) p st =
+    let x = section_is decls st.clean st.right helper_limits s (of_helper (at_has decls i (helper s) st.at)) st.own in
+    let q : core.Program = record p { helpers = p.helpers ++ x.0 ∷ [] } in
+    (q, ap (with_helper p) x.1, same_counted decls before (helper s) p q st.counted refl refl refl refl refl)
 extended_is decls before i (thread t) p st =
     let xs = items_are decls st.clean t.items st.own in
     let q : core.Program = record p { threads = p.threads ++ record { name = t.name.text; calls = xs.0 } ∷ [] } in (

@@ -1,21 +1,22 @@
 -- Sections and threads for which no fault is listed are resolved.
-use Rattle.std.proofs.Common.{◌≡◌, ℕ, suc, ◌+◌, List, [], ◌∷◌, ◌++◌, length, Option, Some, None, Bool, true, false, ◌⊎◌, inl, inr, refl, sym, ap, ◌∙◌, subst, if◌then◌else◌}
+use Rattle.std.proofs.Common.{◌≡◌, ℕ, suc, ◌+◌, ◌≤◌, List, [], ◌∷◌, ◌++◌, length, Option, Some, None, Bool, true, false, ◌⊎◌, inl, inr, refl, sym, ap, ◌∙◌, subst, if◌then◌else◌, arith}
 use Rattle.std.specs.Prelude.{nat_le, ◌==◌}
 use Rattle.std.proofs.lemmas.Bool.{eqb-true}
 use Rattle.source.specs.declared.fault.Code.TheVariants.{UnknownName, WrongType, WrongArgumentCount, LimitExceeded}
-use Rattle.syntax.specs.Returns.{ReturnsRight, HasReturn, this_returns, returns_inside, later_returns, HasStrayReturn, this_early, stray_inside, later_stray, EndsInReturn, IsSectionFault, no_result, stray, missing, IsReturnFault, this_section, later_section}
-use Rattle.syntax.specs.Trees.{ValueType, Const, Param, Section, Item, call, repeat, Items, no_items, item, Stmts, stmt, Decl, lock, struct, global, array, pool, init, atomic, thread}
+use Rattle.syntax.specs.Returns.{ReturnsRight, HasReturn, this_returns, returns_inside, later_returns, HasStrayReturn, this_early, stray_inside, later_stray, EndsInReturn, IsSectionFault, no_result, stray, missing, IsReturnFault, this_section, this_helper, later_section}
+use Rattle.syntax.specs.Trees.{ValueType, Const, Param, Section, Item, call, repeat, Items, no_items, item, Stmts, stmt, Decl, lock, struct, global, array, pool, init, atomic, helper, thread}
 use Rattle.core_lang.specs.declared.value.ValueType as core_type
 use Rattle.core_lang.specs.declared.tree.LocalKind.TheVariants as kind
 use Rattle.resolution.specs.Core as core
-use Rattle.resolution.specs.Limits.{PARAMETER_LIMIT}
+use Rattle.source.specs.Texts.{SOURCE_LIMIT}
+use Rattle.resolution.specs.declared.body_limits.BodyLimits.{BodyLimits}
 use Rattle.resolution.specs.Scopes as scope
-use Rattle.resolution.specs.Scopes.{◌>>=◌, Scope, outside, a_decl, number_at, the_decl, type_of, bound, entered}
+use Rattle.resolution.specs.Scopes.{◌>>=◌, Scope, outside, a_decl, number_at, the_decl, type_of, result_of, bound, entered}
 use Rattle.resolution.specs.Constants.{added, typed_arguments}
-use Rattle.resolution.specs.Resolution.{result_of, ahead_of, entry, core_locals, section_with, section_of, typed_section, call_of, copies, joined, one_call, typed_item, typed_items}
+use Rattle.resolution.specs.Resolution.{ahead_of, entry, core_locals, section_with, section_of, typed_section, call_of, copies, joined, one_call, typed_item, typed_items}
 use Rattle.resolution.specs.Statements.{typed_body, Body, after_all}
-use Rattle.resolution.specs.Where.{Has, first, further}
-use Rattle.resolution.specs.FaultLists.{one, one_if, unfit, type_faults, argument_faults, local_faults, stmts_faults, param_faults, result_faults, call_faults, item_faults, items_faults}
+use Rattle.resolution.specs.Where.{Has, first, further, HasBody, of_section, of_helper}
+use Rattle.resolution.specs.FaultLists.{one, one_if, unfit, type_faults, argument_faults, local_faults, stmts_faults, param_faults, result_faults, section_faults, call_faults, item_faults, items_faults}
 use Rattle.resolution.proofs.TrueStatements.{entered_same}
 use Rattle.resolution.proofs.FaultlessExpressions.{NoneIn, none_left, none_right, not_one, unfit_not, decl_has, decl_typed, Clean, Typing, type_is, AllTyped, Context}
 use Rattle.resolution.proofs.FaultlessStatements.{HasResult, typed_push, all_context, body_is}
@@ -26,20 +27,25 @@ use Rattle.resolution.proofs.FaultlessConstants.{arguments_are}
 pub entered_context : (sc : Scope) → Context sc → (n : ℕ) (ps : List Param) → NoneIn (param_faults sc n ps) → Context (entered sc ps)
 entered_context sc c n [] none = c
 entered_context sc c n (p ∷ ps) none =
-    let a = local_faults sc p.name ++ one_if (nat_le PARAMETER_LIMIT n) LimitExceeded p.name.span.start in
+    let a = local_faults sc p.name ++ one_if (nat_le sc.limits.parameters n) LimitExceeded p.name.span.start in
     let b = type_faults (outside sc.decls) p.value_type in
     let t = type_of (outside sc.decls) p.value_type in
     let rest = param_faults (bound sc kind.Parameter p.name t) (n + 1) ps in
     entered_context (bound sc kind.Parameter p.name t)
-    (record { clean = c.clean; locals = typed_push sc.decls sc.locals (record { name = p.name.text; kind = kind.Parameter; value_type = t; is_visible = true }) c.locals (type_is (outside sc.decls) p.value_type (none_right a b (none_left (a ++ b) rest none))) })
+    (record { clean = c.clean; few = c.few; locals = typed_push sc.decls sc.locals (record { name = p.name.text; kind = kind.Parameter; value_type = t; is_visible = true }) c.locals (type_is (outside sc.decls) p.value_type (none_right a b (none_left (a ++ b) rest none))) })
     (n + 1) ps (none_right (a ++ b) rest none)
 
 pub entered_result : (sc : Scope) (ps : List Param) → (entered sc ps).result ≡ sc.result
 entered_result sc [] = refl
 entered_result sc (p ∷ ps) = entered_result (bound sc kind.Parameter p.name (type_of (outside sc.decls) p.value_type)) ps
 
-pub entry_context : (decls : List Decl) → Clean decls → (s : Section) → NoneIn (param_faults (ahead_of decls s) 0 s.params) → Context (entry decls s)
-entry_context decls clean s none = entered_context (ahead_of decls s) (record { clean = clean; locals = λ n l e. cc }) 0 s.params none
+-- no more locals than have numbers
+few_locals : (decls : List Decl) (limits : BodyLimits) (s : Section) → HasBody decls limits s → limits.locals ≤ SOURCE_LIMIT
+few_locals decls limits s (of_section h) = omega arith
+few_locals decls limits s (of_helper h) = omega arith
+
+pub entry_context : (decls : List Decl) → Clean decls → (limits : BodyLimits) (s : Section) → HasBody decls limits s → NoneIn (param_faults (ahead_of decls limits s) 0 s.params) → Context (entry decls limits s)
+entry_context decls clean limits s h none = entered_context (ahead_of decls limits s) (record { clean = clean; locals = λ n l e. cc; few = few_locals decls limits s h }) 0 s.params none
 
 locals_are : (decls : List Decl) (ls : List scope.Local) → AllTyped decls ls → (xs : List core.Local) × (core_locals ls ≡ Some xs)
 locals_are decls [] all = ([], refl)
@@ -56,12 +62,21 @@ stray_returns ss at (this_early h) = this_returns h
 stray_returns ss at (stray_inside h) = returns_inside h
 stray_returns (stmt s more) at (later_stray h) = later_returns (stray_returns more at h)
 
-section_right : (decls : List Decl) (s : Section) → Has decls (atomic s) → (at : ℕ) → IsSectionFault s at → IsReturnFault decls at
-section_right [] s h at f = elim h [ ]
-section_right (d ∷ ds) s first at f = this_section f
-section_right (d ∷ ds) s (further h) at f = later_section (section_right ds s h at f)
+section_in_right : (decls : List Decl) (s : Section) → Has decls (atomic s) → (at : ℕ) → IsSectionFault s at → IsReturnFault decls at
+section_in_right [] s h at f = elim h [ ]
+section_in_right (d ∷ ds) s first at f = this_section f
+section_in_right (d ∷ ds) s (further h) at f = later_section (section_in_right ds s h at f)
 
--- ---- sections
+helper_in_right : (decls : List Decl) (s : Section) → Has decls (helper s) → (at : ℕ) → IsSectionFault s at → IsReturnFault decls at
+helper_in_right [] s h at f = elim h [ ]
+helper_in_right (d ∷ ds) s first at f = this_helper f
+helper_in_right (d ∷ ds) s (further h) at f = later_section (helper_in_right ds s h at f)
+
+section_right : (decls : List Decl) (limits : BodyLimits) (s : Section) → HasBody decls limits s → (at : ℕ) → IsSectionFault s at → IsReturnFault decls at
+section_right decls limits s (of_section h) at f = section_in_right decls s h at f
+section_right decls limits s (of_helper h) at f = helper_in_right decls s h at f
+
+-- ---- sections and helpers
 
 result_typed : (decls : List Decl) (s : Section) (t : ValueType) → s.result ≡ Some t → NoneIn (result_faults decls s.result) → Typing decls (result_of decls s)
 result_typed decls s t is none =
@@ -70,43 +85,42 @@ result_typed decls s t is none =
 no_end : (ss : Stmts) (b : Body) → b.result ≡ None → (EndsInReturn ss → (r : core.Return) × (b.result ≡ Some r)) → EndsInReturn ss → ⊥
 no_end ss b none some h = let r = some h in let e : None ≡ Some r.0 = sym none ∙ r.1 in cc
 
-section_put : (decls : List Decl) (s : Section) (ls : List core.Local) (b : Body) → ReturnsRight decls → Has decls (atomic s) → NoneIn (result_faults decls s.result) →
+section_put : (decls : List Decl) (limits : BodyLimits) (s : Section) (ls : List core.Local) (b : Body) → ReturnsRight decls → HasBody decls limits s → NoneIn (result_faults decls s.result) →
     (((at : ℕ) → HasReturn s.body.stmts at → ⊥) → b.result ≡ None) → (EndsInReturn s.body.stmts → (r : core.Return) × (b.result ≡ Some r)) →
     (o : Option ValueType) → s.result ≡ o → (q : Option core.Return) → b.result ≡ q → (x : core.Section) × (section_with decls s ls b.stmts o q ≡ Some x)
-section_put decls s ls b right h none never some None is None given = (_, refl)
-section_put decls s ls b right h none never some None is (Some r) given =
-    let e : Some r ≡ None = sym given ∙ never (λ at i. right at (section_right decls s h at (no_result is i))) in cc
-section_put decls s ls b right h none never some (Some t) is None given =
-    absurd (right s.body.close.start (section_right decls s h s.body.close.start (missing is (no_end s.body.stmts b given some))))
-section_put decls s ls b right h none never some (Some t) is (Some r) given =
+section_put decls limits s ls b right h none never some None is None given = (_, refl)
+section_put decls limits s ls b right h none never some None is (Some r) given =
+    let e : Some r ≡ None = sym given ∙ never (λ at i. right at (section_right decls limits s h at (no_result is i))) in cc
+section_put decls limits s ls b right h none never some (Some t) is None given =
+    absurd (right s.body.close.start (section_right decls limits s h s.body.close.start (missing is (no_end s.body.stmts b given some))))
+section_put decls limits s ls b right h none never some (Some t) is (Some r) given =
     let v = type_is (outside decls) t (subst (λ (o : Option ValueType). NoneIn (result_faults decls o)) is none) in (
       record { name = s.name.text; parameters = length s.params; locals = ls; result_type = Some v.value_type; body = b.stmts; result = Some r },
       ap (λ (o : Option core_type.ValueType). o >>= λ w. Some (record { name = s.name.text; parameters = length s.params; locals = ls; result_type = Some w; body = b.stmts; result = Some r })) v.is,
     )
 
--- a section has no `return`, or it has a result
-returns_or : (decls : List Decl) (s : Section) → ReturnsRight decls → Has decls (atomic s) → NoneIn (result_faults decls s.result) → (o : Option ValueType) → s.result ≡ o → ((at : ℕ) → HasReturn s.body.stmts at → ⊥) ⊎ HasResult (entry decls s)
-returns_or decls s right h none None is = inl (λ at i. right at (section_right decls s h at (no_result is i)))
-returns_or decls s right h none (Some t) is =
-    inr (subst (λ (ds : List Decl). Typing ds (entry decls s).result) (sym (entered_same (ahead_of decls s) s.params)) (subst (λ (o : Option core_type.ValueType). Typing decls o) (sym (entered_result (ahead_of decls s) s.params)) (result_typed decls s t is none)))
+-- there is no `return`, or there is a result
+returns_or : (decls : List Decl) (limits : BodyLimits) (s : Section) → ReturnsRight decls → HasBody decls limits s → NoneIn (result_faults decls s.result) → (o : Option ValueType) → s.result ≡ o → ((at : ℕ) → HasReturn s.body.stmts at → ⊥) ⊎ HasResult (entry decls limits s)
+returns_or decls limits s right h none None is = inl (λ at i. right at (section_right decls limits s h at (no_result is i)))
+returns_or decls limits s right h none (Some t) is =
+    inr (subst (λ (ds : List Decl). Typing ds (entry decls limits s).result) (sym (entered_same (ahead_of decls limits s) s.params)) (subst (λ (o : Option core_type.ValueType). Typing decls o) (sym (entered_result (ahead_of decls limits s) s.params)) (result_typed decls s t is none)))
 
-stray_right : (decls : List Decl) (s : Section) → ReturnsRight decls → Has decls (atomic s) → (o : Option ValueType) → s.result ≡ o → (at : ℕ) → HasStrayReturn s.body.stmts at → ⊥
-stray_right decls s right h None is at i = right at (section_right decls s h at (no_result is (stray_returns s.body.stmts at i)))
-stray_right decls s right h (Some t) is at i = right at (section_right decls s h at (stray is i))
+stray_right : (decls : List Decl) (limits : BodyLimits) (s : Section) → ReturnsRight decls → HasBody decls limits s → (o : Option ValueType) → s.result ≡ o → (at : ℕ) → HasStrayReturn s.body.stmts at → ⊥
+stray_right decls limits s right h None is at i = right at (section_right decls limits s h at (no_result is (stray_returns s.body.stmts at i)))
+stray_right decls limits s right h (Some t) is at i = right at (section_right decls limits s h at (stray is i))
 
-pub section_is : (decls : List Decl) → Clean decls → ReturnsRight decls → (s : Section) → Has decls (atomic s) → NoneIn (result_faults decls s.result ++ param_faults (ahead_of decls s) 0 s.params ++ stmts_faults (entry decls s) s.body.stmts) →
-    (x : core.Section) × (typed_section decls s ≡ Some x)
-section_is decls clean right s h none =
+pub section_is : (decls : List Decl) → Clean decls → ReturnsRight decls → (limits : BodyLimits) (s : Section) → HasBody decls limits s → NoneIn (section_faults decls limits s) → (x : core.Section) × (typed_section decls limits s ≡ Some x)
+section_is decls clean right limits s h none =
     let a = result_faults decls s.result in
-    let b = param_faults (ahead_of decls s) 0 s.params in
-    let c = stmts_faults (entry decls s) s.body.stmts in
+    let b = param_faults (ahead_of decls limits s) 0 s.params in
+    let c = stmts_faults (entry decls limits s) s.body.stmts in
     let n2 = none_left (a ++ b) c none in
-    let sc = entry_context decls clean s (none_right a b n2) in
-    let end = all_context (entry decls s) sc s.body.stmts (none_right (a ++ b) c none) in
-    let ls = locals_are (after_all (entry decls s) s.body.stmts).decls (after_all (entry decls s) s.body.stmts).locals end.locals in
-    let body = body_is (entry decls s) sc s.body.stmts (none_right (a ++ b) c none) (stray_right decls s right h s.result refl) (returns_or decls s right h (none_left a b n2) s.result refl) in
-    let x = section_put decls s ls.0 body.body right h (none_left a b n2) body.none body.some s.result refl body.body.result refl in
-    (x.0, ap (λ (o : Option (List core.Local)). section_of decls s o (typed_body (entry decls s) s.body.stmts)) ls.1 ∙ ap (section_of decls s (Some ls.0)) body.is ∙ x.1)
+    let sc = entry_context decls clean limits s h (none_right a b n2) in
+    let end = all_context (entry decls limits s) sc s.body.stmts (none_right (a ++ b) c none) in
+    let ls = locals_are (after_all (entry decls limits s) s.body.stmts).decls (after_all (entry decls limits s) s.body.stmts).locals end.locals in
+    let body = body_is (entry decls limits s) sc s.body.stmts (none_right (a ++ b) c none) (stray_right decls limits s right h s.result refl) (returns_or decls limits s right h (none_left a b n2) s.result refl) in
+    let x = section_put decls limits s ls.0 body.body right h (none_left a b n2) body.none body.some s.result refl body.body.result refl in
+    (x.0, ap (λ (o : Option (List core.Local)). section_of decls s o (typed_body (entry decls limits s) s.body.stmts)) ls.1 ∙ ap (section_of decls s (Some ls.0)) body.is ∙ x.1)
 
 -- ---- threads
 
@@ -124,6 +138,7 @@ no_section decls clean p n d h none = unfit_not decls WrongType p (a_decl n d) (
 call_is : (decls : List Decl) → Clean decls → (p : ℕ) (o : Option (ℕ × Decl)) (cs : List Const) → ((k : ℕ) (d : Decl) → ◌≡◌ {A = Option (ℕ × Decl)} o (Some (k, d)) → Has decls d) → NoneIn (call_faults decls p o cs) → (x : core.Call) × (call_of decls o cs ≡ Some x)
 call_is decls clean p None cs up none = absurd (not_one UnknownName p none)
 call_is decls clean p (Some (n, atomic s)) cs up none = argument_if decls clean p s (number_at decls n (atomic s)) cs (length cs == length s.params) refl none
+call_is decls clean p (Some (n, helper x)) cs up none = absurd (no_section decls clean p n (helper x) (up n (helper x) refl) none)
 call_is decls clean p (Some (n, lock x)) cs up none = absurd (no_section decls clean p n (lock x) (up n (lock x) refl) none)
 call_is decls clean p (Some (n, struct x)) cs up none = absurd (no_section decls clean p n (struct x) (up n (struct x) refl) none)
 call_is decls clean p (Some (n, global x)) cs up none = absurd (no_section decls clean p n (global x) (up n (global x) refl) none)

@@ -3,7 +3,7 @@ use Rattle.std.proofs.Common.{◌≡◌, ℕ, zero, suc, List, [], ◌∷◌, �
 use Rattle.std.specs.Prelude.{not, is_some, slice_get}
 use Rattle.source.specs.declared.span.Span.{Span}
 use Rattle.source.specs.declared.fault.Code.TheVariants.{UnknownName, WrongType, NotAssignable, LockAsValue}
-use Rattle.syntax.specs.Trees.{Ident, Place, lone, element, path, Expr, Local, Owner, Stmt, let_local, let_owned, var_local, assign, if_then, while, print, return_value, Stmts, no_stmts, stmt, Otherwise, no_else, else_do, Decl, lock, struct, global, array, pool, init, atomic, thread}
+use Rattle.syntax.specs.Trees.{Ident, ValueType, Place, lone, element, path, Expr, Local, Owner, HelperCall, CalledLocal, Stmt, let_local, let_owned, let_call, var_local, assign, if_then, while, print, return_value, call, Stmts, no_stmts, stmt, Otherwise, no_else, else_do, Decl, lock, struct, global, array, pool, init, atomic, helper, thread}
 use Rattle.syntax.specs.Returns.{IsReturn, is_return, HasReturn, this_returns, returns_inside, later_returns, HasReturnInside, in_then, in_else, in_while, HasStrayReturn, this_early, stray_inside, later_stray, EndsInReturn, last_returns, ends_later}
 use Rattle.core_lang.specs.declared.value.ValueType as core_type
 use Rattle.core_lang.specs.declared.value.ValueType.TheVariants.{Integer}
@@ -12,16 +12,17 @@ use Rattle.core_lang.specs.declared.tree.LocalKind.TheVariants as kind
 use Rattle.resolution.specs.declared.wanted.Want.TheVariants.{Condition, Value}
 use Rattle.resolution.specs.Core as core
 use Rattle.resolution.specs.Scopes as scope
-use Rattle.resolution.specs.Scopes.{Scope, outside, Meaning, a_local, a_decl, nothing, meaning, number_at, has_type, type_of, bound, hidden, hidden_from, left}
+use Rattle.resolution.specs.Scopes.{Scope, outside, Meaning, a_local, a_decl, nothing, meaning, helper_meant, number_at, has_type, type_of, bound, hidden, hidden_from, left}
 use Rattle.resolution.specs.Expressions.{want, fitting, as_value, typed, Walk, reached, walk_from, local_path, cell_of}
-use Rattle.resolution.specs.Statements.{Target, to_local, to_global, to_element, to_field, Assignee, assignee, is_var, assignee_at, assignee_at_element, Split, last_field, field_target, assignee_along, target_of, wanted_by, first_name, Part, does, gives, binds, set_to, assigns, prints, returns, repeats, chooses_between, Body, preceded, block_of, after, after_else, after_all, first_value, typed_stmt, typed_if, typed_body}
+use Rattle.resolution.specs.Statements.{Target, to_local, to_global, to_element, to_field, Assignee, assignee, is_var, assignee_at, assignee_at_element, Split, last_field, field_target, assignee_along, target_of, wanted_by, first_name, Part, does, gives, binds, set_to, assigns, prints, returns, repeats, chooses_between, Body, preceded, block_of, call_resolved, acts_if, called_bound, after, after_else, after_all, first_value, typed_stmt, typed_if, typed_body}
 use Rattle.resolution.specs.Owners.{owned_by}
 use Rattle.resolution.specs.Where.{of_global, of_array}
-use Rattle.resolution.specs.FaultLists.{unfit, type_faults, no_elements, path_faults, wanted_faults, local_faults, no_target, no_array, final_faults, target_faults, binding_faults, owner_faults, stmt_faults, else_faults, stmts_faults}
+use Rattle.resolution.specs.FaultLists.{unfit, type_faults, no_elements, path_faults, wanted_faults, local_faults, no_target, no_array, final_faults, target_faults, binding_faults, owner_faults, helper_call_faults, given_back_faults, called_faults, stmt_faults, else_faults, stmts_faults}
 use Rattle.resolution.proofs.TrueStatements.{after_same}
 use Rattle.resolution.proofs.FaultlessExpressions.{NoneIn, none_left, none_right, not_one, not_if, is_there, Clean, Typing, type_is, known, AllTyped, Context, IsKnown, meaning_known, decl_typed, unfit_not, Path, path_is}
 use Rattle.resolution.proofs.FaultlessResolvedExprs.{value_is, test_is}
 use Rattle.resolution.proofs.FaultlessOwners.{room, owned_is}
+use Rattle.resolution.proofs.FaultlessCalls.{call_resolves, given_back_fits}
 use Rattle.resolution.specs.Facts.{after_result}
 
 -- ---- the left side of an assignment
@@ -45,6 +46,7 @@ assignee_name decls clean p (a_decl n (array a)) k none = absurd (unfit_not decl
 assignee_name decls clean p (a_decl n (pool q)) k none = absurd (unfit_not decls NotAssignable p (a_decl n (pool q)) (decl_typed decls clean n (pool q) k) none)
 assignee_name decls clean p (a_decl n (init j)) k none = absurd (unfit_not decls NotAssignable p (a_decl n (init j)) refl none)
 assignee_name decls clean p (a_decl n (atomic s)) k none = absurd (unfit_not decls NotAssignable p (a_decl n (atomic s)) refl none)
+assignee_name decls clean p (a_decl n (helper s)) k none = absurd (unfit_not decls NotAssignable p (a_decl n (helper s)) refl none)
 assignee_name decls clean p (a_decl n (thread t)) k none = absurd (unfit_not decls NotAssignable p (a_decl n (thread t)) refl none)
 assignee_name decls clean p nothing k none = absurd (not_one UnknownName p none)
 
@@ -58,6 +60,7 @@ assignee_element decls clean p (a_decl n (struct s)) index k none other = absurd
 assignee_element decls clean p (a_decl n (global v)) index k none other = absurd (unfit_not decls WrongType p (a_decl n (global v)) (decl_typed decls clean n (global v) k) none)
 assignee_element decls clean p (a_decl n (init j)) index k none other = absurd (unfit_not decls WrongType p (a_decl n (init j)) refl none)
 assignee_element decls clean p (a_decl n (atomic s)) index k none other = absurd (unfit_not decls WrongType p (a_decl n (atomic s)) refl none)
+assignee_element decls clean p (a_decl n (helper s)) index k none other = absurd (unfit_not decls WrongType p (a_decl n (helper s)) refl none)
 assignee_element decls clean p (a_decl n (thread t)) index k none other = absurd (unfit_not decls WrongType p (a_decl n (thread t)) refl none)
 assignee_element decls clean p nothing index k none other = absurd (not_one UnknownName p none)
 
@@ -109,10 +112,14 @@ all_same sc no_stmts = refl
 all_same sc (stmt s rest) = all_same (after sc s) rest ∙ after_same sc s
 
 pub left_context : (sc end : Scope) → Context sc → Context end → end.decls ≡ sc.decls → Context (left sc end)
-left_context sc end c d same = record { clean = c.clean; locals = subst (λ (ds : List Decl). AllTyped ds (hidden_from (length sc.locals) end.locals)) same (typed_hidden end.decls (length sc.locals) end.locals d.locals) }
+left_context sc end c d same = record { clean = c.clean; few = c.few; locals = subst (λ (ds : List Decl). AllTyped ds (hidden_from (length sc.locals) end.locals)) same (typed_hidden end.decls (length sc.locals) end.locals d.locals) }
 
-bound_context : (sc : Scope) → Context sc → (k : LocalKind) (l : Local) → NoneIn (type_faults sc l.value_type) → Context (bound sc k l.name (type_of sc l.value_type))
-bound_context sc c k l none = record { clean = c.clean; locals = typed_push sc.decls sc.locals (record { name = l.name.text; kind = k; value_type = type_of sc l.value_type; is_visible = true }) c.locals (type_is sc l.value_type none) }
+bound_context : (sc : Scope) → Context sc → (k : LocalKind) (x : Ident) (t : ValueType) → NoneIn (type_faults sc t) → Context (bound sc k x (type_of sc t))
+bound_context sc c k x t none = record {
+  clean = c.clean;
+  few = c.few;
+  locals = typed_push sc.decls sc.locals (record { name = x.text; kind = k; value_type = type_of sc t; is_visible = true }) c.locals (type_is sc t none);
+}
 
 -- what is listed for a local's parts
 local_parts : (sc : Scope) (l : Local) → NoneIn (local_faults sc l.name ++ type_faults sc l.value_type ++ wanted_faults sc (want (type_of sc l.value_type)) l.value) → NoneIn (type_faults sc l.value_type) × NoneIn (wanted_faults sc (want (type_of sc l.value_type)) l.value)
@@ -121,11 +128,30 @@ local_parts sc l none =
     let b = type_faults sc l.value_type in
     (none_right a b (none_left (a ++ b) (wanted_faults sc (want (type_of sc l.value_type)) l.value) none), none_right (a ++ b) (wanted_faults sc (want (type_of sc l.value_type)) l.value) none)
 
+-- and for those of a `let` of a call
+record CalledParts (sc : Scope) (l : CalledLocal) : Type 0 where
+  types : NoneIn (type_faults sc l.value_type)
+  given : NoneIn (given_back_faults sc.decls l.call.helper.span.start (type_of sc l.value_type) (helper_meant (meaning sc l.call.helper.text)))
+  passed : NoneIn (helper_call_faults sc l.call)
+
+called_parts : (sc : Scope) (l : CalledLocal) → NoneIn (called_faults sc l) → CalledParts sc l
+called_parts sc l none =
+    let a = local_faults sc l.name in
+    let b = type_faults sc l.value_type in
+    let g = given_back_faults sc.decls l.call.helper.span.start (type_of sc l.value_type) (helper_meant (meaning sc l.call.helper.text)) in
+    let d = helper_call_faults sc l.call in
+    record {
+      types = none_right a b (none_left (a ++ b) g (none_left (a ++ b ++ g) d none));
+      given = none_right (a ++ b) g (none_left (a ++ b ++ g) d none);
+      passed = none_right (a ++ b ++ g) d none;
+    }
+
 mutual
   pub after_context : (sc : Scope) → Context sc → (s : Stmt) → NoneIn (stmt_faults sc s) → Context (after sc s)
-  after_context sc c (let_local l) none = bound_context sc c kind.Let l (local_parts sc l none).0
-  after_context sc c (let_owned l o) none = bound_context sc c kind.Let l (local_parts sc l (none_left (binding_faults sc l) (owner_faults sc (type_of sc l.value_type) o) none)).0
-  after_context sc c (var_local l) none = bound_context sc c kind.Var l (local_parts sc l none).0
+  after_context sc c (let_local l) none = bound_context sc c kind.Let l.name l.value_type (local_parts sc l none).0
+  after_context sc c (let_owned l o) none = bound_context sc c kind.Let l.name l.value_type (local_parts sc l (none_left (binding_faults sc l) (owner_faults sc (type_of sc l.value_type) o) none)).0
+  after_context sc c (let_call l) none = bound_context sc c kind.Let l.name l.value_type (called_parts sc l none).types
+  after_context sc c (var_local l) none = bound_context sc c kind.Var l.name l.value_type (local_parts sc l none).0
   after_context sc c (assign p e) none = c
   after_context sc c (if_then start e body close other) none =
       let a = wanted_faults sc Condition e in
@@ -136,6 +162,7 @@ mutual
       left_context sc (after_all sc body) c (all_context sc c body (none_right (wanted_faults sc Condition e) (stmts_faults sc body) none)) (all_same sc body)
   after_context sc c (print start e) none = c
   after_context sc c (return_value start e) none = c
+  after_context sc c (call start d) none = c
 
   else_context : (sc : Scope) → Context sc → (o : Otherwise) → NoneIn (else_faults sc o) → Context (after_else sc o)
   else_context sc c no_else none = c
@@ -152,21 +179,25 @@ abbrev IsReturning : Stmt → Type 0
 IsReturning (return_value start e) = Unit {0}
 IsReturning (let_local l) = ⊥
 IsReturning (let_owned l o) = ⊥
+IsReturning (let_call l) = ⊥
 IsReturning (var_local l) = ⊥
 IsReturning (assign p e) = ⊥
 IsReturning (if_then start e body close other) = ⊥
 IsReturning (while start e body close) = ⊥
 IsReturning (print start e) = ⊥
+IsReturning (call start c) = ⊥
 
 returning : (s : Stmt) → IsReturning s → (at : ℕ) × IsReturn s at
 returning (return_value start e) h = (start.start, is_return)
 returning (let_local l) h = absurd h
 returning (let_owned l o) h = absurd h
+returning (let_call l) h = absurd h
 returning (var_local l) h = absurd h
 returning (assign p e) h = absurd h
 returning (if_then start e body close other) h = absurd h
 returning (while start e body close) h = absurd h
 returning (print start e) h = absurd h
+returning (call start c) h = absurd h
 
 not_returning : (s : Stmt) (at : ℕ) → IsReturn s at → IsReturning s
 not_returning s at is_return = tt
@@ -207,6 +238,18 @@ owned_acts sc c l o none =
     let y = owned_is sc c few t typing o (none_right (binding_faults sc l) (owner_faults sc t o) none) (first_value sc l) v.0 v.1 in
     bind_acts l.start.start (length sc.locals) t typing.value_type (owned_by sc t o (first_value sc l)) y.0 typing.is y.1
 
+called_acts : (sc : Scope) → Context sc → (l : CalledLocal) → NoneIn (called_faults sc l) → (x : core.Stmt) × (called_bound sc l ≡ Some (does x))
+called_acts sc c l none =
+    let parts = called_parts sc l none in
+    let fits = given_back_fits sc c l.call (type_of sc l.value_type) (type_is sc l.value_type parts.types) parts.given parts.passed in
+    let x = call_resolves sc c l.call (Some (length sc.locals)) parts.passed in (
+      record { start = l.start.start; action = x.0 },
+      ap (λ (b : Bool). if b then acts_if l.start.start (call_resolved sc l.call (Some (length sc.locals))) else None) fits ∙ ap (acts_if l.start.start) x.1,
+    )
+
+call_acts : (sc : Scope) → Context sc → (start : ℕ) (d : HelperCall) → NoneIn (helper_call_faults sc d) → (x : core.Stmt) × (acts_if start (call_resolved sc d None) ≡ Some (does x))
+call_acts sc c start d none = let x = call_resolves sc c d None none in (record { start = start; action = x.0 }, ap (acts_if start) x.1)
+
 assign_acts : (sc : Scope) → Context sc → (p : Place) (e : Expr) → NoneIn (target_faults sc p ++ wanted_faults sc (wanted_by (target_of sc p)) e) → (x : core.Stmt) × (typed_stmt sc (assign p e) ≡ Some (does x))
 assign_acts sc c p e none =
     let a = target_is sc c p (none_left (target_faults sc p) (wanted_faults sc (wanted_by (target_of sc p)) e) none) in
@@ -240,6 +283,7 @@ mutual
   stmt_is : (sc : Scope) → Context sc → (s : Stmt) → NoneIn (stmt_faults sc s) → ((at : ℕ) → HasReturnInside s at → ⊥) → (IsReturning s → HasResult sc) → Acts s (typed_stmt sc s)
   stmt_is sc c (let_local l) none inner result = let r = local_acts sc c l none in inl (r.0, (λ h. h), r.1)
   stmt_is sc c (let_owned l o) none inner result = let r = owned_acts sc c l o none in inl (r.0, (λ h. h), r.1)
+  stmt_is sc c (let_call l) none inner result = let r = called_acts sc c l none in inl (r.0, (λ h. h), r.1)
   stmt_is sc c (var_local l) none inner result = let r = local_acts sc c l none in inl (r.0, (λ h. h), r.1)
   stmt_is sc c (assign p e) none inner result = let r = assign_acts sc c p e none in inl (r.0, (λ h. h), r.1)
   stmt_is sc c (if_then start e body close other) none inner result =
@@ -268,6 +312,7 @@ mutual
   stmt_is sc c (return_value start e) none inner result =
       let v = local_value sc c sc.result (result tt) e none in
       inr (record { start = start.start; value = v.0 }, tt, ap (returns start.start) v.1)
+  stmt_is sc c (call start d) none inner result = let r = call_acts sc c start.start d none in inl (r.0, (λ h. h), r.1)
 
   if_is : (sc : Scope) → Context sc → (start : ℕ) (t : core.Condition) (x : core.Stmts) (o : Otherwise) → NoneIn (else_faults sc o) → ((at : ℕ) → InElse o at → ⊥) → (r : core.Stmt) × (typed_if sc start (Some t) (Some x) o ≡ Some (does r))
   if_is sc c start t x no_else none inner = (record { start = start; action = core.if_true t x }, refl)

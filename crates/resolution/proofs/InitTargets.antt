@@ -1,7 +1,7 @@
 -- What the declarations give the members of pools.
 use Rattle.std.proofs.Common.{◌≡◌, ℕ, ◌<◌, List, Option, Some, None, Bool, true, false, refl, sym, ap, ◌∙◌, subst, if◌then◌else◌}
 use Rattle.std.specs.Prelude.{nat_lt}
-use Rattle.syntax.specs.Trees.{Const, Init, Pool, Member, lock_member, final_member, field_member, Decl, lock, struct, global, array, pool, init, atomic, thread}
+use Rattle.syntax.specs.Trees.{Const, Init, Pool, Member, lock_member, final_member, field_member, Decl, lock, struct, global, array, pool, init, atomic, helper, thread}
 use Rattle.resolution.specs.declared.init_target.InitTarget.{InitTarget}
 use Rattle.resolution.specs.Scopes.{◌>>=◌, the_decl, the_member}
 use Rattle.resolution.specs.Constants.{members_of, pool_members, initialised, init_target_at, init_target_in, init_target_to, init_target_of, is_init_target, gives, giver, value_in, given}
@@ -30,6 +30,7 @@ giving_by decls g c (global x) h e n v = cc
 giving_by decls g c (array x) h e n v = cc
 giving_by decls g c (pool x) h e n v = cc
 giving_by decls g c (atomic x) h e n v = cc
+giving_by decls g c (helper x) h e n v = cc
 giving_by decls g c (thread x) h e n v = cc
 
 pub giving : (decls : List Decl) (g : InitTarget) (c : Const) → given decls g ≡ Some c → Giving decls g c
@@ -98,6 +99,7 @@ names_by decls j g (Some (p, global x)) at e = cc
 names_by decls j g (Some (p, array x)) at e = cc
 names_by decls j g (Some (p, init x)) at e = cc
 names_by decls j g (Some (p, atomic x)) at e = cc
+names_by decls j g (Some (p, helper x)) at e = cc
 names_by decls j g (Some (p, thread x)) at e = cc
 names_by decls j g None at e = cc
 

@@ -2,14 +2,14 @@
 use Rattle.std.proofs.Common.{◌≡◌, ℕ, suc, ◌+◌, ◌≤◌, List, [], ◌∷◌, ◌++◌, length, Option, Some, refl, sym, ap, ◌∙◌, subst, arith}
 use Rattle.std.specs.Prelude.{slice_get, take, ⊤, min}
 use Rattle.std.proofs.lemmas.Option.{slice_get_within}
-use Rattle.syntax.specs.Trees.{Ident, Member, lock_member, final_member, field_member, Final, Field, Struct, Variable, Array, Pool, Section, Decl, lock, struct, global, array, pool, init, atomic, thread}
+use Rattle.syntax.specs.Trees.{Ident, Member, lock_member, final_member, field_member, Final, Field, Struct, Variable, Array, Pool, Section, Decl, lock, struct, global, array, pool, init, atomic, helper, thread}
 use Rattle.core_lang.specs.declared.value.Value.{Value}
 use Rattle.core_lang.specs.declared.value.ValueType as core_type
 use Rattle.core_lang.specs.declared.typed.Cell.{Cell}
 use Rattle.core_lang.specs.declared.typed.Owner.TheVariants as owner
 use Rattle.core_lang.specs.Typing.{if_global}
 use Rattle.resolution.specs.Core as core
-use Rattle.resolution.specs.Limits.{CELL_LIMIT, MEMBER_LIMIT}
+use Rattle.resolution.specs.Limits.{CELL_LIMIT, MEMBER_LIMIT, section_limits, helper_limits}
 use Rattle.resolution.specs.Scopes.{◌>>=◌, outside, type_of, struct_named, count, alike, number_at, number_in, structs_in, the_struct}
 use Rattle.resolution.specs.Numbers.{total, classes_of, objects_of, cells_of, classes_ahead, cells_ahead, objects_ahead}
 use Rattle.resolution.specs.Expressions.{cell_of, member_number}
@@ -33,6 +33,7 @@ KeepsClasses (array x) p q = q.classes ≡ p.classes
 KeepsClasses (pool x) p q = q.classes ≡ p.classes
 KeepsClasses (init x) p q = q.classes ≡ p.classes
 KeepsClasses (atomic x) p q = q.classes ≡ p.classes
+KeepsClasses (helper x) p q = q.classes ≡ p.classes
 KeepsClasses (thread x) p q = q.classes ≡ p.classes
 
 pub keeps_classes : (decls : List Decl) (i : ℕ) (p : core.Program) (d : Decl) (q : core.Program) → Adds decls i p d q → KeepsClasses d p q
@@ -43,6 +44,7 @@ keeps_classes decls i p (array x) q a = ap (λ (z : core.Program). z.classes) (s
 keeps_classes decls i p (pool x) q a = (chain_leaves decls (length p.pools) a.1 x.length.value (pool_added p x.name.text (length p.objects) x.length.value a.0) q a.4).classes
 keeps_classes decls i p (init x) q a = ap (λ (z : core.Program). z.classes) (sym a)
 keeps_classes decls i p (atomic x) q a = ap (λ (z : core.Program). z.classes) (sym a.2)
+keeps_classes decls i p (helper x) q a = ap (λ (z : core.Program). z.classes) (sym a.2)
 keeps_classes decls i p (thread x) q a = ap (λ (z : core.Program). z.classes) (sym a.2)
 
 abbrev pub KeepsStructs : Decl → core.Program → core.Program → Type 0
@@ -53,6 +55,7 @@ KeepsStructs (array x) p q = q.structs ≡ p.structs
 KeepsStructs (pool x) p q = q.structs ≡ p.structs
 KeepsStructs (init x) p q = q.structs ≡ p.structs
 KeepsStructs (atomic x) p q = q.structs ≡ p.structs
+KeepsStructs (helper x) p q = q.structs ≡ p.structs
 KeepsStructs (thread x) p q = q.structs ≡ p.structs
 
 pub keeps_structs : (decls : List Decl) (i : ℕ) (p : core.Program) (d : Decl) (q : core.Program) → Adds decls i p d q → KeepsStructs d p q
@@ -63,6 +66,7 @@ keeps_structs decls i p (array x) q a = ap (λ (z : core.Program). z.structs) (s
 keeps_structs decls i p (pool x) q a = (chain_leaves decls (length p.pools) a.1 x.length.value (pool_added p x.name.text (length p.objects) x.length.value a.0) q a.4).structs
 keeps_structs decls i p (init x) q a = ap (λ (z : core.Program). z.structs) (sym a)
 keeps_structs decls i p (atomic x) q a = ap (λ (z : core.Program). z.structs) (sym a.2)
+keeps_structs decls i p (helper x) q a = ap (λ (z : core.Program). z.structs) (sym a.2)
 keeps_structs decls i p (thread x) q a = ap (λ (z : core.Program). z.structs) (sym a.2)
 
 abbrev pub KeepsGlobals : Decl → core.Program → core.Program → Type 0
@@ -73,6 +77,7 @@ KeepsGlobals (array x) p q = q.globals ≡ p.globals
 KeepsGlobals (pool x) p q = q.globals ≡ p.globals
 KeepsGlobals (init x) p q = q.globals ≡ p.globals
 KeepsGlobals (atomic x) p q = q.globals ≡ p.globals
+KeepsGlobals (helper x) p q = q.globals ≡ p.globals
 KeepsGlobals (thread x) p q = q.globals ≡ p.globals
 
 pub keeps_globals : (decls : List Decl) (i : ℕ) (p : core.Program) (d : Decl) (q : core.Program) → Adds decls i p d q → KeepsGlobals d p q
@@ -83,6 +88,7 @@ keeps_globals decls i p (array x) q a = ap (λ (z : core.Program). z.globals) (s
 keeps_globals decls i p (pool x) q a = (chain_leaves decls (length p.pools) a.1 x.length.value (pool_added p x.name.text (length p.objects) x.length.value a.0) q a.4).globals
 keeps_globals decls i p (init x) q a = ap (λ (z : core.Program). z.globals) (sym a)
 keeps_globals decls i p (atomic x) q a = ap (λ (z : core.Program). z.globals) (sym a.2)
+keeps_globals decls i p (helper x) q a = ap (λ (z : core.Program). z.globals) (sym a.2)
 keeps_globals decls i p (thread x) q a = ap (λ (z : core.Program). z.globals) (sym a.2)
 
 abbrev pub KeepsArrays : Decl → core.Program → core.Program → Type 0
@@ -93,6 +99,7 @@ KeepsArrays (array x) p q = ⊤
 KeepsArrays (pool x) p q = q.arrays ≡ p.arrays
 KeepsArrays (init x) p q = q.arrays ≡ p.arrays
 KeepsArrays (atomic x) p q = q.arrays ≡ p.arrays
+KeepsArrays (helper x) p q = q.arrays ≡ p.arrays
 KeepsArrays (thread x) p q = q.arrays ≡ p.arrays
 
 pub keeps_arrays : (decls : List Decl) (i : ℕ) (p : core.Program) (d : Decl) (q : core.Program) → Adds decls i p d q → KeepsArrays d p q
@@ -103,6 +110,7 @@ keeps_arrays decls i p (array x) q a = tt
 keeps_arrays decls i p (pool x) q a = (chain_leaves decls (length p.pools) a.1 x.length.value (pool_added p x.name.text (length p.objects) x.length.value a.0) q a.4).arrays
 keeps_arrays decls i p (init x) q a = ap (λ (z : core.Program). z.arrays) (sym a)
 keeps_arrays decls i p (atomic x) q a = ap (λ (z : core.Program). z.arrays) (sym a.2)
+keeps_arrays decls i p (helper x) q a = ap (λ (z : core.Program). z.arrays) (sym a.2)
 keeps_arrays decls i p (thread x) q a = ap (λ (z : core.Program). z.arrays) (sym a.2)
 
 abbrev pub KeepsPools : Decl → core.Program → core.Program → Type 0
@@ -113,6 +121,7 @@ KeepsPools (array x) p q = q.pools ≡ p.pools
 KeepsPools (pool x) p q = ⊤
 KeepsPools (init x) p q = q.pools ≡ p.pools
 KeepsPools (atomic x) p q = q.pools ≡ p.pools
+KeepsPools (helper x) p q = q.pools ≡ p.pools
 KeepsPools (thread x) p q = q.pools ≡ p.pools
 
 pub keeps_pools : (decls : List Decl) (i : ℕ) (p : core.Program) (d : Decl) (q : core.Program) → Adds decls i p d q → KeepsPools d p q
@@ -123,6 +132,7 @@ keeps_pools decls i p (array x) q a = ap (λ (z : core.Program). z.pools) (sym a
 keeps_pools decls i p (pool x) q a = tt
 keeps_pools decls i p (init x) q a = ap (λ (z : core.Program). z.pools) (sym a)
 keeps_pools decls i p (atomic x) q a = ap (λ (z : core.Program). z.pools) (sym a.2)
+keeps_pools decls i p (helper x) q a = ap (λ (z : core.Program). z.pools) (sym a.2)
 keeps_pools decls i p (thread x) q a = ap (λ (z : core.Program). z.pools) (sym a.2)
 
 abbrev pub KeepsSections : Decl → core.Program → core.Program → Type 0
@@ -133,6 +143,7 @@ KeepsSections (array x) p q = q.sections ≡ p.sections
 KeepsSections (pool x) p q = q.sections ≡ p.sections
 KeepsSections (init x) p q = q.sections ≡ p.sections
 KeepsSections (atomic x) p q = ⊤
+KeepsSections (helper x) p q = q.sections ≡ p.sections
 KeepsSections (thread x) p q = q.sections ≡ p.sections
 
 pub keeps_sections : (decls : List Decl) (i : ℕ) (p : core.Program) (d : Decl) (q : core.Program) → Adds decls i p d q → KeepsSections d p q
@@ -143,7 +154,30 @@ keeps_sections decls i p (array x) q a = ap (λ (z : core.Program). z.sections) 
 keeps_sections decls i p (pool x) q a = (chain_leaves decls (length p.pools) a.1 x.length.value (pool_added p x.name.text (length p.objects) x.length.value a.0) q a.4).sections
 keeps_sections decls i p (init x) q a = ap (λ (z : core.Program). z.sections) (sym a)
 keeps_sections decls i p (atomic x) q a = tt
+keeps_sections decls i p (helper x) q a = ap (λ (z : core.Program). z.sections) (sym a.2)
 keeps_sections decls i p (thread x) q a = ap (λ (z : core.Program). z.sections) (sym a.2)
+
+abbrev pub KeepsHelpers : Decl → core.Program → core.Program → Type 0
+KeepsHelpers (lock x) p q = q.helpers ≡ p.helpers
+KeepsHelpers (struct x) p q = q.helpers ≡ p.helpers
+KeepsHelpers (global x) p q = q.helpers ≡ p.helpers
+KeepsHelpers (array x) p q = q.helpers ≡ p.helpers
+KeepsHelpers (pool x) p q = q.helpers ≡ p.helpers
+KeepsHelpers (init x) p q = q.helpers ≡ p.helpers
+KeepsHelpers (atomic x) p q = q.helpers ≡ p.helpers
+KeepsHelpers (helper x) p q = ⊤
+KeepsHelpers (thread x) p q = q.helpers ≡ p.helpers
+
+pub keeps_helpers : (decls : List Decl) (i : ℕ) (p : core.Program) (d : Decl) (q : core.Program) → Adds decls i p d q → KeepsHelpers d p q
+keeps_helpers decls i p (lock x) q a = ap (λ (z : core.Program). z.helpers) (sym a)
+keeps_helpers decls i p (struct x) q a = ap (λ (z : core.Program). z.helpers) (sym a.2)
+keeps_helpers decls i p (global x) q a = ap (λ (z : core.Program). z.helpers) (sym a.7)
+keeps_helpers decls i p (array x) q a = ap (λ (z : core.Program). z.helpers) (sym a.4) ∙ (elements_leave (array_added p x.name.text (length p.cells) x.length.value a.1 a.0) (length p.arrays) a.1 x.length.value).helpers
+keeps_helpers decls i p (pool x) q a = (chain_leaves decls (length p.pools) a.1 x.length.value (pool_added p x.name.text (length p.objects) x.length.value a.0) q a.4).helpers
+keeps_helpers decls i p (init x) q a = ap (λ (z : core.Program). z.helpers) (sym a)
+keeps_helpers decls i p (atomic x) q a = ap (λ (z : core.Program). z.helpers) (sym a.2)
+keeps_helpers decls i p (helper x) q a = tt
+keeps_helpers decls i p (thread x) q a = ap (λ (z : core.Program). z.helpers) (sym a.2)
 
 abbrev pub KeepsThreads : Decl → core.Program → core.Program → Type 0
 KeepsThreads (lock x) p q = q.threads ≡ p.threads
@@ -153,6 +187,7 @@ KeepsThreads (array x) p q = q.threads ≡ p.threads
 KeepsThreads (pool x) p q = q.threads ≡ p.threads
 KeepsThreads (init x) p q = q.threads ≡ p.threads
 KeepsThreads (atomic x) p q = q.threads ≡ p.threads
+KeepsThreads (helper x) p q = q.threads ≡ p.threads
 KeepsThreads (thread x) p q = ⊤
 
 pub keeps_threads : (decls : List Decl) (i : ℕ) (p : core.Program) (d : Decl) (q : core.Program) → Adds decls i p d q → KeepsThreads d p q
@@ -163,6 +198,7 @@ keeps_threads decls i p (array x) q a = ap (λ (z : core.Program). z.threads) (s
 keeps_threads decls i p (pool x) q a = (chain_leaves decls (length p.pools) a.1 x.length.value (pool_added p x.name.text (length p.objects) x.length.value a.0) q a.4).threads
 keeps_threads decls i p (init x) q a = ap (λ (z : core.Program). z.threads) (sym a)
 keeps_threads decls i p (atomic x) q a = ap (λ (z : core.Program). z.threads) (sym a.2)
+keeps_threads decls i p (helper x) q a = ap (λ (z : core.Program). z.threads) (sym a.2)
 keeps_threads decls i p (thread x) q a = tt
 
 -- ---- numbers
@@ -267,6 +303,7 @@ no_more_structs (array x ∷ before) d e = no_more_structs before d e
 no_more_structs (pool x ∷ before) d e = no_more_structs before d e
 no_more_structs (init x ∷ before) d e = no_more_structs before d e
 no_more_structs (atomic x ∷ before) d e = no_more_structs before d e
+no_more_structs (helper x ∷ before) d e = no_more_structs before d e
 no_more_structs (thread x ∷ before) d e = no_more_structs before d e
 
 one_more_struct : (before : List Decl) (s : Struct) → structs_in (before ++ struct s ∷ []) ≡ structs_in before ++ s ∷ []
@@ -278,6 +315,7 @@ one_more_struct (array x ∷ before) s = one_more_struct before s
 one_more_struct (pool x ∷ before) s = one_more_struct before s
 one_more_struct (init x ∷ before) s = one_more_struct before s
 one_more_struct (atomic x ∷ before) s = one_more_struct before s
+one_more_struct (helper x ∷ before) s = one_more_struct before s
 one_more_struct (thread x ∷ before) s = one_more_struct before s
 
 struct_landed : (decls : List Decl) (whole : core.Program) (before : List Decl) (x : Struct) (p q : core.Program) (st : Step decls whole before (struct x) p q) → StructAt decls whole (length p.structs) x st.adds.0.structure
@@ -315,6 +353,7 @@ structs_next decls whole before (array x) p q st h = subst (λ (zs : List core.S
 structs_next decls whole before (pool x) p q st h = subst (λ (zs : List core.Struct). Rows (StructAt decls whole) 0 (structs_in (before ++ pool x ∷ [])) zs) (sym (keeps_structs decls (length before) p (pool x) q st.adds)) (subst (λ (xs : List Struct). Rows (StructAt decls whole) 0 xs p.structs) (sym (no_more_structs before (pool x) refl)) h)
 structs_next decls whole before (init x) p q st h = subst (λ (zs : List core.Struct). Rows (StructAt decls whole) 0 (structs_in (before ++ init x ∷ [])) zs) (sym (keeps_structs decls (length before) p (init x) q st.adds)) (subst (λ (xs : List Struct). Rows (StructAt decls whole) 0 xs p.structs) (sym (no_more_structs before (init x) refl)) h)
 structs_next decls whole before (atomic x) p q st h = subst (λ (zs : List core.Struct). Rows (StructAt decls whole) 0 (structs_in (before ++ atomic x ∷ [])) zs) (sym (keeps_structs decls (length before) p (atomic x) q st.adds)) (subst (λ (xs : List Struct). Rows (StructAt decls whole) 0 xs p.structs) (sym (no_more_structs before (atomic x) refl)) h)
+structs_next decls whole before (helper x) p q st h = subst (λ (zs : List core.Struct). Rows (StructAt decls whole) 0 (structs_in (before ++ helper x ∷ [])) zs) (sym (keeps_structs decls (length before) p (helper x) q st.adds)) (subst (λ (xs : List Struct). Rows (StructAt decls whole) 0 xs p.structs) (sym (no_more_structs before (helper x) refl)) h)
 structs_next decls whole before (thread x) p q st h = subst (λ (zs : List core.Struct). Rows (StructAt decls whole) 0 (structs_in (before ++ thread x ∷ [])) zs) (sym (keeps_structs decls (length before) p (thread x) q st.adds)) (subst (λ (xs : List Struct). Rows (StructAt decls whole) 0 xs p.structs) (sym (no_more_structs before (thread x) refl)) h)
 
 -- the structs of a program are those that are declared
@@ -395,7 +434,7 @@ pub record SectionAt (decls : List Decl) (k : ℕ) (x : core.Section) : Type 0 w
   pub section : Section
   pub at : slice_get decls place ≡ Some (atomic section)
   pub number : number_at decls place (atomic section) ≡ k
-  pub typed : typed_section decls section ≡ Some x
+  pub typed : typed_section decls section_limits section ≡ Some x
 
 abbrev AllSections : List Decl → core.Program → Type 0
 AllSections decls p = (k : ℕ) (x : core.Section) → slice_get p.sections k ≡ Some x → SectionAt decls k x
@@ -412,6 +451,7 @@ sections_next decls whole before (atomic s) p q st h k x e =
     let here : slice_get (p.sections ++ a.0 ∷ []) k ≡ Some x = ap (λ (z : core.Program). slice_get z.sections k) a.2 ∙ e in
     get_pushed p.sections a.0 k x (SectionAt decls k x) here (h k x)
     (λ n same. record { place = length before; section = s; at = st.at; number = ap (count (alike (atomic s))) st.ahead ∙ sym (st.counts.sections s) ∙ sym n; typed = a.1 ∙ ap Some same })
+sections_next decls whole before (helper y) p q st h n x e = h n x (ap (λ (zs : List core.Section). slice_get zs n) (sym (keeps_sections decls (length before) p (helper y) q st.adds)) ∙ e)
 sections_next decls whole before (thread y) p q st h n x e = h n x (ap (λ (zs : List core.Section). slice_get zs n) (sym (keeps_sections decls (length before) p (thread y) q st.adds)) ∙ e)
 
 no_sections : (decls : List Decl) → AllSections decls nothing_yet
@@ -419,3 +459,37 @@ no_sections decls k x e = cc
 
 pub sections_of : (decls : List Decl) → Clean decls → (whole : core.Program) → resolved decls ≡ Some whole → AllSections decls whole
 sections_of decls clean whole is = walked_whole decls clean whole is (λ b p. AllSections decls p) (no_sections decls) (sections_next decls whole)
+
+-- ---- helpers
+
+-- the declaration of a helper
+pub record HelperAt (decls : List Decl) (k : ℕ) (x : core.Section) : Type 0 where
+  pub place : ℕ
+  pub section : Section
+  pub at : slice_get decls place ≡ Some (helper section)
+  pub number : number_at decls place (helper section) ≡ k
+  pub typed : typed_section decls helper_limits section ≡ Some x
+
+abbrev AllHelpers : List Decl → core.Program → Type 0
+AllHelpers decls p = (k : ℕ) (x : core.Section) → slice_get p.helpers k ≡ Some x → HelperAt decls k x
+
+helpers_next : (decls : List Decl) (whole : core.Program) (before : List Decl) (d : Decl) (p q : core.Program) → Step decls whole before d p q → AllHelpers decls p → AllHelpers decls q
+helpers_next decls whole before (lock y) p q st h n x e = h n x (ap (λ (zs : List core.Section). slice_get zs n) (sym (keeps_helpers decls (length before) p (lock y) q st.adds)) ∙ e)
+helpers_next decls whole before (struct y) p q st h n x e = h n x (ap (λ (zs : List core.Section). slice_get zs n) (sym (keeps_helpers decls (length before) p (struct y) q st.adds)) ∙ e)
+helpers_next decls whole before (global y) p q st h n x e = h n x (ap (λ (zs : List core.Section). slice_get zs n) (sym (keeps_helpers decls (length before) p (global y) q st.adds)) ∙ e)
+helpers_next decls whole before (array y) p q st h n x e = h n x (ap (λ (zs : List core.Section). slice_get zs n) (sym (keeps_helpers decls (length before) p (array y) q st.adds)) ∙ e)
+helpers_next decls whole before (pool y) p q st h n x e = h n x (ap (λ (zs : List core.Section). slice_get zs n) (sym (keeps_helpers decls (length before) p (pool y) q st.adds)) ∙ e)
+helpers_next decls whole before (init y) p q st h n x e = h n x (ap (λ (zs : List core.Section). slice_get zs n) (sym (keeps_helpers decls (length before) p (init y) q st.adds)) ∙ e)
+helpers_next decls whole before (atomic y) p q st h n x e = h n x (ap (λ (zs : List core.Section). slice_get zs n) (sym (keeps_helpers decls (length before) p (atomic y) q st.adds)) ∙ e)
+helpers_next decls whole before (helper s) p q st h k x e =
+    let a = st.adds in
+    let here : slice_get (p.helpers ++ a.0 ∷ []) k ≡ Some x = ap (λ (z : core.Program). slice_get z.helpers k) a.2 ∙ e in
+    get_pushed p.helpers a.0 k x (HelperAt decls k x) here (h k x)
+    (λ n same. record { place = length before; section = s; at = st.at; number = ap (count (alike (helper s))) st.ahead ∙ sym (st.counts.helpers s) ∙ sym n; typed = a.1 ∙ ap Some same })
+helpers_next decls whole before (thread y) p q st h n x e = h n x (ap (λ (zs : List core.Section). slice_get zs n) (sym (keeps_helpers decls (length before) p (thread y) q st.adds)) ∙ e)
+
+no_helpers_yet : (decls : List Decl) → AllHelpers decls nothing_yet
+no_helpers_yet decls k x e = cc
+
+pub helpers_of : (decls : List Decl) → Clean decls → (whole : core.Program) → resolved decls ≡ Some whole → AllHelpers decls whole
+helpers_of decls clean whole is = walked_whole decls clean whole is (λ b p. AllHelpers decls p) (no_helpers_yet decls) (helpers_next decls whole)

@@ -3,7 +3,7 @@ use Rattle.std.proofs.Common.{◌≡◌, ℕ, zero, suc, ◌+◌, ◌<◌, ◌�
 use Rattle.std.specs.Prelude.{slice_get, ⊤, nat_le, ◌&&◌}
 use Rattle.std.proofs.lemmas.Option.{slice_get_within}
 use Rattle.source.specs.declared.fault.Code.TheVariants.{LimitExceeded}
-use Rattle.syntax.specs.Trees.{Ident, Protection, Member, lock_member, final_member, field_member, Final, Field, Struct, Decl, lock, struct, global, array, pool, init, atomic, thread}
+use Rattle.syntax.specs.Trees.{Ident, Protection, Member, lock_member, final_member, field_member, Final, Field, Struct, Decl, lock, struct, global, array, pool, init, atomic, helper, thread}
 use Rattle.resolution.specs.Core as core
 use Rattle.resolution.specs.Limits.{CLASS_LIMIT, MEMBER_LIMIT, STRUCT_LIMIT, FINAL_LIMIT}
 use Rattle.resolution.specs.Scopes.{outside, bears, the_decl, the_member, struct_named, count, alike, number_at, number_in}
@@ -60,6 +60,7 @@ classes_fit decls before (array x) none le = omega (arith, le)
 classes_fit decls before (pool x) none le = omega (arith, le)
 classes_fit decls before (init x) none le = omega (arith, le)
 classes_fit decls before (atomic x) none le = omega (arith, le)
+classes_fit decls before (helper x) none le = omega (arith, le)
 classes_fit decls before (thread x) none le = omega (arith, le)
 
 classes_few : (decls before ds : List Decl) → NoneIn (total_faults decls before ds) → total classes_of before ≤ CLASS_LIMIT → total classes_of (before ++ ds) ≤ CLASS_LIMIT
@@ -102,6 +103,7 @@ classes_next decls whole before (array y) p q st h n x e = h n x (ap (λ (zs : L
 classes_next decls whole before (pool y) p q st h n x e = h n x (ap (λ (zs : List core.LockClass). slice_get zs n) (sym (keeps_classes decls (length before) p (pool y) q st.adds)) ∙ e)
 classes_next decls whole before (init y) p q st h n x e = h n x (ap (λ (zs : List core.LockClass). slice_get zs n) (sym (keeps_classes decls (length before) p (init y) q st.adds)) ∙ e)
 classes_next decls whole before (atomic y) p q st h n x e = h n x (ap (λ (zs : List core.LockClass). slice_get zs n) (sym (keeps_classes decls (length before) p (atomic y) q st.adds)) ∙ e)
+classes_next decls whole before (helper y) p q st h n x e = h n x (ap (λ (zs : List core.LockClass). slice_get zs n) (sym (keeps_classes decls (length before) p (helper y) q st.adds)) ∙ e)
 classes_next decls whole before (thread y) p q st h n x e = h n x (ap (λ (zs : List core.LockClass). slice_get zs n) (sym (keeps_classes decls (length before) p (thread y) q st.adds)) ∙ e)
 
 no_classes : (whole : core.Program) → AllClasses whole nothing_yet
@@ -181,6 +183,7 @@ module _ (decls : List Decl) (clean : Clean decls) (whole : core.Program) (is : 
   class_in_is q (Some (i, pool x)) ys c at e = cc
   class_in_is q (Some (i, init x)) ys c at e = cc
   class_in_is q (Some (i, atomic x)) ys c at e = cc
+  class_in_is q (Some (i, helper x)) ys c at e = cc
   class_in_is q (Some (i, thread x)) ys c at e = cc
   class_in_is q None ys c at e = cc
 
@@ -207,6 +210,7 @@ module _ (decls : List Decl) (clean : Clean decls) (whole : core.Program) (is : 
   globals_have_next before (pool y) p q st h n x e = h n x (ap (λ (zs : List core.GlobalVariable). slice_get zs n) (sym (keeps_globals decls (length before) p (pool y) q st.adds)) ∙ e)
   globals_have_next before (init y) p q st h n x e = h n x (ap (λ (zs : List core.GlobalVariable). slice_get zs n) (sym (keeps_globals decls (length before) p (init y) q st.adds)) ∙ e)
   globals_have_next before (atomic y) p q st h n x e = h n x (ap (λ (zs : List core.GlobalVariable). slice_get zs n) (sym (keeps_globals decls (length before) p (atomic y) q st.adds)) ∙ e)
+  globals_have_next before (helper y) p q st h n x e = h n x (ap (λ (zs : List core.GlobalVariable). slice_get zs n) (sym (keeps_globals decls (length before) p (helper y) q st.adds)) ∙ e)
   globals_have_next before (thread y) p q st h n x e = h n x (ap (λ (zs : List core.GlobalVariable). slice_get zs n) (sym (keeps_globals decls (length before) p (thread y) q st.adds)) ∙ e)
 
   arrays_have_next : (before : List Decl) (d : Decl) (p q : core.Program) → Step decls whole before d p q → ArraysHave p → ArraysHave q
@@ -223,6 +227,7 @@ module _ (decls : List Decl) (clean : Clean decls) (whole : core.Program) (is : 
   arrays_have_next before (pool y) p q st h n x e = h n x (ap (λ (zs : List core.Array). slice_get zs n) (sym (keeps_arrays decls (length before) p (pool y) q st.adds)) ∙ e)
   arrays_have_next before (init y) p q st h n x e = h n x (ap (λ (zs : List core.Array). slice_get zs n) (sym (keeps_arrays decls (length before) p (init y) q st.adds)) ∙ e)
   arrays_have_next before (atomic y) p q st h n x e = h n x (ap (λ (zs : List core.Array). slice_get zs n) (sym (keeps_arrays decls (length before) p (atomic y) q st.adds)) ∙ e)
+  arrays_have_next before (helper y) p q st h n x e = h n x (ap (λ (zs : List core.Array). slice_get zs n) (sym (keeps_arrays decls (length before) p (helper y) q st.adds)) ∙ e)
   arrays_have_next before (thread y) p q st h n x e = h n x (ap (λ (zs : List core.Array). slice_get zs n) (sym (keeps_arrays decls (length before) p (thread y) q st.adds)) ∙ e)
 
   no_globals_have : GlobalsHave nothing_yet
@@ -296,6 +301,7 @@ module _ (decls : List Decl) (clean : Clean decls) (whole : core.Program) (is : 
   over_final s st h i f m less (Some (n, pool x)) d to e = cc
   over_final s st h i f m less (Some (n, init x)) d to e = cc
   over_final s st h i f m less (Some (n, atomic x)) d to e = cc
+  over_final s st h i f m less (Some (n, helper x)) d to e = cc
   over_final s st h i f m less (Some (n, thread x)) d to e = cc
   over_final s st h i f m less None d to e = cc
 

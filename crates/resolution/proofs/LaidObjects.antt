@@ -3,7 +3,7 @@ use Rattle.std.proofs.Common.{◌≡◌, ℕ, zero, suc, ◌+◌, ◌<◌, ◌�
 use Rattle.std.specs.Prelude.{ℤ, neg_ℤ, slice_get, ⊤, nat_lt}
 use Rattle.std.proofs.lemmas.Option.{slice_get_within}
 use Rattle.std.proofs.lemmas.Bool.{eqb-true}
-use Rattle.syntax.specs.Trees.{Ident, Const, int_const, negative, null_const, member_const, Member, Final, Field, Struct, Pool, Decl, lock, struct, global, array, pool, init, atomic, thread}
+use Rattle.syntax.specs.Trees.{Ident, Const, int_const, negative, null_const, member_const, Member, Final, Field, Struct, Pool, Decl, lock, struct, global, array, pool, init, atomic, helper, thread}
 use Rattle.core_lang.specs.declared.value.Value.{Value}
 use Rattle.core_lang.specs.declared.value.Value.TheVariants.{Int, Ref}
 use Rattle.core_lang.specs.declared.value.ValueType as core_type
@@ -40,6 +40,7 @@ KeepsObjects (array x) p q = q.objects ≡ p.objects
 KeepsObjects (pool x) p q = ⊤
 KeepsObjects (init x) p q = q.objects ≡ p.objects
 KeepsObjects (atomic x) p q = q.objects ≡ p.objects
+KeepsObjects (helper x) p q = q.objects ≡ p.objects
 KeepsObjects (thread x) p q = q.objects ≡ p.objects
 
 keeps_objects : (decls : List Decl) (i : ℕ) (p : core.Program) (d : Decl) (q : core.Program) → Adds decls i p d q → KeepsObjects d p q
@@ -50,6 +51,7 @@ keeps_objects decls i p (array x) q a = ap (λ (z : core.Program). z.objects) (s
 keeps_objects decls i p (pool x) q a = tt
 keeps_objects decls i p (init x) q a = ap (λ (z : core.Program). z.objects) (sym a)
 keeps_objects decls i p (atomic x) q a = ap (λ (z : core.Program). z.objects) (sym a.2)
+keeps_objects decls i p (helper x) q a = ap (λ (z : core.Program). z.objects) (sym a.2)
 keeps_objects decls i p (thread x) q a = ap (λ (z : core.Program). z.objects) (sym a.2)
 
 abbrev KeepsCells : Decl → core.Program → core.Program → Type 0
@@ -60,6 +62,7 @@ KeepsCells (array x) p q = ⊤
 KeepsCells (pool x) p q = ⊤
 KeepsCells (init x) p q = q.cells ≡ p.cells
 KeepsCells (atomic x) p q = q.cells ≡ p.cells
+KeepsCells (helper x) p q = q.cells ≡ p.cells
 KeepsCells (thread x) p q = q.cells ≡ p.cells
 
 keeps_cells : (decls : List Decl) (i : ℕ) (p : core.Program) (d : Decl) (q : core.Program) → Adds decls i p d q → KeepsCells d p q
@@ -70,6 +73,7 @@ keeps_cells decls i p (array x) q a = tt
 keeps_cells decls i p (pool x) q a = tt
 keeps_cells decls i p (init x) q a = ap (λ (z : core.Program). z.cells) (sym a)
 keeps_cells decls i p (atomic x) q a = ap (λ (z : core.Program). z.cells) (sym a.2)
+keeps_cells decls i p (helper x) q a = ap (λ (z : core.Program). z.cells) (sym a.2)
 keeps_cells decls i p (thread x) q a = ap (λ (z : core.Program). z.cells) (sym a.2)
 
 -- ---- numbers
@@ -109,6 +113,7 @@ named_members decls x s ms e h = by_decl (the_decl decls x.text) refl e h
     by_decl (Some (n, pool y)) is a b = cc
     by_decl (Some (n, init y)) is a b = cc
     by_decl (Some (n, atomic y)) is a b = cc
+    by_decl (Some (n, helper y)) is a b = cc
     by_decl (Some (n, thread y)) is a b = cc
     by_decl None is a b = cc
 
@@ -202,6 +207,7 @@ pools_next decls whole before (pool x) p q st h n y e =
     (λ i same. subst (λ (k : ℕ). PoolFact decls whole k y) (sym i) (subst (PoolFact decls whole (length p.pools)) same (pool_fact decls whole before x p q st)))
 pools_next decls whole before (init y) p q st h n x e = h n x (ap (λ (zs : List core.Pool). slice_get zs n) (sym (keeps_pools decls (length before) p (init y) q st.adds)) ∙ e)
 pools_next decls whole before (atomic y) p q st h n x e = h n x (ap (λ (zs : List core.Pool). slice_get zs n) (sym (keeps_pools decls (length before) p (atomic y) q st.adds)) ∙ e)
+pools_next decls whole before (helper y) p q st h n x e = h n x (ap (λ (zs : List core.Pool). slice_get zs n) (sym (keeps_pools decls (length before) p (helper y) q st.adds)) ∙ e)
 pools_next decls whole before (thread y) p q st h n x e = h n x (ap (λ (zs : List core.Pool). slice_get zs n) (sym (keeps_pools decls (length before) p (thread y) q st.adds)) ∙ e)
 
 no_pools : (decls : List Decl) (whole : core.Program) → AllPools decls whole nothing_yet
@@ -244,6 +250,7 @@ objects_next decls whole before (pool x) p q st h o y e =
     }))
 objects_next decls whole before (init y) p q st h n x e = h n x (ap (λ (zs : List Object). slice_get zs n) (sym (keeps_objects decls (length before) p (init y) q st.adds)) ∙ e)
 objects_next decls whole before (atomic y) p q st h n x e = h n x (ap (λ (zs : List Object). slice_get zs n) (sym (keeps_objects decls (length before) p (atomic y) q st.adds)) ∙ e)
+objects_next decls whole before (helper y) p q st h n x e = h n x (ap (λ (zs : List Object). slice_get zs n) (sym (keeps_objects decls (length before) p (helper y) q st.adds)) ∙ e)
 objects_next decls whole before (thread y) p q st h n x e = h n x (ap (λ (zs : List Object). slice_get zs n) (sym (keeps_objects decls (length before) p (thread y) q st.adds)) ∙ e)
 
 no_objects : (decls : List Decl) (whole : core.Program) → AllObjects decls whole nothing_yet
@@ -280,6 +287,7 @@ globals_next decls whole before (array y) p q st h n x e = h n x (ap (λ (zs : L
 globals_next decls whole before (pool y) p q st h n x e = h n x (ap (λ (zs : List core.GlobalVariable). slice_get zs n) (sym (keeps_globals decls (length before) p (pool y) q st.adds)) ∙ e)
 globals_next decls whole before (init y) p q st h n x e = h n x (ap (λ (zs : List core.GlobalVariable). slice_get zs n) (sym (keeps_globals decls (length before) p (init y) q st.adds)) ∙ e)
 globals_next decls whole before (atomic y) p q st h n x e = h n x (ap (λ (zs : List core.GlobalVariable). slice_get zs n) (sym (keeps_globals decls (length before) p (atomic y) q st.adds)) ∙ e)
+globals_next decls whole before (helper y) p q st h n x e = h n x (ap (λ (zs : List core.GlobalVariable). slice_get zs n) (sym (keeps_globals decls (length before) p (helper y) q st.adds)) ∙ e)
 globals_next decls whole before (thread y) p q st h n x e = h n x (ap (λ (zs : List core.GlobalVariable). slice_get zs n) (sym (keeps_globals decls (length before) p (thread y) q st.adds)) ∙ e)
 
 no_globals : (whole : core.Program) → AllGlobals whole nothing_yet
@@ -315,6 +323,7 @@ arrays_next decls whole before (array x) p q st h n y e =
 arrays_next decls whole before (pool y) p q st h n x e = h n x (ap (λ (zs : List core.Array). slice_get zs n) (sym (keeps_arrays decls (length before) p (pool y) q st.adds)) ∙ e)
 arrays_next decls whole before (init y) p q st h n x e = h n x (ap (λ (zs : List core.Array). slice_get zs n) (sym (keeps_arrays decls (length before) p (init y) q st.adds)) ∙ e)
 arrays_next decls whole before (atomic y) p q st h n x e = h n x (ap (λ (zs : List core.Array). slice_get zs n) (sym (keeps_arrays decls (length before) p (atomic y) q st.adds)) ∙ e)
+arrays_next decls whole before (helper y) p q st h n x e = h n x (ap (λ (zs : List core.Array). slice_get zs n) (sym (keeps_arrays decls (length before) p (helper y) q st.adds)) ∙ e)
 arrays_next decls whole before (thread y) p q st h n x e = h n x (ap (λ (zs : List core.Array). slice_get zs n) (sym (keeps_arrays decls (length before) p (thread y) q st.adds)) ∙ e)
 
 no_arrays : (whole : core.Program) → AllArrays whole nothing_yet
@@ -401,6 +410,7 @@ cells_next decls clean whole is before (pool x) p q st h n c0 e =
     x.length.value p1 q a.4 st.ends h n c0 e
 cells_next decls clean whole is before (init y) p q st h n c e = h n c (ap (λ (zs : List Cell). slice_get zs n) (sym (keeps_cells decls (length before) p (init y) q st.adds)) ∙ e)
 cells_next decls clean whole is before (atomic y) p q st h n c e = h n c (ap (λ (zs : List Cell). slice_get zs n) (sym (keeps_cells decls (length before) p (atomic y) q st.adds)) ∙ e)
+cells_next decls clean whole is before (helper y) p q st h n c e = h n c (ap (λ (zs : List Cell). slice_get zs n) (sym (keeps_cells decls (length before) p (helper y) q st.adds)) ∙ e)
 cells_next decls clean whole is before (thread y) p q st h n c e = h n c (ap (λ (zs : List Cell). slice_get zs n) (sym (keeps_cells decls (length before) p (thread y) q st.adds)) ∙ e)
 
 no_cells : (decls : List Decl) (whole : core.Program) → AllCells decls whole nothing_yet
@@ -477,6 +487,7 @@ module _ (decls : List Decl) (clean : Clean decls) (whole : core.Program) (is : 
   member_holds t n (Some (i, array x)) up s e fit u v = cc
   member_holds t n (Some (i, init x)) up s e fit u v = cc
   member_holds t n (Some (i, atomic x)) up s e fit u v = cc
+  member_holds t n (Some (i, helper x)) up s e fit u v = cc
   member_holds t n (Some (i, thread x)) up s e fit u v = cc
   member_holds t n None up s e fit u v = cc
 

@@ -2,7 +2,7 @@
 use Rattle.std.proofs.Common.{◌≡◌, ℕ, suc, ◌+◌, ◌<◌, ◌≤◌, List, [], ◌∷◌, length, Option, Some, None, refl, sym, ap, ◌∙◌, subst}
 use Rattle.std.specs.Prelude.{slice_get, take, map}
 use Rattle.std.proofs.lemmas.Option.{slice_get_within}
-use Rattle.syntax.specs.Trees.{Decl, atomic, Section, Param}
+use Rattle.syntax.specs.Trees.{Decl, atomic, helper, Section, Param}
 use Rattle.core_lang.specs.declared.value.Value.{Value}
 use Rattle.core_lang.specs.declared.value.Value.TheVariants.{Int, Ref}
 use Rattle.core_lang.specs.declared.value.ValueType.{ValueType}
@@ -27,17 +27,20 @@ use Rattle.core_lang.specs.declared.typed.Thread as the_thread
 use Rattle.core_lang.specs.WellFormed.{IsCell, IsCellOf, IsLaidOut, IsProtected, IsGlobalLock, IsGlobalClass, FinalsLead, EndsAt, IsClassOf, CanCall}
 use Rattle.resolution.specs.Core as core
 use Rattle.resolution.specs.CoreViews.{core_class, core_lock, core_struct, core_final, core_field, core_array, core_pool, core_global, core_local, core_section, core_call, core_thread, core_of}
+use Rattle.resolution.specs.Limits.{section_limits, helper_limits}
 use Rattle.resolution.specs.Scopes.{◌>>=◌, outside, number_at, the_struct, type_of}
 use Rattle.resolution.specs.Resolution.{resolved, typed_section}
-use Rattle.resolution.proofs.FaultlessExpressions.{Clean}
+use Rattle.resolution.specs.Where.{Has}
+use Rattle.resolution.proofs.FaultlessExpressions.{Clean, at_has}
 use Rattle.resolution.proofs.Typed.{map_got, get_map, final_in, field_in, final_target_is, field_type_is}
 use Rattle.resolution.proofs.TypedResolvedExprs.{Sound}
+use Rattle.resolution.proofs.TypedCalls.{HasHelpers}
 use Rattle.resolution.proofs.LaidLists.{Rows, rows_right, bind_got}
 use Rattle.resolution.proofs.LaidStages.{fields_in, finals_in}
-use Rattle.resolution.proofs.LaidWalk.{FinalRow, FieldRow, no_helpers_whole}
-use Rattle.resolution.proofs.LaidFacts.{StructAt, struct_of_number, sound_of, sections_of}
+use Rattle.resolution.proofs.LaidWalk.{FinalRow, FieldRow}
+use Rattle.resolution.proofs.LaidFacts.{StructAt, struct_of_number, sound_of, sections_of, helpers_of}
 use Rattle.resolution.proofs.LaidLocks.{GlobalClass, ClassFact, LeadIn, EndsIn, classes_of_program, globals_have, arrays_have, lock_fields_have, fields_have}
-use Rattle.resolution.proofs.LaidScripts.{Argument, threads_of, sectioned, parameter_local, section_at, argument_holds}
+use Rattle.resolution.proofs.LaidScripts.{Argument, threads_of, sectioned, parameter_local, section_at, has_helpers, argument_holds}
 use Rattle.resolution.proofs.LaidObjects.{one_of, ObjectAt, objects_of_program, pools_of, globals_of, arrays_of, struct_in, OwnerFact, cells_of_program, Holds, opened_holds, referred_holds}
 
 -- ---- what the views say
@@ -126,23 +129,30 @@ module _ (program : Typed) where
       let f = map_got core_lock r.0.locks.items l h.2 (ap (λ (z : core.Struct). slice_get z.locks l) r.2 ∙ h.3) in
       (r.0, r.1, (f.0, f.1, ap (λ (z : core.LockField). z.class) f.2 ∙ h.4))
 
--- ---- helpers
-
-none_viewed : (xs : List the_section.Section) → map core_section xs ≡ [] → xs ≡ []
-none_viewed [] e = refl
-none_viewed (x ∷ xs) e = cc
-
-pub no_helpers : (decls : List Decl) (program : Typed) → resolved decls ≡ Some (core_of program) → program.shape.helpers.items ≡ []
-no_helpers decls program is = none_viewed program.shape.helpers.items (no_helpers_whole decls (core_of program) is)
-
 -- ---- the whole
 
 module _ (decls : List Decl) (clean : Clean decls) (program : Typed) (is : resolved decls ≡ Some (core_of program)) where
   pub sound : Sound decls (core_of program)
   sound = sound_of decls clean (core_of program) is
 
-  pub sections_are : (k : ℕ) (x : core.Section) → slice_get (core_of program).sections k ≡ Some x → (i : ℕ) × (s : Section) × (slice_get decls i ≡ Some (atomic s)) × (number_at decls i (atomic s) ≡ k) × (typed_section decls s ≡ Some x)
+  pub sections_are : (k : ℕ) (x : core.Section) → slice_get (core_of program).sections k ≡ Some x → (i : ℕ) × (s : Section) × (slice_get decls i ≡ Some (atomic s)) × (number_at decls i (atomic s) ≡ k) × (typed_section decls section_limits s ≡ Some x)
   sections_are k x e = let r = sections_of decls clean (core_of program) is k x e in (r.place, r.section, r.at, r.number, r.typed)
+
+  pub helpers_are : (k : ℕ) (x : core.Section) → slice_get (core_of program).helpers k ≡ Some x → (i : ℕ) × (s : Section) × (slice_get decls i ≡ Some (helper s)) × (number_at decls i (helper s) ≡ k) × (typed_section decls helper_limits s ≡ Some x)
+  helpers_are k x e = let r = helpers_of decls clean (core_of program) is k x e in (r.place, r.section, r.at, r.number, r.typed)
+
+  pub helped : HasHelpers decls (core_of program)
+  helped = has_helpers decls clean (core_of program) is
+
+  -- where none is declared, there is none
+  pub no_helpers : ((s : Section) → Has decls (helper s) → ⊥) → program.shape.helpers.items ≡ []
+  no_helpers none = by_list program.shape.helpers.items refl
+    where
+      by_list : (xs : List the_section.Section) → program.shape.helpers.items ≡ xs → xs ≡ []
+      by_list [] e = refl
+      by_list (x ∷ xs) e =
+          let r = helpers_are 0 (core_section x) (ap (λ (ys : List the_section.Section). slice_get (map core_section ys) 0) e) in
+          absurd (none r.1 (at_has decls r.0 (helper r.1) r.2))
 
   pub opens : IsHeap program (opening_heap program)
   opens = heap_is program program.cells.items (λ n c e.
@@ -247,13 +257,13 @@ module _ (decls : List Decl) (clean : Clean decls) (program : Typed) (is : resol
       let f = threads_of decls clean (core_of program) is t (core_thread thread) (get_map core_thread program.threads.items t thread e) k (core_call call) (get_map core_call thread.calls.items k call h) in
       let x = section_at decls clean (core_of program) is f.place f.section f.at in
       let g = map_got core_section program.sections.items (number_at decls f.place (atomic f.section)) x.0 x.1 in
-      let count : length f.section.params ≡ g.0.parameters = sym (sectioned decls f.section x.0 x.2).parameters ∙ ap (λ (z : core.Section). z.parameters) (sym g.2) in (
+      let count : length f.section.params ≡ g.0.parameters = sym (sectioned decls section_limits f.section x.0 x.2).parameters ∙ ap (λ (z : core.Section). z.parameters) (sym g.2) in (
         g.0,
         ap (slice_get program.sections.items) (sym f.number) ∙ g.1,
         subst (λ (n : ℕ). HaveTypes program.shape (local_types (take n g.0.locals.items)) call.arguments.items) count
             (arguments_fit 0 f.section.params g.0.locals.items call.arguments.items f.fit
             (λ n p at.
-            (let y = parameter_local decls f.section x.0 x.2 n p at in
+            (let y = parameter_local decls section_limits f.section x.0 x.2 n p at in
             let l = map_got core_local g.0.locals.items n y.0 (ap (λ (z : core.Section). slice_get z.locals n) g.2 ∙ y.1) in
             (l.0, l.1, y.2 ∙ ap (λ (z : core.Local). Some z.value_type) (sym l.2))))),
       )

@@ -1,7 +1,7 @@
 -- What each step of resolution adds to a program.
 use Rattle.std.proofs.Common.{◌≡◌, ℕ, zero, suc, ◌+◌, ◌≤◌, List, [], ◌∷◌, ◌++◌, length, Option, Some, None, Bool, true, false, if◌then◌else◌, refl, sym, ap, ◌∙◌, subst, append_assoc, arith}
 use Rattle.std.specs.Prelude.{slice_get}
-use Rattle.syntax.specs.Trees.{Ident, Const, Member, lock_member, final_member, field_member, Final, Field, Decl, lock, struct, global, array, pool, init, atomic, thread}
+use Rattle.syntax.specs.Trees.{Ident, Const, Member, lock_member, final_member, field_member, Final, Field, Decl, lock, struct, global, array, pool, init, atomic, helper, thread}
 use Rattle.core_lang.specs.declared.value.Value.{Value}
 use Rattle.core_lang.specs.declared.value.ValueType as core_type
 use Rattle.core_lang.specs.declared.typed.Owner.{Owner}
@@ -9,11 +9,11 @@ use Rattle.core_lang.specs.declared.typed.Owner.TheVariants as owner
 use Rattle.core_lang.specs.declared.typed.Cell.{Cell}
 use Rattle.core_lang.specs.declared.shape.Object.{Object}
 use Rattle.resolution.specs.Core as core
-use Rattle.resolution.specs.Limits.{OBJECT_LIMIT, CELL_LIMIT, object_at, cell_at, final_at}
+use Rattle.resolution.specs.Limits.{OBJECT_LIMIT, CELL_LIMIT, section_limits, helper_limits, object_at, cell_at, final_at}
 use Rattle.resolution.specs.Scopes.{◌>>=◌, outside, type_of, struct_named, number_in}
 use Rattle.resolution.specs.Constants.{members_of, opened, default_of, referred}
 use Rattle.resolution.specs.Annotations.{class_of, protection_of}
-use Rattle.resolution.specs.Resolution.{few_calls, typed_calls, typed_items, typed_section, StructBuilder, lock_added, final_added, field_added, member_added, members_added, empty_struct, with_class, with_struct, with_cell, with_section, with_thread, global_added, with_global, opening_of, with_elements, array_added, with_array, Slot, slot_given, final_cell, field_cell, with_members, object_added, with_object, with_objects, pool_added, with_pool, extended}
+use Rattle.resolution.specs.Resolution.{few_calls, typed_calls, typed_items, typed_section, StructBuilder, lock_added, final_added, field_added, member_added, members_added, empty_struct, with_class, with_struct, with_cell, with_section, with_helper, with_thread, global_added, with_global, opening_of, with_elements, array_added, with_array, Slot, slot_given, final_cell, field_cell, with_members, object_added, with_object, with_objects, pool_added, with_pool, extended}
 use Rattle.resolution.proofs.LaidLists.{Rows, Grows, grows_more, bind_got, up_got}
 use Rattle.std.proofs.lemmas.List.{append-nil}
 
@@ -188,7 +188,8 @@ Adds decls i p (global v) q = (c : ℕ) × (t : core_type.ValueType) × (w : Val
 Adds decls i p (array a) q = (c : ℕ) × (t : core_type.ValueType) × (class_of decls a.protection ≡ Some c) × (type_of (outside decls) a.value_type ≡ Some t) × (with_elements (array_added p a.name.text (length p.cells) a.length.value t c) (length p.arrays) t a.length.value ≡ q)
 Adds decls i p (pool x) q = (s : ℕ) × (ms : List Member) × (struct_named decls x.target ≡ Some s) × (members_of decls x.target ≡ Some ms) × Chain decls (length p.pools) ms x.length.value (pool_added p x.name.text (length p.objects) x.length.value s) q
 Adds decls i p (init j) q = p ≡ q
-Adds decls i p (atomic s) q = (x : core.Section) × (typed_section decls s ≡ Some x) × (record p { sections = p.sections ++ x ∷ [] } ≡ q)
+Adds decls i p (atomic s) q = (x : core.Section) × (typed_section decls section_limits s ≡ Some x) × (record p { sections = p.sections ++ x ∷ [] } ≡ q)
+Adds decls i p (helper s) q = (x : core.Section) × (typed_section decls helper_limits s ≡ Some x) × (record p { helpers = p.helpers ++ x ∷ [] } ≡ q)
 Adds decls i p (thread t) q = (calls : List core.Call) × (typed_items decls t.items ≡ Some calls) × (record p { threads = p.threads ++ record { name = t.name.text; calls = calls } ∷ [] } ≡ q)
 
 struct_got : (p : core.Program) (o : Option StructBuilder) (q : core.Program) → with_struct p o ≡ Some q → (st : StructBuilder) × (o ≡ Some st) × (record p { classes = st.classes; structs = p.structs ++ st.structure ∷ [] } ≡ q)
@@ -198,6 +199,10 @@ struct_got p None q e = cc
 section_got : (p : core.Program) (o : Option core.Section) (q : core.Program) → with_section p o ≡ Some q → (x : core.Section) × (o ≡ Some x) × (record p { sections = p.sections ++ x ∷ [] } ≡ q)
 section_got p (Some x) q e = (x, refl, cc)
 section_got p None q e = cc
+
+helper_got : (p : core.Program) (o : Option core.Section) (q : core.Program) → with_helper p o ≡ Some q → (x : core.Section) × (o ≡ Some x) × (record p { helpers = p.helpers ++ x ∷ [] } ≡ q)
+helper_got p (Some x) q e = (x, refl, cc)
+helper_got p None q e = cc
 
 thread_got : (p : core.Program) (name : List ℕ) (o : Option (List core.Call)) (q : core.Program) → with_thread p name o ≡ Some q → (x : List core.Call) × (o ≡ Some x) × (record p { threads = p.threads ++ record { name = name; calls = x } ∷ [] } ≡ q)
 thread_got p name (Some x) q e = (x, refl, cc)
@@ -254,7 +259,8 @@ adds decls i p (global v) q e =
 adds decls i p (array a) q e = array_got p a.name.text (class_of decls a.protection) (type_of (outside decls) a.value_type) a.length.value q e
 adds decls i p (pool x) q e = pool_got decls i p x.name.text (struct_named decls x.target) (members_of decls x.target) x.length.value q e
 adds decls i p (init j) q e = cc
-adds decls i p (atomic s) q e = section_got p (typed_section decls s) q e
+adds decls i p (atomic s) q e = section_got p (typed_section decls section_limits s) q e
+adds decls i p (helper s) q e = helper_got p (typed_section decls helper_limits s) q e
 adds decls i p (thread t) q e =
     let r = thread_got p t.name.text (typed_calls decls t.items) q e in
     (r.0, if_got (few_calls decls) (typed_items decls t.items) r.0 r.1, r.2)
@@ -272,26 +278,26 @@ pub record Begins (p q : core.Program) : Type 0 where
   pub cells : Grows p.cells q.cells
   pub sections : Grows p.sections q.sections
   pub threads : Grows p.threads q.threads
-  pub helpers : q.helpers ≡ p.helpers
+  pub helpers : Grows p.helpers q.helpers
 
 pub begins_same : (p : core.Program) → Begins p p
-begins_same p = record { classes = λ k x e. e; structs = λ k x e. e; globals = λ k x e. e; arrays = λ k x e. e; pools = λ k x e. e; objects = λ k x e. e; finals = λ k x e. e; cells = λ k x e. e; sections = λ k x e. e; threads = λ k x e. e; helpers = refl }
+begins_same p = record { classes = λ k x e. e; structs = λ k x e. e; globals = λ k x e. e; arrays = λ k x e. e; pools = λ k x e. e; objects = λ k x e. e; finals = λ k x e. e; cells = λ k x e. e; sections = λ k x e. e; threads = λ k x e. e; helpers = λ k x e. e }
 
 pub begins_on : (p q r : core.Program) → Begins p q → Begins q r → Begins p r
-begins_on p q r a b = record { classes = λ k x e. b.classes k x (a.classes k x e); structs = λ k x e. b.structs k x (a.structs k x e); globals = λ k x e. b.globals k x (a.globals k x e); arrays = λ k x e. b.arrays k x (a.arrays k x e); pools = λ k x e. b.pools k x (a.pools k x e); objects = λ k x e. b.objects k x (a.objects k x e); finals = λ k x e. b.finals k x (a.finals k x e); cells = λ k x e. b.cells k x (a.cells k x e); sections = λ k x e. b.sections k x (a.sections k x e); threads = λ k x e. b.threads k x (a.threads k x e); helpers = b.helpers ∙ a.helpers }
+begins_on p q r a b = record { classes = λ k x e. b.classes k x (a.classes k x e); structs = λ k x e. b.structs k x (a.structs k x e); globals = λ k x e. b.globals k x (a.globals k x e); arrays = λ k x e. b.arrays k x (a.arrays k x e); pools = λ k x e. b.pools k x (a.pools k x e); objects = λ k x e. b.objects k x (a.objects k x e); finals = λ k x e. b.finals k x (a.finals k x e); cells = λ k x e. b.cells k x (a.cells k x e); sections = λ k x e. b.sections k x (a.sections k x e); threads = λ k x e. b.threads k x (a.threads k x e); helpers = λ k x e. b.helpers k x (a.helpers k x e) }
 
 pub begins_is : (p q r : core.Program) → Begins p q → q ≡ r → Begins p r
 begins_is p q r b e = subst (λ (x : core.Program). Begins p x) e b
 
 pub begins_cell : (p : core.Program) (c : Cell) → Begins p (record p { cells = p.cells ++ c ∷ [] })
-begins_cell p c = record { classes = λ k x e. e; structs = λ k x e. e; globals = λ k x e. e; arrays = λ k x e. e; pools = λ k x e. e; objects = λ k x e. e; finals = λ k x e. e; cells = grows_more p.cells (c ∷ []); sections = λ k x e. e; threads = λ k x e. e; helpers = refl }
+begins_cell p c = record { classes = λ k x e. e; structs = λ k x e. e; globals = λ k x e. e; arrays = λ k x e. e; pools = λ k x e. e; objects = λ k x e. e; finals = λ k x e. e; cells = grows_more p.cells (c ∷ []); sections = λ k x e. e; threads = λ k x e. e; helpers = λ k x e. e }
 
 pub begins_elements : (p : core.Program) (a : ℕ) (t : core_type.ValueType) (n : ℕ) → Begins p (with_elements p a t n)
 begins_elements p a t zero = begins_same p
 begins_elements p a t (suc n) = begins_on p (with_elements p a t n) (with_elements p a t (suc n)) (begins_elements p a t n) (begins_cell (with_elements p a t n) (record { owner = owner.Element a n; value_type = t; opening = default_of t }))
 
 begins_thing : (p : core.Program) (o : Object) (cs : List Cell) (fs : List ℕ) → Begins p (with_thing p o cs fs)
-begins_thing p o cs fs = record { classes = λ k x e. e; structs = λ k x e. e; globals = λ k x e. e; arrays = λ k x e. e; pools = λ k x e. e; objects = grows_more p.objects (o ∷ []); finals = grows_more p.finals fs; cells = grows_more p.cells cs; sections = λ k x e. e; threads = λ k x e. e; helpers = refl }
+begins_thing p o cs fs = record { classes = λ k x e. e; structs = λ k x e. e; globals = λ k x e. e; arrays = λ k x e. e; pools = λ k x e. e; objects = grows_more p.objects (o ∷ []); finals = grows_more p.finals fs; cells = grows_more p.cells cs; sections = λ k x e. e; threads = λ k x e. e; helpers = λ k x e. e }
 
 pub begins_object : (decls : List Decl) (number : ℕ) (ms : List Member) (p q : core.Program) → Objected decls number ms p q → Begins p q
 begins_object decls number ms p q o = begins_is p (with_thing p (record { pool = number; cells = length p.cells; finals = length p.finals }) o.cells o.finals) q (begins_thing p (record { pool = number; cells = length p.cells; finals = length p.finals }) o.cells o.finals) (sym o.is)
@@ -301,13 +307,13 @@ begins_chain decls number ms zero p q c = begins_is p p q (begins_same p) c
 begins_chain decls number ms (suc n) p q c = begins_on p c.0 q (begins_chain decls number ms n p c.0 c.1) (begins_object decls number ms c.0 q c.2)
 
 pub begins_array : (p : core.Program) (name : List ℕ) (first length : ℕ) (t : core_type.ValueType) (c : ℕ) → Begins p (array_added p name first length t c)
-begins_array p name first length t c = record { classes = λ k x e. e; structs = λ k x e. e; globals = λ k x e. e; arrays = grows_more p.arrays (record { name = name; first = first; length = length; element_type = t; class = c } ∷ []); pools = λ k x e. e; objects = λ k x e. e; finals = λ k x e. e; cells = λ k x e. e; sections = λ k x e. e; threads = λ k x e. e; helpers = refl }
+begins_array p name first length t c = record { classes = λ k x e. e; structs = λ k x e. e; globals = λ k x e. e; arrays = grows_more p.arrays (record { name = name; first = first; length = length; element_type = t; class = c } ∷ []); pools = λ k x e. e; objects = λ k x e. e; finals = λ k x e. e; cells = λ k x e. e; sections = λ k x e. e; threads = λ k x e. e; helpers = λ k x e. e }
 
 pub begins_pool : (p : core.Program) (name : List ℕ) (first length s : ℕ) → Begins p (pool_added p name first length s)
-begins_pool p name first length s = record { classes = λ k x e. e; structs = λ k x e. e; globals = λ k x e. e; arrays = λ k x e. e; pools = grows_more p.pools (record { name = name; first = first; length = length; structure = s } ∷ []); objects = λ k x e. e; finals = λ k x e. e; cells = λ k x e. e; sections = λ k x e. e; threads = λ k x e. e; helpers = refl }
+begins_pool p name first length s = record { classes = λ k x e. e; structs = λ k x e. e; globals = λ k x e. e; arrays = λ k x e. e; pools = grows_more p.pools (record { name = name; first = first; length = length; structure = s } ∷ []); objects = λ k x e. e; finals = λ k x e. e; cells = λ k x e. e; sections = λ k x e. e; threads = λ k x e. e; helpers = λ k x e. e }
 
 pub begins_global : (p : core.Program) (name : List ℕ) (cell c : ℕ) (t : core_type.ValueType) (w : Value) → Begins p (global_added p name cell c t w)
-begins_global p name cell c t w = record { classes = λ k x e. e; structs = λ k x e. e; globals = grows_more p.globals (record { name = name; cell = cell; class = c } ∷ []); arrays = λ k x e. e; pools = λ k x e. e; objects = λ k x e. e; finals = λ k x e. e; cells = grows_more p.cells (record { owner = owner.Global (length p.globals); value_type = t; opening = w } ∷ []); sections = λ k x e. e; threads = λ k x e. e; helpers = refl }
+begins_global p name cell c t w = record { classes = λ k x e. e; structs = λ k x e. e; globals = grows_more p.globals (record { name = name; cell = cell; class = c } ∷ []); arrays = λ k x e. e; pools = λ k x e. e; objects = λ k x e. e; finals = λ k x e. e; cells = grows_more p.cells (record { owner = owner.Global (length p.globals); value_type = t; opening = w } ∷ []); sections = λ k x e. e; threads = λ k x e. e; helpers = λ k x e. e }
 
 -- a struct's classes
 shaped_classes : (decls : List Decl) (k i : ℕ) (all : List Member) (st : StructBuilder) (m : Member) (to : StructBuilder) → member_added decls k i all (Some st) m ≡ Some to → Grows st.classes to.classes
@@ -343,10 +349,10 @@ all_classes decls k i all st (m ∷ ms) to e =
     λ j x g. b j x (a j x g)
 
 pub begins_adds : (decls : List Decl) (i : ℕ) (p : core.Program) (d : Decl) (q : core.Program) → Adds decls i p d q → Begins p q
-begins_adds decls i p (lock x) q a = begins_is p (with_class p (core.global_lock x.text)) q (record { classes = grows_more p.classes (core.global_lock x.text ∷ []); structs = λ k x e. e; globals = λ k x e. e; arrays = λ k x e. e; pools = λ k x e. e; objects = λ k x e. e; finals = λ k x e. e; cells = λ k x e. e; sections = λ k x e. e; threads = λ k x e. e; helpers = refl }) a
+begins_adds decls i p (lock x) q a = begins_is p (with_class p (core.global_lock x.text)) q (record { classes = grows_more p.classes (core.global_lock x.text ∷ []); structs = λ k x e. e; globals = λ k x e. e; arrays = λ k x e. e; pools = λ k x e. e; objects = λ k x e. e; finals = λ k x e. e; cells = λ k x e. e; sections = λ k x e. e; threads = λ k x e. e; helpers = λ k x e. e }) a
 begins_adds decls i p (struct s) q a =
     let g = all_classes decls (length p.structs) i s.members (record { structure = empty_struct s.name.text; classes = p.classes }) s.members a.0 a.1 in
-    begins_is p (record p { classes = a.0.classes; structs = p.structs ++ a.0.structure ∷ [] }) q (record { classes = g; structs = grows_more p.structs (a.0.structure ∷ []); globals = λ k x e. e; arrays = λ k x e. e; pools = λ k x e. e; objects = λ k x e. e; finals = λ k x e. e; cells = λ k x e. e; sections = λ k x e. e; threads = λ k x e. e; helpers = refl }) a.2
+    begins_is p (record p { classes = a.0.classes; structs = p.structs ++ a.0.structure ∷ [] }) q (record { classes = g; structs = grows_more p.structs (a.0.structure ∷ []); globals = λ k x e. e; arrays = λ k x e. e; pools = λ k x e. e; objects = λ k x e. e; finals = λ k x e. e; cells = λ k x e. e; sections = λ k x e. e; threads = λ k x e. e; helpers = λ k x e. e }) a.2
 begins_adds decls i p (global v) q a = begins_is p (global_added p v.name.text (length p.cells) a.0 a.1 a.2) q (begins_global p v.name.text (length p.cells) a.0 a.1 a.2) a.7
 begins_adds decls i p (array x) q a =
     let p1 = array_added p x.name.text (length p.cells) x.length.value a.1 a.0 in
@@ -356,5 +362,6 @@ begins_adds decls i p (pool x) q a =
     let p1 = pool_added p x.name.text (length p.objects) x.length.value a.0 in
     begins_on p p1 q (begins_pool p x.name.text (length p.objects) x.length.value a.0) (begins_chain decls (length p.pools) a.1 x.length.value p1 q a.4)
 begins_adds decls i p (init j) q a = begins_is p p q (begins_same p) a
-begins_adds decls i p (atomic s) q a = begins_is p (record p { sections = p.sections ++ a.0 ∷ [] }) q (record { classes = λ k x e. e; structs = λ k x e. e; globals = λ k x e. e; arrays = λ k x e. e; pools = λ k x e. e; objects = λ k x e. e; finals = λ k x e. e; cells = λ k x e. e; sections = grows_more p.sections (a.0 ∷ []); threads = λ k x e. e; helpers = refl }) a.2
-begins_adds decls i p (thread t) q a = begins_is p (record p { threads = p.threads ++ record { name = t.name.text; calls = a.0 } ∷ [] }) q (record { classes = λ k x e. e; structs = λ k x e. e; globals = λ k x e. e; arrays = λ k x e. e; pools = λ k x e. e; objects = λ k x e. e; finals = λ k x e. e; cells = λ k x e. e; sections = λ k x e. e; threads = grows_more p.threads (record { name = t.name.text; calls = a.0 } ∷ []); helpers = refl }) a.2
+begins_adds decls i p (atomic s) q a = begins_is p (record p { sections = p.sections ++ a.0 ∷ [] }) q (record { classes = λ k x e. e; structs = λ k x e. e; globals = λ k x e. e; arrays = λ k x e. e; pools = λ k x e. e; objects = λ k x e. e; finals = λ k x e. e; cells = λ k x e. e; sections = grows_more p.sections (a.0 ∷ []); threads = λ k x e. e; helpers = λ k x e. e }) a.2
+begins_adds decls i p (helper s) q a = begins_is p (record p { helpers = p.helpers ++ a.0 ∷ [] }) q (record { classes = λ k x e. e; structs = λ k x e. e; globals = λ k x e. e; arrays = λ k x e. e; pools = λ k x e. e; objects = λ k x e. e; finals = λ k x e. e; cells = λ k x e. e; sections = λ k x e. e; threads = λ k x e. e; helpers = grows_more p.helpers (a.0 ∷ []) }) a.2
+begins_adds decls i p (thread t) q a = begins_is p (record p { threads = p.threads ++ record { name = t.name.text; calls = a.0 } ∷ [] }) q (record { classes = λ k x e. e; structs = λ k x e. e; globals = λ k x e. e; arrays = λ k x e. e; pools = λ k x e. e; objects = λ k x e. e; finals = λ k x e. e; cells = λ k x e. e; sections = λ k x e. e; threads = grows_more p.threads (record { name = t.name.text; calls = a.0 } ∷ []); helpers = λ k x e. e }) a.2

@@ -2,7 +2,7 @@
 use Rattle.std.proofs.Common.{◌≡◌, ℕ, zero, suc, ◌+◌, ◌*◌, ◌≤◌, List, [], ◌∷◌, ◌++◌, length, Option, Some, None, refl, sym, ap, ◌∙◌, subst, append_assoc, arith}
 use Rattle.std.specs.Prelude.{slice_get, take, ⊤}
 use Rattle.std.proofs.lemmas.List.{length-append, append-nil}
-use Rattle.syntax.specs.Trees.{Ident, Member, lock_member, final_member, field_member, Final, Field, Struct, Array, Pool, Section, Decl, lock, struct, global, array, pool, init, atomic, thread}
+use Rattle.syntax.specs.Trees.{Ident, Member, lock_member, final_member, field_member, Final, Field, Struct, Array, Pool, Section, Decl, lock, struct, global, array, pool, init, atomic, helper, thread}
 use Rattle.core_lang.specs.declared.value.ValueType as core_type
 use Rattle.core_lang.specs.declared.typed.Owner.TheVariants as owner
 use Rattle.resolution.specs.Core as core
@@ -167,6 +167,7 @@ members_by decls x ms (Some (n, array y)) e h = cc
 members_by decls x ms (Some (n, pool y)) e h = cc
 members_by decls x ms (Some (n, init y)) e h = cc
 members_by decls x ms (Some (n, atomic y)) e h = cc
+members_by decls x ms (Some (n, helper y)) e h = cc
 members_by decls x ms (Some (n, thread y)) e h = cc
 members_by decls x ms None e h = cc
 
@@ -187,6 +188,7 @@ pub record Leaves (p q : core.Program) : Type 0 where
   pub arrays : q.arrays ≡ p.arrays
   pub pools : q.pools ≡ p.pools
   pub sections : q.sections ≡ p.sections
+  pub helpers : q.helpers ≡ p.helpers
   pub threads : q.threads ≡ p.threads
 
 pub object_leaves : (decls : List Decl) (number : ℕ) (ms : List Member) (p q : core.Program) → Objected decls number ms p q → Leaves p q
@@ -197,14 +199,15 @@ object_leaves decls number ms p q o = record {
   arrays = ap (λ (x : core.Program). x.arrays) o.is;
   pools = ap (λ (x : core.Program). x.pools) o.is;
   sections = ap (λ (x : core.Program). x.sections) o.is;
+  helpers = ap (λ (x : core.Program). x.helpers) o.is;
   threads = ap (λ (x : core.Program). x.threads) o.is;
 }
 
 leaves_same : (p q : core.Program) → p ≡ q → Leaves p q
-leaves_same p q e = subst (Leaves p) e (record { classes = refl; structs = refl; globals = refl; arrays = refl; pools = refl; sections = refl; threads = refl })
+leaves_same p q e = subst (Leaves p) e (record { classes = refl; structs = refl; globals = refl; arrays = refl; pools = refl; sections = refl; helpers = refl; threads = refl })
 
 pub leaves_on : (p q r : core.Program) → Leaves p q → Leaves q r → Leaves p r
-leaves_on p q r a b = record { classes = b.classes ∙ a.classes; structs = b.structs ∙ a.structs; globals = b.globals ∙ a.globals; arrays = b.arrays ∙ a.arrays; pools = b.pools ∙ a.pools; sections = b.sections ∙ a.sections; threads = b.threads ∙ a.threads }
+leaves_on p q r a b = record { classes = b.classes ∙ a.classes; structs = b.structs ∙ a.structs; globals = b.globals ∙ a.globals; arrays = b.arrays ∙ a.arrays; pools = b.pools ∙ a.pools; sections = b.sections ∙ a.sections; helpers = b.helpers ∙ a.helpers; threads = b.threads ∙ a.threads }
 
 pub chain_leaves : (decls : List Decl) (number : ℕ) (ms : List Member) (n : ℕ) (p q : core.Program) → Chain decls number ms n p q → Leaves p q
 chain_leaves decls number ms zero p q c = leaves_same p q c
@@ -214,7 +217,7 @@ pub elements_leave : (p : core.Program) (a : ℕ) (t : core_type.ValueType) (n :
 elements_leave p a t zero = leaves_same p p refl
 elements_leave p a t (suc n) =
     let r = elements_leave p a t n in
-    record { classes = r.classes; structs = r.structs; globals = r.globals; arrays = r.arrays; pools = r.pools; sections = r.sections; threads = r.threads }
+    record { classes = r.classes; structs = r.structs; globals = r.globals; arrays = r.arrays; pools = r.pools; sections = r.sections; helpers = r.helpers; threads = r.threads }
 
 pub elements_objects : (p : core.Program) (a : ℕ) (t : core_type.ValueType) (n : ℕ) → (with_elements p a t n).objects ≡ p.objects
 elements_objects p a t zero = refl
@@ -257,64 +260,69 @@ pub record Counts (decls before : List Decl) (p : core.Program) : Type 0 where
   pub arrays : (a : Array) → length p.arrays ≡ count (alike (array a)) before
   pub pools : (x : Pool) → length p.pools ≡ count (alike (pool x)) before
   pub sections : (s : Section) → length p.sections ≡ count (alike (atomic s)) before
+  pub helpers : (s : Section) → length p.helpers ≡ count (alike (helper s)) before
   pub objects : length p.objects ≡ total objects_of before
   pub cells : length p.cells ≡ total (cells_of decls) before
 
 -- more of each
-pub record More (p q : core.Program) (c s a x k o n : ℕ) : Type 0 where
+pub record More (p q : core.Program) (c s a x k g o n : ℕ) : Type 0 where
   pub classes : length q.classes ≡ length p.classes + c
   pub structs : length q.structs ≡ length p.structs + s
   pub arrays : length q.arrays ≡ length p.arrays + a
   pub pools : length q.pools ≡ length p.pools + x
   pub sections : length q.sections ≡ length p.sections + k
+  pub helpers : length q.helpers ≡ length p.helpers + g
   pub objects : length q.objects ≡ length p.objects + o
   pub cells : length q.cells ≡ length p.cells + n
 
 -- what a declaration adds of each
 abbrev pub Own : List Decl → Decl → core.Program → core.Program → Type 0
-Own decls (lock y) p q = More p q 1 0 0 0 0 0 0
-Own decls (struct s) p q = More p q (count is_lock s.members) 1 0 0 0 0 0
-Own decls (global v) p q = More p q 0 0 0 0 0 0 1
-Own decls (array b) p q = More p q 0 0 1 0 0 0 b.length.value
-Own decls (pool y) p q = More p q 0 0 0 1 0 y.length.value (cells_of decls (pool y))
-Own decls (init j) p q = More p q 0 0 0 0 0 0 0
-Own decls (atomic s) p q = More p q 0 0 0 0 1 0 0
-Own decls (thread t) p q = More p q 0 0 0 0 0 0 0
+Own decls (lock y) p q = More p q 1 0 0 0 0 0 0 0
+Own decls (struct s) p q = More p q (count is_lock s.members) 1 0 0 0 0 0 0
+Own decls (global v) p q = More p q 0 0 0 0 0 0 0 1
+Own decls (array b) p q = More p q 0 0 1 0 0 0 0 b.length.value
+Own decls (pool y) p q = More p q 0 0 0 1 0 0 y.length.value (cells_of decls (pool y))
+Own decls (init j) p q = More p q 0 0 0 0 0 0 0 0
+Own decls (atomic s) p q = More p q 0 0 0 0 1 0 0 0
+Own decls (helper s) p q = More p q 0 0 0 0 0 1 0 0
+Own decls (thread t) p q = More p q 0 0 0 0 0 0 0 0
 
 plain : {n : ℕ} → n ≡ n + 0
 plain {n} = omega arith
 
-more_is : (p q r : core.Program) (c s a x k o n : ℕ) → More p q c s a x k o n → q ≡ r → More p r c s a x k o n
-more_is p q r c s a x k o n m e = subst (λ (y : core.Program). More p y c s a x k o n) e m
+more_is : (p q r : core.Program) (c s a x k g o n : ℕ) → More p q c s a x k g o n → q ≡ r → More p r c s a x k g o n
+more_is p q r c s a x k g o n m e = subst (λ (y : core.Program). More p y c s a x k g o n) e m
 
 own : (decls : List Decl) → Clean decls → (i : ℕ) (p : core.Program) (d : Decl) (q : core.Program) → Adds decls i p d q → Own decls d p q
-own decls clean i p (lock y) q a = more_is p (with_class p (core.global_lock y.text)) q 1 0 0 0 0 0 0 (record { classes = length_push p.classes (core.global_lock y.text); structs = plain; arrays = plain; pools = plain; sections = plain; objects = plain; cells = plain }) a
+own decls clean i p (lock y) q a = more_is p (with_class p (core.global_lock y.text)) q 1 0 0 0 0 0 0 0 (record { classes = length_push p.classes (core.global_lock y.text); structs = plain; arrays = plain; pools = plain; sections = plain; helpers = plain; objects = plain; cells = plain }) a
 own decls clean i p (struct s) q a =
     let st : StructBuilder = record { structure = empty_struct s.name.text; classes = p.classes } in
     let r = shaped decls (length p.structs) i s.members 0 0 st s.members a.0 a.1 in
-    more_is p (record p { classes = a.0.classes; structs = p.structs ++ a.0.structure ∷ [] }) q (count is_lock s.members) 1 0 0 0 0 0
+    more_is p (record p { classes = a.0.classes; structs = p.structs ++ a.0.structure ∷ [] }) q (count is_lock s.members) 1 0 0 0 0 0 0
     (record {
       classes = ap length r.is_classes ∙ length-append p.classes r.classes ∙ ap (λ (n : ℕ). length p.classes + n) (rows_length _ 0 (locks_in s.members) r.classes r.class_rows ∙ locks_counted s.members);
       structs = length_push p.structs a.0.structure;
       arrays = plain;
       pools = plain;
       sections = plain;
+      helpers = plain;
       objects = plain;
       cells = plain;
     }) a.2
 own decls clean i p (global v) q a =
-    more_is p _ q 0 0 0 0 0 0 1 (record { classes = plain; structs = plain; arrays = plain; pools = plain; sections = plain; objects = plain; cells = length_push p.cells (record { owner = owner.Global (length p.globals); value_type = a.1; opening = a.2 }) }) a.7
+    more_is p _ q 0 0 0 0 0 0 0 1 (record { classes = plain; structs = plain; arrays = plain; pools = plain; sections = plain; helpers = plain; objects = plain; cells = length_push p.cells (record { owner = owner.Global (length p.globals); value_type = a.1; opening = a.2 }) }) a.7
 own decls clean i p (array b) q a =
     let n = b.length.value in
     let p1 = array_added p b.name.text (length p.cells) n a.1 a.0 in
     let l = elements_leave p1 (length p.arrays) a.1 n in
-    more_is p (with_elements p1 (length p.arrays) a.1 n) q 0 0 1 0 0 0 n
+    more_is p (with_elements p1 (length p.arrays) a.1 n) q 0 0 1 0 0 0 0 n
     (record {
       classes = ap length l.classes ∙ plain;
       structs = ap length l.structs ∙ plain;
       arrays = ap length l.arrays ∙ length_push p.arrays (record { name = b.name.text; first = length p.cells; length = n; element_type = a.1; class = a.0 });
       pools = ap length l.pools ∙ plain;
       sections = ap length l.sections ∙ plain;
+      helpers = ap length l.helpers ∙ plain;
       objects = ap length (elements_objects p1 (length p.arrays) a.1 n) ∙ plain;
       cells = elements_cells p1 (length p.arrays) a.1 n;
     }) a.4
@@ -328,35 +336,39 @@ own decls clean i p (pool y) q a =
       arrays = ap length l.arrays ∙ plain;
       pools = ap length l.pools ∙ length_push p.pools (record { name = y.name.text; first = length p.objects; length = n; structure = a.0 });
       sections = ap length l.sections ∙ plain;
+      helpers = ap length l.helpers ∙ plain;
       objects = chain_objects decls (length p.pools) a.1 n p1 q a.4;
       cells = chain_cells decls (length p.pools) a.1 n p1 q a.4 ∙ ap (λ (w : ℕ). length p.cells + n * w) (sym (wide decls clean y.target a.1 a.3));
     }
-own decls clean i p (init j) q a = more_is p p q 0 0 0 0 0 0 0 (record { classes = plain; structs = plain; arrays = plain; pools = plain; sections = plain; objects = plain; cells = plain }) a
-own decls clean i p (atomic s) q a = more_is p (record p { sections = p.sections ++ a.0 ∷ [] }) q 0 0 0 0 1 0 0 (record { classes = plain; structs = plain; arrays = plain; pools = plain; sections = length_push p.sections a.0; objects = plain; cells = plain }) a.2
-own decls clean i p (thread t) q a = more_is p (record p { threads = p.threads ++ record { name = t.name.text; calls = a.0 } ∷ [] }) q 0 0 0 0 0 0 0 (record { classes = plain; structs = plain; arrays = plain; pools = plain; sections = plain; objects = plain; cells = plain }) a.2
+own decls clean i p (init j) q a = more_is p p q 0 0 0 0 0 0 0 0 (record { classes = plain; structs = plain; arrays = plain; pools = plain; sections = plain; helpers = plain; objects = plain; cells = plain }) a
+own decls clean i p (atomic s) q a = more_is p (record p { sections = p.sections ++ a.0 ∷ [] }) q 0 0 0 0 1 0 0 0 (record { classes = plain; structs = plain; arrays = plain; pools = plain; sections = length_push p.sections a.0; helpers = plain; objects = plain; cells = plain }) a.2
+own decls clean i p (helper s) q a = more_is p (record p { helpers = p.helpers ++ a.0 ∷ [] }) q 0 0 0 0 0 1 0 0 (record { classes = plain; structs = plain; arrays = plain; pools = plain; sections = plain; helpers = length_push p.helpers a.0; objects = plain; cells = plain }) a.2
+own decls clean i p (thread t) q a = more_is p (record p { threads = p.threads ++ record { name = t.name.text; calls = a.0 } ∷ [] }) q 0 0 0 0 0 0 0 0 (record { classes = plain; structs = plain; arrays = plain; pools = plain; sections = plain; helpers = plain; objects = plain; cells = plain }) a.2
 
 -- the counts behind a declaration
-counts_more : (decls before : List Decl) (d : Decl) (p q : core.Program) (c s a x k o n : ℕ) → Counts decls before p → More p q c s a x k o n → classes_of d ≡ c → ((y : Struct) → as_one (alike (struct y) d) ≡ s) → ((y : Array) → as_one (alike (array y) d) ≡ a) → ((y : Pool) → as_one (alike (pool y) d) ≡ x) → ((y : Section) → as_one (alike (atomic y) d) ≡ k) →
+counts_more : (decls before : List Decl) (d : Decl) (p q : core.Program) (c s a x k g o n : ℕ) → Counts decls before p → More p q c s a x k g o n → classes_of d ≡ c → ((y : Struct) → as_one (alike (struct y) d) ≡ s) → ((y : Array) → as_one (alike (array y) d) ≡ a) → ((y : Pool) → as_one (alike (pool y) d) ≡ x) → ((y : Section) → as_one (alike (atomic y) d) ≡ k) → ((y : Section) → as_one (alike (helper y) d) ≡ g) →
     objects_of d ≡ o → cells_of decls d ≡ n → Counts decls (before ++ d ∷ []) q
-counts_more decls before d p q c s a x k o n h m ec es ea ex ek eo en = record {
+counts_more decls before d p q c s a x k g o n h m ec es ea ex ek eg eo en = record {
   classes = (let u = m.classes in let v = h.classes in let w = total_push classes_of before d in omega (arith, u, v, w, ec));
   structs = λ y. (let u = m.structs in let v = h.structs y in let w = count_push (alike (struct y)) before d in let e = es y in omega (arith, u, v, w, e));
   arrays = λ y. (let u = m.arrays in let v = h.arrays y in let w = count_push (alike (array y)) before d in let e = ea y in omega (arith, u, v, w, e));
   pools = λ y. (let u = m.pools in let v = h.pools y in let w = count_push (alike (pool y)) before d in let e = ex y in omega (arith, u, v, w, e));
   sections = λ y. (let u = m.sections in let v = h.sections y in let w = count_push (alike (atomic y)) before d in let e = ek y in omega (arith, u, v, w, e));
+  helpers = λ y. (let u = m.helpers in let v = h.helpers y in let w = count_push (alike (helper y)) before d in let e = eg y in omega (arith, u, v, w, e));
   objects = (let u = m.objects in let v = h.objects in let w = total_push objects_of before d in omega (arith, u, v, w, eo));
   cells = (let u = m.cells in let v = h.cells in let w = total_push (cells_of decls) before d in omega (arith, u, v, w, en));
 }
 
 counts_next : (decls before : List Decl) (d : Decl) (p q : core.Program) → Counts decls before p → Own decls d p q → Counts decls (before ++ d ∷ []) q
-counts_next decls before (lock y) p q h m = counts_more decls before (lock y) p q 1 0 0 0 0 0 0 h m refl (λ z. refl) (λ z. refl) (λ z. refl) (λ z. refl) refl refl
-counts_next decls before (struct y) p q h m = counts_more decls before (struct y) p q (count is_lock y.members) 1 0 0 0 0 0 h m refl (λ z. refl) (λ z. refl) (λ z. refl) (λ z. refl) refl refl
-counts_next decls before (global y) p q h m = counts_more decls before (global y) p q 0 0 0 0 0 0 1 h m refl (λ z. refl) (λ z. refl) (λ z. refl) (λ z. refl) refl refl
-counts_next decls before (array y) p q h m = counts_more decls before (array y) p q 0 0 1 0 0 0 y.length.value h m refl (λ z. refl) (λ z. refl) (λ z. refl) (λ z. refl) refl refl
-counts_next decls before (pool y) p q h m = counts_more decls before (pool y) p q 0 0 0 1 0 y.length.value (cells_of decls (pool y)) h m refl (λ z. refl) (λ z. refl) (λ z. refl) (λ z. refl) refl refl
-counts_next decls before (init y) p q h m = counts_more decls before (init y) p q 0 0 0 0 0 0 0 h m refl (λ z. refl) (λ z. refl) (λ z. refl) (λ z. refl) refl refl
-counts_next decls before (atomic y) p q h m = counts_more decls before (atomic y) p q 0 0 0 0 1 0 0 h m refl (λ z. refl) (λ z. refl) (λ z. refl) (λ z. refl) refl refl
-counts_next decls before (thread y) p q h m = counts_more decls before (thread y) p q 0 0 0 0 0 0 0 h m refl (λ z. refl) (λ z. refl) (λ z. refl) (λ z. refl) refl refl
+counts_next decls before (lock y) p q h m = counts_more decls before (lock y) p q 1 0 0 0 0 0 0 0 h m refl (λ z. refl) (λ z. refl) (λ z. refl) (λ z. refl) (λ z. refl) refl refl
+counts_next decls before (struct y) p q h m = counts_more decls before (struct y) p q (count is_lock y.members) 1 0 0 0 0 0 0 h m refl (λ z. refl) (λ z. refl) (λ z. refl) (λ z. refl) (λ z. refl) refl refl
+counts_next decls before (global y) p q h m = counts_more decls before (global y) p q 0 0 0 0 0 0 0 1 h m refl (λ z. refl) (λ z. refl) (λ z. refl) (λ z. refl) (λ z. refl) refl refl
+counts_next decls before (array y) p q h m = counts_more decls before (array y) p q 0 0 1 0 0 0 0 y.length.value h m refl (λ z. refl) (λ z. refl) (λ z. refl) (λ z. refl) (λ z. refl) refl refl
+counts_next decls before (pool y) p q h m = counts_more decls before (pool y) p q 0 0 0 1 0 0 y.length.value (cells_of decls (pool y)) h m refl (λ z. refl) (λ z. refl) (λ z. refl) (λ z. refl) (λ z. refl) refl refl
+counts_next decls before (init y) p q h m = counts_more decls before (init y) p q 0 0 0 0 0 0 0 0 h m refl (λ z. refl) (λ z. refl) (λ z. refl) (λ z. refl) (λ z. refl) refl refl
+counts_next decls before (atomic y) p q h m = counts_more decls before (atomic y) p q 0 0 0 0 1 0 0 0 h m refl (λ z. refl) (λ z. refl) (λ z. refl) (λ z. refl) (λ z. refl) refl refl
+counts_next decls before (helper y) p q h m = counts_more decls before (helper y) p q 0 0 0 0 0 1 0 0 h m refl (λ z. refl) (λ z. refl) (λ z. refl) (λ z. refl) (λ z. refl) refl refl
+counts_next decls before (thread y) p q h m = counts_more decls before (thread y) p q 0 0 0 0 0 0 0 0 h m refl (λ z. refl) (λ z. refl) (λ z. refl) (λ z. refl) (λ z. refl) refl refl
 
 -- ---- the walk
 
@@ -390,10 +402,6 @@ begins_whole decls before p (d ∷ ds) whole h =
     let f = first_of decls before p d ds whole h in
     begins_on p f.next whole (begins_adds decls (length before) p d f.next f.adds) (begins_whole decls (before ++ d ∷ []) f.next ds whole f.rest)
 
--- no declaration is of a helper
-pub no_helpers_whole : (decls : List Decl) (whole : core.Program) → resolved decls ≡ Some whole → whole.helpers ≡ []
-no_helpers_whole decls whole h = (begins_whole decls [] nothing_yet decls whole h).helpers
-
 pub walk : (decls : List Decl) → Clean decls → (whole : core.Program) (K : List Decl → core.Program → Type 0) → ((before : List Decl) (d : Decl) (p q : core.Program) → Step decls whole before d p q → K before p → K (before ++ d ∷ []) q) →
     (before ds : List Decl) (p : core.Program) → decls ≡ before ++ ds → Counts decls before p → K before p → resolved_from decls (length before) (Some p) ds ≡ Some whole → K decls whole × Counts decls decls whole
 walk decls clean whole K step before [] p parts n k h =
@@ -413,7 +421,7 @@ walk decls clean whole K step before (d ∷ ds) p parts n k h =
     walk decls clean whole K step (before ++ d ∷ []) ds f.next (parts ∙ sym (append_assoc before (d ∷ []) ds)) (counts_next decls before d p f.next n (own decls clean (length before) p d f.next f.adds)) (step before d p f.next st k) f.rest
 
 no_counts : (decls : List Decl) → Counts decls [] nothing_yet
-no_counts decls = record { classes = refl; structs = λ s. refl; arrays = λ s. refl; pools = λ s. refl; sections = λ s. refl; objects = refl; cells = refl }
+no_counts decls = record { classes = refl; structs = λ s. refl; arrays = λ s. refl; pools = λ s. refl; sections = λ s. refl; helpers = λ s. refl; objects = refl; cells = refl }
 
 -- what holds of nothing and is kept by each step, holds of the whole
 pub walked_whole : (decls : List Decl) → Clean decls → (whole : core.Program) → resolved decls ≡ Some whole → (K : List Decl → core.Program → Type 0) → K [] nothing_yet → ((before : List Decl) (d : Decl) (p q : core.Program) → Step decls whole before d p q → K before p → K (before ++ d ∷ []) q) → K decls whole

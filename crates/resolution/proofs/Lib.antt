@@ -6,10 +6,12 @@ pub mod TrueStatements
 pub mod TrueDeclarations
 pub mod TrueFaults
 pub mod Parts
+pub mod HelperFaults
 pub mod AllFaults
 pub mod FaultlessExpressions
 pub mod FaultlessResolvedExprs
 pub mod FaultlessOwners
+pub mod FaultlessCalls
 pub mod FaultlessStatements
 pub mod FaultlessConstants
 pub mod FaultlessSections
@@ -19,6 +21,7 @@ pub mod FaultlessPrograms
 pub mod Typed
 pub mod TypedResolvedExprs
 pub mod TypedOwners
+pub mod TypedCalls
 pub mod TypedStatements
 pub mod Scoped
 pub mod ScopedStatements

@@ -6,22 +6,23 @@ use Rattle.source.specs.declared.fault.Code.TheVariants.{WrongArgumentCount, Lim
 use Rattle.syntax.specs.declared.tree.Op.{Op}
 use Rattle.syntax.specs.declared.tree.Level.{Level}
 use Rattle.syntax.specs.Trees as tree
-use Rattle.syntax.specs.Trees.{Ident, ValueType, ref_type, Const, element, Expr, place, paren, prefix, chain, compare, Links, no_links, link, Owner, Stmt, let_local, let_owned, var_local, assign, if_then, while, print, return_value, Stmts, no_stmts, stmt, else_do, Member, lock_member, final_member, field_member, Field, Final, Param, Section, Call, call, repeat, Items, no_items, item, Decl, struct, global, array, pool, init, atomic, thread}
+use Rattle.syntax.specs.Trees.{Ident, ValueType, ref_type, Const, element, Expr, place, paren, prefix, chain, compare, Links, no_links, link, Owner, HelperCall, CalledLocal, Stmt, let_local, let_owned, let_call, var_local, assign, if_then, while, print, return_value, Stmts, no_stmts, stmt, else_do, Member, lock_member, final_member, field_member, Field, Final, Param, Section, Call, call, repeat, Items, no_items, item, Decl, struct, global, array, pool, init, atomic, helper, thread}
 use Rattle.core_lang.specs.declared.value.ValueType.TheVariants.{Integer}
 use Rattle.core_lang.specs.declared.tree.LocalKind.TheVariants as kind
 use Rattle.source.specs.declared.mistake.Mistake.{Mistake}
 use Rattle.resolution.specs.declared.wanted.Want.{Want}
 use Rattle.resolution.specs.declared.wanted.Want.TheVariants.{Anything, Condition, Value}
-use Rattle.resolution.specs.Limits.{PARAMETER_LIMIT}
-use Rattle.resolution.specs.Scopes.{Scope, outside, meaning, the_decl, type_of, bound, entered, left}
+use Rattle.resolution.specs.declared.body_limits.BodyLimits.{BodyLimits}
+use Rattle.resolution.specs.Scopes.{Scope, outside, meaning, helper_meant, the_decl, type_of, bound, entered, left}
 use Rattle.resolution.specs.Expressions.{ResolvedExpr, value, truth, want, typed}
 use Rattle.resolution.specs.Statements.{after, after_all}
 use Rattle.resolution.specs.Constants.{want_of, members_of, pool_members, initialised, member_want}
 use Rattle.resolution.specs.Resolution.{ahead_of, entry}
 use Rattle.resolution.specs.Where as site
-use Rattle.resolution.specs.Where.{Has, first, further, HasLink, this_link, later_link, operand_want, prefix_want, side_want, Within, itself, in_parentheses, in_prefix, in_first, in_operand, in_left, in_right, in_index, Among, here, later, in_then, in_else, in_while, Asks, of_let, of_owned, of_var, of_assign, of_index, of_while, of_print, of_return, HasStmt, in_section, HasExpr, in_stmt, Binds, parameter, a_let, an_owned_let, a_var, HasType, of_global, of_array, of_pool, of_final, of_field, of_parameter, of_result, of_a_let, of_an_owned_let, of_a_var, InItems, this_call, in_repeat, later_call, HasCall, in_thread, HasConst, opening, initial, argument}
+use Rattle.resolution.specs.Where.{Has, first, further, HasLink, this_link, later_link, operand_want, prefix_want, side_want, Within, itself, in_parentheses, in_prefix, in_first, in_operand, in_left, in_right, in_index, Among, here, later, in_then, in_else, in_while, IsArgument, for_parameter, for_nothing, Asks, of_let, of_owned, of_let_call, of_var, of_assign, of_index, of_while, of_print, of_return, of_call_alone, HasBody, of_section, of_helper, HasStmt, in_body, HasHelperCall, by_let, by_itself, HasExpr, in_stmt, Binds, parameter, a_let, an_owned_let, a_called_let, a_var, HasType, of_global, of_array, of_pool, of_final, of_field, of_parameter, of_result, of_a_let, of_an_owned_let, of_a_called_let, of_a_var, InItems, this_call, in_repeat, later_call, HasCall, in_thread, HasConst, opening, initial, argument}
 use Rattle.resolution.specs.Faults.{start_of}
-use Rattle.resolution.specs.FaultLists.{one, one_if, misfit, no_elements, no_array, operator_faults, side_faults, expr_faults, link_faults, wanted_faults, local_faults, type_faults, target_faults, binding_faults, owner_faults, stmt_faults, stmts_faults, param_faults, result_faults, const_faults, argument_faults, lock_faults, protection_faults, members_faults, opening_faults, missing_faults, index_faults, named_faults, null_faults, call_faults, item_faults, items_faults, decl_faults, each_faults, twice_faults, struct_faults, total_faults, repeated_faults, program_faults}
+use Rattle.resolution.specs.FaultLists as list
+use Rattle.resolution.specs.FaultLists.{one, one_if, misfit, no_elements, no_array, operator_faults, side_faults, expr_faults, link_faults, wanted_faults, local_faults, type_faults, target_faults, binding_faults, owner_faults, values_faults, each_value_faults, passed_values_faults, helper_call_faults, given_back_faults, called_faults, stmt_faults, stmts_faults, param_faults, result_faults, section_faults, const_faults, argument_faults, lock_faults, protection_faults, members_faults, opening_faults, missing_faults, index_faults, named_faults, null_faults, call_faults, item_faults, items_faults, decl_faults, each_faults, twice_faults, struct_faults, total_faults, repeated_faults, program_faults}
 use Rattle.source.specs.Leasts.{IsAmong}
 use Rattle.resolution.proofs.Members as m
 use Rattle.resolution.proofs.TrueStatements.{after_same, entered_same}
@@ -75,11 +76,41 @@ part sc w v (compare a c b) x (in_right h) f i =
 part sc w v (place (element y e)) x (in_index h) f i =
     m.in_left f (expr_faults sc (place (element y e))) _ (deepen f (no_elements sc.decls y.span.start (meaning sc y.text)) (expr_faults sc e) (misfit (Value Integer) (start_of e) (typed sc e)) (part sc (Value Integer) v e x h f i))
 
+-- ---- arguments of calls
+
+pub same_count : (n k : ℕ) → n ≡ k → (n == k) ≡ true
+same_count n k e = grind (arith, nat_tests)
+
+in_values : (sc : Scope) (ps : List Param) (es : List Expr) (k : ℕ) (p : Param) (e : Expr) → slice_get ps k ≡ Some p → slice_get es k ≡ Some e → (f : Mistake) → IsAmong f (wanted_faults sc (want_of sc.decls p) e) → IsAmong f (values_faults sc ps es)
+in_values sc [] es k p e a b f i = cc
+in_values sc (q ∷ ps) [] k p e a b f i = cc
+in_values sc (q ∷ ps) (d ∷ es) zero p e a b f i =
+    let x : q ≡ p = cc in
+    let y : d ≡ e = cc in
+    m.in_left f (wanted_faults sc (want_of sc.decls q) d) (values_faults sc ps es) (subst (λ (z : Param). IsAmong f (wanted_faults sc (want_of sc.decls z) d)) (sym x) (subst (λ (z : Expr). IsAmong f (wanted_faults sc (want_of sc.decls p) z)) (sym y) i))
+in_values sc (q ∷ ps) (d ∷ es) (suc k) p e a b f i = m.in_right f (wanted_faults sc (want_of sc.decls q) d) _ (in_values sc ps es k p e a b f i)
+
+in_each_value : (sc : Scope) (es : List Expr) (e : Expr) → Has es e → (f : Mistake) → IsAmong f (wanted_faults sc Anything e) → IsAmong f (each_value_faults sc es)
+in_each_value sc [] e h f i = elim h [ ]
+in_each_value sc (d ∷ es) e first f i = m.in_left f _ (each_value_faults sc es) i
+in_each_value sc (d ∷ es) e (further h) f i = m.in_right f (wanted_faults sc Anything d) _ (in_each_value sc es e h f i)
+
+in_passed : (sc : Scope) (o : Option (ℕ × Section)) (es : List Expr) (w : Want) (e : Expr) → IsArgument sc.decls o es w e → (f : Mistake) → IsAmong f (wanted_faults sc w e) → IsAmong f (passed_values_faults sc o es)
+in_passed sc (Some (n, s)) es w e (for_parameter k {p = p} len a b) f i =
+    subst (IsAmong f) (sym (ap (λ (t : Bool). if t then values_faults sc s.params es else []) (same_count (length es) (length s.params) len))) (in_values sc s.params es k p e a b f i)
+in_passed sc None es w e (for_nothing h) f i = in_each_value sc es e h f i
+
+passed_in : (sc : Scope) (c : HelperCall) (w : Want) (e : Expr) → IsArgument sc.decls (helper_meant (meaning sc c.helper.text)) c.arguments w e → (f : Mistake) → IsAmong f (wanted_faults sc w e) → IsAmong f (helper_call_faults sc c)
+passed_in sc c w e p f i = m.in_right f (list.no_helper sc.decls c.helper.span.start (length c.arguments) (meaning sc c.helper.text)) _ (in_passed sc (helper_meant (meaning sc c.helper.text)) c.arguments w e p f i)
+
 -- ---- statements
 
 asked : (sc : Scope) (s : Stmt) (w : Want) (e : Expr) → Asks sc s w e → (f : Mistake) → IsAmong f (wanted_faults sc w e) → IsAmong f (stmt_faults sc s)
 asked sc (let_local l) w e of_let f i = m.in_right f (local_faults sc l.name ++ type_faults sc l.value_type) _ i
 asked sc (let_owned l o) w e of_owned f i = m.in_left f (binding_faults sc l) _ (m.in_right f (local_faults sc l.name ++ type_faults sc l.value_type) _ i)
+asked sc (let_call l) w e (of_let_call p) f i =
+    m.in_right f (local_faults sc l.name ++ type_faults sc l.value_type ++ given_back_faults sc.decls l.call.helper.span.start (type_of sc l.value_type) (helper_meant (meaning sc l.call.helper.text))) _
+    (passed_in sc l.call w e p f i)
 asked sc (var_local l) w e of_var f i = m.in_right f (local_faults sc l.name ++ type_faults sc l.value_type) _ i
 asked sc (assign p e) w x of_assign f i = m.in_right f (target_faults sc p) _ i
 asked sc (assign (element y j) e) w x of_index f i =
@@ -88,6 +119,7 @@ asked sc (if_then start e body close other) w x site.of_if f i = m.in_left f (wa
 asked sc (while start e body close) w x of_while f i = m.in_left f (wanted_faults sc Condition e) _ i
 asked sc (print start e) w x of_print f i = i
 asked sc (return_value start e) w x of_return f i = i
+asked sc (call start c) w x (of_call_alone p) f i = passed_in sc c w x p f i
 
 among : (sc sc' : Scope) (ss : Stmts) (s : Stmt) → Among sc ss sc' s → (f : Mistake) → IsAmong f (stmt_faults sc' s) → IsAmong f (stmts_faults sc ss)
 among sc sc' no_stmts r h f i = elim h [ ]
@@ -132,9 +164,14 @@ of_place_at decls n d at f i =
 pub of_decl : (decls : List Decl) (d : Decl) → Has decls d → (f : Mistake) → ((n : ℕ) → slice_get decls n ≡ Some d → IsAmong f (decl_faults decls n d)) → IsAmong f (program_faults decls)
 of_decl decls d h f i = let at = has_at decls d h in of_place_at decls at.0 d at.1 f (i at.0 at.1)
 
+-- of a section or a helper
+of_body : (decls : List Decl) (limits : BodyLimits) (x : Section) → HasBody decls limits x → (f : Mistake) → IsAmong f (section_faults decls limits x) → IsAmong f (program_faults decls)
+of_body decls limits x (of_section h) f i = of_decl decls (atomic x) h f (λ n at. i)
+of_body decls limits x (of_helper h) f i = of_decl decls (helper x) h f (λ n at. i)
+
 pub of_stmt : (decls : List Decl) (sc : Scope) (s : Stmt) → HasStmt decls sc s → (f : Mistake) → IsAmong f (stmt_faults sc s) → IsAmong f (program_faults decls)
-of_stmt decls sc s (in_section {x = x} h a) f i =
-    of_decl decls (atomic x) h f (λ n at. m.in_right f (result_faults decls x.result ++ param_faults (ahead_of decls x) 0 x.params) _ (among (entry decls x) sc x.body.stmts s a f i))
+of_stmt decls sc s (in_body {limits = limits} {x = x} h a) f i =
+    of_body decls limits x h f (m.in_right f (result_faults decls x.result ++ param_faults (ahead_of decls limits x) 0 x.params) _ (among (entry decls limits x) sc x.body.stmts s a f i))
 
 -- what is listed for a `let` with an owner: for its parts as those of any, and for what stands behind `where`
 of_binding : (decls : List Decl) (sc : Scope) (l : tree.Local) (o : Owner) → HasStmt decls sc (let_owned l o) → (f : Mistake) → IsAmong f (binding_faults sc l) → IsAmong f (program_faults decls)
@@ -144,7 +181,30 @@ pub of_owner : (decls : List Decl) (sc : Scope) (l : tree.Local) (o : Owner) →
 of_owner decls sc l o h f i = of_stmt decls sc (let_owned l o) h f (m.in_right f (binding_faults sc l) (owner_faults sc (type_of sc l.value_type) o) i)
 
 pub stmt_decls : (decls : List Decl) (sc : Scope) (s : Stmt) → HasStmt decls sc s → sc.decls ≡ decls
-stmt_decls decls sc s (in_section {x = x} h a) = same_decls (entry decls x) sc x.body.stmts s a ∙ entered_same (ahead_of decls x) x.params
+stmt_decls decls sc s (in_body {limits = limits} {x = x} h a) = same_decls (entry decls limits x) sc x.body.stmts s a ∙ entered_same (ahead_of decls limits x) x.params
+
+-- what is listed for a call of a helper, and for a `let` of one
+pub of_helper_call : (decls : List Decl) (sc : Scope) (c : HelperCall) → HasHelperCall decls sc c → (f : Mistake) → IsAmong f (helper_call_faults sc c) → IsAmong f (program_faults decls)
+of_helper_call decls sc c (by_let {l = l} h) f i =
+    of_stmt decls sc (let_call l) h f
+    (m.in_right f (local_faults sc l.name ++ type_faults sc l.value_type ++ given_back_faults sc.decls l.call.helper.span.start (type_of sc l.value_type) (helper_meant (meaning sc l.call.helper.text))) _ i)
+of_helper_call decls sc c (by_itself {start = start} h) f i = of_stmt decls sc (call start c) h f i
+
+pub helper_call_decls : (decls : List Decl) (sc : Scope) (c : HelperCall) → HasHelperCall decls sc c → sc.decls ≡ decls
+helper_call_decls decls sc c (by_let {l = l} h) = stmt_decls decls sc (let_call l) h
+helper_call_decls decls sc c (by_itself {start = start} h) = stmt_decls decls sc (call start c) h
+
+-- what is listed for a `let` of a call, ahead of the call
+of_called : (decls : List Decl) (sc : Scope) (l : CalledLocal) → HasStmt decls sc (let_call l) → (f : Mistake) → IsAmong f (local_faults sc l.name ++ type_faults sc l.value_type) → IsAmong f (program_faults decls)
+of_called decls sc l h f i =
+    let d = given_back_faults sc.decls l.call.helper.span.start (type_of sc l.value_type) (helper_meant (meaning sc l.call.helper.text)) in
+    of_stmt decls sc (let_call l) h f (m.in_left f (local_faults sc l.name ++ type_faults sc l.value_type ++ d) (helper_call_faults sc l.call) (m.in_left f (local_faults sc l.name ++ type_faults sc l.value_type) d i))
+
+pub of_given_back : (decls : List Decl) (sc : Scope) (l : CalledLocal) → HasStmt decls sc (let_call l) → (f : Mistake) →
+    IsAmong f (given_back_faults sc.decls l.call.helper.span.start (type_of sc l.value_type) (helper_meant (meaning sc l.call.helper.text))) → IsAmong f (program_faults decls)
+of_given_back decls sc l h f i =
+    let d = given_back_faults sc.decls l.call.helper.span.start (type_of sc l.value_type) (helper_meant (meaning sc l.call.helper.text)) in
+    of_stmt decls sc (let_call l) h f (m.in_left f (local_faults sc l.name ++ type_faults sc l.value_type ++ d) (helper_call_faults sc l.call) (m.in_right f (local_faults sc l.name ++ type_faults sc l.value_type) d i))
 
 pub of_wanted : (decls : List Decl) (sc : Scope) (w : Want) (e : Expr) → HasExpr decls sc w e → (f : Mistake) → IsAmong f (wanted_faults sc w e) → IsAmong f (program_faults decls)
 of_wanted decls sc w e (in_stmt {s = s} {w = v} {e = whole} h asks within) f i = of_stmt decls sc s h f (asked sc s v whole asks f (part sc v w whole e within f i))
@@ -160,33 +220,38 @@ of_expr decls sc w e h f i = of_wanted decls sc w e h f (m.in_left f (expr_fault
 in_params : (sc : Scope) (before behind : List Param) (p : Param) (n : ℕ) (f : Mistake) → IsAmong f (param_faults (entered sc before) (n + length before) (p ∷ behind)) → IsAmong f (param_faults sc n (before ++ p ∷ behind))
 in_params sc [] behind p n f i = subst (λ (k : ℕ). IsAmong f (param_faults sc k (p ∷ behind))) (let e : n + 0 ≡ n = omega arith in e) i
 in_params sc (b ∷ before) behind p n f i =
-    m.in_right f (local_faults sc b.name ++ one_if (nat_le PARAMETER_LIMIT n) LimitExceeded b.name.span.start ++ type_faults (outside sc.decls) b.value_type) _
+    m.in_right f (local_faults sc b.name ++ one_if (nat_le sc.limits.parameters n) LimitExceeded b.name.span.start ++ type_faults (outside sc.decls) b.value_type) _
     (in_params (bound sc kind.Parameter b.name (type_of (outside sc.decls) b.value_type)) before behind p (n + 1) f
     (subst (λ (k : ℕ). IsAmong f (param_faults (entered (bound sc kind.Parameter b.name (type_of (outside sc.decls) b.value_type)) before) k (p ∷ behind))) (let e : n + suc (length before) ≡ n + 1 + length before = omega arith in e) i))
 
 -- what is listed for a parameter by itself
-abbrev pub own : List Decl → Section → List Param → Param → List Mistake
-own decls x before p =
-    local_faults (entered (ahead_of decls x) before) p.name ++ one_if (nat_le PARAMETER_LIMIT (length before)) LimitExceeded p.name.span.start ++ type_faults (outside (entered (ahead_of decls x) before).decls) p.value_type
+abbrev pub own : Scope → List Param → Param → List Mistake
+own sc before p = local_faults sc p.name ++ one_if (nat_le sc.limits.parameters (length before)) LimitExceeded p.name.span.start ++ type_faults (outside sc.decls) p.value_type
 
-pub of_param : (decls : List Decl) (x : Section) (before behind : List Param) (p : Param) → Has decls (atomic x) → x.params ≡ before ++ p ∷ behind → (f : Mistake) → IsAmong f (own decls x before p) → IsAmong f (program_faults decls)
-of_param decls x before behind p h parts f i =
-    of_decl decls (atomic x) h f (λ n at. m.in_left f (result_faults decls x.result ++ param_faults (ahead_of decls x) 0 x.params) (stmts_faults (entry decls x) x.body.stmts)
-    (m.in_right f (result_faults decls x.result) _ (subst (λ (ps : List Param). IsAmong f (param_faults (ahead_of decls x) 0 ps)) (sym parts)
-    (in_params (ahead_of decls x) before behind p 0 f (subst (λ (k : ℕ). IsAmong f (param_faults (entered (ahead_of decls x) before) k (p ∷ behind))) (let e : length before ≡ 0 + length before = omega arith in e)
-    (m.in_left f (own decls x before p) (param_faults (bound (entered (ahead_of decls x) before) kind.Parameter p.name (type_of (outside (entered (ahead_of decls x) before).decls) p.value_type)) (length before + 1) behind) i))))))
+pub of_param : (decls : List Decl) (limits : BodyLimits) (x : Section) (before behind : List Param) (p : Param) → HasBody decls limits x → x.params ≡ before ++ p ∷ behind →
+    (f : Mistake) → IsAmong f (own (entered (ahead_of decls limits x) before) before p) → IsAmong f (program_faults decls)
+of_param decls limits x before behind p h parts f i =
+    let ahead = ahead_of decls limits x in
+    let sc = entered ahead before in
+    of_body decls limits x h f (m.in_left f (result_faults decls x.result ++ param_faults ahead 0 x.params) (stmts_faults (entry decls limits x) x.body.stmts)
+    (m.in_right f (result_faults decls x.result) _ (subst (λ (ps : List Param). IsAmong f (param_faults ahead 0 ps)) (sym parts)
+    (in_params ahead before behind p 0 f (subst (λ (k : ℕ). IsAmong f (param_faults sc k (p ∷ behind))) (let e : length before ≡ 0 + length before = omega arith in e)
+    (m.in_left f (own sc before p) (param_faults (bound sc kind.Parameter p.name (type_of (outside sc.decls) p.value_type)) (length before + 1) behind) i))))))
 
 pub of_local : (decls : List Decl) (sc : Scope) (x : Ident) → Binds decls sc x → (f : Mistake) → IsAmong f (local_faults sc x) → IsAmong f (program_faults decls)
-of_local decls sc x (parameter {x = s} p before behind h parts) f i =
-    of_param decls s before behind p h parts f (m.in_left f (local_faults (entered (ahead_of decls s) before) p.name ++ one_if (nat_le PARAMETER_LIMIT (length before)) LimitExceeded p.name.span.start) _ (m.in_left f (local_faults (entered (ahead_of decls s) before) p.name) _ i))
+of_local decls sc x (parameter {limits = limits} {x = s} p before behind h parts) f i =
+    let at = entered (ahead_of decls limits s) before in
+    of_param decls limits s before behind p h parts f (m.in_left f (local_faults at p.name ++ one_if (nat_le at.limits.parameters (length before)) LimitExceeded p.name.span.start) _ (m.in_left f (local_faults at p.name) _ i))
 of_local decls sc x (a_let {l = l} h) f i = of_stmt decls sc (let_local l) h f (m.in_left f (local_faults sc l.name ++ type_faults sc l.value_type) (wanted_faults sc (want (type_of sc l.value_type)) l.value) (m.in_left f (local_faults sc l.name) (type_faults sc l.value_type) i))
 of_local decls sc x (an_owned_let {l = l} {o = o} h) f i = of_binding decls sc l o h f (m.in_left f (local_faults sc l.name ++ type_faults sc l.value_type) (wanted_faults sc (want (type_of sc l.value_type)) l.value) (m.in_left f (local_faults sc l.name) (type_faults sc l.value_type) i))
+of_local decls sc x (a_called_let {l = l} h) f i = of_called decls sc l h f (m.in_left f (local_faults sc l.name) (type_faults sc l.value_type) i)
 of_local decls sc x (a_var {l = l} h) f i = of_stmt decls sc (var_local l) h f (m.in_left f (local_faults sc l.name ++ type_faults sc l.value_type) (wanted_faults sc (want (type_of sc l.value_type)) l.value) (m.in_left f (local_faults sc l.name) (type_faults sc l.value_type) i))
 
 pub local_decls : (decls : List Decl) (sc : Scope) (x : Ident) → Binds decls sc x → sc.decls ≡ decls
-local_decls decls sc x (parameter {x = s} p before behind h parts) = entered_same (ahead_of decls s) before
+local_decls decls sc x (parameter {limits = limits} {x = s} p before behind h parts) = entered_same (ahead_of decls limits s) before
 local_decls decls sc x (a_let {l = l} h) = stmt_decls decls sc (let_local l) h
 local_decls decls sc x (an_owned_let {l = l} {o = o} h) = stmt_decls decls sc (let_owned l o) h
+local_decls decls sc x (a_called_let {l = l} h) = stmt_decls decls sc (let_call l) h
 local_decls decls sc x (a_var {l = l} h) = stmt_decls decls sc (var_local l) h
 
 -- ---- types
@@ -217,15 +282,17 @@ of_type decls sc t (of_array {a = a} h) f i = of_decl decls (array a) h f (λ n 
 of_type decls sc t (of_pool {p = p} h) f i = of_decl decls (pool p) h f (λ n at. m.in_left f (type_faults (outside decls) (ref_type p.target)) (missing_faults decls n p (members_of decls p.target)) i)
 of_type decls sc t (of_final {s = s} {f = g} h b) f i = of_decl decls (struct s) h f (λ n at. in_members_final decls n s.members s.members g b f i)
 of_type decls sc t (of_field {s = s} {f = g} h b) f i = of_decl decls (struct s) h f (λ n at. in_members_field decls n s.members s.members g b f (m.in_left f (type_faults (outside decls) g.value_type) _ i))
-of_type decls sc t (of_parameter {x = x} {p = p} h b) f i =
+of_type decls sc t (of_parameter {limits = limits} {x = x} {p = p} h b) f i =
     let r = split_at x.params p b in
-    of_param decls x r.0 r.1 p h r.2 f (m.in_right f (local_faults (entered (ahead_of decls x) r.0) p.name ++ one_if (nat_le PARAMETER_LIMIT (length r.0)) LimitExceeded p.name.span.start) _
-    (subst (λ (ds : List Decl). IsAmong f (type_faults (outside ds) p.value_type)) (sym (entered_same (ahead_of decls x) r.0)) i))
-of_type decls sc t (of_result {x = x} h is) f i =
-    of_decl decls (atomic x) h f (λ n at. m.in_left f (result_faults decls x.result ++ param_faults (ahead_of decls x) 0 x.params) (stmts_faults (entry decls x) x.body.stmts)
-    (m.in_left f (result_faults decls x.result) (param_faults (ahead_of decls x) 0 x.params) (subst (λ (o : Option ValueType). IsAmong f (result_faults decls o)) (sym is) i)))
+    let at = entered (ahead_of decls limits x) r.0 in
+    of_param decls limits x r.0 r.1 p h r.2 f (m.in_right f (local_faults at p.name ++ one_if (nat_le at.limits.parameters (length r.0)) LimitExceeded p.name.span.start) _
+    (subst (λ (ds : List Decl). IsAmong f (type_faults (outside ds) p.value_type)) (sym (entered_same (ahead_of decls limits x) r.0)) i))
+of_type decls sc t (of_result {limits = limits} {x = x} h is) f i =
+    of_body decls limits x h f (m.in_left f (result_faults decls x.result ++ param_faults (ahead_of decls limits x) 0 x.params) (stmts_faults (entry decls limits x) x.body.stmts)
+    (m.in_left f (result_faults decls x.result) (param_faults (ahead_of decls limits x) 0 x.params) (subst (λ (o : Option ValueType). IsAmong f (result_faults decls o)) (sym is) i)))
 of_type decls sc t (of_a_let {l = l} h) f i = of_stmt decls sc (let_local l) h f (m.in_left f (local_faults sc l.name ++ type_faults sc l.value_type) (wanted_faults sc (want (type_of sc l.value_type)) l.value) (m.in_right f (local_faults sc l.name) _ i))
 of_type decls sc t (of_an_owned_let {l = l} {o = o} h) f i = of_binding decls sc l o h f (m.in_left f (local_faults sc l.name ++ type_faults sc l.value_type) (wanted_faults sc (want (type_of sc l.value_type)) l.value) (m.in_right f (local_faults sc l.name) _ i))
+of_type decls sc t (of_a_called_let {l = l} h) f i = of_called decls sc l h f (m.in_right f (local_faults sc l.name) (type_faults sc l.value_type) i)
 of_type decls sc t (of_a_var {l = l} h) f i = of_stmt decls sc (var_local l) h f (m.in_left f (local_faults sc l.name ++ type_faults sc l.value_type) (wanted_faults sc (want (type_of sc l.value_type)) l.value) (m.in_right f (local_faults sc l.name) _ i))
 
 -- ---- calls and constants
@@ -247,9 +314,6 @@ in_arguments decls (q ∷ ps) (d ∷ cs) zero p c a b f i =
     let y : d ≡ c = cc in
     m.in_left f (const_faults decls (want_of decls q) d) (argument_faults decls ps cs) (subst (λ (z : Param). IsAmong f (const_faults decls (want_of decls z) d)) (sym x) (subst (λ (z : Const). IsAmong f (const_faults decls (want_of decls p) z)) (sym y) i))
 in_arguments decls (q ∷ ps) (d ∷ cs) (suc k) p c a b f i = m.in_right f (const_faults decls (want_of decls q) d) _ (in_arguments decls ps cs k p c a b f i)
-
-same_count : (n k : ℕ) → n ≡ k → (n == k) ≡ true
-same_count n k e = grind (arith, nat_tests)
 
 pub of_const : (decls : List Decl) (w : Want) (c : Const) → HasConst decls w c → (f : Mistake) → IsAmong f (const_faults decls w c) → IsAmong f (program_faults decls)
 of_const decls w c (opening {v = v} h e) f i =

@@ -7,7 +7,7 @@ use Rattle.syntax.specs.declared.tree.Level.TheVariants.{Term, Sum, Conjunction,
 use Rattle.syntax.specs.declared.tree.Prefix.TheVariants.{Negate, Not}
 use Rattle.syntax.specs.declared.tree.Comparison as written
 use Rattle.syntax.specs.declared.tree.Comparison.TheVariants as sign
-use Rattle.syntax.specs.Trees.{Place, lone, element, path, Expr, int, null, place, paren, prefix, chain, compare, Links, no_links, link, Owner, Stmt, let_local, let_owned, var_local, assign, if_then, while, print, return_value, Stmts, no_stmts, stmt, no_else, else_do, Decl, lock, struct, global, array, pool, init, atomic, thread}
+use Rattle.syntax.specs.Trees.{Place, lone, element, path, Expr, int, null, place, paren, prefix, chain, compare, Links, no_links, link, Owner, Stmt, let_local, let_owned, let_call, var_local, assign, if_then, while, print, return_value, call, Stmts, no_stmts, stmt, no_else, else_do, Param, Section, Decl, lock, struct, global, array, pool, init, atomic, helper, thread}
 use Rattle.core_lang.specs.declared.value.ValueType as core_type
 use Rattle.core_lang.specs.declared.value.ValueType.TheVariants.{Integer}
 use Rattle.core_lang.specs.declared.tree.LocalKind.{LocalKind}
@@ -21,15 +21,17 @@ use Rattle.resolution.specs.declared.wanted.Want.{Want}
 use Rattle.resolution.specs.declared.wanted.Want.TheVariants.{Value}
 use Rattle.resolution.specs.Core as core
 use Rattle.resolution.specs.Scopes as scopes
-use Rattle.resolution.specs.Scopes.{◌>>=◌, Scope, outside, Meaning, a_local, a_decl, nothing, meaning, number_at, type_of, struct_named, bound, hidden, hidden_from, left}
+use Rattle.resolution.specs.Scopes.{◌>>=◌, Scope, outside, Meaning, a_local, a_decl, nothing, meaning, helper_meant, number_at, type_of, struct_named, bound, hidden, hidden_from, left}
 use Rattle.resolution.specs.Expressions.{ResolvedExpr, value, truth, fits, alike_sorts, want, fitting, as_value, number_resolved, test_resolved, number_value, literal, value_of, local_path, cell_of, named_value, member_value, element_value, Walk, reached, at_lock, lost, walk_from, path_value, operator_of, negated, not_so, parenthesised, chained, linked, Tests, one_test, tested, all_hold, one_holds, ordered, equated, compared, typed, typed_place, typed_links, typed_tests}
-use Rattle.resolution.specs.Statements.{Target, to_local, to_global, to_element, to_field, Assignee, assignee, is_var, assignee_at, assignee_at_element, Split, last_field, field_target, assignee_along, target_of, wanted_by, first_name, Part, does, gives, binds, set_to, assigns, prints, returns, repeats, chooses, chooses_between, Body, given_back, preceded, block_without, block_of, after, after_all, first_value, typed_stmt, typed_body}
-use Rattle.resolution.specs.Limits.{STRUCT_LIMIT, LOCAL_LIMIT}
+use Rattle.resolution.specs.Statements.{Target, to_local, to_global, to_element, to_field, Assignee, assignee, is_var, assignee_at, assignee_at_element, Split, last_field, field_target, assignee_along, target_of, wanted_by, first_name, Part, does, gives, binds, set_to, assigns, prints, returns, repeats, chooses, chooses_between, Body, given_back, preceded, block_without, block_of, typed_values, called, call_resolved, type_given, can_take, acts_if, after, after_all, first_value, typed_stmt, typed_body}
+use Rattle.resolution.specs.Constants.{added, want_of}
+use Rattle.source.specs.Texts.{SOURCE_LIMIT}
+use Rattle.resolution.specs.Limits.{STRUCT_LIMIT}
 use Rattle.resolution.specs.declared.owner_field.OwnerField.{OwnerField}
 use Rattle.resolution.specs.Owners.{owner_field, is_of, owner_local, owned_value, owned_by}
 use Rattle.resolution.proofs.TypedResolvedExprs.{IsLocal, meant_local}
 use Rattle.resolution.proofs.TypedStatements.{Kept, kept_hidden, Front, all_front}
-use Rattle.resolution.proofs.Scoped.{Names, AllName, TestNames, AllTestName, behind, ActNames, StmtsName, behind_all, binding, all_binding, assigning, all_assigning}
+use Rattle.resolution.proofs.Scoped.{Names, AllName, EachNames, TestNames, AllTestName, behind, ActNames, StmtsName, behind_all, binding, all_binding, assigning, all_assigning}
 
 -- ---- expressions
 
@@ -85,6 +87,7 @@ module _ (sc : Scope) (scope : List ℕ) (covers : Covers sc.locals scope) where
   of_name start (a_decl n (pool x)) loc = tt
   of_name start (a_decl n (init x)) loc = tt
   of_name start (a_decl n (atomic x)) loc = tt
+  of_name start (a_decl n (helper x)) loc = tt
   of_name start (a_decl n (thread x)) loc = tt
   of_name start nothing loc = tt
 
@@ -101,6 +104,7 @@ module _ (sc : Scope) (scope : List ℕ) (covers : Covers sc.locals scope) where
   of_element start (a_decl n (global x)) (Some index) h = tt
   of_element start (a_decl n (init x)) (Some index) h = tt
   of_element start (a_decl n (atomic x)) (Some index) h = tt
+  of_element start (a_decl n (helper x)) (Some index) h = tt
   of_element start (a_decl n (thread x)) (Some index) h = tt
   of_element start (a_local n l) (Some index) h = tt
   of_element start nothing (Some index) h = tt
@@ -442,6 +446,7 @@ module _ (finals : List core.Local) where
   name_in sc scope c b (a_decl n (pool x)) loc = tt
   name_in sc scope c b (a_decl n (init x)) loc = tt
   name_in sc scope c b (a_decl n (atomic x)) loc = tt
+  name_in sc scope c b (a_decl n (helper x)) loc = tt
   name_in sc scope c b (a_decl n (thread x)) loc = tt
   name_in sc scope c b nothing loc = tt
 
@@ -470,6 +475,7 @@ module _ (finals : List core.Local) where
   element_in decls scope (a_decl n (pool x)) (Some index) h = tt
   element_in decls scope (a_decl n (init x)) (Some index) h = tt
   element_in decls scope (a_decl n (atomic x)) (Some index) h = tt
+  element_in decls scope (a_decl n (helper x)) (Some index) h = tt
   element_in decls scope (a_decl n (thread x)) (Some index) h = tt
   element_in decls scope (a_local n l) (Some index) h = tt
   element_in decls scope nothing (Some index) h = tt
@@ -512,12 +518,58 @@ module _ (finals : List core.Local) where
   tested_in scope start None g i h c = tt
   tested_in scope start (Some x) None i h c = tt
   tested_in scope start (Some x) (Some g) None h c = tt
-  tested_in scope start (Some x) (Some g) (Some n) h c = numbered_in scope x start g.structure g.number n (nat_le g.structure STRUCT_LIMIT) (nat_le n LOCAL_LIMIT) h (c n refl)
+  tested_in scope start (Some x) (Some g) (Some n) h c = numbered_in scope x start g.structure g.number n (nat_le g.structure STRUCT_LIMIT) (nat_le n SOURCE_LIMIT) h (c n refl)
 
   owned_in : (sc : Scope) (scope : List ℕ) → Covers sc.locals scope → (t : Option core_type.ValueType) (o : Owner) (v : Option core.Expr) → IndexIn scope v → IndexIn scope (owned_by sc t o v)
   owned_in sc scope c t o v h =
       let g = owner_field sc.decls t o.field in
       tested_in scope o.local.span.start v g (owner_local g (meaning sc o.local.text)) h (owner_in sc scope c g (meaning sc o.local.text) (meant_local sc o.local.text))
+
+  -- ---- calls of helpers
+
+  abbrev ValuesIn : List ℕ → Option (List core.Expr) → Type 0
+  ValuesIn scope None = ⊤
+  ValuesIn scope (Some xs) = EachNames scope xs
+
+  added_in : (scope : List ℕ) (o : Option core.Expr) (r : Option (List core.Expr)) → IndexIn scope o → ValuesIn scope r → ValuesIn scope (added o r)
+  added_in scope None r h g = tt
+  added_in scope (Some x) None h g = tt
+  added_in scope (Some x) (Some xs) h g = (h, g)
+
+  values_in : (sc : Scope) (scope : List ℕ) → Covers sc.locals scope → (ps : List Param) (es : List Expr) → ValuesIn scope (typed_values sc ps es)
+  values_in sc scope c [] [] = tt
+  values_in sc scope c [] (e ∷ es) = tt
+  values_in sc scope c (q ∷ ps) [] = tt
+  values_in sc scope c (q ∷ ps) (e ∷ es) =
+      let v = as_value (fitting (want_of sc.decls q) (typed sc e)) in
+      added_in scope v (typed_values sc ps es) (index_in sc scope c v (value_names sc scope c (want_of sc.decls q) e)) (values_in sc scope c ps es)
+
+  -- a call into this local
+  abbrev CallIn : List ℕ → Option ℕ → Option core.Action → Type 0
+  CallIn scope local None = ⊤
+  CallIn scope local (Some x) = (n : ℕ) × (xs : List core.Expr) × (x ≡ core.call n xs local) × EachNames scope xs
+
+  numbered_call : (scope : List ℕ) (n : ℕ) (local : Option ℕ) (o : Option (List core.Expr)) → ValuesIn scope o → CallIn scope local (o >>= λ vs. Some (core.call n vs local))
+  numbered_call scope n local None h = tt
+  numbered_call scope n local (Some xs) h = (n, xs, refl, h)
+
+  called_in : (sc : Scope) (scope : List ℕ) → Covers sc.locals scope → (o : Option (ℕ × Section)) (es : List Expr) (local : Option ℕ) → CallIn scope local (called sc o es local)
+  called_in sc scope c None es local = tt
+  called_in sc scope c (Some (n, s)) es local = numbered_call scope (number_at sc.decls n (helper s)) local (typed_values sc s.params es) (values_in sc scope c s.params es)
+
+  dropped_done : (ls : List scopes.Local) (scope : List ℕ) (start : ℕ) (o : Option core.Action) → Covers ls scope → CallIn scope None o → PartDone finals ls ls scope (acts_if start o)
+  dropped_done ls scope start None c h = tt
+  dropped_done ls scope start (Some x) c h = subst (λ (y : core.Action). Acted scope finals (length ls) (length ls) y × Covers ls (behind scope y)) (sym h.2) (plain scope finals (length ls) (core.call h.0 h.1 None) h.3 refl refl, c)
+
+  taken_done : (ls : List scopes.Local) (l : scopes.Local) (scope : List ℕ) (start : ℕ) (o : Option core.Action) → Covers ls scope → CallIn scope (Some (length ls)) o → PartDone finals ls (ls ++ l ∷ []) scope (acts_if start o)
+  taken_done ls l scope start None c h = tt
+  taken_done ls l scope start (Some x) c h =
+      subst (λ (y : core.Action). Acted scope finals (length ls) (length (ls ++ l ∷ [])) y × Covers (ls ++ l ∷ []) (behind scope y)) (sym h.2)
+      (record { named = h.3; bound = numbers_bind ls l; assigned = λ k i. absurd (nowhere k i) }, covers_push ls l scope c)
+
+  taking_done : (ls : List scopes.Local) (l : scopes.Local) (scope : List ℕ) (start : ℕ) (o : Option core.Action) (b : Bool) → Covers ls scope → CallIn scope (Some (length ls)) o → PartDone finals ls (ls ++ l ∷ []) scope (if b then acts_if start o else None)
+  taking_done ls l scope start o true c h = taken_done ls l scope start o c h
+  taking_done ls l scope start o false c h = tt
 
   bind_done : (ls : List scopes.Local) (x : scopes.Local) (scope : List ℕ) (start : ℕ) (o : Option core_type.ValueType) (v : Option core.Expr) → Covers ls scope → IndexIn scope v → PartDone finals ls (ls ++ x ∷ []) scope (binds start (length ls) o v)
   bind_done ls x scope start None v c h = tt
@@ -598,6 +650,10 @@ module _ (finals : List core.Local) where
     stmt_done sc (let_owned l o) scope c b =
         bind_done sc.locals (record { name = l.name.text; kind = kind.Let; value_type = type_of sc l.value_type; is_visible = true }) scope l.start.start (type_of sc l.value_type) (owned_by sc (type_of sc l.value_type) o (first_value sc l)) c
         (owned_in sc scope c (type_of sc l.value_type) o (first_value sc l) (index_in sc scope c (first_value sc l) (value_names sc scope c (want (type_of sc l.value_type)) l.value)))
+    stmt_done sc (let_call l) scope c b =
+        taking_done sc.locals (record { name = l.name.text; kind = kind.Let; value_type = type_of sc l.value_type; is_visible = true }) scope l.start.start (call_resolved sc l.call (Some (length sc.locals)))
+        (can_take (type_of sc l.value_type) (type_given sc.decls (helper_meant (meaning sc l.call.helper.text)))) c
+        (called_in sc scope c (helper_meant (meaning sc l.call.helper.text)) l.call.arguments (Some (length sc.locals)))
     stmt_done sc (var_local l) scope c b =
         bind_done sc.locals (record { name = l.name.text; kind = kind.Var; value_type = type_of sc l.value_type; is_visible = true }) scope l.start.start (type_of sc l.value_type) (as_value (fitting (want (type_of sc l.value_type)) (typed sc l.value))) c
         (index_in sc scope c (as_value (fitting (want (type_of sc l.value_type)) (typed sc l.value))) (value_names sc scope c (want (type_of sc l.value_type)) l.value))
@@ -629,6 +685,8 @@ module _ (finals : List core.Local) where
         (test_in sc scope c (test_resolved (typed sc e)) (test_names sc scope c e)) (block_done finals sc.locals end scope (typed_body sc body) (body_done sc body scope c inner))
     stmt_done sc (print start e) scope c b = print_done sc.locals scope start.start (number_resolved (typed sc e)) c (index_in sc scope c (number_resolved (typed sc e)) (value_names sc scope c (Value Integer) e))
     stmt_done sc (return_value start e) scope c b = return_done sc.locals scope start.start (as_value (fitting (want sc.result) (typed sc e))) (index_in sc scope c (as_value (fitting (want sc.result) (typed sc e))) (value_names sc scope c (want sc.result) e))
+    stmt_done sc (call start d) scope c b =
+        dropped_done sc.locals scope start.start (call_resolved sc d None) c (called_in sc scope c (helper_meant (meaning sc d.helper.text)) d.arguments None)
 
     pub body_done : (sc : Scope) (ss : Stmts) (scope : List ℕ) → Covers sc.locals scope → Become (after_all sc ss).locals finals → BodyDone finals sc.locals (after_all sc ss).locals scope (typed_body sc ss)
     body_done sc no_stmts scope c b = (nothing_done finals scope (length sc.locals), tt)

@@ -4,14 +4,14 @@ use Rattle.std.specs.Prelude.{nat_le, not, is_some, ◌==◌, ◌&&◌, ◌||◌
 use Rattle.std.proofs.lemmas.Bool.{eqb-true}
 use Rattle.std.proofs.lemmas.Bool.Decides.{nat_tests}
 use Rattle.source.specs.declared.fault.Code.TheVariants.{UnknownName, WrongType, WrongArgumentCount, NeitherFinalNorProtected, ProtectedByNoLock, ProtectedByPassesNonFinal, LimitExceeded, FinalWithoutOpeningValue, InitOutOfRangeOrRepeated, LockAsValue}
-use Rattle.syntax.specs.Trees.{Ident, ref_type, Const, int_const, negative, null_const, member_const, Protection, Member, lock_member, final_member, field_member, Field, Struct, Variable, Array, Pool, Init, Section, Call, Item, call, repeat, Items, no_items, item, Decl, lock, struct, global, array, pool, init, atomic, thread}
+use Rattle.syntax.specs.Trees.{Ident, ref_type, Const, int_const, negative, null_const, member_const, Protection, Member, lock_member, final_member, field_member, Field, Struct, Variable, Array, Pool, Init, Section, Call, Item, call, repeat, Items, no_items, item, Decl, lock, struct, global, array, pool, init, atomic, helper, thread}
 use Rattle.source.specs.declared.mistake.Mistake.{Mistake}
-use Rattle.resolution.specs.Limits.{FINAL_LIMIT}
+use Rattle.resolution.specs.Limits.{FINAL_LIMIT, section_limits, helper_limits}
 use Rattle.resolution.specs.Scopes.{outside, a_decl, place_of, the_decl, member_bears, the_member, has_type, member_has_type, type_of, struct_named}
 use Rattle.resolution.specs.Expressions.{want}
 use Rattle.resolution.specs.Constants.{members_of, pool_members, initialised, member_want, given}
 use Rattle.resolution.specs.Annotations.{AnnotationCursor, through_member, stepped_on, cursor_at}
-use Rattle.resolution.specs.Where.{Has, first, further, InItems, this_call, in_repeat, later_call, HasCall, in_thread, opening, initial, argument, of_variable, of_elements, Annotates, annotates, of_global, of_array, of_pool, of_final, of_field}
+use Rattle.resolution.specs.Where.{Has, first, further, of_section, of_helper, InItems, this_call, in_repeat, later_call, HasCall, in_thread, opening, initial, argument, of_variable, of_elements, Annotates, annotates, of_global, of_array, of_pool, of_final, of_field}
 use Rattle.resolution.specs.Faults as fault
 use Rattle.resolution.specs.Faults.{Reaches, stays, goes_on, Walks, walks, NamesGlobal, IsLockDecl, IsSection, unknown, wrong_type, miscounted, without_lock, ends_at_no_lock, passes_non_final, over_limit, final_missing, out_of_range, lock_as_value}
 use Rattle.resolution.specs.FaultLists as list
@@ -38,6 +38,7 @@ true_global_lock decls p h (Some (n, array a)) is ys rest f i = true_no_lock dec
 true_global_lock decls p h (Some (n, pool x)) is ys rest f i = true_no_lock decls p h n (pool x) is (λ q. q.0) f i
 true_global_lock decls p h (Some (n, init j)) is ys rest f i = true_no_lock decls p h n (init j) is (λ q. q.0) f i
 true_global_lock decls p h (Some (n, atomic s)) is ys rest f i = true_no_lock decls p h n (atomic s) is (λ q. q.0) f i
+true_global_lock decls p h (Some (n, helper s)) is ys rest f i = true_no_lock decls p h n (helper s) is (λ q. q.0) f i
 true_global_lock decls p h (Some (n, thread t)) is ys rest f i = true_no_lock decls p h n (thread t) is (λ q. q.0) f i
 
 true_variable_lock : (decls : List Decl) (v : Variable) → Has decls (global v) → (o : Option Protection) → v.protection ≡ o → (f : Mistake) → IsAmong f (lock_faults decls v.name.span.start o) → IsTrue_of decls f
@@ -176,6 +177,7 @@ true_init_index decls x h (Some (k, global v)) is f i = of_if decls (has_type de
 true_init_index decls x h (Some (k, array a)) is f i = of_if decls (has_type decls (a_decl k (array a))) WrongType x.pool.span.start f (λ e. wrong_type (fault.no_pool_initialised h is (λ q. q) e)) i
 true_init_index decls x h (Some (k, init j)) is f i = of_if decls true WrongType x.pool.span.start f (λ e. wrong_type (fault.no_pool_initialised h is (λ q. q) e)) i
 true_init_index decls x h (Some (k, atomic s)) is f i = of_if decls true WrongType x.pool.span.start f (λ e. wrong_type (fault.no_pool_initialised h is (λ q. q) e)) i
+true_init_index decls x h (Some (k, helper s)) is f i = of_if decls true WrongType x.pool.span.start f (λ e. wrong_type (fault.no_pool_initialised h is (λ q. q) e)) i
 true_init_index decls x h (Some (k, thread t)) is f i = of_if decls true WrongType x.pool.span.start f (λ e. wrong_type (fault.no_pool_initialised h is (λ q. q) e)) i
 
 -- an `init`'s field, by its members
@@ -226,6 +228,7 @@ true_no_section decls c h n d is not_so f i = of_if decls (has_type decls (a_dec
 true_call : (decls : List Decl) (c : Call) → HasCall decls c → (o : Option (ℕ × Decl)) → the_decl decls c.section.text ≡ o → (f : Mistake) → IsAmong f (call_faults decls c.section.span.start o c.arguments) → IsTrue_of decls f
 true_call decls c h None is f i = of_one decls UnknownName c.section.span.start f (unknown (fault.in_call h is)) i
 true_call decls c h (Some (n, atomic s)) is f i = true_count decls c n s h is (length c.arguments == length s.params) refl f i
+true_call decls c h (Some (n, helper s)) is f i = true_no_section decls c h n (helper s) is (λ q. q) f i
 true_call decls c h (Some (n, lock x)) is f i = true_no_section decls c h n (lock x) is (λ q. q) f i
 true_call decls c h (Some (n, struct s)) is f i = true_no_section decls c h n (struct s) is (λ q. q) f i
 true_call decls c h (Some (n, global v)) is f i = true_no_section decls c h n (global v) is (λ q. q) f i
@@ -272,7 +275,8 @@ true_decl decls n (pool p) at h f i =
     both f (type_faults (outside decls) (ref_type p.target)) (missing_faults decls n p (members_of decls p.target))
     (true_type decls (outside decls) (ref_type p.target) (of_pool h) f) (true_missing decls n p at (members_of decls p.target) refl f) i
 true_decl decls n (init x) at h f i = true_init decls x h f i
-true_decl decls n (atomic s) at h f i = true_section decls s h f i
+true_decl decls n (atomic s) at h f i = true_section decls section_limits s (of_section h) f i
+true_decl decls n (helper s) at h f i = true_section decls helper_limits s (of_helper h) f i
 true_decl decls n (thread t) at h f i = true_items decls t.items (λ c b. in_thread h b) f i
 
 pub true_each : (decls : List Decl) (n : ℕ) (ds : List Decl) → ((j : ℕ) (d : Decl) → slice_get ds j ≡ Some d → slice_get decls (n + j) ≡ Some d) → ((d : Decl) → Has ds d → Has decls d) → (f : Mistake) → IsAmong f (each_faults decls n ds) → IsTrue_of decls f

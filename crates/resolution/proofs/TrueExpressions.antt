@@ -9,7 +9,7 @@ use Rattle.syntax.specs.declared.tree.Level.{Level}
 use Rattle.syntax.specs.declared.tree.Level.TheVariants.{Term, Sum, Conjunction, Disjunction}
 use Rattle.syntax.specs.declared.tree.Comparison as written
 use Rattle.syntax.specs.declared.tree.Comparison.TheVariants as sign
-use Rattle.syntax.specs.Trees.{Ident, ValueType, int_type, ref_type, Const, int_const, negative, null_const, member_const, Place, lone, element, path, Expr, int, null, place, paren, prefix, chain, compare, Links, no_links, link, Member, Struct, Param, Decl, lock, struct, global, array, pool, init, atomic, thread}
+use Rattle.syntax.specs.Trees.{Ident, ValueType, int_type, ref_type, Const, int_const, negative, null_const, member_const, Place, lone, element, path, Expr, int, null, place, paren, prefix, chain, compare, Links, no_links, link, Member, Struct, Param, Decl, lock, struct, global, array, pool, init, atomic, helper, thread}
 use Rattle.core_lang.specs.declared.value.ValueType.TheVariants.{Integer, Reference}
 use Rattle.core_lang.specs.declared.tree.FieldStep.{FieldStep}
 use Rattle.source.specs.declared.mistake.Mistake.{Mistake}
@@ -41,6 +41,7 @@ true_struct decls sc x h (a_decl n (array a)) is f i = of_one decls WrongType x.
 true_struct decls sc x h (a_decl n (pool p)) is f i = of_one decls WrongType x.span.start f (wrong_type (fault.no_struct h (subst IsNoStruct (sym is) tt))) i
 true_struct decls sc x h (a_decl n (init j)) is f i = of_one decls WrongType x.span.start f (wrong_type (fault.no_struct h (subst IsNoStruct (sym is) tt))) i
 true_struct decls sc x h (a_decl n (atomic s)) is f i = of_one decls WrongType x.span.start f (wrong_type (fault.no_struct h (subst IsNoStruct (sym is) tt))) i
+true_struct decls sc x h (a_decl n (helper s)) is f i = of_one decls WrongType x.span.start f (wrong_type (fault.no_struct h (subst IsNoStruct (sym is) tt))) i
 true_struct decls sc x h (a_decl n (thread t)) is f i = of_one decls WrongType x.span.start f (wrong_type (fault.no_struct h (subst IsNoStruct (sym is) tt))) i
 true_struct decls sc x h nothing is f i = of_one decls UnknownName x.span.start f (unknown (fault.in_type h is)) i
 
@@ -62,6 +63,7 @@ true_index decls w x n h (Some (k, global v)) is f i = of_if decls (has_type dec
 true_index decls w x n h (Some (k, array a)) is f i = of_if decls (has_type decls (a_decl k (array a))) WrongType x.span.start f (λ e. wrong_type (fault.no_pool h is (λ q. q) e)) i
 true_index decls w x n h (Some (k, init j)) is f i = of_if decls true WrongType x.span.start f (λ e. wrong_type (fault.no_pool h is (λ q. q) e)) i
 true_index decls w x n h (Some (k, atomic s)) is f i = of_if decls true WrongType x.span.start f (λ e. wrong_type (fault.no_pool h is (λ q. q) e)) i
+true_index decls w x n h (Some (k, helper s)) is f i = of_if decls true WrongType x.span.start f (λ e. wrong_type (fault.no_pool h is (λ q. q) e)) i
 true_index decls w x n h (Some (k, thread t)) is f i = of_if decls true WrongType x.span.start f (λ e. wrong_type (fault.no_pool h is (λ q. q) e)) i
 
 true_own : (decls : List Decl) (w : Want) (c : Const) → HasConst decls w c → (f : Mistake) → IsAmong f (own_faults decls c) → IsTrue_of decls f
@@ -109,6 +111,7 @@ true_name sc w x h (a_decl n (array a)) is f i = true_no_value sc w x n (array a
 true_name sc w x h (a_decl n (pool p)) is f i = true_no_value sc w x n (pool p) h is tt f i
 true_name sc w x h (a_decl n (init j)) is f i = true_no_value sc w x n (init j) h is tt f i
 true_name sc w x h (a_decl n (atomic s)) is f i = true_no_value sc w x n (atomic s) h is tt f i
+true_name sc w x h (a_decl n (helper s)) is f i = true_no_value sc w x n (helper s) h is tt f i
 true_name sc w x h (a_decl n (thread t)) is f i = true_no_value sc w x n (thread t) h is tt f i
 true_name sc w x h nothing is f i = true_unknown sc (lone x) (is_read h) is f i
 
@@ -125,6 +128,7 @@ true_elements sc x e h (a_decl n (struct s)) is f i = true_unfit sc x e (a_decl 
 true_elements sc x e h (a_decl n (global v)) is f i = true_unfit sc x e (a_decl n (global v)) h is tt f i
 true_elements sc x e h (a_decl n (init j)) is f i = true_unfit sc x e (a_decl n (init j)) h is tt f i
 true_elements sc x e h (a_decl n (atomic s)) is f i = true_unfit sc x e (a_decl n (atomic s)) h is tt f i
+true_elements sc x e h (a_decl n (helper s)) is f i = true_unfit sc x e (a_decl n (helper s)) h is tt f i
 true_elements sc x e h (a_decl n (thread t)) is f i = true_unfit sc x e (a_decl n (thread t)) h is tt f i
 true_elements sc x e h nothing is f i = true_unknown sc (element x e) h is f i
 

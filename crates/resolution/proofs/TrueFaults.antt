@@ -2,11 +2,11 @@
 use Rattle.std.proofs.Common.{◌≡◌, ℕ, ◌+◌, ◌<◌, ◌≤◌, List, [], ◌∷◌, ◌++◌, length, Option, Some, None, true, refl, sym, ◌∙◌, subst, append_assoc, arith}
 use Rattle.std.specs.Prelude.{nat_le, nat_lt, ◌&&◌, slice_get}
 use Rattle.source.specs.declared.fault.Code.TheVariants.{DeclaredTwice, LimitExceeded, InitOutOfRangeOrRepeated}
-use Rattle.syntax.specs.Trees.{Ident, Member, lock_member, final_member, field_member, Struct, Init, Decl, lock, struct, global, array, pool, init, atomic, thread}
+use Rattle.syntax.specs.Trees.{Ident, Member, lock_member, final_member, field_member, Struct, Init, Decl, lock, struct, global, array, pool, init, atomic, helper, thread}
 use Rattle.resolution.specs.declared.init_target.InitTarget.{InitTarget}
 use Rattle.source.specs.declared.mistake.Mistake.{Mistake}
 use Rattle.resolution.specs.Limits.{STRUCT_LIMIT, MEMBER_LIMIT, CLASS_LIMIT, OBJECT_LIMIT, CELL_LIMIT, SECTION_LIMIT, THREAD_LIMIT, CALL_LIMIT}
-use Rattle.resolution.specs.Scopes.{place_of, count, declared, bears, alike, member_name, member_bears}
+use Rattle.resolution.specs.Scopes.{place_of, count, declared, bears, alike, has_body, member_name, member_bears}
 use Rattle.resolution.specs.Numbers.{is_lock, total, classes_of, objects_of, cells_of, calls_of}
 use Rattle.resolution.specs.Constants.{init_target_of, giver}
 use Rattle.resolution.specs.Where.{Has, first, further}
@@ -59,6 +59,7 @@ true_structs decls (array a ∷ ds) up f i = true_structs decls ds (λ d h. up d
 true_structs decls (pool p ∷ ds) up f i = true_structs decls ds (λ d h. up d (further h)) f i
 true_structs decls (init j ∷ ds) up f i = true_structs decls ds (λ d h. up d (further h)) f i
 true_structs decls (atomic s ∷ ds) up f i = true_structs decls ds (λ d h. up d (further h)) f i
+true_structs decls (helper s ∷ ds) up f i = true_structs decls ds (λ d h. up d (further h)) f i
 true_structs decls (thread t ∷ ds) up f i = true_structs decls ds (λ d h. up d (further h)) f i
 
 -- ---- counts
@@ -110,7 +111,9 @@ true_counts decls before behind (pool p) h parts f i =
     (of_if decls (first_too_many CELL_LIMIT (total (cells_of decls) before) (cells_of decls (pool p))) LimitExceeded p.name.span.start f (passes_is CELL_LIMIT (total (cells_of decls) before) (cells_of decls (pool p)) (λ l g. over_limit (fault.too_many_cells before behind (pool p) parts refl l g)))) i
 true_counts decls before behind (init j) h parts f i = absurd i
 true_counts decls before behind (atomic s) h parts f i =
-    of_if decls (nat_le SECTION_LIMIT (count (alike (atomic s)) before)) LimitExceeded s.name.span.start f (λ e. over_limit (fault.too_many before behind (atomic s) SECTION_LIMIT parts refl refl (le_of SECTION_LIMIT (count (alike (atomic s)) before) e))) i
+    of_if decls (nat_le SECTION_LIMIT (count has_body before)) LimitExceeded s.name.span.start f (λ e. over_limit (fault.too_many_sections before behind (atomic s) parts refl refl (le_of SECTION_LIMIT (count has_body before) e))) i
+true_counts decls before behind (helper s) h parts f i =
+    of_if decls (nat_le SECTION_LIMIT (count has_body before)) LimitExceeded s.name.span.start f (λ e. over_limit (fault.too_many_sections before behind (helper s) parts refl refl (le_of SECTION_LIMIT (count has_body before) e))) i
 true_counts decls before behind (thread t) h parts f i =
     both f (one_if (nat_le THREAD_LIMIT (count (alike (thread t)) before)) LimitExceeded t.name.span.start) (one_if (first_too_many CALL_LIMIT (total calls_of before) (calls_of (thread t))) LimitExceeded t.name.span.start)
     (of_if decls (nat_le THREAD_LIMIT (count (alike (thread t)) before)) LimitExceeded t.name.span.start f (λ e. over_limit (fault.too_many before behind (thread t) THREAD_LIMIT parts refl refl (le_of THREAD_LIMIT (count (alike (thread t)) before) e))))
@@ -141,6 +144,7 @@ true_again decls before behind (global v) parts f i = absurd i
 true_again decls before behind (array a) parts f i = absurd i
 true_again decls before behind (pool p) parts f i = absurd i
 true_again decls before behind (atomic s) parts f i = absurd i
+true_again decls before behind (helper s) parts f i = absurd i
 true_again decls before behind (thread t) parts f i = absurd i
 
 true_repeated : (decls before ds : List Decl) → decls ≡ before ++ ds → (f : Mistake) → IsAmong f (repeated_faults decls before ds) → IsTrue_of decls f

@@ -1,30 +1,33 @@
 -- Each fault that is listed for a statement or a section is a true one.
-use Rattle.std.proofs.Common.{◌≡◌, ℕ, ◌+◌, List, [], ◌∷◌, ◌++◌, length, Option, Some, None, Bool, true, false, refl, sym, ap, ◌∙◌, subst, if◌then◌else◌, append_assoc, arith}
-use Rattle.std.specs.Prelude.{nat_le, not, is_some}
+use Rattle.std.proofs.Common.{◌≡◌, ℕ, suc, ◌+◌, ◌≤◌, List, [], ◌∷◌, ◌++◌, length, Option, Some, None, Bool, true, false, refl, sym, ap, ◌∙◌, subst, if◌then◌else◌, append_assoc, arith}
+use Rattle.std.specs.Prelude.{nat_le, not, is_some, ◌==◌, slice_get}
+use Rattle.std.proofs.lemmas.Bool.{eqb-true}
+use Rattle.std.proofs.lemmas.Bool.Decides.{nat_tests}
 use Rattle.source.specs.declared.span.Span.{Span}
-use Rattle.source.specs.declared.fault.Code.TheVariants.{DeclaredTwice, UnknownName, WrongType, NotAssignable, LimitExceeded, LockAsValue}
+use Rattle.source.specs.declared.fault.Code.TheVariants.{DeclaredTwice, UnknownName, WrongType, WrongArgumentCount, NotAssignable, LimitExceeded, LockAsValue}
 use Rattle.syntax.specs.Trees as tree
-use Rattle.syntax.specs.Trees.{Ident, ValueType, Place, lone, element, path, Expr, Owner, Stmt, let_local, let_owned, var_local, assign, if_then, while, print, return_value, Stmts, no_stmts, stmt, Otherwise, no_else, else_do, Member, lock_member, final_member, field_member, Struct, Param, Section, Decl, lock, struct, global, array, pool, init, atomic, thread}
+use Rattle.syntax.specs.Trees.{Ident, ValueType, Place, lone, element, path, Expr, Owner, HelperCall, CalledLocal, Stmt, let_local, let_owned, let_call, var_local, assign, if_then, while, print, return_value, call, Stmts, no_stmts, stmt, Otherwise, no_else, else_do, Member, lock_member, final_member, field_member, Struct, Param, Section, Decl, lock, struct, global, array, pool, init, atomic, helper, thread}
 use Rattle.core_lang.specs.declared.value.ValueType as core_type
 use Rattle.core_lang.specs.declared.value.ValueType.TheVariants.{Integer, Reference}
 use Rattle.core_lang.specs.declared.tree.LocalKind.TheVariants as kind
 use Rattle.source.specs.declared.mistake.Mistake.{Mistake}
 use Rattle.resolution.specs.declared.wanted.Sort.TheVariants as sort
 use Rattle.resolution.specs.declared.wanted.Want.{Want}
-use Rattle.resolution.specs.declared.wanted.Want.TheVariants.{Condition, Value}
-use Rattle.resolution.specs.Limits.{PARAMETER_LIMIT, LOCAL_LIMIT}
-use Rattle.resolution.specs.Scopes.{Scope, Local, outside, Meaning, a_local, a_decl, nothing, meaning, the_decl, the_struct, the_member, the_local, has_type, member_has_type, type_of, bound, entered, left}
+use Rattle.resolution.specs.declared.wanted.Want.TheVariants.{Anything, Condition, Value}
+use Rattle.resolution.specs.declared.body_limits.BodyLimits.{BodyLimits}
+use Rattle.resolution.specs.Scopes.{Scope, Local, outside, Meaning, a_local, a_decl, nothing, meaning, helper_meant, the_decl, the_struct, the_member, the_local, has_type, member_has_type, type_of, result_of, bound, entered, left}
 use Rattle.resolution.specs.Expressions.{fits_type, want, Walk, reached, at_lock, lost, walk_from}
 use Rattle.resolution.specs.declared.owner_field.OwnerField.{OwnerField}
 use Rattle.resolution.specs.Owners.{owner_field}
 use Rattle.resolution.specs.Statements.{is_var, last_field, target_of, wanted_by, after, after_else, after_all}
+use Rattle.resolution.specs.Constants.{want_of}
 use Rattle.resolution.specs.Resolution.{ahead_of, entry}
 use Rattle.resolution.specs.Where as site
-use Rattle.resolution.specs.Where.{Has, first, further, Among, here, later, in_then, in_else, in_while, Asks, of_let, of_owned, of_var, of_assign, of_index, of_while, of_print, of_return, HasStmt, in_section, HasExpr, in_stmt, HasPlace, is_written, Binds, parameter, a_let, an_owned_let, a_var, HasType, of_parameter, of_result, of_a_let, of_an_owned_let, of_a_var, NamesOwner, names_owner}
+use Rattle.resolution.specs.Where.{Has, first, further, Among, here, later, in_then, in_else, in_while, IsArgument, for_parameter, for_nothing, Asks, of_let, of_owned, of_let_call, of_var, of_assign, of_index, of_while, of_print, of_return, of_call_alone, HasBody, HasStmt, in_body, HasHelperCall, by_let, by_itself, HasExpr, in_stmt, HasPlace, is_written, Binds, parameter, a_let, an_owned_let, a_called_let, a_var, HasType, of_parameter, of_result, of_a_let, of_an_owned_let, of_a_called_let, of_a_var, NamesOwner, names_owner}
 use Rattle.resolution.specs.Faults as fault
-use Rattle.resolution.specs.Faults.{IsNoValue, declared_twice, unknown, wrong_type, not_assignable, over_limit, lock_as_value}
+use Rattle.resolution.specs.Faults.{IsNoValue, IsNoHelper, declared_twice, unknown, wrong_type, miscounted, not_assignable, over_limit, lock_as_value}
 use Rattle.resolution.specs.FaultLists as list
-use Rattle.resolution.specs.FaultLists.{one_if, unfit, no_elements, path_faults, wanted_faults, type_faults, taken, local_faults, no_target, no_array, final_faults, target_faults, binding_faults, no_final_in, owner_field_faults, other_type, owner_faults, stmt_faults, else_faults, stmts_faults, param_faults, result_faults}
+use Rattle.resolution.specs.FaultLists.{one, one_if, unfit, no_elements, path_faults, wanted_faults, type_faults, taken, local_faults, no_target, no_array, final_faults, target_faults, binding_faults, no_final_in, owner_field_faults, other_type, owner_faults, values_faults, each_value_faults, passed_values_faults, helper_call_faults, other_result, given_back_faults, called_faults, stmt_faults, else_faults, stmts_faults, param_faults, result_faults, section_faults}
 use Rattle.source.specs.Leasts.{IsAmong}
 use Rattle.resolution.proofs.Members.{IsTrue_of, both, of_one, of_if}
 use Rattle.resolution.proofs.TrueExpressions.{misfit_if, true_type, true_elements, true_path, true_wanted, none_is}
@@ -39,9 +42,9 @@ true_taken decls sc x h (Some l) d p q f i = of_one decls DeclaredTwice x.span.s
 
 true_local : (sc : Scope) (x : Ident) → Binds sc.decls sc x → (f : Mistake) → IsAmong f (local_faults sc x) → IsTrue_of sc.decls f
 true_local sc x h f i =
-    both f (taken x.span.start (the_local sc.locals x.text) (the_decl sc.decls x.text)) (one_if (nat_le LOCAL_LIMIT (length sc.locals)) LimitExceeded x.span.start)
+    both f (taken x.span.start (the_local sc.locals x.text) (the_decl sc.decls x.text)) (one_if (nat_le sc.limits.locals (length sc.locals)) LimitExceeded x.span.start)
     (true_taken sc.decls sc x h (the_local sc.locals x.text) (the_decl sc.decls x.text) refl refl f)
-    (of_if sc.decls (nat_le LOCAL_LIMIT (length sc.locals)) LimitExceeded x.span.start f (λ e. over_limit (fault.too_many_locals h (le_of LOCAL_LIMIT (length sc.locals) e)))) i
+    (of_if sc.decls (nat_le sc.limits.locals (length sc.locals)) LimitExceeded x.span.start f (λ e. over_limit (fault.too_many_locals h (le_of sc.limits.locals (length sc.locals) e)))) i
 
 -- ---- left sides
 
@@ -64,6 +67,7 @@ true_target_name sc x e h (a_decl n (array a)) is f i = true_no_target sc x e n 
 true_target_name sc x e h (a_decl n (pool p)) is f i = true_no_target sc x e n (pool p) h is tt f i
 true_target_name sc x e h (a_decl n (init j)) is f i = true_no_target sc x e n (init j) h is tt f i
 true_target_name sc x e h (a_decl n (atomic s)) is f i = true_no_target sc x e n (atomic s) h is tt f i
+true_target_name sc x e h (a_decl n (helper s)) is f i = true_no_target sc x e n (helper s) h is tt f i
 true_target_name sc x e h (a_decl n (thread t)) is f i = true_no_target sc x e n (thread t) h is tt f i
 true_target_name sc x e h nothing is f i = of_one sc.decls UnknownName x.span.start f (unknown (fault.in_place (is_written h) is)) i
 
@@ -75,6 +79,7 @@ true_array sc x j e h (a_decl n (global v)) is f i = absurd i
 true_array sc x j e h (a_decl n (array a)) is f i = absurd i
 true_array sc x j e h (a_decl n (init k)) is f i = absurd i
 true_array sc x j e h (a_decl n (atomic s)) is f i = absurd i
+true_array sc x j e h (a_decl n (helper s)) is f i = absurd i
 true_array sc x j e h (a_decl n (thread t)) is f i = absurd i
 true_array sc x j e h (a_local n l) is f i = absurd i
 true_array sc x j e h nothing is f i = absurd i
@@ -132,6 +137,94 @@ module _ (sc : Scope) (l : tree.Local) (o : Owner) (h : HasStmt sc.decls sc (let
       (true_owner_field (type_of sc l.value_type) refl f)
       (true_no_owner (meaning sc o.local.text) refl f) i
 
+-- ---- calls of helpers
+
+unlike_count : (n k : ℕ) → not (n == k) ≡ true → n ≡ k → ⊥
+unlike_count n k e same = let t : not (n == n) ≡ true = ap (λ (j : ℕ). not (n == j)) same ∙ e in absurd (grind (arith, nat_tests))
+
+module _ (sc : Scope) (c : HelperCall) (h : HasHelperCall sc.decls sc c) where
+  true_unfit_helper : (m : Meaning) → meaning sc c.helper.text ≡ m → IsNoHelper m → (f : Mistake) → IsAmong f (unfit sc.decls WrongType c.helper.span.start m) → IsTrue_of sc.decls f
+  true_unfit_helper m is not_so f i =
+      of_if sc.decls (has_type sc.decls m) WrongType c.helper.span.start f (λ t. wrong_type (fault.no_helper h (subst IsNoHelper (sym is) not_so) (ap (has_type sc.decls) is ∙ t))) i
+
+  true_no_helper : (m : Meaning) → meaning sc c.helper.text ≡ m → (f : Mistake) → IsAmong f (list.no_helper sc.decls c.helper.span.start (length c.arguments) m) → IsTrue_of sc.decls f
+  true_no_helper (a_local n l) is f i = true_unfit_helper (a_local n l) is tt f i
+  true_no_helper (a_decl n (helper s)) is f i =
+      of_if sc.decls (not (length c.arguments == length s.params)) WrongArgumentCount c.helper.span.start f
+      (λ e. miscounted (fault.wrong_helper_count h (ap helper_meant is) (unlike_count (length c.arguments) (length s.params) e))) i
+  true_no_helper (a_decl n (lock x)) is f i = true_unfit_helper (a_decl n (lock x)) is tt f i
+  true_no_helper (a_decl n (struct x)) is f i = true_unfit_helper (a_decl n (struct x)) is tt f i
+  true_no_helper (a_decl n (global x)) is f i = true_unfit_helper (a_decl n (global x)) is tt f i
+  true_no_helper (a_decl n (array x)) is f i = true_unfit_helper (a_decl n (array x)) is tt f i
+  true_no_helper (a_decl n (pool x)) is f i = true_unfit_helper (a_decl n (pool x)) is tt f i
+  true_no_helper (a_decl n (init x)) is f i = true_unfit_helper (a_decl n (init x)) is tt f i
+  true_no_helper (a_decl n (atomic x)) is f i = true_unfit_helper (a_decl n (atomic x)) is tt f i
+  true_no_helper (a_decl n (thread x)) is f i = true_unfit_helper (a_decl n (thread x)) is tt f i
+  true_no_helper nothing is f i = of_one sc.decls UnknownName c.helper.span.start f (unknown (fault.in_helper_call h is)) i
+
+-- arguments of a call in a statement, of which each is asked for
+module _ (sc : Scope) (s : Stmt) (h : HasStmt sc.decls sc s) where
+  true_values : (ps : List Param) (es : List Expr) → ((k : ℕ) (p : Param) (e : Expr) → slice_get ps k ≡ Some p → slice_get es k ≡ Some e → Asks sc s (want_of sc.decls p) e) →
+      (f : Mistake) → IsAmong f (values_faults sc ps es) → IsTrue_of sc.decls f
+  true_values [] es asks f i = absurd i
+  true_values (p ∷ ps) [] asks f i = absurd i
+  true_values (p ∷ ps) (e ∷ es) asks f i =
+      both f (wanted_faults sc (want_of sc.decls p) e) (values_faults sc ps es)
+      (true_asked sc s (want_of sc.decls p) e h (asks 0 p e refl refl) f)
+      (true_values ps es (λ k q x a b. asks (suc k) q x a b) f) i
+
+  true_each : (es : List Expr) → ((e : Expr) → Has es e → Asks sc s Anything e) → (f : Mistake) → IsAmong f (each_value_faults sc es) → IsTrue_of sc.decls f
+  true_each [] asks f i = absurd i
+  true_each (e ∷ es) asks f i =
+      both f (wanted_faults sc Anything e) (each_value_faults sc es)
+      (true_asked sc s Anything e h (asks e first) f)
+      (true_each es (λ x b. asks x (further b)) f) i
+
+  values_if : (ps : List Param) (es : List Expr) (b : Bool) → (length es == length ps) ≡ b → ((k : ℕ) (p : Param) (e : Expr) → length es ≡ length ps → slice_get ps k ≡ Some p → slice_get es k ≡ Some e → Asks sc s (want_of sc.decls p) e) →
+      (f : Mistake) → IsAmong f (if b then values_faults sc ps es else []) → IsTrue_of sc.decls f
+  values_if ps es true e asks f i = true_values ps es (λ k p x a b. asks k p x (eqb-true (length es) (length ps) e) a b) f i
+  values_if ps es false e asks f i = absurd i
+
+  true_passed : (o : Option (ℕ × Section)) (es : List Expr) → ((w : Want) (e : Expr) → IsArgument sc.decls o es w e → Asks sc s w e) → (f : Mistake) → IsAmong f (passed_values_faults sc o es) → IsTrue_of sc.decls f
+  true_passed (Some (n, x)) es asks f i =
+      values_if x.params es (length es == length x.params) refl (λ k p e len a b. asks (want_of sc.decls p) e (for_parameter k len a b)) f i
+  true_passed None es asks f i = true_each es (λ e b. asks Anything e (for_nothing b)) f i
+
+  true_helper_call : (c : HelperCall) → HasHelperCall sc.decls sc c → ((w : Want) (e : Expr) → IsArgument sc.decls (helper_meant (meaning sc c.helper.text)) c.arguments w e → Asks sc s w e) →
+      (f : Mistake) → IsAmong f (helper_call_faults sc c) → IsTrue_of sc.decls f
+  true_helper_call c calls asks f i =
+      both f (list.no_helper sc.decls c.helper.span.start (length c.arguments) (meaning sc c.helper.text)) (passed_values_faults sc (helper_meant (meaning sc c.helper.text)) c.arguments)
+      (true_no_helper sc c calls (meaning sc c.helper.text) refl f)
+      (true_passed (helper_meant (meaning sc c.helper.text)) c.arguments asks f) i
+
+-- what is given back to a local
+module _ (sc : Scope) (l : CalledLocal) (h : HasStmt sc.decls sc (let_call l)) (t : core_type.ValueType) (is : type_of sc l.value_type ≡ Some t) (n : ℕ) (s : Section)
+    (meant : helper_meant (meaning sc l.call.helper.text) ≡ Some (n, s)) where
+  true_other_result : (u : Option core_type.ValueType) → result_of sc.decls s ≡ u → (f : Mistake) → IsAmong f (other_result l.call.helper.span.start t u) → IsTrue_of sc.decls f
+  true_other_result None at f i = absurd i
+  true_other_result (Some u) at f i = misfit_if sc.decls l.call.helper.span.start (fits_type t (sort.Of u)) (λ e. wrong_type (fault.other_result h is meant at e)) f i
+
+  true_no_result : (r : Option ValueType) → s.result ≡ r → (f : Mistake) → IsAmong f (list.no_result l.call.helper.span.start t r (result_of sc.decls s)) → IsTrue_of sc.decls f
+  true_no_result None at f i = of_one sc.decls WrongType l.call.helper.span.start f (wrong_type (fault.no_result h is meant at)) i
+  true_no_result (Some r) at f i = true_other_result (result_of sc.decls s) refl f i
+
+true_given_back : (sc : Scope) (l : CalledLocal) → HasStmt sc.decls sc (let_call l) → (t : Option core_type.ValueType) → type_of sc l.value_type ≡ t → (o : Option (ℕ × Section)) → helper_meant (meaning sc l.call.helper.text) ≡ o →
+    (f : Mistake) → IsAmong f (given_back_faults sc.decls l.call.helper.span.start t o) → IsTrue_of sc.decls f
+true_given_back sc l h (Some t) is (Some (n, s)) meant f i = true_no_result sc l h t is n s meant s.result refl f i
+true_given_back sc l h (Some t) is None meant f i = absurd i
+true_given_back sc l h None is o meant f i = absurd i
+
+true_called : (sc : Scope) (l : CalledLocal) → HasStmt sc.decls sc (let_call l) → (f : Mistake) → IsAmong f (called_faults sc l) → IsTrue_of sc.decls f
+true_called sc l h f i =
+    let a = local_faults sc l.name in
+    let b = type_faults sc l.value_type in
+    let d = given_back_faults sc.decls l.call.helper.span.start (type_of sc l.value_type) (helper_meant (meaning sc l.call.helper.text)) in
+    both f (a ++ b ++ d) (helper_call_faults sc l.call)
+    (both f (a ++ b) d
+    (both f a b (true_local sc l.name (a_called_let h) f) (true_type sc.decls sc l.value_type (of_a_called_let h) f))
+    (true_given_back sc l h (type_of sc l.value_type) refl (helper_meant (meaning sc l.call.helper.text)) refl f))
+    (true_helper_call sc (let_call l) h l.call (by_let h) (λ w e p. of_let_call p) f) i
+
 -- ---- statements
 
 pub else_same : (sc : Scope) (o : Otherwise) → (after_else sc o).decls ≡ sc.decls
@@ -141,12 +234,14 @@ else_same sc (else_do body close) = refl
 pub after_same : (sc : Scope) (s : Stmt) → (after sc s).decls ≡ sc.decls
 after_same sc (let_local l) = refl
 after_same sc (let_owned l o) = refl
+after_same sc (let_call l) = refl
 after_same sc (var_local l) = refl
 after_same sc (assign p e) = refl
 after_same sc (if_then start e body close other) = else_same (left sc (after_all sc body)) other
 after_same sc (while start e body close) = refl
 after_same sc (print at e) = refl
 after_same sc (return_value at e) = refl
+after_same sc (call at c) = refl
 
 -- what holds of a scope over the program's declarations holds of one over equal ones
 pub moved : (decls : List Decl) (sc : Scope) (f : Mistake) → sc.decls ≡ decls → IsTrue_of sc.decls f → IsTrue_of decls f
@@ -181,6 +276,7 @@ mutual
       (both f (binding_faults sc l) (owner_faults sc (type_of sc l.value_type) o)
       (true_typed_local sc (let_owned l o) l.name l.value_type l.value g (an_owned_let g) (of_an_owned_let g) of_owned f)
       (true_owner sc l o g f) i)
+  true_stmt decls sc (let_call l) h same up f i = moved decls sc f same (true_called sc l (has_moved decls sc (let_call l) same h) f i)
   true_stmt decls sc (var_local l) h same up f i =
       let g = has_moved decls sc (var_local l) same h in
       moved decls sc f same (true_typed_local sc (var_local l) l.name l.value_type l.value g (a_var g) (of_a_var g) of_var f i)
@@ -199,6 +295,9 @@ mutual
       (true_stmts decls sc body (λ sc' r a. up sc' r (in_while a)) same f) i
   true_stmt decls sc (print start e) h same up f i = moved decls sc f same (true_asked sc (print start e) (Value Integer) e (has_moved decls sc (print start e) same h) of_print f i)
   true_stmt decls sc (return_value start e) h same up f i = moved decls sc f same (true_asked sc (return_value start e) (want sc.result) e (has_moved decls sc (return_value start e) same h) of_return f i)
+  true_stmt decls sc (call start c) h same up f i =
+      let g = has_moved decls sc (call start c) same h in
+      moved decls sc f same (true_helper_call sc (call start c) g c (by_itself g) (λ w e p. of_call_alone p) f i)
 
   true_else : (decls : List Decl) (sc : Scope) (start : Span) (e : Expr) (body : Stmts) (close : Span) (other : Otherwise) → sc.decls ≡ decls →
       ((sc' : Scope) (r : Stmt) → Among sc (stmt (if_then start e body close other) no_stmts) sc' r → HasStmt decls sc' r) → (f : Mistake) → IsAmong f (else_faults (left sc (after_all sc body)) other) → IsTrue_of decls f
@@ -212,11 +311,15 @@ mutual
       (true_stmt decls sc s (up sc s here) same (λ sc' r a. up sc' r (widened a)) f)
       (true_stmts decls (after sc s) rest (λ sc' r a. up sc' r (later a)) (after_same sc s ∙ same) f) i
 
--- ---- sections
+-- ---- sections and helpers
 
 pub entered_same : (sc : Scope) (ps : List Param) → (entered sc ps).decls ≡ sc.decls
 entered_same sc [] = refl
 entered_same sc (p ∷ ps) = entered_same (bound sc kind.Parameter p.name (type_of (outside sc.decls) p.value_type)) ps
+
+pub entered_limits : (sc : Scope) (ps : List Param) → (entered sc ps).limits ≡ sc.limits
+entered_limits sc [] = refl
+entered_limits sc (p ∷ ps) = entered_limits (bound sc kind.Parameter p.name (type_of (outside sc.decls) p.value_type)) ps
 
 pub entered_push : (sc : Scope) (before : List Param) (p : Param) → entered sc (before ++ p ∷ []) ≡ bound (entered sc before) kind.Parameter p.name (type_of (outside (entered sc before).decls) p.value_type)
 entered_push sc [] p = refl
@@ -226,32 +329,34 @@ pub length_push : {A : Type 0} (xs : List A) (x : A) → length (xs ++ x ∷ [])
 length_push [] x = refl
 length_push (y ∷ xs) x = omega (arith, length_push xs x)
 
-true_params : (decls : List Decl) (s : Section) → Has decls (atomic s) → (before ps : List Param) (n : ℕ) → n ≡ length before → s.params ≡ before ++ ps → ((p : Param) → Has ps p → Has s.params p) →
-    (f : Mistake) → IsAmong f (param_faults (entered (ahead_of decls s) before) n ps) → IsTrue_of decls f
-true_params decls s h before [] n len parts up f i = absurd i
-true_params decls s h before (p ∷ ps) n len parts up f i =
-    let sc : Scope = entered (ahead_of decls s) before in
-    let same : sc.decls ≡ decls = entered_same (ahead_of decls s) before in
+true_params : (decls : List Decl) (limits : BodyLimits) (s : Section) → HasBody decls limits s → (before ps : List Param) (n : ℕ) → n ≡ length before → s.params ≡ before ++ ps → ((p : Param) → Has ps p → Has s.params p) →
+    (f : Mistake) → IsAmong f (param_faults (entered (ahead_of decls limits s) before) n ps) → IsTrue_of decls f
+true_params decls limits s h before [] n len parts up f i = absurd i
+true_params decls limits s h before (p ∷ ps) n len parts up f i =
+    let sc : Scope = entered (ahead_of decls limits s) before in
+    let same : sc.decls ≡ decls = entered_same (ahead_of decls limits s) before in
+    let allowed : sc.limits ≡ limits = entered_limits (ahead_of decls limits s) before in
     let a = local_faults sc p.name in
-    let b = one_if (nat_le PARAMETER_LIMIT n) LimitExceeded p.name.span.start in
+    let b = one_if (nat_le sc.limits.parameters n) LimitExceeded p.name.span.start in
     let c = type_faults (outside sc.decls) p.value_type in
     both f (a ++ b ++ c) (param_faults (bound sc kind.Parameter p.name (type_of (outside sc.decls) p.value_type)) (n + 1) ps)
     (both f (a ++ b) c
     (both f a b
     (λ j. moved decls sc f same (true_local sc p.name (subst (λ (ds : List Decl). Binds ds sc p.name) (sym same) (parameter p before ps h parts)) f j))
-    (of_if decls (nat_le PARAMETER_LIMIT n) LimitExceeded p.name.span.start f (λ e. over_limit (fault.too_many_parameters p before ps h parts (let le = le_of PARAMETER_LIMIT n e in omega (arith, le, len))))))
+    (of_if decls (nat_le sc.limits.parameters n) LimitExceeded p.name.span.start f
+    (λ e. over_limit (fault.too_many_parameters p before ps h parts (subst (λ (l : BodyLimits). l.parameters ≤ length before) allowed (let le = le_of sc.limits.parameters n e in omega (arith, le, len)))))))
     (λ j. true_type decls (outside decls) p.value_type (of_parameter h (up p first)) f (subst (λ (ds : List Decl). IsAmong f (type_faults (outside ds) p.value_type)) same j)))
-    (λ j. true_params decls s h (before ++ p ∷ []) ps (n + 1) (sym (length_push before p ∙ ap (λ (k : ℕ). k + 1) (sym len))) (parts ∙ sym (append_assoc before (p ∷ []) ps)) (λ q x. up q (further x)) f
-    (subst (λ (to : Scope). IsAmong f (param_faults to (n + 1) ps)) (sym (entered_push (ahead_of decls s) before p)) j)) i
+    (λ j. true_params decls limits s h (before ++ p ∷ []) ps (n + 1) (sym (length_push before p ∙ ap (λ (k : ℕ). k + 1) (sym len))) (parts ∙ sym (append_assoc before (p ∷ []) ps)) (λ q x. up q (further x)) f
+    (subst (λ (to : Scope). IsAmong f (param_faults to (n + 1) ps)) (sym (entered_push (ahead_of decls limits s) before p)) j)) i
 
-true_result : (decls : List Decl) (s : Section) → Has decls (atomic s) → (o : Option ValueType) → s.result ≡ o → (f : Mistake) → IsAmong f (result_faults decls o) → IsTrue_of decls f
-true_result decls s h None e f i = absurd i
-true_result decls s h (Some t) e f i = true_type decls (outside decls) t (of_result h e) f i
+true_result : (decls : List Decl) (limits : BodyLimits) (s : Section) → HasBody decls limits s → (o : Option ValueType) → s.result ≡ o → (f : Mistake) → IsAmong f (result_faults decls o) → IsTrue_of decls f
+true_result decls limits s h None e f i = absurd i
+true_result decls limits s h (Some t) e f i = true_type decls (outside decls) t (of_result h e) f i
 
-pub true_section : (decls : List Decl) (s : Section) → Has decls (atomic s) → (f : Mistake) → IsAmong f (result_faults decls s.result ++ param_faults (ahead_of decls s) 0 s.params ++ stmts_faults (entry decls s) s.body.stmts) → IsTrue_of decls f
-true_section decls s h f i =
-    both f (result_faults decls s.result ++ param_faults (ahead_of decls s) 0 s.params) (stmts_faults (entry decls s) s.body.stmts)
-    (both f (result_faults decls s.result) (param_faults (ahead_of decls s) 0 s.params)
-    (true_result decls s h s.result refl f)
-    (true_params decls s h [] s.params 0 refl refl (λ p x. x) f))
-    (true_stmts decls (entry decls s) s.body.stmts (λ sc x a. in_section h a) (entered_same (ahead_of decls s) s.params) f) i
+pub true_section : (decls : List Decl) (limits : BodyLimits) (s : Section) → HasBody decls limits s → (f : Mistake) → IsAmong f (section_faults decls limits s) → IsTrue_of decls f
+true_section decls limits s h f i =
+    both f (result_faults decls s.result ++ param_faults (ahead_of decls limits s) 0 s.params) (stmts_faults (entry decls limits s) s.body.stmts)
+    (both f (result_faults decls s.result) (param_faults (ahead_of decls limits s) 0 s.params)
+    (true_result decls limits s h s.result refl f)
+    (true_params decls limits s h [] s.params 0 refl refl (λ p x. x) f))
+    (true_stmts decls (entry decls limits s) s.body.stmts (λ sc x a. in_body h a) (entered_same (ahead_of decls limits s) s.params) f) i

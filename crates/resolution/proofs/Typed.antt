@@ -1,6 +1,6 @@
 -- Resolved expressions and statements that are well typed, as data; and that values which stand for them are.
-use Rattle.std.proofs.Common.{◌≡◌, ℕ, zero, suc, List, [], ◌∷◌, Option, Some, None, refl, sym, ap, ◌∙◌}
-use Rattle.std.specs.Prelude.{map, option_map, slice_get, ⊤}
+use Rattle.std.proofs.Common.{◌≡◌, ℕ, zero, suc, List, [], ◌∷◌, Option, Some, None, refl, sym, ap, ◌∙◌, subst}
+use Rattle.std.specs.Prelude.{map, option_map, slice_get, take, ⊤}
 use Rattle.core_lang.specs.declared.value.ValueType.{ValueType}
 use Rattle.core_lang.specs.declared.value.ValueType.TheVariants.{Integer, Reference}
 use Rattle.core_lang.specs.declared.tree.Comparison.{Comparison}
@@ -15,12 +15,13 @@ use Rattle.core_lang.specs.declared.tree.Stmt as s
 use Rattle.core_lang.specs.declared.tree.Action as a
 use Rattle.core_lang.specs.declared.tree.Action.{Bind, SetLocal, SetGlobal, SetElement, SetField, Call, Print, If', IfElse', While', Row_of-Stmt, end_of-Stmt, more_of-Stmt}
 use Rattle.core_lang.specs.declared.tree.Return as the_return
+use Rattle.core_lang.specs.declared.tree.Local as the_local
 use Rattle.core_lang.specs.declared.typed.Cell.{Cell}
 use Rattle.core_lang.specs.declared.typed.Struct as the_struct
 use Rattle.core_lang.specs.declared.typed.Typed.{Typed}
-use Rattle.core_lang.specs.Typing.{if_global, global_type, array_type, pool_struct, final_target, field_type, LeadsTo, IsOf, AreIntegers, CanCompare, IsTest, AreTests, IsWellTyped, AreWellTyped, AllWellTyped, IsResult}
+use Rattle.core_lang.specs.Typing.{local_types, if_global, global_type, array_type, pool_struct, final_target, field_type, LeadsTo, IsOf, AreIntegers, AreOf, CanCompare, IsTest, AreTests, Takes, IsWellTyped, AreWellTyped, AllWellTyped, IsResult}
 use Rattle.resolution.specs.Core as core
-use Rattle.resolution.specs.CoreViews.{core_expr, core_operations_row, core_condition, core_conditions_row, core_action, core_stmts_row, core_stmts, core_return, core_struct, core_final, core_field, core_array, core_pool, core_of}
+use Rattle.resolution.specs.CoreViews.{core_expr, core_operations_row, core_condition, core_conditions_row, core_action, core_stmts_row, core_stmts, core_return, core_local, core_section, core_struct, core_final, core_field, core_array, core_pool, core_of}
 use Rattle.resolution.specs.Scopes.{◌>>=◌}
 
 -- ---- lists seen by a view
@@ -120,6 +121,10 @@ field_type_is program s f t h = by_struct (slice_get (core_of program).structs s
 
 -- ---- well typed, as data
 
+-- the types of locals
+abbrev pub types_of : List core.Local → List ValueType
+types_of ls = map (λ (l : core.Local). l.value_type) ls
+
 -- over a program and the types of a section's locals
 module _ (p : core.Program) (locals : List ValueType) where
   abbrev pub Leads : ValueType → List FieldStep → ValueType → Type 0
@@ -173,6 +178,19 @@ module _ (p : core.Program) (locals : List ValueType) where
     AllTest core.no_conditions = ⊤
     AllTest (core.condition x rest) = Tests x × AllTest rest
 
+  -- expressions of these types, and no more
+  abbrev pub AreAll : List core.Expr → List ValueType → Type 0
+  AreAll [] [] = ⊤
+  AreAll [] (t ∷ ts) = ⊥
+  AreAll (x ∷ xs) [] = ⊥
+  AreAll (x ∷ xs) (t ∷ ts) = Is x t × AreAll xs ts
+
+  -- a local for what a helper gives back, or none
+  abbrev pub Taken : Option ℕ → Option ValueType → Type 0
+  Taken None t = ⊤
+  Taken (Some k) None = ⊥
+  Taken (Some k) (Some t) = slice_get locals k ≡ Some t
+
   abbrev pub Gives : ℕ → core.Expr → Type 0
   Gives n x = (t : ValueType) × (slice_get locals n ≡ Some t) × Is x t
 
@@ -183,8 +201,7 @@ module _ (p : core.Program) (locals : List ValueType) where
     Acts (core.set_global cell x) = (t : ValueType) × (global_in p cell ≡ Some t) × Is x t
     Acts (core.set_element n index x) = (t : ValueType) × (array_in p n ≡ Some t) × Is index Integer × Is x t
     Acts (core.set_field base s f x) = IsPath base (Reference s) × ((t : ValueType) × (field_in p s f ≡ Some t) × Is x t)
-    -- no text has a call
-    Acts (core.call k xs r) = ⊥
+    Acts (core.call k xs r) = (h : core.Section) × (slice_get p.helpers k ≡ Some h) × AreAll xs (types_of (take h.parameters h.locals)) × Taken r h.result_type
     Acts (core.print x) = Is x Integer
     Acts (core.if_true t block) = Tests t × AllAct block
     Acts (core.if_else t block other) = Tests t × AllAct block × AllAct other
@@ -201,6 +218,11 @@ module _ (p : core.Program) (locals : List ValueType) where
   Returns (Some t) (Some r) = Is r.value t
 
 -- ---- what stands for it is well typed
+
+types_taken : (n : ℕ) (ls : List the_local.Local) → types_of (take n (map core_local ls)) ≡ local_types (take n ls)
+types_taken zero ls = refl
+types_taken (suc n) [] = refl
+types_taken (suc n) (l ∷ ls) = ap (λ (ts : List ValueType). l.value_type ∷ ts) (types_taken n ls)
 
 module _ (program : Typed) (locals : List ValueType) where
   leads_is : (from : ValueType) (fs : List FieldStep) (to : ValueType) → Leads (core_of program) locals from fs to → LeadsTo program locals from fs to
@@ -231,6 +253,17 @@ module _ (program : Typed) (locals : List ValueType) where
     operations_are end_of-Operation h = tt
     operations_are (more_of-Operation o x rest) h = (expr_is x Integer h.0, operations_are rest h.1)
 
+  all_are : (xs : List e.Expr) (ts : List ValueType) → AreAll (core_of program) locals (map core_expr xs) ts → AreOf program locals xs ts
+  all_are [] [] h = tt
+  all_are [] (t ∷ ts) h = absurd h
+  all_are (x ∷ xs) [] h = absurd h
+  all_are (x ∷ xs) (t ∷ ts) h = (expr_is x t h.0, all_are xs ts h.1)
+
+  taken_is : (r : Option ℕ) (t : Option ValueType) → Taken (core_of program) locals r t → Takes program locals r t
+  taken_is None t h = tt
+  taken_is (Some k) None h = absurd h
+  taken_is (Some k) (Some t) h = h
+
   compare_is : (o : Comparison) (x y : e.Expr) → Compares (core_of program) locals o (core_expr x) (core_expr y) → CanCompare program locals o x y
   compare_is Equal x y h = (h.0, expr_is x h.0 h.1, expr_is y h.0 h.2)
   compare_is Unequal x y h = (h.0, expr_is x h.0 h.1, expr_is y h.0 h.2)
@@ -257,7 +290,16 @@ module _ (program : Typed) (locals : List ValueType) where
     action_is (SetGlobal cell x) h = (h.0, global_type_is program cell h.0 h.1, expr_is x h.0 h.2)
     action_is (SetElement n index x) h = (h.0, array_type_is program n h.0 h.1, expr_is index Integer h.2, expr_is x h.0 h.3)
     action_is (SetField base s f x) h = ((h.0.0, h.0.1, leads_is h.0.0 base.fields.items (Reference s) h.0.2), (h.1.0, field_type_is program s f h.1.0 h.1.1, expr_is x h.1.0 h.1.2))
-    action_is (Call k xs r) h = absurd h
+    action_is (Call k xs r) h =
+        let g = map_got core_section program.shape.helpers.items k h.0 h.1 in
+        let s = g.0 in
+        let types = types_taken s.parameters s.locals.items in
+        let given = subst (λ (z : core.Section). AreAll (core_of program) locals (map core_expr xs.items) (types_of (take z.parameters z.locals))) (sym g.2) h.2 in (
+          s,
+          g.1,
+          all_are xs.items (local_types (take s.parameters s.locals.items)) (subst (AreAll (core_of program) locals (map core_expr xs.items)) types given),
+          taken_is r s.result_type (subst (λ (z : core.Section). Taken (core_of program) locals r z.result_type) (sym g.2) h.3),
+        )
     action_is (Print x) h = expr_is x Integer h
     action_is (If' t _ block) h = (test_is t h.0, stmts_are block h.1)
     action_is (IfElse' t _ block _ other) h = (test_is t h.0, stmts_are block h.1, stmts_are other h.2)

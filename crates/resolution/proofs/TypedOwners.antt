@@ -7,7 +7,8 @@ use Rattle.core_lang.specs.declared.value.ValueType.{ValueType}
 use Rattle.core_lang.specs.declared.value.ValueType.TheVariants.{Integer, Reference}
 use Rattle.resolution.specs.declared.wanted.Sort.TheVariants as sort
 use Rattle.resolution.specs.Core as core
-use Rattle.resolution.specs.Limits.{STRUCT_LIMIT, LOCAL_LIMIT}
+use Rattle.source.specs.Texts.{SOURCE_LIMIT}
+use Rattle.resolution.specs.Limits.{STRUCT_LIMIT}
 use Rattle.resolution.specs.Scopes.{◌>>=◌, Scope, Meaning, a_local, a_decl, nothing, meaning, the_struct, the_member, struct_named}
 use Rattle.resolution.specs.Expressions.{fits_type, member_number}
 use Rattle.resolution.specs.declared.owner_field.OwnerField.{OwnerField}
@@ -17,7 +18,7 @@ use Rattle.resolution.proofs.Typed.{final_in, Is}
 use Rattle.resolution.proofs.TypedResolvedExprs.{Sound, Have, IsLocal, meant_local, GoodValue}
 
 -- a value of the reference's very type
-same_type : (t u : ValueType) → fits_type t (sort.Of u) ≡ true → u ≡ t
+pub same_type : (t u : ValueType) → fits_type t (sort.Of u) ≡ true → u ≡ t
 same_type Integer Integer e = refl
 same_type Integer (Reference r) e = cc
 same_type (Reference s) Integer e = cc
@@ -79,7 +80,7 @@ module _ (sc : Scope) (p : core.Program) (types : List ValueType) (sound : Sound
   tested_good s start None o i h f l = tt
   tested_good s start (Some x) None i h f l = tt
   tested_good s start (Some x) (Some g) None h f l = tt
-  tested_good s start (Some x) (Some g) (Some n) h f l = numbered_good s x g start n (nat_le g.structure STRUCT_LIMIT) (nat_le n LOCAL_LIMIT) (of_owned s x g start n (f g refl) h (l g n refl refl))
+  tested_good s start (Some x) (Some g) (Some n) h f l = numbered_good s x g start n (nat_le g.structure STRUCT_LIMIT) (nat_le n SOURCE_LIMIT) (of_owned s x g start n (f g refl) h (l g n refl refl))
 
   number_none : (start : ℕ) (v : Option core.Expr) (i : Option ℕ) → GoodValue sc p types sound have Integer (owned_value start v None i)
   number_none start None i = tt

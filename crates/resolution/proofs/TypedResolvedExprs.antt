@@ -6,7 +6,7 @@ use Rattle.syntax.specs.declared.tree.Level.TheVariants.{Term, Sum, Conjunction,
 use Rattle.syntax.specs.declared.tree.Prefix.TheVariants.{Negate, Not}
 use Rattle.syntax.specs.declared.tree.Comparison as written
 use Rattle.syntax.specs.declared.tree.Comparison.TheVariants as sign
-use Rattle.syntax.specs.Trees.{ref_type, Ident, Place, lone, element, path, Expr, int, null, place, paren, prefix, chain, compare, Links, no_links, link, Member, lock_member, final_member, field_member, Final, Field, Struct, Variable, Array, Pool, Decl, lock, struct, global, array, pool, init, atomic, thread}
+use Rattle.syntax.specs.Trees.{ref_type, Ident, Place, lone, element, path, Expr, int, null, place, paren, prefix, chain, compare, Links, no_links, link, Member, lock_member, final_member, field_member, Final, Field, Struct, Variable, Array, Pool, Decl, lock, struct, global, array, pool, init, atomic, helper, thread}
 use Rattle.core_lang.specs.declared.value.ValueType.{ValueType}
 use Rattle.core_lang.specs.declared.value.ValueType.TheVariants.{Integer, Reference}
 use Rattle.core_lang.specs.declared.tree.Operator.{Operator}
@@ -117,6 +117,7 @@ module _ (sc : Scope) (p : core.Program) (types : List ValueType) (sound : Sound
   name_good start (a_decl n (pool x)) at loc = tt
   name_good start (a_decl n (init x)) at loc = tt
   name_good start (a_decl n (atomic x)) at loc = tt
+  name_good start (a_decl n (helper x)) at loc = tt
   name_good start (a_decl n (thread x)) at loc = tt
   name_good start nothing at loc = tt
 
@@ -133,6 +134,7 @@ module _ (sc : Scope) (p : core.Program) (types : List ValueType) (sound : Sound
   element_good start (a_decl n (global x)) (Some index) at i = tt
   element_good start (a_decl n (init x)) (Some index) at i = tt
   element_good start (a_decl n (atomic x)) (Some index) at i = tt
+  element_good start (a_decl n (helper x)) (Some index) at i = tt
   element_good start (a_decl n (thread x)) (Some index) at i = tt
   element_good start (a_local n l) (Some index) at i = tt
   element_good start nothing (Some index) at i = tt

@@ -1,7 +1,7 @@
 -- Resolved statements and sections are well typed.
 use Rattle.std.proofs.Common.{◌≡◌, ℕ, zero, suc, List, [], ◌∷◌, ◌++◌, length, Option, Some, None, Bool, true, false, if◌then◌else◌, refl, sym, ap, ◌∙◌, subst}
-use Rattle.std.specs.Prelude.{slice_get, map, ⊤}
-use Rattle.syntax.specs.Trees.{Ident, ValueType, Place, lone, element, path, Expr, Local, Owner, Stmt, let_local, let_owned, var_local, assign, if_then, while, print, return_value, Stmts, no_stmts, stmt, Otherwise, no_else, else_do, Section, Decl, lock, struct, global, array, pool, init, atomic, thread}
+use Rattle.std.specs.Prelude.{slice_get, ⊤}
+use Rattle.syntax.specs.Trees.{Ident, ValueType, Place, lone, element, path, Expr, Local, Owner, HelperCall, CalledLocal, Stmt, let_local, let_owned, let_call, var_local, assign, if_then, while, print, return_value, call, Stmts, no_stmts, stmt, Otherwise, no_else, else_do, Section, Decl, lock, struct, global, array, pool, init, atomic, helper, thread}
 use Rattle.core_lang.specs.declared.value.ValueType as core_type
 use Rattle.core_lang.specs.declared.value.ValueType.TheVariants.{Integer, Reference}
 use Rattle.core_lang.specs.declared.tree.LocalKind.{LocalKind}
@@ -9,21 +9,23 @@ use Rattle.core_lang.specs.declared.tree.LocalKind.TheVariants as kind
 use Rattle.core_lang.specs.declared.tree.FieldStep.{FieldStep}
 use Rattle.core_lang.specs.declared.tree.FieldStep.TheVariants as step
 use Rattle.resolution.specs.declared.wanted.Want.TheVariants.{Value}
+use Rattle.resolution.specs.declared.body_limits.BodyLimits.{BodyLimits}
 use Rattle.resolution.specs.Core as core
 use Rattle.resolution.specs.Scopes as scope
-use Rattle.resolution.specs.Scopes.{◌>>=◌, Scope, outside, Meaning, a_local, a_decl, nothing, meaning, number_at, type_of, bound, hidden, hidden_from, left, entered}
+use Rattle.resolution.specs.Scopes.{◌>>=◌, Scope, outside, Meaning, a_local, a_decl, nothing, meaning, helper_meant, number_at, type_of, result_of, bound, hidden, hidden_from, left, entered}
 use Rattle.resolution.specs.Expressions.{want, fitting, as_value, number_resolved, test_resolved, typed, Walk, reached, at_lock, lost, walked, at_local, walk_from, cell_of}
-use Rattle.resolution.specs.Statements.{Target, to_local, to_global, to_element, to_field, Assignee, assignee, is_var, assignee_at, assignee_at_element, Split, behind, last_field, field_target, assignee_along, target_of, wanted_by, first_name, Part, does, gives, binds, set_to, assigns, prints, returns, repeats, chooses, chooses_between, Body, given_back, preceded, block_without, block_of, after, after_else, after_all, first_value, typed_stmt, typed_if, typed_body}
+use Rattle.resolution.specs.Statements.{Target, to_local, to_global, to_element, to_field, Assignee, assignee, is_var, assignee_at, assignee_at_element, Split, behind, last_field, field_target, assignee_along, target_of, wanted_by, first_name, Part, does, gives, binds, set_to, assigns, prints, returns, repeats, chooses, chooses_between, Body, given_back, preceded, block_without, block_of, call_resolved, type_given, can_take, acts_if, called_bound, after, after_else, after_all, first_value, typed_stmt, typed_if, typed_body}
 use Rattle.resolution.specs.Owners.{owned_by}
 use Rattle.resolution.specs.Constants.{added}
-use Rattle.resolution.specs.Resolution.{result_of, ahead_of, entry, core_local, core_locals, section_with, section_of, typed_section}
+use Rattle.resolution.specs.Resolution.{ahead_of, entry, core_local, core_locals, section_with, section_of, typed_section}
 use Rattle.resolution.proofs.TrueStatements.{after_same, entered_same}
 use Rattle.resolution.proofs.FaultlessExpressions.{IsMeant, meant}
 use Rattle.resolution.proofs.FaultlessSections.{entered_result}
 use Rattle.resolution.proofs.Typed as well
-use Rattle.resolution.proofs.Typed.{global_in, array_in, pool_in, final_in, field_in, Leads, IsPath, Is, Gives, Acts, AllAct, Returns, get_map}
+use Rattle.resolution.proofs.Typed.{types_of, global_in, array_in, pool_in, final_in, field_in, Leads, IsPath, Is, Taken, Gives, Acts, AllAct, Returns, get_map}
 use Rattle.resolution.proofs.TypedResolvedExprs.{Sound, Have, IsLocal, meant_local, GoodValue, GoodTest, GoodPath, local_walk, value_good_of, test_good_of}
 use Rattle.resolution.proofs.TypedOwners.{owned_value_good}
+use Rattle.resolution.proofs.TypedCalls.{HasHelpers, taken_type, GoodAction, called_good}
 use Rattle.resolution.specs.Facts.{after_result}
 
 -- ---- locals stay
@@ -67,12 +69,14 @@ mutual
   pub after_front : (sc : Scope) (s : Stmt) → Front sc.locals (after sc s).locals
   after_front sc (let_local l) n k e = slice_front sc.locals (record { name = l.name.text; kind = kind.Let; value_type = type_of sc l.value_type; is_visible = true } ∷ []) n k e
   after_front sc (let_owned l o) n k e = slice_front sc.locals (record { name = l.name.text; kind = kind.Let; value_type = type_of sc l.value_type; is_visible = true } ∷ []) n k e
+  after_front sc (let_call l) n k e = slice_front sc.locals (record { name = l.name.text; kind = kind.Let; value_type = type_of sc l.value_type; is_visible = true } ∷ []) n k e
   after_front sc (var_local l) n k e = slice_front sc.locals (record { name = l.name.text; kind = kind.Var; value_type = type_of sc l.value_type; is_visible = true } ∷ []) n k e
   after_front sc (assign p x) n k e = e
   after_front sc (if_then start x body close other) n k e = else_front (left sc (after_all sc body)) other n k (front_left sc.locals (after_all sc body).locals (all_front sc body) n k e)
   after_front sc (while start x body close) n k e = front_left sc.locals (after_all sc body).locals (all_front sc body) n k e
   after_front sc (print start x) n k e = e
   after_front sc (return_value start x) n k e = e
+  after_front sc (call start x) n k e = e
 
   pub else_front : (sc : Scope) (o : Otherwise) → Front sc.locals (after_else sc o).locals
   else_front sc no_else n k e = e
@@ -99,9 +103,12 @@ last_local (y ∷ a) x = last_local a x
 
 -- ---- statements
 
-module _ (decls : List Decl) (p : core.Program) (types : List core_type.ValueType) (sound : Sound decls p) where
+module _ (decls : List Decl) (p : core.Program) (types : List core_type.ValueType) (sound : Sound decls p) (helpers : HasHelpers decls p) where
   sound_at : (sc : Scope) → sc.decls ≡ decls → Sound sc.decls p
   sound_at sc same = subst (λ (ds : List Decl). Sound ds p) (sym same) sound
+
+  helpers_at : (sc : Scope) → sc.decls ≡ decls → HasHelpers sc.decls p
+  helpers_at sc same = subst (λ (ds : List Decl). HasHelpers ds p) (sym same) helpers
 
   -- what can be assigned to has its type
   abbrev AssigneesAt : Target → core_type.ValueType → Type 0
@@ -131,6 +138,7 @@ module _ (decls : List Decl) (p : core.Program) (types : List core_type.ValueTyp
   name_assignee sc so have (a_decl n (pool x)) at loc = tt
   name_assignee sc so have (a_decl n (init x)) at loc = tt
   name_assignee sc so have (a_decl n (atomic x)) at loc = tt
+  name_assignee sc so have (a_decl n (helper x)) at loc = tt
   name_assignee sc so have (a_decl n (thread x)) at loc = tt
   name_assignee sc so have nothing at loc = tt
 
@@ -143,6 +151,7 @@ module _ (decls : List Decl) (p : core.Program) (types : List core_type.ValueTyp
   element_assignee sc so (a_decl n (pool x)) (Some index) at i = tt
   element_assignee sc so (a_decl n (init x)) (Some index) at i = tt
   element_assignee sc so (a_decl n (atomic x)) (Some index) at i = tt
+  element_assignee sc so (a_decl n (helper x)) (Some index) at i = tt
   element_assignee sc so (a_decl n (thread x)) (Some index) at i = tt
   element_assignee sc so (a_local n l) (Some index) at i = tt
   element_assignee sc so nothing (Some index) at i = tt
@@ -326,6 +335,30 @@ module _ (decls : List Decl) (p : core.Program) (types : List core_type.ValueTyp
           subst (λ (y : Option core_type.ValueType). IfValue t (owned_by sc y o (as_value (fitting (want y) (typed sc l.value))))) (sym is)
           (if_value sc so have t (owned_by sc (Some t) o (as_value (fitting (Value t) (typed sc l.value)))) (owned_value_good sc p types so have t o (as_value (fitting (Value t) (typed sc l.value))) (value_good_of sc p types so have t l.value)))
 
+  act_good : (result : Option core_type.ValueType) (start : ℕ) (o : Option core.Action) → ((x : core.Action) → o ≡ Some x → Acts p types x) → GoodPart result (acts_if start o)
+  act_good result start None h = tt
+  act_good result start (Some x) h = h x refl
+
+  call_good : (sc : Scope) → sc.decls ≡ decls → Have sc.locals types → (c : HelperCall) (local : Option ℕ) → Taken p types local (type_given sc.decls (helper_meant (meaning sc c.helper.text))) → (x : core.Action) → call_resolved sc c local ≡ Some x → Acts p types x
+  call_good sc same have c local takes x is =
+      let so = sound_at sc same in
+      let help = helpers_at sc same in
+      subst (GoodAction sc p types so have help) is (called_good sc p types so have help (meaning sc c.helper.text) (meant sc c.helper.text) c.arguments local takes)
+
+  taking_good : (sc : Scope) → sc.decls ≡ decls → Have sc.locals types → (l : CalledLocal) (b : Bool) → (b ≡ true → Taken p types (Some (length sc.locals)) (type_given sc.decls (helper_meant (meaning sc l.call.helper.text)))) →
+      GoodPart sc.result (if b then acts_if l.start.start (call_resolved sc l.call (Some (length sc.locals))) else None)
+  taking_good sc same have l true takes = act_good sc.result l.start.start (call_resolved sc l.call (Some (length sc.locals))) (call_good sc same have l.call (Some (length sc.locals)) (takes refl))
+  taking_good sc same have l false takes = tt
+
+  let_call_good : (sc : Scope) → sc.decls ≡ decls → (l : CalledLocal) → Have (bound sc kind.Let l.name (type_of sc l.value_type)).locals types → GoodPart sc.result (called_bound sc l)
+  let_call_good sc same l have =
+      let x : scope.Local = record { name = l.name.text; kind = kind.Let; value_type = type_of sc l.value_type; is_visible = true } in
+      let before = have_before sc.locals (sc.locals ++ x ∷ []) types (kept_push sc.locals x) have in
+      let given = type_given sc.decls (helper_meant (meaning sc l.call.helper.text)) in
+      taking_good sc same before l (can_take (type_of sc l.value_type) given)
+      (λ e. (let t = taken_type (type_of sc l.value_type) given e in
+      subst (Taken p types (Some (length sc.locals))) (sym t.2) (have (length sc.locals) x t.0 (last_local sc.locals x) t.1)))
+
   assigned_good : (sc : Scope) (so : Sound sc.decls p) (have : Have sc.locals types) (q : Place) (e : Expr) (a : Assignee) → target_of sc q ≡ Some a → IfValue a.value_type (as_value (fitting (wanted_by (target_of sc q)) (typed sc e)))
   assigned_good sc so have q e a is = subst (λ (o : Option Assignee). IfValue a.value_type (as_value (fitting (wanted_by o) (typed sc e)))) (sym is) (if_value sc so have a.value_type (as_value (fitting (Value a.value_type) (typed sc e))) (value_good_of sc p types so have a.value_type e))
 
@@ -336,6 +369,7 @@ module _ (decls : List Decl) (p : core.Program) (types : List core_type.ValueTyp
     pub stmt_good : (sc : Scope) → sc.decls ≡ decls → (s : Stmt) → Have (after sc s).locals types → GoodPart sc.result (typed_stmt sc s)
     stmt_good sc same (let_local l) have = local_good sc (sound_at sc same) kind.Let l have
     stmt_good sc same (let_owned l o) have = owned_good sc (sound_at sc same) l o have
+    stmt_good sc same (let_call l) have = let_call_good sc same l have
     stmt_good sc same (var_local l) have = local_good sc (sound_at sc same) kind.Var l have
     stmt_good sc same (assign q e) have =
         assign_good sc.result (first_name q).span.start (target_of sc q) (as_value (fitting (wanted_by (target_of sc q)) (typed sc e))) (target_good sc (sound_at sc same) have q) (λ a is. assigned_good sc (sound_at sc same) have q e a is)
@@ -354,6 +388,7 @@ module _ (decls : List Decl) (p : core.Program) (types : List core_type.ValueTyp
         (block_good sc.result (typed_body sc body) (body_good sc same body end))
     stmt_good sc same (print start e) have = print_good sc.result start.start (number_resolved (typed sc e)) (if_value sc (sound_at sc same) have Integer (number_resolved (typed sc e)) (value_good_of sc p types (sound_at sc same) have Integer e))
     stmt_good sc same (return_value start e) have = return_good sc.result start.start (as_value (fitting (want sc.result) (typed sc e))) (λ t is. wanted_good sc (sound_at sc same) have sc.result e t is)
+    stmt_good sc same (call start c) have = act_good sc.result start.start (call_resolved sc c None) (call_good sc same have c None tt)
 
     if_good : (sc : Scope) → sc.decls ≡ decls → (start : ℕ) (t : Option core.Condition) (b : Option core.Stmts) (o : Otherwise) → IfTest t → GoodBlock b → Have (after_else sc o).locals types → GoodPart sc.result (typed_if sc start t b o)
     if_good sc same start t b no_else h g have = choose_good sc.result start t b h g
@@ -368,10 +403,6 @@ module _ (decls : List Decl) (p : core.Program) (types : List core_type.ValueTyp
         (subst (λ (r : Option core_type.ValueType). GoodBody r (typed_body (after sc s) rest)) (after_result sc s) (body_good (after sc s) (after_same sc s ∙ same) rest have))
 
 -- ---- sections
-
--- the types of locals
-abbrev pub types_of : List core.Local → List core_type.ValueType
-types_of ls = map (λ (l : core.Local). l.value_type) ls
 
 core_local_is : (l : scope.Local) (x : core.Local) → core_local l ≡ Some x → (x.name ≡ l.name) × (x.kind ≡ l.kind) × (l.value_type ≡ Some x.value_type)
 core_local_is l x e = by_type l.value_type refl e
@@ -416,29 +447,29 @@ abbrev IfSection : core.Program → Option core.Section → Type 0
 IfSection p None = ⊤
 IfSection p (Some x) = SectionOk p x
 
-module _ (decls : List Decl) (p : core.Program) (sound : Sound decls p) (s : Section) where
+module _ (decls : List Decl) (p : core.Program) (sound : Sound decls p) (helpers : HasHelpers decls p) (limits : BodyLimits) (s : Section) where
   put_some : (xs : List core.Local) (body : core.Stmts) (r : core.Return) (o : Option core_type.ValueType) → AllAct p (types_of xs) body → ((t : core_type.ValueType) → o ≡ Some t → Is p (types_of xs) r.value t) →
       IfSection p (o >>= λ v. Some (record { name = s.name.text; parameters = length s.params; locals = xs; result_type = Some v; body = body; result = Some r }))
   put_some xs body r None h g = tt
   put_some xs body r (Some t) h g = record { body = h; result = g t refl }
 
-  put_good : (xs : List core.Local) (body : core.Stmts) (r : Option core.Return) (o : Option ValueType) → s.result ≡ o → AllAct p (types_of xs) body → IfReturn decls p (types_of xs) sound (result_of decls s) r → IfSection p (section_with decls s xs body o r)
+  put_good : (xs : List core.Local) (body : core.Stmts) (r : Option core.Return) (o : Option ValueType) → s.result ≡ o → AllAct p (types_of xs) body → IfReturn decls p (types_of xs) sound helpers (result_of decls s) r → IfSection p (section_with decls s xs body o r)
   put_good xs body None None is h g = record { body = h; result = tt }
   put_good xs body (Some r) None is h g = tt
   put_good xs body None (Some t) is h g = tt
   put_good xs body (Some r) (Some t) is h g =
       put_some xs body r (type_of (outside decls) t) h (λ v e. g v (ap (λ (o : Option ValueType). o >>= λ w. type_of (outside decls) w) is ∙ e))
 
-  section_good : (o : Option (List core.Local)) → core_locals (after_all (entry decls s) s.body.stmts).locals ≡ o → IfSection p (section_of decls s o (typed_body (entry decls s) s.body.stmts))
+  section_good : (o : Option (List core.Local)) → core_locals (after_all (entry decls limits s) s.body.stmts).locals ≡ o → IfSection p (section_of decls s o (typed_body (entry decls limits s) s.body.stmts))
   section_good None is = tt
   section_good (Some xs) is =
-      by_body (typed_body (entry decls s) s.body.stmts)
-      (subst (λ (r : Option core_type.ValueType). GoodBody decls p (types_of xs) sound r (typed_body (entry decls s) s.body.stmts)) (entered_result (ahead_of decls s) s.params)
-      (body_good decls p (types_of xs) sound (entry decls s) (entered_same (ahead_of decls s) s.params) s.body.stmts (locals_have (after_all (entry decls s) s.body.stmts).locals xs is)))
+      by_body (typed_body (entry decls limits s) s.body.stmts)
+      (subst (λ (r : Option core_type.ValueType). GoodBody decls p (types_of xs) sound helpers r (typed_body (entry decls limits s) s.body.stmts)) (entered_result (ahead_of decls limits s) s.params)
+      (body_good decls p (types_of xs) sound helpers (entry decls limits s) (entered_same (ahead_of decls limits s) s.params) s.body.stmts (locals_have (after_all (entry decls limits s) s.body.stmts).locals xs is)))
     where
-      by_body : (o : Option Body) → GoodBody decls p (types_of xs) sound (result_of decls s) o → IfSection p (section_of decls s (Some xs) o)
+      by_body : (o : Option Body) → GoodBody decls p (types_of xs) sound helpers (result_of decls s) o → IfSection p (section_of decls s (Some xs) o)
       by_body None h = tt
       by_body (Some b) h = put_good xs b.stmts b.result s.result refl h.0 h.1
 
-  pub section_typed : (x : core.Section) → typed_section decls s ≡ Some x → SectionOk p x
-  section_typed x e = subst (IfSection p) e (section_good (core_locals (after_all (entry decls s) s.body.stmts).locals) refl)
+  pub section_typed : (x : core.Section) → typed_section decls limits s ≡ Some x → SectionOk p x
+  section_typed x e = subst (IfSection p) e (section_good (core_locals (after_all (entry decls limits s) s.body.stmts).locals) refl)

@@ -1,32 +1,56 @@
--- A program with no fault is resolved to a well-formed one.
+-- A program with no fault is resolved to one as it should be.
 use Rattle.std.proofs.Common.{◌≡◌, ℕ, List, Some}
 use Rattle.std.specs.Prelude.{slice_get}
 use Rattle.syntax.specs.Trees.{Section, Decl}
 use Rattle.core_lang.specs.declared.tree.Section as the_section
 use Rattle.core_lang.specs.declared.typed.Typed.{Typed}
-use Rattle.core_lang.specs.WellFormed.{IsWellFormed}
+use Rattle.core_lang.specs.WellFormed.{IsChecked, IsWellFormed}
 use Rattle.resolution.specs.CoreViews.{core_section, core_of}
+use Rattle.resolution.specs.Limits.{section_limits, helper_limits}
 use Rattle.resolution.specs.Resolution.{resolved, typed_section}
+use Rattle.resolution.specs.Laws.{CallsKeepLimits, DeclaresNoHelper}
 use Rattle.resolution.proofs.Typed.{get_map}
 use Rattle.resolution.proofs.FaultlessExpressions.{Clean}
-use Rattle.resolution.proofs.LaidProgram.{no_helpers, sound, laid_out, protected, opens, sections_are, scripts}
+use Rattle.resolution.proofs.LaidProgram.{no_helpers, sound, helped, laid_out, protected, opens, sections_are, helpers_are, scripts}
 use Rattle.resolution.proofs.WithinLimits.{within_limits}
 use Rattle.resolution.proofs.WellSections.{section_well_typed, section_well_scoped}
 
 -- a section of the program is that of a declaration
-section_from : (decls : List Decl) → Clean decls → (program : Typed) → resolved decls ≡ Some (core_of program) → (k : ℕ) (x : the_section.Section) → slice_get program.sections.items k ≡ Some x → (s : Section) × (typed_section decls s ≡ Some (core_section x))
+section_from : (decls : List Decl) → Clean decls → (program : Typed) → resolved decls ≡ Some (core_of program) → (k : ℕ) (x : the_section.Section) → slice_get program.sections.items k ≡ Some x → (s : Section) × (typed_section decls section_limits s ≡ Some (core_section x))
 section_from decls clean program is k x at =
     let r = sections_are decls clean program is k (core_section x) (get_map core_section program.sections.items k x at) in
     (r.1, r.4)
 
-pub well_formed : (decls : List Decl) → Clean decls → (program : Typed) → resolved decls ≡ Some (core_of program) → IsWellFormed program
-well_formed decls clean program is = record {
+-- a helper too
+helper_from : (decls : List Decl) → Clean decls → (program : Typed) → resolved decls ≡ Some (core_of program) → (k : ℕ) (x : the_section.Section) → slice_get program.shape.helpers.items k ≡ Some x → (s : Section) × (typed_section decls helper_limits s ≡ Some (core_section x))
+helper_from decls clean program is k x at =
+    let r = helpers_are decls clean program is k (core_section x) (get_map core_section program.shape.helpers.items k x at) in
+    (r.1, r.4)
+
+pub checked : (decls : List Decl) → Clean decls → (program : Typed) → resolved decls ≡ Some (core_of program) → CallsKeepLimits program → IsChecked program
+checked decls clean program is keeps = record {
   within = within_limits decls clean program is;
   laid_out = laid_out decls clean program is;
   protected = protected decls clean program is;
   opens = opens decls clean program is;
-  sections = λ k x at. let r = section_from decls clean program is k x at in section_well_typed decls program (sound decls clean program is) r.0 x r.1;
-  scopes = λ k x at. let r = section_from decls clean program is k x at in section_well_scoped decls r.0 x r.1;
-  helpers = no_helpers decls program is;
+  sections = λ k x at. (let r = section_from decls clean program is k x at in section_well_typed decls program (sound decls clean program is) (helped decls clean program is) section_limits r.0 x r.1);
+  scopes = λ k x at. (let r = section_from decls clean program is k x at in section_well_scoped decls section_limits r.0 x r.1);
+  helpers = λ k x at. (let r = helper_from decls clean program is k x at in section_well_typed decls program (sound decls clean program is) (helped decls clean program is) helper_limits r.0 x r.1);
+  helper_scopes = λ k x at. (let r = helper_from decls clean program is k x at in section_well_scoped decls helper_limits r.0 x r.1);
+  helper_depths = keeps.helper_depths;
+  written_locals = keeps.written_locals;
+  helper_points = keeps.helper_points;
+  scripts = scripts decls clean program is;
+}
+
+pub well_formed : (decls : List Decl) → Clean decls → (program : Typed) → resolved decls ≡ Some (core_of program) → DeclaresNoHelper decls → IsWellFormed program
+well_formed decls clean program is none = record {
+  within = within_limits decls clean program is;
+  laid_out = laid_out decls clean program is;
+  protected = protected decls clean program is;
+  opens = opens decls clean program is;
+  sections = λ k x at. (let r = section_from decls clean program is k x at in section_well_typed decls program (sound decls clean program is) (helped decls clean program is) section_limits r.0 x r.1);
+  scopes = λ k x at. (let r = section_from decls clean program is k x at in section_well_scoped decls section_limits r.0 x r.1);
+  helpers = no_helpers decls clean program is none;
   scripts = scripts decls clean program is;
 }

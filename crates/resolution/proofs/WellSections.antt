@@ -2,7 +2,7 @@
 use Rattle.std.proofs.Common.{◌≡◌, ◌≢◌, ℕ, zero, suc, ◌+◌, ◌<◌, ◌≤◌, List, [], ◌∷◌, ◌++◌, length, Option, Some, None, true, refl, sym, ap, ◌∙◌, subst, arith}
 use Rattle.std.specs.Prelude.{slice_get, option_map, ⊤}
 use Rattle.std.specs.List.{Contains}
-use Rattle.syntax.specs.Trees.{ValueType, Stmt, let_local, let_owned, var_local, assign, if_then, while, print, return_value, Stmts, no_stmts, stmt, Otherwise, no_else, else_do, Param, Section, Decl}
+use Rattle.syntax.specs.Trees.{ValueType, Stmt, let_local, let_owned, let_call, var_local, assign, if_then, while, print, return_value, call, Stmts, no_stmts, stmt, Otherwise, no_else, else_do, Param, Section, Decl}
 use Rattle.core_lang.specs.declared.value.ValueType as core_type
 use Rattle.core_lang.specs.declared.tree.LocalKind.TheVariants as kind
 use Rattle.core_lang.specs.declared.tree.Local as the_local
@@ -10,6 +10,7 @@ use Rattle.core_lang.specs.declared.tree.Section as the_section
 use Rattle.core_lang.specs.declared.typed.Typed.{Typed}
 use Rattle.core_lang.specs.Typing.{local_types, IsWellTypedSection}
 use Rattle.core_lang.specs.Scopes.{numbers_from, scope_after_all, IsWellScoped}
+use Rattle.resolution.specs.declared.body_limits.BodyLimits.{BodyLimits}
 use Rattle.resolution.specs.Core as core
 use Rattle.resolution.specs.CoreViews.{core_expr, core_stmts, core_return, core_local, core_locals as locals_view, core_section, core_of}
 use Rattle.resolution.specs.Scopes as scopes
@@ -17,9 +18,10 @@ use Rattle.resolution.specs.Scopes.{◌>>=◌, Scope, outside, type_of, bound, h
 use Rattle.resolution.specs.Statements.{Body, typed_body, after, after_else, after_all}
 use Rattle.resolution.specs.Constants.{added}
 use Rattle.resolution.specs.Resolution.{ahead_of, entry, core_local as local_of, core_locals, section_with, section_of, typed_section}
-use Rattle.resolution.proofs.Typed.{AllAct, Returns, get_map, body_typed, result_typed}
+use Rattle.resolution.proofs.Typed.{types_of, AllAct, Returns, get_map, body_typed, result_typed}
 use Rattle.resolution.proofs.TypedResolvedExprs.{Sound}
-use Rattle.resolution.proofs.TypedStatements.{all_front, types_of, locals_got, section_typed}
+use Rattle.resolution.proofs.TypedCalls.{HasHelpers}
+use Rattle.resolution.proofs.TypedStatements.{all_front, locals_got, section_typed}
 use Rattle.resolution.proofs.Scoped.{Names, StmtsName, behind_all, all_binding, all_assigning, body_scoped, body_behind, body_binding, body_assigning, result_scoped}
 use Rattle.resolution.proofs.ScopedStatements.{IsVarAt, Become, BodyDone, ReturnDone, numbers_cover, body_done, get_lt}
 
@@ -29,9 +31,9 @@ types_same : (ls : List the_local.Local) → types_of (locals_view ls) ≡ local
 types_same [] = refl
 types_same (l ∷ ls) = ap (λ (ts : List core_type.ValueType). l.value_type ∷ ts) (types_same ls)
 
-pub section_well_typed : (decls : List Decl) (program : Typed) → Sound decls (core_of program) → (s : Section) (x : the_section.Section) → typed_section decls s ≡ Some (core_section x) → IsWellTypedSection program x
-section_well_typed decls program sound s x e =
-    let ok = section_typed decls (core_of program) sound s (core_section x) e in
+pub section_well_typed : (decls : List Decl) (program : Typed) → Sound decls (core_of program) → HasHelpers decls (core_of program) → (limits : BodyLimits) (s : Section) (x : the_section.Section) → typed_section decls limits s ≡ Some (core_section x) → IsWellTypedSection program x
+section_well_typed decls program sound helpers limits s x e =
+    let ok = section_typed decls (core_of program) sound helpers limits s (core_section x) e in
     let same = types_same x.locals.items in
     record {
       body = body_typed program (local_types x.locals.items) x.body.items (subst (λ (ts : List core_type.ValueType). AllAct (core_of program) ts (core_stmts x.body.items)) same ok.body);
@@ -70,12 +72,14 @@ mutual
   none_after : (n : ℕ) (sc : Scope) (s : Stmt) → NoneFrom n sc.locals → NoneFrom n (after sc s).locals
   none_after n sc (let_local l) h = none_push n sc.locals (record { name = l.name.text; kind = kind.Let; value_type = type_of sc l.value_type; is_visible = true }) let_is h
   none_after n sc (let_owned l o) h = none_push n sc.locals (record { name = l.name.text; kind = kind.Let; value_type = type_of sc l.value_type; is_visible = true }) let_is h
+  none_after n sc (let_call l) h = none_push n sc.locals (record { name = l.name.text; kind = kind.Let; value_type = type_of sc l.value_type; is_visible = true }) let_is h
   none_after n sc (var_local l) h = none_push n sc.locals (record { name = l.name.text; kind = kind.Var; value_type = type_of sc l.value_type; is_visible = true }) var_is h
   none_after n sc (assign q e) h = h
   none_after n sc (if_then start e body close other) h = none_else n (left sc (after_all sc body)) other (none_hidden n (length sc.locals) (after_all sc body).locals (none_all n sc body h))
   none_after n sc (while start e body close) h = none_hidden n (length sc.locals) (after_all sc body).locals (none_all n sc body h)
   none_after n sc (print start e) h = h
   none_after n sc (return_value start e) h = h
+  none_after n sc (call start c) h = h
 
   none_else : (n : ℕ) (sc : Scope) (o : Otherwise) → NoneFrom n sc.locals → NoneFrom n (after_else sc o).locals
   none_else n sc no_else h = h
@@ -140,15 +144,15 @@ abbrev IfScoped : Option core.Section → Type 0
 IfScoped None = ⊤
 IfScoped (Some x) = ScopedOk x
 
-module _ (decls : List Decl) (s : Section) (xs : List core.Local) (are : core_locals (after_all (entry decls s) s.body.stmts).locals ≡ Some xs) where
+module _ (decls : List Decl) (limits : BodyLimits) (s : Section) (xs : List core.Local) (are : core_locals (after_all (entry decls limits s) s.body.stmts).locals ≡ Some xs) where
   abbrev sc : Scope
-  sc = entry decls s
+  sc = entry decls limits s
 
   abbrev ends : List scopes.Local
-  ends = (after_all (entry decls s) s.body.stmts).locals
+  ends = (after_all (entry decls limits s) s.body.stmts).locals
 
   params : length sc.locals ≡ length s.params
-  params = let r = entered_length (ahead_of decls s) s.params in omega (arith, r)
+  params = let r = entered_length (ahead_of decls limits s) s.params in omega (arith, r)
 
   becomes : Become ends xs
   becomes n l e = let r = locals_got ends xs are n l e in (r.0, r.1, r.2)
@@ -175,7 +179,7 @@ module _ (decls : List Decl) (s : Section) (xs : List core.Local) (are : core_lo
           let h = all_front sc s.body.stmts k at.0 at.1 in
           let same : Some at.0 ≡ Some l = sym h ∙ e in
           let o : at.0 ≡ l = cc in
-          sym (ap (λ (y : scopes.Local). y.kind) o) ∙ parameters_entered (ahead_of decls s) s.params (λ j m g. cc) k at.0 at.1
+          sym (ap (λ (y : scopes.Local). y.kind) o) ∙ parameters_entered (ahead_of decls limits s) s.params (λ j m g. cc) k at.0 at.1
 
   scoped_put : (b : Body) (t : Option core_type.ValueType) (r : Option core.Return) → BodyDone xs sc.locals ends (numbers_from 0 (length sc.locals)) (Some b) → r ≡ b.result →
       ScopedOk (record { name = s.name.text; parameters = length s.params; locals = xs; result_type = t; body = b.stmts; result = r })
@@ -212,12 +216,12 @@ module _ (decls : List Decl) (s : Section) (xs : List core.Local) (are : core_lo
   pub scoped_if : IfScoped (section_of decls s (Some xs) (typed_body sc s.body.stmts))
   scoped_if = of_put (typed_body sc s.body.stmts) (body_done xs sc s.body.stmts (numbers_from 0 (length sc.locals)) (numbers_cover sc.locals) becomes)
 
-scoped_any : (decls : List Decl) (s : Section) (o : Option (List core.Local)) → core_locals (after_all (entry decls s) s.body.stmts).locals ≡ o → IfScoped (section_of decls s o (typed_body (entry decls s) s.body.stmts))
-scoped_any decls s None is = tt
-scoped_any decls s (Some xs) is = scoped_if decls s xs is
+scoped_any : (decls : List Decl) (limits : BodyLimits) (s : Section) (o : Option (List core.Local)) → core_locals (after_all (entry decls limits s) s.body.stmts).locals ≡ o → IfScoped (section_of decls s o (typed_body (entry decls limits s) s.body.stmts))
+scoped_any decls limits s None is = tt
+scoped_any decls limits s (Some xs) is = scoped_if decls limits s xs is
 
-section_scoped : (decls : List Decl) (s : Section) (x : core.Section) → typed_section decls s ≡ Some x → ScopedOk x
-section_scoped decls s x e = subst IfScoped e (scoped_any decls s (core_locals (after_all (entry decls s) s.body.stmts).locals) refl)
+section_scoped : (decls : List Decl) (limits : BodyLimits) (s : Section) (x : core.Section) → typed_section decls limits s ≡ Some x → ScopedOk x
+section_scoped decls limits s x e = subst IfScoped e (scoped_any decls limits s (core_locals (after_all (entry decls limits s) s.body.stmts).locals) refl)
 
 view_length : (ls : List the_local.Local) → length (locals_view ls) ≡ length ls
 view_length [] = refl
@@ -230,9 +234,9 @@ var_at ls k l h e =
     let q : h.0 ≡ core_local l = cc in
     sym (ap (λ (y : core.Local). y.kind) q) ∙ h.2
 
-pub section_well_scoped : (decls : List Decl) (s : Section) (x : the_section.Section) → typed_section decls s ≡ Some (core_section x) → IsWellScoped x
-section_well_scoped decls s x e =
-    let ok = section_scoped decls s (core_section x) e in
+pub section_well_scoped : (decls : List Decl) (limits : BodyLimits) (s : Section) (x : the_section.Section) → typed_section decls limits s ≡ Some (core_section x) → IsWellScoped x
+section_well_scoped decls limits s x e =
+    let ok = section_scoped decls limits s (core_section x) e in
     record {
       bound = ap (λ (l : List ℕ). numbers_from 0 x.parameters ++ l) (sym (body_binding x.body.items)) ∙ ok.bound ∙ ap (numbers_from 0) (view_length x.locals.items);
       kinds = λ k l at. ok.kinds k (core_local l) (get_map core_local x.locals.items k l at);

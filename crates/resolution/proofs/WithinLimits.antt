@@ -3,27 +3,28 @@ use Rattle.std.proofs.Common.{◌≡◌, ℕ, zero, suc, ◌+◌, ◌*◌, ◌<�
 use Rattle.std.specs.Prelude.{nat_le, slice_get, take, map}
 use Rattle.std.proofs.lemmas.List.{length-append, length-map, append-nil}
 use Rattle.source.specs.declared.fault.Code.TheVariants.{LimitExceeded}
-use Rattle.syntax.specs.Trees.{Stmt, let_local, let_owned, var_local, assign, if_then, while, print, return_value, Stmts, no_stmts, stmt, Otherwise, no_else, else_do, Param, Item, call, repeat, Items, no_items, item, Member, lock_member, final_member, field_member, Thread, Decl, lock, struct, global, array, pool, init, atomic, thread}
+use Rattle.syntax.specs.Trees.{Stmt, let_local, let_owned, let_call, var_local, assign, if_then, while, print, return_value, Stmts, no_stmts, stmt, Otherwise, no_else, else_do, Param, Section, Item, call, repeat, Items, no_items, item, Member, lock_member, final_member, field_member, Thread, Decl, lock, struct, global, array, pool, init, atomic, helper, thread}
 use Rattle.core_lang.specs.declared.tree.LocalKind.TheVariants as kind
 use Rattle.core_lang.specs.declared.tree.Section as the_section
 use Rattle.core_lang.specs.declared.typed.Struct as the_struct
 use Rattle.core_lang.specs.declared.typed.Thread as the_thread
 use Rattle.core_lang.specs.declared.typed.Typed.{Typed}
 use Rattle.core_lang.specs.WellFormed.{calls_together, IsWithinLimits}
+use Rattle.resolution.specs.declared.body_limits.BodyLimits.{BodyLimits}
 use Rattle.resolution.specs.Core as core
 use Rattle.resolution.specs.CoreViews.{core_class, core_lock, core_final, core_field, core_struct, core_local, core_section, core_call, core_thread, core_of}
-use Rattle.resolution.specs.Limits.{STRUCT_LIMIT, MEMBER_LIMIT, CELL_LIMIT, SECTION_LIMIT, THREAD_LIMIT, PARAMETER_LIMIT, LOCAL_LIMIT, CALL_LIMIT}
+use Rattle.resolution.specs.Limits.{STRUCT_LIMIT, MEMBER_LIMIT, CELL_LIMIT, SECTION_LIMIT, THREAD_LIMIT, PARAMETER_LIMIT, LOCAL_LIMIT, CALL_LIMIT, section_limits}
 use Rattle.resolution.specs.Scopes as scopes
-use Rattle.resolution.specs.Scopes.{Scope, outside, the_local, the_decl, type_of, count, alike, bound, left}
+use Rattle.resolution.specs.Scopes.{Scope, outside, meaning, helper_meant, the_local, the_decl, type_of, count, alike, has_body, bound, left}
 use Rattle.resolution.specs.Numbers.{total, cells_of, calls_in, calls_in_all, calls_of}
 use Rattle.resolution.specs.Expressions.{want}
 use Rattle.resolution.specs.Statements.{after, after_else, after_all}
 use Rattle.resolution.specs.Resolution.{ahead_of, entry, call_of, copies, typed_item, typed_items, resolved}
-use Rattle.resolution.specs.FaultLists.{one_if, local_faults, type_faults, wanted_faults, binding_faults, owner_faults, stmt_faults, else_faults, stmts_faults, param_faults, result_faults, count_faults, total_faults}
+use Rattle.resolution.specs.FaultLists.{one_if, local_faults, type_faults, wanted_faults, binding_faults, owner_faults, helper_call_faults, given_back_faults, stmt_faults, else_faults, stmts_faults, param_faults, result_faults, count_faults, total_faults}
 use Rattle.resolution.specs.declared.wanted.Want.TheVariants as wanted
 use Rattle.resolution.proofs.Parts.{of_place_at}
 use Rattle.resolution.proofs.AllFaults.{of_counts, of_totals}
-use Rattle.resolution.proofs.TrueStatements.{length_push}
+use Rattle.resolution.proofs.TrueStatements.{length_push, entered_limits}
 use Rattle.resolution.proofs.FaultlessExpressions.{NoneIn, none_left, none_right, not_if, struct_has, Clean}
 use Rattle.resolution.proofs.FaultlessOwners.{room}
 use Rattle.resolution.proofs.FaultlessMembers.{parts_at}
@@ -33,13 +34,13 @@ use Rattle.resolution.proofs.ScopedStatements.{hidden_length}
 use Rattle.resolution.proofs.WellSections.{entered_length, locals_length}
 use Rattle.resolution.proofs.LaidLists.{rows_length, take_front, as_one, count_push, bind_got}
 use Rattle.resolution.proofs.LaidStages.{fields_in, finals_in, locks_in}
-use Rattle.resolution.proofs.LaidWalk.{LockRow, FinalRow, FieldRow, Step, walked_whole, counted_whole}
-use Rattle.resolution.proofs.LaidFacts.{keeps_structs, keeps_sections, keeps_threads, struct_by_number, sections_of}
+use Rattle.resolution.proofs.LaidWalk.{LockRow, FinalRow, FieldRow, Counts, Step, walked_whole, counted_whole}
+use Rattle.resolution.proofs.LaidFacts.{keeps_structs, keeps_sections, keeps_helpers, keeps_threads, struct_by_number, sections_of}
 use Rattle.resolution.proofs.LaidLocks.{few_classes}
 use Rattle.resolution.proofs.LaidObjects.{few_objects}
-use Rattle.resolution.proofs.LaidProgram.{no_helpers}
 use Rattle.resolution.proofs.LaidScripts.{one_got, joined_got, sectioned}
 use Rattle.resolution.proofs.Tests.{le_false}
+use Rattle.resolution.specs.Facts.{bodies_counted}
 
 -- ---- cells
 
@@ -103,10 +104,10 @@ none_at_step decls clean whole before d p q st =
     let same : r.before ≡ before = sym (take_front r.before (d ∷ r.behind)) ∙ ap (take (length r.before)) (sym r.parts) ∙ ap (λ (n : ℕ). take n decls) r.place ∙ st.ahead in
     λ f i. clean f (of_counts decls before r.behind d (r.parts ∙ ap (λ (bs : List Decl). bs ++ d ∷ r.behind) same) f i)
 
--- how many structs, sections, threads and calls a program has behind these declarations
+-- how many structs, sections with helpers, threads and calls a program has behind these declarations
 record Few (before : List Decl) (p : core.Program) : Type 0 where
   structs : length p.structs ≤ STRUCT_LIMIT
-  sections : length p.sections ≤ SECTION_LIMIT
+  sections : length p.sections + length p.helpers ≤ SECTION_LIMIT
   threads : length p.threads ≤ THREAD_LIMIT
   threads_are : (t : Thread) → length p.threads ≡ count (alike (thread t)) before
   calls_are : calls_in_threads p.threads ≡ total calls_of before
@@ -122,8 +123,21 @@ one_more {A = A} limit n xs ys x e is full =
     let l = length_push xs x in
     same_few limit (xs ++ x ∷ []) ys (sym e) (omega (arith, less, l, is))
 
+-- no more sections and helpers, or one more, where there is room
+same_bodies : (p q : core.Program) → q.sections ≡ p.sections → q.helpers ≡ p.helpers → length p.sections + length p.helpers ≤ SECTION_LIMIT → length q.sections + length q.helpers ≤ SECTION_LIMIT
+same_bodies p q a b le = let x = ap length a in let y = ap length b in omega (arith, x, y, le)
+
+few_bodies : (decls before : List Decl) (p q : core.Program) (s : Section) → Counts decls before p → nat_le SECTION_LIMIT (count has_body before) ≡ false → length q.sections + length q.helpers ≡ length p.sections + length p.helpers + 1 →
+    length q.sections + length q.helpers ≤ SECTION_LIMIT
+few_bodies decls before p q s n full more =
+    let less = le_false SECTION_LIMIT (count has_body before) full in
+    let both = bodies_counted before s s in
+    let x = n.sections s in
+    let y = n.helpers s in
+    omega (arith, less, both, x, y, more)
+
 -- behind a declaration that is no thread
-few_more : (before : List Decl) (d : Decl) (p q : core.Program) → Few before p → length q.structs ≤ STRUCT_LIMIT → length q.sections ≤ SECTION_LIMIT → q.threads ≡ p.threads → ((t : Thread) → as_one (alike (thread t) d) ≡ 0) → calls_of d ≡ 0 → Few (before ++ d ∷ []) q
+few_more : (before : List Decl) (d : Decl) (p q : core.Program) → Few before p → length q.structs ≤ STRUCT_LIMIT → length q.sections + length q.helpers ≤ SECTION_LIMIT → q.threads ≡ p.threads → ((t : Thread) → as_one (alike (thread t) d) ≡ 0) → calls_of d ≡ 0 → Few (before ++ d ∷ []) q
 few_more before d p q h structs sections same none no_calls = record {
   structs = structs;
   sections = sections;
@@ -139,13 +153,19 @@ few_next decls clean whole before (struct s) p q st h =
     few_more before (struct s) p q h
     (one_more STRUCT_LIMIT (count (alike (struct s)) before) p.structs q.structs a.0.structure (ap (λ (z : core.Program). z.structs) a.2) (st.counts.structs s)
     (not_if (nat_le STRUCT_LIMIT (count (alike (struct s)) before)) LimitExceeded s.name.span.start none))
-    (same_few SECTION_LIMIT p.sections q.sections (keeps_sections decls (length before) p (struct s) q a) h.sections) (keeps_threads decls (length before) p (struct s) q a) (λ t. refl) refl
+    (same_bodies p q (keeps_sections decls (length before) p (struct s) q a) (keeps_helpers decls (length before) p (struct s) q a) h.sections) (keeps_threads decls (length before) p (struct s) q a) (λ t. refl) refl
 few_next decls clean whole before (atomic s) p q st h =
     let a = st.adds in
     few_more before (atomic s) p q h (same_few STRUCT_LIMIT p.structs q.structs (keeps_structs decls (length before) p (atomic s) q a) h.structs)
-    (one_more SECTION_LIMIT (count (alike (atomic s)) before) p.sections q.sections a.0 (ap (λ (z : core.Program). z.sections) a.2) (st.counts.sections s)
-    (not_if (nat_le SECTION_LIMIT (count (alike (atomic s)) before)) LimitExceeded s.name.span.start (none_at_step decls clean whole before (atomic s) p q st)))
+    (few_bodies decls before p q s st.counts (not_if (nat_le SECTION_LIMIT (count has_body before)) LimitExceeded s.name.span.start (none_at_step decls clean whole before (atomic s) p q st))
+    (let m = ap length (ap (λ (z : core.Program). z.sections) a.2) in let l = length_push p.sections a.0 in let k = ap length (keeps_helpers decls (length before) p (atomic s) q a) in omega (arith, m, l, k)))
     (keeps_threads decls (length before) p (atomic s) q a) (λ t. refl) refl
+few_next decls clean whole before (helper s) p q st h =
+    let a = st.adds in
+    few_more before (helper s) p q h (same_few STRUCT_LIMIT p.structs q.structs (keeps_structs decls (length before) p (helper s) q a) h.structs)
+    (few_bodies decls before p q s st.counts (not_if (nat_le SECTION_LIMIT (count has_body before)) LimitExceeded s.name.span.start (none_at_step decls clean whole before (helper s) p q st))
+    (let m = ap length (ap (λ (z : core.Program). z.helpers) a.2) in let l = length_push p.helpers a.0 in let k = ap length (keeps_sections decls (length before) p (helper s) q a) in omega (arith, m, l, k)))
+    (keeps_threads decls (length before) p (helper s) q a) (λ t. refl) refl
 few_next decls clean whole before (thread t) p q st h =
     let a = st.adds in
     let n = count (alike (thread t)) before in
@@ -154,21 +174,21 @@ few_next decls clean whole before (thread t) p q st h =
     let none = none_left (one_if (nat_le THREAD_LIMIT n) LimitExceeded t.name.span.start) _ (none_at_step decls clean whole before (thread t) p q st) in
     record {
       structs = same_few STRUCT_LIMIT p.structs q.structs (keeps_structs decls (length before) p (thread t) q a) h.structs;
-      sections = same_few SECTION_LIMIT p.sections q.sections (keeps_sections decls (length before) p (thread t) q a) h.sections;
+      sections = same_bodies p q (keeps_sections decls (length before) p (thread t) q a) (keeps_helpers decls (length before) p (thread t) q a) h.sections;
       threads = one_more THREAD_LIMIT n p.threads q.threads x threads (h.threads_are t) (not_if (nat_le THREAD_LIMIT n) LimitExceeded t.name.span.start none);
       threads_are = λ y. (let s : length q.threads ≡ length (p.threads ++ x ∷ []) = ap length (sym threads) in let l = length_push p.threads x in let b = h.threads_are y in let c = count_push (alike (thread y)) before (thread t) in omega (arith, s, l, b, c));
       calls_are = (let s : calls_in_threads q.threads ≡ calls_in_threads (p.threads ++ x ∷ []) = ap calls_in_threads (sym threads) in let l = calls_push p.threads x in let b = h.calls_are in let c = total_push calls_of before (thread t) in let i : length a.0 ≡ calls_of (thread t) = items_counted decls t.items a.0 a.1 in omega (arith, s, l, b, c, i));
     }
 few_next decls clean whole before (lock x) p q st h =
-    few_more before (lock x) p q h (same_few STRUCT_LIMIT p.structs q.structs (keeps_structs decls (length before) p (lock x) q st.adds) h.structs) (same_few SECTION_LIMIT p.sections q.sections (keeps_sections decls (length before) p (lock x) q st.adds) h.sections) (keeps_threads decls (length before) p (lock x) q st.adds) (λ t. refl) refl
+    few_more before (lock x) p q h (same_few STRUCT_LIMIT p.structs q.structs (keeps_structs decls (length before) p (lock x) q st.adds) h.structs) (same_bodies p q (keeps_sections decls (length before) p (lock x) q st.adds) (keeps_helpers decls (length before) p (lock x) q st.adds) h.sections) (keeps_threads decls (length before) p (lock x) q st.adds) (λ t. refl) refl
 few_next decls clean whole before (global x) p q st h =
-    few_more before (global x) p q h (same_few STRUCT_LIMIT p.structs q.structs (keeps_structs decls (length before) p (global x) q st.adds) h.structs) (same_few SECTION_LIMIT p.sections q.sections (keeps_sections decls (length before) p (global x) q st.adds) h.sections) (keeps_threads decls (length before) p (global x) q st.adds) (λ t. refl) refl
+    few_more before (global x) p q h (same_few STRUCT_LIMIT p.structs q.structs (keeps_structs decls (length before) p (global x) q st.adds) h.structs) (same_bodies p q (keeps_sections decls (length before) p (global x) q st.adds) (keeps_helpers decls (length before) p (global x) q st.adds) h.sections) (keeps_threads decls (length before) p (global x) q st.adds) (λ t. refl) refl
 few_next decls clean whole before (array x) p q st h =
-    few_more before (array x) p q h (same_few STRUCT_LIMIT p.structs q.structs (keeps_structs decls (length before) p (array x) q st.adds) h.structs) (same_few SECTION_LIMIT p.sections q.sections (keeps_sections decls (length before) p (array x) q st.adds) h.sections) (keeps_threads decls (length before) p (array x) q st.adds) (λ t. refl) refl
+    few_more before (array x) p q h (same_few STRUCT_LIMIT p.structs q.structs (keeps_structs decls (length before) p (array x) q st.adds) h.structs) (same_bodies p q (keeps_sections decls (length before) p (array x) q st.adds) (keeps_helpers decls (length before) p (array x) q st.adds) h.sections) (keeps_threads decls (length before) p (array x) q st.adds) (λ t. refl) refl
 few_next decls clean whole before (pool x) p q st h =
-    few_more before (pool x) p q h (same_few STRUCT_LIMIT p.structs q.structs (keeps_structs decls (length before) p (pool x) q st.adds) h.structs) (same_few SECTION_LIMIT p.sections q.sections (keeps_sections decls (length before) p (pool x) q st.adds) h.sections) (keeps_threads decls (length before) p (pool x) q st.adds) (λ t. refl) refl
+    few_more before (pool x) p q h (same_few STRUCT_LIMIT p.structs q.structs (keeps_structs decls (length before) p (pool x) q st.adds) h.structs) (same_bodies p q (keeps_sections decls (length before) p (pool x) q st.adds) (keeps_helpers decls (length before) p (pool x) q st.adds) h.sections) (keeps_threads decls (length before) p (pool x) q st.adds) (λ t. refl) refl
 few_next decls clean whole before (init x) p q st h =
-    few_more before (init x) p q h (same_few STRUCT_LIMIT p.structs q.structs (keeps_structs decls (length before) p (init x) q st.adds) h.structs) (same_few SECTION_LIMIT p.sections q.sections (keeps_sections decls (length before) p (init x) q st.adds) h.sections) (keeps_threads decls (length before) p (init x) q st.adds) (λ t. refl) refl
+    few_more before (init x) p q h (same_few STRUCT_LIMIT p.structs q.structs (keeps_structs decls (length before) p (init x) q st.adds) h.structs) (same_bodies p q (keeps_sections decls (length before) p (init x) q st.adds) (keeps_helpers decls (length before) p (init x) q st.adds) h.sections) (keeps_threads decls (length before) p (init x) q st.adds) (λ t. refl) refl
 
 few_whole : (decls : List Decl) → Clean decls → (whole : core.Program) → resolved decls ≡ Some whole → Few decls whole
 few_whole decls clean whole is = walked_whole decls clean whole is Few (record { structs = omega arith; sections = omega arith; threads = omega arith; threads_are = λ t. refl; calls_are = refl }) (few_next decls clean whole)
@@ -195,24 +215,41 @@ members_within decls clean whole is s y at =
 
 -- ---- parameters and locals
 
-parameters_few : (sc : Scope) (n : ℕ) (ps : List Param) → NoneIn (param_faults sc n ps) → n ≤ PARAMETER_LIMIT → n + length ps ≤ PARAMETER_LIMIT
+parameters_few : (sc : Scope) (n : ℕ) (ps : List Param) → NoneIn (param_faults sc n ps) → n ≤ sc.limits.parameters → n + length ps ≤ sc.limits.parameters
 parameters_few sc n [] none le = omega (arith, le)
 parameters_few sc n (p ∷ ps) none le =
     let t = type_of (outside sc.decls) p.value_type in
     let a = local_faults sc p.name in
-    let b = one_if (nat_le PARAMETER_LIMIT n) LimitExceeded p.name.span.start in
+    let b = one_if (nat_le sc.limits.parameters n) LimitExceeded p.name.span.start in
     let c = type_faults (outside sc.decls) p.value_type in
     let rest = param_faults (bound sc kind.Parameter p.name t) (n + 1) ps in
-    let less : n < PARAMETER_LIMIT = le_false PARAMETER_LIMIT n (not_if (nat_le PARAMETER_LIMIT n) LimitExceeded p.name.span.start (none_right a b (none_left (a ++ b) c (none_left (a ++ b ++ c) rest none)))) in
-    let r = parameters_few (bound sc kind.Parameter p.name t) (n + 1) ps (none_right (a ++ b ++ c) rest none) (let z : n + 1 ≤ PARAMETER_LIMIT = omega (arith, less) in z) in
+    let less : n < sc.limits.parameters = le_false sc.limits.parameters n (not_if (nat_le sc.limits.parameters n) LimitExceeded p.name.span.start (none_right a b (none_left (a ++ b) c (none_left (a ++ b ++ c) rest none)))) in
+    let r = parameters_few (bound sc kind.Parameter p.name t) (n + 1) ps (none_right (a ++ b ++ c) rest none) (let z : n + 1 ≤ sc.limits.parameters = omega (arith, less) in z) in
     omega (arith, r)
 
+-- the limits stay
+else_limits : (sc : Scope) (o : Otherwise) → (after_else sc o).limits ≡ sc.limits
+else_limits sc no_else = refl
+else_limits sc (else_do body close) = refl
+
+after_limits : (sc : Scope) (s : Stmt) → (after sc s).limits ≡ sc.limits
+after_limits sc (let_local l) = refl
+after_limits sc (let_owned l o) = refl
+after_limits sc (let_call l) = refl
+after_limits sc (var_local l) = refl
+after_limits sc (assign q e) = refl
+after_limits sc (if_then start e body close other) = else_limits (left sc (after_all sc body)) other
+after_limits sc (while start e body close) = refl
+after_limits sc (print start e) = refl
+after_limits sc (return_value start e) = refl
+after_limits sc (call start c) = refl
+
 -- behind a block there are as many locals as at its end
-left_few : (sc end : Scope) → length end.locals ≤ LOCAL_LIMIT → length (left sc end).locals ≤ LOCAL_LIMIT
-left_few sc end le = let l = hidden_length (length sc.locals) end.locals in omega (arith, l, le)
+left_few : (sc end : Scope) (limit : ℕ) → length end.locals ≤ limit → length (left sc end).locals ≤ limit
+left_few sc end limit le = let l = hidden_length (length sc.locals) end.locals in omega (arith, l, le)
 
 mutual
-  after_few : (sc : Scope) (s : Stmt) → NoneIn (stmt_faults sc s) → length sc.locals ≤ LOCAL_LIMIT → length (after sc s).locals ≤ LOCAL_LIMIT
+  after_few : (sc : Scope) (s : Stmt) → NoneIn (stmt_faults sc s) → length sc.locals ≤ sc.limits.locals → length (after sc s).locals ≤ sc.limits.locals
   after_few sc (let_local l) none le =
       let a = local_faults sc l.name in
       let b = type_faults sc l.value_type in
@@ -228,6 +265,14 @@ mutual
       let x : scopes.Local = record { name = l.name.text; kind = kind.Let; value_type = type_of sc l.value_type; is_visible = true } in
       let n = length_push sc.locals x in
       omega (arith, less, n)
+  after_few sc (let_call l) none le =
+      let a = local_faults sc l.name in
+      let b = type_faults sc l.value_type in
+      let d = given_back_faults sc.decls l.call.helper.span.start (type_of sc l.value_type) (helper_meant (meaning sc l.call.helper.text)) in
+      let less = room sc l.name (none_left a b (none_left (a ++ b) d (none_left (a ++ b ++ d) (helper_call_faults sc l.call) none))) in
+      let x : scopes.Local = record { name = l.name.text; kind = kind.Let; value_type = type_of sc l.value_type; is_visible = true } in
+      let n = length_push sc.locals x in
+      omega (arith, less, n)
   after_few sc (var_local l) none le =
       let a = local_faults sc l.name in
       let b = type_faults sc l.value_type in
@@ -240,21 +285,25 @@ mutual
       let a = wanted_faults sc wanted.Condition e in
       let b = stmts_faults sc body in
       let c = else_faults (left sc (after_all sc body)) other in
-      else_few (left sc (after_all sc body)) other (none_right (a ++ b) c none) (left_few sc (after_all sc body) (all_few sc body (none_right a b (none_left (a ++ b) c none)) le))
-  after_few sc (while start e body close) none le = left_few sc (after_all sc body) (all_few sc body (none_right (wanted_faults sc wanted.Condition e) (stmts_faults sc body) none) le)
+      else_few (left sc (after_all sc body)) other (none_right (a ++ b) c none) (left_few sc (after_all sc body) sc.limits.locals (all_few sc body (none_right a b (none_left (a ++ b) c none)) le))
+  after_few sc (while start e body close) none le = left_few sc (after_all sc body) sc.limits.locals (all_few sc body (none_right (wanted_faults sc wanted.Condition e) (stmts_faults sc body) none) le)
   after_few sc (print start e) none le = le
   after_few sc (return_value start e) none le = le
+  after_few sc (call start c) none le = le
 
-  else_few : (sc : Scope) (o : Otherwise) → NoneIn (else_faults sc o) → length sc.locals ≤ LOCAL_LIMIT → length (after_else sc o).locals ≤ LOCAL_LIMIT
+  else_few : (sc : Scope) (o : Otherwise) → NoneIn (else_faults sc o) → length sc.locals ≤ sc.limits.locals → length (after_else sc o).locals ≤ sc.limits.locals
   else_few sc no_else none le = le
-  else_few sc (else_do body close) none le = left_few sc (after_all sc body) (all_few sc body none le)
+  else_few sc (else_do body close) none le = left_few sc (after_all sc body) sc.limits.locals (all_few sc body none le)
 
-  all_few : (sc : Scope) (ss : Stmts) → NoneIn (stmts_faults sc ss) → length sc.locals ≤ LOCAL_LIMIT → length (after_all sc ss).locals ≤ LOCAL_LIMIT
+  all_few : (sc : Scope) (ss : Stmts) → NoneIn (stmts_faults sc ss) → length sc.locals ≤ sc.limits.locals → length (after_all sc ss).locals ≤ sc.limits.locals
   all_few sc no_stmts none le = le
   all_few sc (stmt s rest) none le =
       let a = stmt_faults sc s in
       let b = stmts_faults (after sc s) rest in
-      all_few (after sc s) rest (none_right a b none) (after_few sc s (none_left a b none) le)
+      let same = after_limits sc s in
+      let few = after_few sc s (none_left a b none) le in
+      subst (λ (l : BodyLimits). length (after_all (after sc s) rest).locals ≤ l.locals) same
+      (all_few (after sc s) rest (none_right a b none) (subst (λ (l : BodyLimits). length (after sc s).locals ≤ l.locals) (sym same) few))
 
 -- the parameters and the locals of a section
 record FewIn (x : core.Section) : Type 0 where
@@ -265,15 +314,18 @@ section_within : (decls : List Decl) → Clean decls → (whole : core.Program) 
 section_within decls clean whole is k x e =
     let at = sections_of decls clean whole is k x e in
     let s = at.section in
-    let made = sectioned decls s x at.typed in
+    let made = sectioned decls section_limits s x at.typed in
     let a = result_faults decls s.result in
-    let b = param_faults (ahead_of decls s) 0 s.params in
-    let c = stmts_faults (entry decls s) s.body.stmts in
+    let b = param_faults (ahead_of decls section_limits s) 0 s.params in
+    let c = stmts_faults (entry decls section_limits s) s.body.stmts in
     let none : NoneIn (a ++ b ++ c) = λ f i. clean f (of_place_at decls at.place (atomic s) at.at f i) in
-    let few = parameters_few (ahead_of decls s) 0 s.params (none_right a b (none_left (a ++ b) c none)) (let z : 0 ≤ PARAMETER_LIMIT = omega arith in z) in
-    let start = entered_length (ahead_of decls s) s.params in
-    let all = all_few (entry decls s) s.body.stmts (none_right (a ++ b) c none) (let z : length (entry decls s).locals ≤ LOCAL_LIMIT = omega (arith, start, few) in z) in
-    let n = locals_length (after_all (entry decls s) s.body.stmts).locals x.locals made.locals in
+    let few : 0 + length s.params ≤ PARAMETER_LIMIT = parameters_few (ahead_of decls section_limits s) 0 s.params (none_right a b (none_left (a ++ b) c none)) (let z : 0 ≤ PARAMETER_LIMIT = omega arith in z) in
+    let start = entered_length (ahead_of decls section_limits s) s.params in
+    let same : (entry decls section_limits s).limits ≡ section_limits = entered_limits (ahead_of decls section_limits s) s.params in
+    let begun : length (entry decls section_limits s).locals ≤ LOCAL_LIMIT = omega (arith, start, few) in
+    let all : length (after_all (entry decls section_limits s) s.body.stmts).locals ≤ LOCAL_LIMIT = subst (λ (l : BodyLimits). length (after_all (entry decls section_limits s) s.body.stmts).locals ≤ l.locals) same
+    (all_few (entry decls section_limits s) s.body.stmts (none_right (a ++ b) c none) (subst (λ (l : BodyLimits). length (entry decls section_limits s).locals ≤ l.locals) (sym same) begun)) in
+    let n = locals_length (after_all (entry decls section_limits s) s.body.stmts).locals x.locals made.locals in
     let parameters = made.parameters in
     record { parameters = omega (arith, parameters, few); locals = omega (arith, n, all) }
 
@@ -301,7 +353,7 @@ module _ (decls : List Decl) (clean : Clean decls) (program : Typed) (is : resol
         members = struct_within;
         objects = few_objects decls clean (core_of program) is;
         cells = (let n = counted.cells in let l = cells_few decls [] decls (λ f i. clean f (of_totals decls f i)) (let z : 0 ≤ CELL_LIMIT = omega arith in z) in omega (arith, n, l));
-        sections = (let n = few.sections in let l = length-map program.sections.items core_section in let none = ap length (no_helpers decls program is) in omega (arith, n, l, none));
+        sections = (let n = few.sections in let l = length-map program.sections.items core_section in let m = length-map program.shape.helpers.items core_section in omega (arith, n, l, m));
         parameters = λ k x at. (section_few k x at).parameters;
         locals = λ k x at. (let n = (section_few k x at).locals in let l = length-map x.locals.items core_local in omega (arith, n, l));
         threads = (let n = few.threads in let l = length-map program.threads.items core_thread in omega (arith, n, l));

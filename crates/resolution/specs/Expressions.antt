@@ -8,7 +8,7 @@ use Rattle.syntax.specs.declared.tree.Level.TheVariants.{Term, Sum, Conjunction,
 use Rattle.syntax.specs.declared.tree.Prefix.TheVariants.{Negate, Not}
 use Rattle.syntax.specs.declared.tree.Comparison as written
 use Rattle.syntax.specs.declared.tree.Comparison.TheVariants as sign
-use Rattle.syntax.specs.Trees.{Ident, ref_type, Place, lone, element, path, Expr, int, null, place, paren, prefix, chain, compare, Links, no_links, link, Decl, lock, struct, global, array, pool, init, atomic, thread, Member, lock_member, final_member, field_member, Struct}
+use Rattle.syntax.specs.Trees.{Ident, ref_type, Place, lone, element, path, Expr, int, null, place, paren, prefix, chain, compare, Links, no_links, link, Decl, lock, struct, global, array, pool, init, atomic, helper, thread, Member, lock_member, final_member, field_member, Struct}
 use Rattle.core_lang.specs.declared.value.ValueType as core_type
 use Rattle.core_lang.specs.declared.value.ValueType.TheVariants.{Integer, Reference}
 use Rattle.core_lang.specs.declared.tree.Operator.{Operator}
@@ -121,6 +121,7 @@ element_value decls start (a_decl i (struct s)) (Some index) = None
 element_value decls start (a_decl i (global v)) (Some index) = None
 element_value decls start (a_decl i (init j)) (Some index) = None
 element_value decls start (a_decl i (atomic s)) (Some index) = None
+element_value decls start (a_decl i (helper s)) (Some index) = None
 element_value decls start (a_decl i (thread t)) (Some index) = None
 element_value decls start (a_local i l) (Some index) = None
 element_value decls start nothing (Some index) = None

@@ -1,12 +1,12 @@
 -- What holds of names, structs, scopes and `init`s. Nobody has to believe these facts: they are proved here, for proofs of this crate
 -- and of the crates above.
 use Rattle.std.specs.Prelude.{slice_get, ◌==◌, ◌&&◌, if◌then◌else◌}
-use Rattle.std.proofs.Common.{◌≡◌, ℕ, zero, suc, ◌+◌, List, [], ◌∷◌, Option, Some, None, Bool, true, false, refl, sym, ap, ◌∙◌}
+use Rattle.std.proofs.Common.{◌≡◌, ℕ, zero, suc, ◌+◌, List, [], ◌∷◌, Option, Some, None, Bool, true, false, refl, sym, ap, ◌∙◌, arith}
 use Rattle.std.proofs.Math.Nat.{add-zero, add-suc, suc-add}
 use Rattle.std.proofs.lemmas.Bool.{eqb-true}
 use Rattle.std.proofs.lemmas.Option.{none-some}
-use Rattle.syntax.specs.Trees.{Struct, Decl, lock, struct, global, array, pool, init, atomic, thread, Stmt, let_local, let_owned, var_local, assign, if_then, while, print, return_value, Otherwise, no_else, else_do}
-use Rattle.resolution.specs.Scopes.{◌>>=◌, place_from, place_of, bears, the_decl, number_at, the_struct, Scope, left}
+use Rattle.syntax.specs.Trees.{Struct, Section, Decl, lock, struct, global, array, pool, init, atomic, helper, thread, Stmt, let_local, let_owned, let_call, var_local, assign, if_then, while, print, return_value, call, Otherwise, no_else, else_do}
+use Rattle.resolution.specs.Scopes.{◌>>=◌, place_from, place_of, count, bears, the_decl, alike, has_body, number_at, the_struct, Scope, left}
 use Rattle.resolution.specs.Statements.{after, after_else, after_all}
 use Rattle.resolution.specs.Constants.{same_init_target}
 use Rattle.resolution.specs.declared.init_target.InitTarget.{InitTarget}
@@ -75,6 +75,7 @@ struct_at (array a ∷ ds) zero s e = absurd (none-some s (ap as_struct e))
 struct_at (pool p ∷ ds) zero s e = absurd (none-some s (ap as_struct e))
 struct_at (init j ∷ ds) zero s e = absurd (none-some s (ap as_struct e))
 struct_at (atomic x ∷ ds) zero s e = absurd (none-some s (ap as_struct e))
+struct_at (helper x ∷ ds) zero s e = absurd (none-some s (ap as_struct e))
 struct_at (thread t ∷ ds) zero s e = absurd (none-some s (ap as_struct e))
 struct_at (struct r ∷ ds) (suc n) s e = struct_at ds n s e
 struct_at (lock x ∷ ds) (suc n) s e = struct_at ds n s e
@@ -83,7 +84,23 @@ struct_at (array a ∷ ds) (suc n) s e = struct_at ds n s e
 struct_at (pool p ∷ ds) (suc n) s e = struct_at ds n s e
 struct_at (init j ∷ ds) (suc n) s e = struct_at ds n s e
 struct_at (atomic x ∷ ds) (suc n) s e = struct_at ds n s e
+struct_at (helper x ∷ ds) (suc n) s e = struct_at ds n s e
 struct_at (thread t ∷ ds) (suc n) s e = struct_at ds n s e
+
+-- ---- sections and helpers
+
+-- together they are those of the one kind and those of the other
+pub bodies_counted : (decls : List Decl) (s r : Section) → count has_body decls ≡ count (alike (atomic s)) decls + count (alike (helper r)) decls
+bodies_counted [] s r = refl
+bodies_counted (lock x ∷ ds) s r = bodies_counted ds s r
+bodies_counted (struct x ∷ ds) s r = bodies_counted ds s r
+bodies_counted (global x ∷ ds) s r = bodies_counted ds s r
+bodies_counted (array x ∷ ds) s r = bodies_counted ds s r
+bodies_counted (pool x ∷ ds) s r = bodies_counted ds s r
+bodies_counted (init x ∷ ds) s r = bodies_counted ds s r
+bodies_counted (atomic x ∷ ds) s r = let n = bodies_counted ds s r in omega (arith, n)
+bodies_counted (helper x ∷ ds) s r = let n = bodies_counted ds s r in omega (arith, n)
+bodies_counted (thread x ∷ ds) s r = bodies_counted ds s r
 
 -- ---- behind statements
 
@@ -91,16 +108,18 @@ after_else_result : (sc : Scope) (o : Otherwise) → (after_else sc o).result �
 after_else_result sc no_else = refl
 after_else_result sc (else_do body close) = refl
 
--- the section's result is the same
+-- the result is the same
 pub after_result : (sc : Scope) (s : Stmt) → (after sc s).result ≡ sc.result
 after_result sc (let_local l) = refl
 after_result sc (let_owned l o) = refl
+after_result sc (let_call l) = refl
 after_result sc (var_local l) = refl
 after_result sc (assign p e) = refl
 after_result sc (if_then start e body close other) = after_else_result (left sc (after_all sc body)) other
 after_result sc (while start e body close) = refl
 after_result sc (print start e) = refl
 after_result sc (return_value start e) = refl
+after_result sc (call start c) = refl
 
 -- ---- what an `init` gives a value to
 

@@ -10,18 +10,19 @@ use Rattle.syntax.specs.declared.tree.Level.TheVariants.{Term, Sum, Conjunction,
 use Rattle.syntax.specs.declared.tree.Comparison as written
 use Rattle.syntax.specs.declared.tree.Comparison.TheVariants as sign
 use Rattle.syntax.specs.Trees as tree
-use Rattle.syntax.specs.Trees.{Ident, ValueType, int_type, ref_type, Const, int_const, negative, null_const, member_const, Place, lone, element, path, Expr, int, null, place, paren, prefix, chain, compare, Links, no_links, link, Stmt, let_local, let_owned, var_local, assign, if_then, while, print, return_value, Stmts, no_stmts, stmt, Otherwise, no_else, else_do, Protection, Member, lock_member, final_member, field_member, Struct, Variable, Array, Pool, Init, Param, Section, Item, call, repeat, Items, no_items, item, Decl, lock, struct, global, array, pool, init, atomic, thread}
+use Rattle.syntax.specs.Trees.{Ident, ValueType, int_type, ref_type, Const, int_const, negative, null_const, member_const, Place, lone, element, path, Expr, int, null, place, paren, prefix, chain, compare, Links, no_links, link, HelperCall, CalledLocal, Stmt, let_local, let_owned, let_call, var_local, assign, if_then, while, print, return_value, Stmts, no_stmts, stmt, Otherwise, no_else, else_do, Protection, Member, lock_member, final_member, field_member, Struct, Variable, Array, Pool, Init, Param, Section, Item, call, repeat, Items, no_items, item, Decl, lock, struct, global, array, pool, init, atomic, helper, thread}
 use Rattle.core_lang.specs.declared.value.ValueType as core_type
 use Rattle.core_lang.specs.declared.value.ValueType.TheVariants.{Integer, Reference}
 use Rattle.core_lang.specs.declared.tree.LocalKind.TheVariants.{Parameter}
+use Rattle.resolution.specs.declared.body_limits.BodyLimits.{BodyLimits}
 use Rattle.resolution.specs.declared.init_target.InitTarget.{InitTarget}
 use Rattle.source.specs.declared.mistake.Mistake.{Mistake}
 use Rattle.resolution.specs.declared.wanted.Sort.{Sort}
 use Rattle.resolution.specs.declared.wanted.Sort.TheVariants as sort
 use Rattle.resolution.specs.declared.wanted.Want.{Want}
-use Rattle.resolution.specs.declared.wanted.Want.TheVariants.{Condition, Value}
-use Rattle.resolution.specs.Limits.{STRUCT_LIMIT, MEMBER_LIMIT, FINAL_LIMIT, CLASS_LIMIT, OBJECT_LIMIT, CELL_LIMIT, SECTION_LIMIT, THREAD_LIMIT, PARAMETER_LIMIT, LOCAL_LIMIT, CALL_LIMIT}
-use Rattle.resolution.specs.Scopes.{Scope, Local, outside, Meaning, a_local, a_decl, nothing, meaning, place_of, count, declared, bears, the_decl, alike, the_struct, member_name, member_bears, the_member, the_local, type_of, has_type, member_has_type, struct_named, bound, left}
+use Rattle.resolution.specs.declared.wanted.Want.TheVariants.{Anything, Condition, Value}
+use Rattle.resolution.specs.Limits.{STRUCT_LIMIT, MEMBER_LIMIT, FINAL_LIMIT, CLASS_LIMIT, OBJECT_LIMIT, CELL_LIMIT, SECTION_LIMIT, THREAD_LIMIT, CALL_LIMIT, section_limits, helper_limits}
+use Rattle.resolution.specs.Scopes.{Scope, Local, outside, Meaning, a_local, a_decl, nothing, meaning, helper_meant, place_of, count, declared, bears, the_decl, alike, has_body, the_struct, member_name, member_bears, the_member, the_local, type_of, result_of, has_type, member_has_type, struct_named, bound, entered, left}
 use Rattle.resolution.specs.Numbers.{is_lock, classes_of, objects_of, cells_of, calls_of, total}
 use Rattle.resolution.specs.Expressions.{ResolvedExpr, value, truth, fits, fits_type, fits_sort, alike_sorts, want, typed, operator_of, Walk, reached, at_lock, lost, stepped, at_local, walk_from}
 use Rattle.resolution.specs.declared.owner_field.OwnerField.{OwnerField}
@@ -29,7 +30,7 @@ use Rattle.resolution.specs.Owners.{owner_field}
 use Rattle.resolution.specs.Statements.{is_var, last_field, target_of, wanted_by, after, after_all}
 use Rattle.resolution.specs.Constants.{const_sort, want_of, members_of, pool_members, member_want, initialised, init_target_of, giver, given}
 use Rattle.resolution.specs.Annotations.{AnnotationCursor, stepped_on, cursor_at}
-use Rattle.resolution.specs.Resolution.{ahead_of, entry}
+use Rattle.resolution.specs.Resolution.{ahead_of}
 use Rattle.resolution.specs.Where.{operand_want, prefix_want, side_want}
 use Rattle.resolution.specs.Faults.{start_of, const_start}
 
@@ -210,7 +211,7 @@ taken start None (Some d) = one DeclaredTwice start
 abbrev pub local_faults : Scope → Ident → List Mistake
 local_faults sc x =
     taken x.span.start (the_local sc.locals x.text) (the_decl sc.decls x.text)
-    ++ one_if (nat_le LOCAL_LIMIT (length sc.locals)) LimitExceeded x.span.start
+    ++ one_if (nat_le sc.limits.locals (length sc.locals)) LimitExceeded x.span.start
 
 -- a name that can't stand on the left
 abbrev pub no_target : List Decl → ℕ → Meaning → List Mistake
@@ -275,16 +276,70 @@ owner_faults sc t o =
     owner_field_faults sc.decls t o.field
     ++ no_owner sc.decls o.local.span.start (owner_field sc.decls t o.field) (meaning sc o.local.text)
 
+-- ---- calls of helpers
+
+-- a name that is called with so many arguments, which no helper takes
+abbrev pub no_helper : List Decl → ℕ → ℕ → Meaning → List Mistake
+no_helper decls start n (a_decl i (helper s)) = one_if (not (n == length s.params)) WrongArgumentCount start
+no_helper decls start n nothing = one UnknownName start
+no_helper decls start n m = unfit decls WrongType start m
+
+-- arguments, each for its parameter
+abbrev pub values_faults : Scope → List Param → List Expr → List Mistake
+values_faults sc [] es = []
+values_faults sc (p ∷ ps) [] = []
+values_faults sc (p ∷ ps) (e ∷ es) = wanted_faults sc (want_of sc.decls p) e ++ values_faults sc ps es
+
+-- arguments, each by itself
+abbrev pub each_value_faults : Scope → List Expr → List Mistake
+each_value_faults sc [] = []
+each_value_faults sc (e ∷ es) = wanted_faults sc Anything e ++ each_value_faults sc es
+
+-- the arguments for the helper that is meant
+abbrev pub passed_values_faults : Scope → Option (ℕ × Section) → List Expr → List Mistake
+passed_values_faults sc (Some (i, s)) es = if length es == length s.params then values_faults sc s.params es else []
+passed_values_faults sc None es = each_value_faults sc es
+
+abbrev pub helper_call_faults : Scope → HelperCall → List Mistake
+helper_call_faults sc c =
+    no_helper sc.decls c.helper.span.start (length c.arguments) (meaning sc c.helper.text)
+    ++ passed_values_faults sc (helper_meant (meaning sc c.helper.text)) c.arguments
+
+-- a result of another type
+abbrev pub other_result : ℕ → core_type.ValueType → Option core_type.ValueType → List Mistake
+other_result start t (Some u) = if fits_type t (sort.Of u) then [] else one WrongType start
+other_result start t None = []
+
+-- no result, where one of the type is wanted
+abbrev pub no_result : ℕ → core_type.ValueType → Option ValueType → Option core_type.ValueType → List Mistake
+no_result start t None u = one WrongType start
+no_result start t (Some r) u = other_result start t u
+
+-- what is given back to a local of this type
+abbrev pub given_back_faults : List Decl → ℕ → Option core_type.ValueType → Option (ℕ × Section) → List Mistake
+given_back_faults decls start (Some t) (Some (i, s)) = no_result start t s.result (result_of decls s)
+given_back_faults decls start (Some t) None = []
+given_back_faults decls start None h = []
+
+-- a local with what a helper gives back
+abbrev pub called_faults : Scope → CalledLocal → List Mistake
+called_faults sc l =
+    local_faults sc l.name ++ type_faults sc l.value_type
+    ++ given_back_faults sc.decls l.call.helper.span.start (type_of sc l.value_type) (helper_meant (meaning sc l.call.helper.text))
+    ++ helper_call_faults sc l.call
+
 abbrev mutual
   pub stmt_faults : Scope → Stmt → List Mistake
   stmt_faults sc (let_local l) = binding_faults sc l
   stmt_faults sc (let_owned l o) = binding_faults sc l ++ owner_faults sc (type_of sc l.value_type) o
+  stmt_faults sc (let_call l) = called_faults sc l
   stmt_faults sc (var_local l) = binding_faults sc l
   stmt_faults sc (assign p e) = target_faults sc p ++ wanted_faults sc (wanted_by (target_of sc p)) e
   stmt_faults sc (if_then start e body close other) = wanted_faults sc Condition e ++ stmts_faults sc body ++ else_faults (left sc (after_all sc body)) other
   stmt_faults sc (while start e body close) = wanted_faults sc Condition e ++ stmts_faults sc body
   stmt_faults sc (print start e) = wanted_faults sc (Value Integer) e
   stmt_faults sc (return_value start e) = wanted_faults sc (want sc.result) e
+  stmt_faults sc (call start c) = helper_call_faults sc c
 
   pub else_faults : Scope → Otherwise → List Mistake
   else_faults sc no_else = []
@@ -298,7 +353,7 @@ abbrev mutual
 abbrev pub param_faults : Scope → ℕ → List Param → List Mistake
 param_faults sc n [] = []
 param_faults sc n (p ∷ ps) =
-    local_faults sc p.name ++ one_if (nat_le PARAMETER_LIMIT n) LimitExceeded p.name.span.start ++ type_faults (outside sc.decls) p.value_type
+    local_faults sc p.name ++ one_if (nat_le sc.limits.parameters n) LimitExceeded p.name.span.start ++ type_faults (outside sc.decls) p.value_type
     ++ param_faults (bound sc Parameter p.name (type_of (outside sc.decls) p.value_type)) (n + 1) ps
 
 abbrev pub result_faults : List Decl → Option ValueType → List Mistake
@@ -444,8 +499,12 @@ global_faults decls v =
 abbrev pub array_faults : List Decl → Array → List Mistake
 array_faults decls a = type_faults (outside decls) a.value_type ++ lock_faults decls a.name.span.start a.protection
 
-abbrev pub section_faults : List Decl → Section → List Mistake
-section_faults decls s = result_faults decls s.result ++ param_faults (ahead_of decls s) 0 s.params ++ stmts_faults (entry decls s) s.body.stmts
+-- a section or a helper, from the scope ahead of its parameters
+abbrev pub faults_in : Scope → Section → List Mistake
+faults_in sc s = result_faults sc.decls s.result ++ param_faults sc 0 s.params ++ stmts_faults (entered sc s.params) s.body.stmts
+
+abbrev pub section_faults : List Decl → BodyLimits → Section → List Mistake
+section_faults decls limits s = faults_in (ahead_of decls limits s) s
 
 -- of the declaration at this place by itself
 abbrev pub decl_faults : List Decl → ℕ → Decl → List Mistake
@@ -455,7 +514,8 @@ decl_faults decls i (global v) = global_faults decls v
 decl_faults decls i (array a) = array_faults decls a
 decl_faults decls i (pool p) = type_faults (outside decls) (ref_type p.target) ++ missing_faults decls i p (members_of decls p.target)
 decl_faults decls i (init j) = init_faults decls j
-decl_faults decls i (atomic s) = section_faults decls s
+decl_faults decls i (atomic s) = section_faults decls section_limits s
+decl_faults decls i (helper s) = section_faults decls helper_limits s
 decl_faults decls i (thread t) = items_faults decls t.items
 
 -- of declarations from a place on
@@ -513,7 +573,8 @@ count_faults decls before (pool p) =
     one_if (first_too_many OBJECT_LIMIT (total objects_of before) (objects_of (pool p))) LimitExceeded p.name.span.start
     ++ one_if (first_too_many CELL_LIMIT (total (cells_of decls) before) (cells_of decls (pool p))) LimitExceeded p.name.span.start
 count_faults decls before (init i) = []
-count_faults decls before (atomic s) = one_if (nat_le SECTION_LIMIT (count (alike (atomic s)) before)) LimitExceeded s.name.span.start
+count_faults decls before (atomic s) = one_if (nat_le SECTION_LIMIT (count has_body before)) LimitExceeded s.name.span.start
+count_faults decls before (helper s) = one_if (nat_le SECTION_LIMIT (count has_body before)) LimitExceeded s.name.span.start
 count_faults decls before (thread t) =
     one_if (nat_le THREAD_LIMIT (count (alike (thread t)) before)) LimitExceeded t.name.span.start
     ++ one_if (first_too_many CALL_LIMIT (total calls_of before) (calls_of (thread t))) LimitExceeded t.name.span.start

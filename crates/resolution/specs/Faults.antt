@@ -14,17 +14,18 @@ use Rattle.syntax.specs.declared.tree.Level.TheVariants.{Term, Sum}
 use Rattle.syntax.specs.declared.tree.Comparison as written
 use Rattle.syntax.specs.declared.tree.Comparison.TheVariants as sign
 use Rattle.syntax.specs.Trees as tree
-use Rattle.syntax.specs.Trees.{Ident, ref_type, Const, int_const, negative, null_const, member_const, Place, lone, element, path, Expr, int, null, place, paren, prefix, chain, compare, Links, Owner, let_owned, assign, Protection, Member, lock_member, final_member, field_member, Struct, Field, Final, Variable, Array, Pool, Init, Param, Section, Call, Decl, lock, struct, global, array, pool, init, atomic, thread}
+use Rattle.syntax.specs.Trees.{Ident, ref_type, Const, int_const, negative, null_const, member_const, Place, lone, element, path, Expr, int, null, place, paren, prefix, chain, compare, Links, Owner, HelperCall, CalledLocal, let_owned, let_call, assign, Protection, Member, lock_member, final_member, field_member, Struct, Field, Final, Variable, Array, Pool, Init, Param, Section, Call, Decl, lock, struct, global, array, pool, init, atomic, helper, thread}
 use Rattle.core_lang.specs.declared.value.ValueType as core_type
 use Rattle.core_lang.specs.declared.value.ValueType.TheVariants.{Integer, Reference}
 use Rattle.core_lang.specs.declared.tree.FieldStep.{FieldStep}
+use Rattle.resolution.specs.declared.body_limits.BodyLimits.{BodyLimits}
 use Rattle.resolution.specs.declared.init_target.InitTarget.{InitTarget}
 use Rattle.resolution.specs.declared.wanted.Sort.{Sort}
 use Rattle.resolution.specs.declared.wanted.Sort.TheVariants as sort
 use Rattle.resolution.specs.declared.wanted.Want.{Want}
 use Rattle.resolution.specs.Core as core
-use Rattle.resolution.specs.Limits.{STRUCT_LIMIT, MEMBER_LIMIT, FINAL_LIMIT, CLASS_LIMIT, OBJECT_LIMIT, CELL_LIMIT, SECTION_LIMIT, THREAD_LIMIT, PARAMETER_LIMIT, LOCAL_LIMIT, CALL_LIMIT}
-use Rattle.resolution.specs.Scopes.{Scope, Local, Meaning, a_local, a_decl, nothing, meaning, place_of, count, declared, bears, the_decl, alike, the_struct, member_name, member_bears, the_member, the_local, has_type, member_has_type, type_of, struct_named}
+use Rattle.resolution.specs.Limits.{STRUCT_LIMIT, MEMBER_LIMIT, FINAL_LIMIT, CLASS_LIMIT, OBJECT_LIMIT, CELL_LIMIT, SECTION_LIMIT, THREAD_LIMIT, CALL_LIMIT}
+use Rattle.resolution.specs.Scopes.{Scope, Local, Meaning, a_local, a_decl, nothing, meaning, helper_meant, place_of, count, declared, bears, the_decl, alike, has_body, the_struct, member_name, member_bears, the_member, the_local, has_type, member_has_type, type_of, result_of, struct_named}
 use Rattle.resolution.specs.Numbers.{is_lock, total, classes_of, objects_of, cells_of, calls_of}
 use Rattle.resolution.specs.Expressions.{ResolvedExpr, value, truth, fits, fits_type, fits_sort, alike_sorts, typed, operator_of, Walk, reached, at_lock, walk_from}
 use Rattle.resolution.specs.declared.owner_field.OwnerField.{OwnerField}
@@ -32,7 +33,7 @@ use Rattle.resolution.specs.Owners.{owner_field}
 use Rattle.resolution.specs.Statements.{is_var, last_field, first_name}
 use Rattle.resolution.specs.Constants.{const_sort, members_of, pool_members, initialised, init_target_of, giver, given}
 use Rattle.resolution.specs.Annotations.{AnnotationCursor, through_member, cursor_at}
-use Rattle.resolution.specs.Where.{Has, HasLink, HasStmt, HasExpr, HasPlace, Binds, HasType, NamesOwner, HasCall, HasConst, HasLock, Annotates}
+use Rattle.resolution.specs.Where.{Has, HasLink, HasBody, HasStmt, HasHelperCall, HasExpr, HasPlace, Binds, HasType, NamesOwner, HasCall, HasConst, HasLock, Annotates}
 
 -- ---- where expressions and constants start
 
@@ -116,6 +117,8 @@ pub data IsUnknown (decls : List Decl) : ℕ → Type 0 where
   in_type : {sc : Scope} {x : Ident} →
       HasType decls sc (ref_type x) → meaning sc x.text ≡ nothing → IsUnknown decls x.span.start
   in_call : {c : Call} → HasCall decls c → the_decl decls c.section.text ≡ None → IsUnknown decls c.section.span.start
+  in_helper_call : {sc : Scope} {c : HelperCall} →
+      HasHelperCall decls sc c → meaning sc c.helper.text ≡ nothing → IsUnknown decls c.helper.span.start
   in_const : {w : Want} {p : Ident} {n : Number} →
       HasConst decls w (member_const p n) → the_decl decls p.text ≡ None → IsUnknown decls p.span.start
   in_init : {i : Init} → Has decls (init i) → the_decl decls i.pool.text ≡ None → IsUnknown decls i.pool.span.start
@@ -179,6 +182,12 @@ IsNoStruct (a_decl i (struct s)) = ⊥
 IsNoStruct nothing = ⊥
 IsNoStruct _ = Unit {0}
 
+-- what is known and no helper
+abbrev pub IsNoHelper : Meaning → Type 0
+IsNoHelper (a_decl i (helper s)) = ⊥
+IsNoHelper nothing = ⊥
+IsNoHelper _ = Unit {0}
+
 abbrev pub IsSection : Decl → Type 0
 IsSection (atomic s) = Unit {0}
 IsSection _ = ⊥
@@ -216,6 +225,18 @@ pub data IsWrongType (decls : List Decl) : ℕ → Type 0 where
   no_section : {c : Call} {i : ℕ} {d : Decl} →
       HasCall decls c → the_decl decls c.section.text ≡ Some (i, d) → (IsSection d → ⊥) →
       has_type decls (a_decl i d) ≡ true → IsWrongType decls c.section.span.start
+  no_helper : {sc : Scope} {c : HelperCall} →
+      HasHelperCall decls sc c → IsNoHelper (meaning sc c.helper.text) → has_type decls (meaning sc c.helper.text) ≡ true →
+      IsWrongType decls c.helper.span.start
+  -- a `let` of what a helper doesn't give back
+  no_result : {sc : Scope} {l : CalledLocal} {t : core_type.ValueType} {i : ℕ} {s : Section} →
+      HasStmt decls sc (let_call l) → type_of sc l.value_type ≡ Some t →
+      helper_meant (meaning sc l.call.helper.text) ≡ Some (i, s) → s.result ≡ None →
+      IsWrongType decls l.call.helper.span.start
+  other_result : {sc : Scope} {l : CalledLocal} {t u : core_type.ValueType} {i : ℕ} {s : Section} →
+      HasStmt decls sc (let_call l) → type_of sc l.value_type ≡ Some t →
+      helper_meant (meaning sc l.call.helper.text) ≡ Some (i, s) → result_of decls s ≡ Some u →
+      fits_type t (sort.Of u) ≡ false → IsWrongType decls l.call.helper.span.start
   no_pool : {w : Want} {p : Ident} {n : Number} {i : ℕ} {d : Decl} →
       HasConst decls w (member_const p n) → the_decl decls p.text ≡ Some (i, d) → (IsPool d → ⊥) →
       has_type decls (a_decl i d) ≡ true → IsWrongType decls p.span.start
@@ -245,6 +266,9 @@ pub data IsWrongCount (decls : List Decl) : ℕ → Type 0 where
   wrong_count : {c : Call} {i : ℕ} {s : Section} →
       HasCall decls c → the_decl decls c.section.text ≡ Some (i, atomic s) →
       (length c.arguments ≡ length s.params → ⊥) → IsWrongCount decls c.section.span.start
+  wrong_helper_count : {sc : Scope} {c : HelperCall} {i : ℕ} {s : Section} →
+      HasHelperCall decls sc c → helper_meant (meaning sc c.helper.text) ≡ Some (i, s) →
+      (length c.arguments ≡ length s.params → ⊥) → IsWrongCount decls c.helper.span.start
 
 -- ---- E09: what can't be assigned to
 
@@ -291,13 +315,15 @@ pub data PassesNonFinal (decls : List Decl) : ℕ → Type 0 where
 -- how many declarations of this kind there may be, where each is one
 abbrev pub limit_of : Decl → Option ℕ
 limit_of (struct s) = Some STRUCT_LIMIT
-limit_of (atomic s) = Some SECTION_LIMIT
 limit_of (thread t) = Some THREAD_LIMIT
 limit_of _ = None
 
 pub data IsOverLimit (decls : List Decl) : ℕ → Type 0 where
   too_many : (before behind : List Decl) (d : Decl) {x : Ident} (n : ℕ) →
       decls ≡ before ++ d ∷ behind → declared d ≡ Some x → limit_of d ≡ Some n → n ≤ count (alike d) before →
+      IsOverLimit decls x.span.start
+  too_many_sections : (before behind : List Decl) (d : Decl) {x : Ident} →
+      decls ≡ before ++ d ∷ behind → has_body d ≡ true → declared d ≡ Some x → SECTION_LIMIT ≤ count has_body before →
       IsOverLimit decls x.span.start
   too_many_members : {s : Struct} (before behind : List Member) (m : Member) →
       Has decls (struct s) → s.members ≡ before ++ m ∷ behind → MEMBER_LIMIT ≤ length before →
@@ -317,11 +343,11 @@ pub data IsOverLimit (decls : List Decl) : ℕ → Type 0 where
   too_many_calls : (before behind : List Decl) (d : Decl) {x : Ident} →
       decls ≡ before ++ d ∷ behind → declared d ≡ Some x → total calls_of before ≤ CALL_LIMIT →
       CALL_LIMIT < total calls_of before + calls_of d → IsOverLimit decls x.span.start
-  too_many_parameters : {x : Section} (p : Param) (before behind : List Param) →
-      Has decls (atomic x) → x.params ≡ before ++ p ∷ behind → PARAMETER_LIMIT ≤ length before →
+  too_many_parameters : {limits : BodyLimits} {x : Section} (p : Param) (before behind : List Param) →
+      HasBody decls limits x → x.params ≡ before ++ p ∷ behind → limits.parameters ≤ length before →
       IsOverLimit decls p.name.span.start
   too_many_locals : {sc : Scope} {x : Ident} →
-      Binds decls sc x → LOCAL_LIMIT ≤ length sc.locals → IsOverLimit decls x.span.start
+      Binds decls sc x → sc.limits.locals ≤ length sc.locals → IsOverLimit decls x.span.start
   too_many_finals : {p : Protection} {st : AnnotationCursor} {y z : Ident} {zs : List Ident} {i : ℕ} {f : Final} →
       Walks decls p st y (z ∷ zs) → the_member st.members y.text ≡ Some (i, final_member f) →
       FINAL_LIMIT ≤ length st.through → IsOverLimit decls p.first.span.start

@@ -1,5 +1,7 @@
 -- How many there may be.
 use Rattle.std.specs.Prelude.{ℕ, nat_le, if◌then◌else◌, Option, Some, None}
+use Rattle.source.specs.Texts.{SOURCE_LIMIT}
+use Rattle.resolution.specs.declared.body_limits.BodyLimits.{BodyLimits}
 
 abbrev pub STRUCT_LIMIT : ℕ
 STRUCT_LIMIT = 64
@@ -21,18 +23,28 @@ OBJECT_LIMIT = 65536
 abbrev pub CELL_LIMIT : ℕ
 CELL_LIMIT = 262144
 
+-- sections and helpers together
 abbrev pub SECTION_LIMIT : ℕ
 SECTION_LIMIT = 256
 
 abbrev pub THREAD_LIMIT : ℕ
 THREAD_LIMIT = 64
 
+-- the parameters of a section
 abbrev pub PARAMETER_LIMIT : ℕ
 PARAMETER_LIMIT = 8
 
 -- the locals of a section, parameters included
 abbrev pub LOCAL_LIMIT : ℕ
 LOCAL_LIMIT = 64
+
+-- what a section may have
+abbrev pub section_limits : BodyLimits
+section_limits = record { parameters = PARAMETER_LIMIT; locals = LOCAL_LIMIT }
+
+-- a helper has no limits of its own: no source is long enough for so many
+abbrev pub helper_limits : BodyLimits
+helper_limits = record { parameters = SOURCE_LIMIT; locals = SOURCE_LIMIT }
 
 -- the calls of all threads together
 abbrev pub CALL_LIMIT : ℕ

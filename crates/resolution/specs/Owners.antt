@@ -6,7 +6,8 @@ use Rattle.core_lang.specs.declared.value.ValueType.TheVariants.{Integer, Refere
 use Rattle.resolution.specs.declared.owner_field.OwnerField.{OwnerField}
 use Rattle.resolution.specs.declared.wanted.Sort.TheVariants as sort
 use Rattle.resolution.specs.Core as core
-use Rattle.resolution.specs.Limits.{STRUCT_LIMIT, LOCAL_LIMIT, up_to}
+use Rattle.source.specs.Texts.{SOURCE_LIMIT}
+use Rattle.resolution.specs.Limits.{STRUCT_LIMIT, up_to}
 use Rattle.resolution.specs.Scopes.{◌>>=◌, Scope, outside, Meaning, a_local, a_decl, nothing, meaning, the_struct, the_member, type_of}
 use Rattle.resolution.specs.Expressions.{fits_type, member_number}
 
@@ -40,9 +41,9 @@ owner_local (Some f) (a_decl i d) = None
 owner_local (Some f) nothing = None
 owner_local None m = None
 
--- a value that is tested. A struct or a local past its limit has no number here, and the program has a fault
+-- a value that is tested. A struct past its limit has no number here, and the program has a fault; no source has so many locals
 abbrev pub tested_by : ℕ → core.Expr → OwnerField → ℕ → Option core.Expr
-tested_by start e f i = up_to STRUCT_LIMIT f.structure >>= λ k. up_to LOCAL_LIMIT i >>= λ n. Some (core.owned e k f.number start n)
+tested_by start e f i = up_to STRUCT_LIMIT f.structure >>= λ k. up_to SOURCE_LIMIT i >>= λ n. Some (core.owned e k f.number start n)
 
 abbrev pub owned_value : ℕ → Option core.Expr → Option OwnerField → Option ℕ → Option core.Expr
 owned_value start e f i = e >>= λ x. f >>= λ y. i >>= λ n. tested_by start x y n

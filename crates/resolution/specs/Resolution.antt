@@ -1,31 +1,28 @@
 -- The program that a tree stands for.
 use Rattle.std.specs.Prelude.{ℕ, zero, suc, ◌+◌, nat_le, Bool, List, [], ◌∷◌, ◌++◌, length, Option, Some, None, if◌then◌else◌}
-use Rattle.syntax.specs.Trees.{ValueType, Const, Variable, Array, Section, Item, call, repeat, Items, no_items, item, Member, lock_member, final_member, field_member, Decl, lock, struct, global, array, pool, init, atomic, thread}
+use Rattle.syntax.specs.Trees.{ValueType, Const, Variable, Array, Section, Item, call, repeat, Items, no_items, item, Member, lock_member, final_member, field_member, Decl, lock, struct, global, array, pool, init, atomic, helper, thread}
 use Rattle.core_lang.specs.declared.value.Value.{Value}
 use Rattle.core_lang.specs.declared.value.ValueType as core_type
 use Rattle.core_lang.specs.declared.typed.Owner.{Owner}
 use Rattle.core_lang.specs.declared.typed.Owner.TheVariants as owner
 use Rattle.resolution.specs.Core as core
-use Rattle.resolution.specs.Limits.{CALL_LIMIT, object_at, cell_at, final_at}
-use Rattle.resolution.specs.Scopes.{◌>>=◌, Scope, Local, outside, the_decl, number_at, type_of, struct_named, entered}
+use Rattle.resolution.specs.declared.body_limits.BodyLimits.{BodyLimits}
+use Rattle.resolution.specs.Limits.{CALL_LIMIT, section_limits, helper_limits, object_at, cell_at, final_at}
+use Rattle.resolution.specs.Scopes.{◌>>=◌, Scope, Local, outside, the_decl, number_at, type_of, result_of, struct_named, entered}
 use Rattle.resolution.specs.Numbers.{total, calls_of}
 use Rattle.resolution.specs.Statements.{Body, typed_body, after_all}
 use Rattle.resolution.specs.Constants.{added, typed_arguments, members_of, given, default_of, opened, referred}
 use Rattle.resolution.specs.Annotations.{class_of, protection_of}
 
--- ---- sections
+-- ---- sections and helpers
 
--- the type of a section's result, if it has one without a fault
-abbrev pub result_of : List Decl → Section → Option core_type.ValueType
-result_of decls s = s.result >>= λ t. type_of (outside decls) t
-
--- the scope ahead of a section's parameters
-abbrev pub ahead_of : List Decl → Section → Scope
-ahead_of decls s = record { decls = decls; locals = []; result = result_of decls s }
+-- the scope ahead of the parameters of a section or a helper
+abbrev pub ahead_of : List Decl → BodyLimits → Section → Scope
+ahead_of decls limits s = record { decls = decls; locals = []; result = result_of decls s; limits = limits }
 
 -- the scope at its first statement
-abbrev pub entry : List Decl → Section → Scope
-entry decls s = entered (ahead_of decls s) s.params
+abbrev pub entry : List Decl → BodyLimits → Section → Scope
+entry decls limits s = entered (ahead_of decls limits s) s.params
 
 abbrev pub core_local : Local → Option core.Local
 core_local l = l.value_type >>= λ t. Some (record { name = l.name; kind = l.kind; value_type = t })
@@ -35,7 +32,7 @@ abbrev pub core_locals : List Local → Option (List core.Local)
 core_locals [] = Some []
 core_locals (l ∷ ls) = added (core_local l) (core_locals ls)
 
--- a section that has a result has a `return` at its end, and no other section has one
+-- a section or a helper that has a result has a `return` at its end, and no other one has one
 abbrev pub section_with : List Decl → Section → List core.Local → core.Stmts → Option ValueType → Option core.Return → Option core.Section
 section_with decls s locals body None None =
     Some (record { name = s.name.text; parameters = length s.params; locals = locals; result_type = None; body = body; result = None })
@@ -49,9 +46,13 @@ section_of decls s (Some locals) (Some b) = section_with decls s locals b.stmts 
 section_of decls s (Some locals) None = None
 section_of decls s None b = None
 
-abbrev pub typed_section : List Decl → Section → Option core.Section
-typed_section decls s =
-    section_of decls s (core_locals (after_all (entry decls s) s.body.stmts).locals) (typed_body (entry decls s) s.body.stmts)
+-- what a section or a helper is, from the scope ahead of its parameters
+abbrev pub section_in : Scope → Section → Option core.Section
+section_in sc s =
+    section_of sc.decls s (core_locals (after_all (entered sc s.params) s.body.stmts).locals) (typed_body (entered sc s.params) s.body.stmts)
+
+abbrev pub typed_section : List Decl → BodyLimits → Section → Option core.Section
+typed_section decls limits s = section_in (ahead_of decls limits s) s
 
 -- ---- threads
 
@@ -148,6 +149,10 @@ with_cell p o t v = record p { cells = p.cells ++ record { owner = o; value_type
 abbrev pub with_section : core.Program → Option core.Section → Option core.Program
 with_section p (Some s) = Some (record p { sections = p.sections ++ s ∷ [] })
 with_section p None = None
+
+abbrev pub with_helper : core.Program → Option core.Section → Option core.Program
+with_helper p (Some s) = Some (record p { helpers = p.helpers ++ s ∷ [] })
+with_helper p None = None
 
 abbrev pub with_thread : core.Program → List ℕ → Option (List core.Call) → Option core.Program
 with_thread p name (Some calls) = Some (record p { threads = p.threads ++ record { name = name; calls = calls } ∷ [] })
@@ -250,7 +255,8 @@ extended decls i p (global v) = global_with decls p v
 extended decls i p (array a) = array_with decls p a
 extended decls i p (pool q) = with_pool decls i p q.name.text (struct_named decls q.target) (members_of decls q.target) q.length.value
 extended decls i p (init j) = Some p
-extended decls i p (atomic s) = with_section p (typed_section decls s)
+extended decls i p (atomic s) = with_section p (typed_section decls section_limits s)
+extended decls i p (helper s) = with_helper p (typed_section decls helper_limits s)
 extended decls i p (thread t) = with_thread p t.name.text (typed_calls decls t.items)
 
 -- with declarations from a place on, one after another

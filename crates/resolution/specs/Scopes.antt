@@ -1,11 +1,13 @@
 -- What names mean.
 use Rattle.std.specs.Prelude.{ℕ, zero, suc, List, [], ◌∷◌, ◌++◌, take, length, Option, Some, None, is_some, Bool, true, false, slice_get, if◌then◌else◌}
 use Rattle.std.specs.Str.{bytes_eq}
-use Rattle.syntax.specs.Trees.{Ident, Decl, lock, struct, global, array, pool, init, atomic, thread, ValueType, int_type, ref_type, Member, lock_member, final_member, field_member, Struct, Param}
+use Rattle.syntax.specs.Trees.{Ident, Decl, lock, struct, global, array, pool, init, atomic, helper, thread, ValueType, int_type, ref_type, Member, lock_member, final_member, field_member, Struct, Param, Section}
 use Rattle.core_lang.specs.declared.value.ValueType as core_type
 use Rattle.core_lang.specs.declared.value.ValueType.TheVariants.{Integer, Reference}
 use Rattle.core_lang.specs.declared.tree.LocalKind.{LocalKind}
 use Rattle.core_lang.specs.declared.tree.LocalKind.TheVariants.{Parameter}
+use Rattle.resolution.specs.declared.body_limits.BodyLimits.{BodyLimits}
+use Rattle.resolution.specs.Limits.{section_limits}
 
 infixl 10 ◌>>=◌
 abbrev pub ◌>>=◌ : {A B : Type 0} → Option A → (A → Option B) → Option B
@@ -42,6 +44,7 @@ declared (array a) = Some a.name
 declared (pool p) = Some p.name
 declared (init i) = None
 declared (atomic s) = Some s.name
+declared (helper s) = Some s.name
 declared (thread t) = Some t.name
 
 abbrev pub is_called : Option Ident → List ℕ → Bool
@@ -64,8 +67,15 @@ alike (array a) (array b) = true
 alike (pool p) (pool q) = true
 alike (init i) (init j) = true
 alike (atomic s) (atomic r) = true
+alike (helper s) (helper r) = true
 alike (thread t) (thread u) = true
 alike _ _ = false
+
+-- a section or a helper
+abbrev pub has_body : Decl → Bool
+has_body (atomic s) = true
+has_body (helper s) = true
+has_body _ = false
 
 -- the number of a declaration: how many of its kind stand before it
 abbrev pub number_at : List Decl → ℕ → Decl → ℕ
@@ -122,15 +132,17 @@ the_local locals q = named local_bears locals q
 
 -- ---- scopes
 
--- what is declared; the locals of the section so far, those of blocks behind them included; and the type of the section's result
+-- in a section or a helper: what is declared; the locals so far, those of blocks behind them included; the type of the result; and how
+-- many parameters and locals there may be
 pub record Scope : Type 0 where
   pub decls : List Decl
   pub locals : List Local
   pub result : Option core_type.ValueType
+  pub limits : BodyLimits
 
--- outside of sections
+-- outside of sections and helpers
 abbrev pub outside : List Decl → Scope
-outside decls = record { decls = decls; locals = []; result = None }
+outside decls = record { decls = decls; locals = []; result = None; limits = section_limits }
 
 -- a local with its number, a declaration with its place, or nothing
 pub data Meaning : Type 0 where
@@ -150,6 +162,11 @@ local_or None other = other
 abbrev pub meaning : Scope → List ℕ → Meaning
 meaning sc q = local_or (the_local sc.locals q) (declared_as (the_decl sc.decls q))
 
+-- the helper that is meant, and its place
+abbrev pub helper_meant : Meaning → Option (ℕ × Section)
+helper_meant (a_decl i (helper s)) = Some (i, s)
+helper_meant _ = None
+
 -- ---- types
 
 -- the number of the struct that is meant
@@ -161,6 +178,10 @@ struct_meant decls _ = None
 abbrev pub type_of : Scope → ValueType → Option core_type.ValueType
 type_of sc int_type = Some Integer
 type_of sc (ref_type x) = struct_meant sc.decls (meaning sc x.text) >>= λ k. Some (Reference k)
+
+-- the type of the result of a section or a helper, if it has one without a fault
+abbrev pub result_of : List Decl → Section → Option core_type.ValueType
+result_of decls s = s.result >>= λ t. type_of (outside decls) t
 
 -- the number of the struct that a declaration names
 abbrev pub struct_named : List Decl → Ident → Option ℕ

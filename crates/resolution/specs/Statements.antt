@@ -1,6 +1,6 @@
 -- Statements with each name replaced by the number of what it means, where everything in them has a type.
 use Rattle.std.specs.Prelude.{ℕ, Bool, true, false, List, [], ◌∷◌, length, Option, Some, None, if◌then◌else◌}
-use Rattle.syntax.specs.Trees.{Ident, Place, lone, element, path, Local, Owner, Stmt, let_local, let_owned, var_local, assign, if_then, while, print, return_value, Stmts, no_stmts, stmt, Otherwise, no_else, else_do, Decl, lock, struct, global, array, pool, init, atomic, thread}
+use Rattle.syntax.specs.Trees.{Ident, Place, lone, element, path, Expr, Local, Owner, HelperCall, CalledLocal, Stmt, let_local, let_owned, let_call, var_local, assign, if_then, while, print, return_value, call, Stmts, no_stmts, stmt, Otherwise, no_else, else_do, Param, Section, Decl, lock, struct, global, array, pool, init, atomic, helper, thread}
 use Rattle.core_lang.specs.declared.value.ValueType as core_type
 use Rattle.core_lang.specs.declared.tree.FieldStep.{FieldStep}
 use Rattle.core_lang.specs.declared.tree.FieldStep.TheVariants as step
@@ -9,9 +9,10 @@ use Rattle.core_lang.specs.declared.tree.LocalKind.TheVariants.{Parameter, Let, 
 use Rattle.resolution.specs.declared.wanted.Want.{Want}
 use Rattle.resolution.specs.declared.wanted.Want.TheVariants.{Anything, Value}
 use Rattle.resolution.specs.Core as core
-use Rattle.resolution.specs.Scopes.{◌>>=◌, Scope, outside, Meaning, a_local, a_decl, nothing, meaning, number_at, type_of, bound, left}
+use Rattle.resolution.specs.Scopes.{◌>>=◌, Scope, outside, Meaning, a_local, a_decl, nothing, meaning, helper_meant, number_at, type_of, result_of, bound, left}
 use Rattle.resolution.specs.Expressions.{want, fitting, as_value, number_resolved, test_resolved, typed, Walk, reached, at_lock, lost, walk_from, local_path, cell_of}
-use Rattle.resolution.specs.Owners.{owned_by}
+use Rattle.resolution.specs.Owners.{is_of, owned_by}
+use Rattle.resolution.specs.Constants.{added, want_of}
 
 -- ---- the left side of an assignment
 
@@ -52,6 +53,7 @@ assignee_at_element decls (a_decl i (global v)) (Some index) = None
 assignee_at_element decls (a_decl i (pool p)) (Some index) = None
 assignee_at_element decls (a_decl i (init j)) (Some index) = None
 assignee_at_element decls (a_decl i (atomic s)) (Some index) = None
+assignee_at_element decls (a_decl i (helper s)) (Some index) = None
 assignee_at_element decls (a_decl i (thread t)) (Some index) = None
 assignee_at_element decls (a_local i l) (Some index) = None
 assignee_at_element decls nothing (Some index) = None
@@ -100,6 +102,33 @@ first_name (lone x) = x
 first_name (element x e) = x
 first_name (path x fs) = x
 
+-- ---- calls of helpers
+
+-- the arguments of a call, from left to right, one for each parameter
+abbrev pub typed_values : Scope → List Param → List Expr → Option (List core.Expr)
+typed_values sc [] [] = Some []
+typed_values sc [] (e ∷ es) = None
+typed_values sc (p ∷ ps) [] = None
+typed_values sc (p ∷ ps) (e ∷ es) = added (as_value (fitting (want_of sc.decls p) (typed sc e))) (typed_values sc ps es)
+
+-- a call of the helper that is meant, if one is; the local takes what it gives back
+abbrev pub called : Scope → Option (ℕ × Section) → List Expr → Option ℕ → Option core.Action
+called sc (Some (i, s)) es local = typed_values sc s.params es >>= λ vs. Some (core.call (number_at sc.decls i (helper s)) vs local)
+called sc None es local = None
+
+abbrev pub call_resolved : Scope → HelperCall → Option ℕ → Option core.Action
+call_resolved sc c local = called sc (helper_meant (meaning sc c.helper.text)) c.arguments local
+
+-- the type of what a call gives back, if it gives anything back, and that type has no fault
+abbrev pub type_given : List Decl → Option (ℕ × Section) → Option core_type.ValueType
+type_given decls (Some (i, s)) = result_of decls s
+type_given decls None = None
+
+-- a local of the first type can take a value of the second; neither has a fault
+abbrev pub can_take : Option core_type.ValueType → Option core_type.ValueType → Bool
+can_take (Some t) u = is_of t u
+can_take None u = false
+
 -- ---- statements
 
 -- what a statement is: something to do, or what the section gives back
@@ -109,6 +138,10 @@ pub data Part : Type 0 where
 
 abbrev pub acts : ℕ → core.Action → Option Part
 acts start action = Some (does (record { start = start; action = action }))
+
+abbrev pub acts_if : ℕ → Option core.Action → Option Part
+acts_if start (Some action) = acts start action
+acts_if start None = None
 
 -- a local is bound, unless its type is faulty
 abbrev pub binds : ℕ → ℕ → Option core_type.ValueType → Option core.Expr → Option Part
@@ -182,12 +215,14 @@ abbrev mutual
   pub after : Scope → Stmt → Scope
   after sc (let_local l) = bound sc Let l.name (type_of sc l.value_type)
   after sc (let_owned l o) = bound sc Let l.name (type_of sc l.value_type)
+  after sc (let_call l) = bound sc Let l.name (type_of sc l.value_type)
   after sc (var_local l) = bound sc Var l.name (type_of sc l.value_type)
   after sc (assign p e) = sc
   after sc (if_then start e body close other) = after_else (left sc (after_all sc body)) other
   after sc (while start e body close) = left sc (after_all sc body)
   after sc (print start e) = sc
   after sc (return_value start e) = sc
+  after sc (call start c) = sc
 
   pub after_else : Scope → Otherwise → Scope
   after_else sc no_else = sc
@@ -210,17 +245,25 @@ local_bound sc l = binds l.start.start (length sc.locals) (type_of sc l.value_ty
 abbrev pub owned_bound : Scope → Local → Owner → Option Part
 owned_bound sc l o = binds l.start.start (length sc.locals) (type_of sc l.value_type) (owned_by sc (type_of sc l.value_type) o (first_value sc l))
 
+-- a local with what a helper gives back
+abbrev pub called_bound : Scope → CalledLocal → Option Part
+called_bound sc l =
+    if can_take (type_of sc l.value_type) (type_given sc.decls (helper_meant (meaning sc l.call.helper.text)))
+    then acts_if l.start.start (call_resolved sc l.call (Some (length sc.locals))) else None
+
 abbrev mutual
   -- a statement resolved, if everything in it has a type
   pub typed_stmt : Scope → Stmt → Option Part
   typed_stmt sc (let_local l) = local_bound sc l
   typed_stmt sc (let_owned l o) = owned_bound sc l o
+  typed_stmt sc (let_call l) = called_bound sc l
   typed_stmt sc (var_local l) = local_bound sc l
   typed_stmt sc (assign p e) = assigns (first_name p).span.start (target_of sc p) (as_value (fitting (wanted_by (target_of sc p)) (typed sc e)))
   typed_stmt sc (if_then start e body close other) = typed_if (left sc (after_all sc body)) start.start (test_resolved (typed sc e)) (block_of (typed_body sc body)) other
   typed_stmt sc (while start e body close) = repeats start.start (test_resolved (typed sc e)) (block_of (typed_body sc body))
   typed_stmt sc (print start e) = prints start.start (number_resolved (typed sc e))
   typed_stmt sc (return_value start e) = returns start.start (as_value (fitting (want sc.result) (typed sc e)))
+  typed_stmt sc (call start c) = acts_if start.start (call_resolved sc c None)
 
   -- an `if` by its condition and its block, and the scope behind that
   pub typed_if : Scope → ℕ → Option core.Condition → Option core.Stmts → Otherwise → Option Part

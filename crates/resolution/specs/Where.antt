@@ -1,5 +1,5 @@
 -- Where expressions, names, types and constants stand in a program.
-use Rattle.std.specs.Prelude.{◌≡◌, ℕ, List, ◌∷◌, ◌++◌, length, slice_get, Some}
+use Rattle.std.specs.Prelude.{◌≡◌, ℕ, List, ◌∷◌, ◌++◌, length, slice_get, Option, Some, None}
 use Rattle.source.specs.declared.span.Span.{Span}
 use Rattle.source.specs.declared.token.Number.{Number}
 use Rattle.syntax.specs.declared.tree.Op.{Op}
@@ -9,11 +9,13 @@ use Rattle.syntax.specs.declared.tree.Prefix.{Prefix}
 use Rattle.syntax.specs.declared.tree.Prefix.TheVariants.{Negate, Not}
 use Rattle.syntax.specs.declared.tree.Comparison as written
 use Rattle.syntax.specs.declared.tree.Comparison.TheVariants as sign
-use Rattle.syntax.specs.Trees.{Ident, ValueType, ref_type, Const, Place, element, Expr, place, paren, prefix, chain, compare, Links, link, Local, Owner, Stmt, let_local, let_owned, var_local, assign, if_then, while, print, return_value, Stmts, stmt, Otherwise, else_do, Protection, Final, Field, Member, final_member, field_member, Struct, Variable, Array, Pool, Init, Param, Section, Call, Item, call, repeat, Items, item, Thread, Decl, struct, global, array, pool, init, atomic, thread}
+use Rattle.syntax.specs.Trees.{Ident, ValueType, ref_type, Const, Place, element, Expr, place, paren, prefix, chain, compare, Links, link, Local, Owner, HelperCall, CalledLocal, Stmt, let_local, let_owned, let_call, var_local, assign, if_then, while, print, return_value, Stmts, stmt, Otherwise, else_do, Protection, Final, Field, Member, final_member, field_member, Struct, Variable, Array, Pool, Init, Param, Section, Call, Item, call, repeat, Items, item, Thread, Decl, struct, global, array, pool, init, atomic, helper, thread}
 use Rattle.core_lang.specs.declared.value.ValueType.TheVariants.{Integer, Reference}
 use Rattle.resolution.specs.declared.wanted.Want.{Want}
 use Rattle.resolution.specs.declared.wanted.Want.TheVariants.{Anything, Condition, Value}
-use Rattle.resolution.specs.Scopes.{Scope, outside, the_decl, the_struct, type_of, entered, left}
+use Rattle.resolution.specs.declared.body_limits.BodyLimits.{BodyLimits}
+use Rattle.resolution.specs.Limits.{section_limits, helper_limits}
+use Rattle.resolution.specs.Scopes.{Scope, outside, meaning, helper_meant, the_decl, the_struct, type_of, entered, left}
 use Rattle.resolution.specs.Expressions.{want}
 use Rattle.resolution.specs.Statements.{target_of, wanted_by, after, after_all}
 use Rattle.resolution.specs.Constants.{want_of, initialised, member_want}
@@ -82,10 +84,23 @@ pub data Among : Scope → Stmts → Scope → Stmt → Type 0 where
   in_while : {sc sc' : Scope} {s' : Stmt} {start close : Span} {e : Expr} {body rest : Stmts} →
       Among sc body sc' s' → Among sc (stmt (while start e body close) rest) sc' s'
 
+-- an argument of a call, and what is wanted of it: what its parameter takes, where a helper is called that has as many; anything, where no
+-- helper is called
+pub data IsArgument (decls : List Decl) : Option (ℕ × Section) → List Expr → Want → Expr → Type 0 where
+  for_parameter : {i : ℕ} {s : Section} (k : ℕ) {p : Param} {es : List Expr} {e : Expr} →
+      length es ≡ length s.params → slice_get s.params k ≡ Some p → slice_get es k ≡ Some e →
+      IsArgument decls (Some (i, s)) es (want_of decls p) e
+  for_nothing : {es : List Expr} {e : Expr} → Has es e → IsArgument decls None es Anything e
+
+-- an argument of this call, where it stands
+abbrev pub Passes : Scope → HelperCall → Want → Expr → Type 0
+Passes sc c w e = IsArgument sc.decls (helper_meant (meaning sc c.helper.text)) c.arguments w e
+
 -- an expression of a statement, and what is wanted of it
 pub data Asks : Scope → Stmt → Want → Expr → Type 0 where
   of_let : {sc : Scope} {l : Local} → Asks sc (let_local l) (want (type_of sc l.value_type)) l.value
   of_owned : {sc : Scope} {l : Local} {o : Owner} → Asks sc (let_owned l o) (want (type_of sc l.value_type)) l.value
+  of_let_call : {sc : Scope} {l : CalledLocal} {w : Want} {e : Expr} → Passes sc l.call w e → Asks sc (let_call l) w e
   of_var : {sc : Scope} {l : Local} → Asks sc (var_local l) (want (type_of sc l.value_type)) l.value
   of_assign : {sc : Scope} {p : Place} {e : Expr} → Asks sc (assign p e) (wanted_by (target_of sc p)) e
   of_index : {sc : Scope} {x : Ident} {i e : Expr} → Asks sc (assign (element x i) e) (Value Integer) i
@@ -95,11 +110,22 @@ pub data Asks : Scope → Stmt → Want → Expr → Type 0 where
       Asks sc (while start e body close) Condition e
   of_print : {sc : Scope} {start : Span} {e : Expr} → Asks sc (print start e) (Value Integer) e
   of_return : {sc : Scope} {start : Span} {e : Expr} → Asks sc (return_value start e) (want sc.result) e
+  of_call_alone : {sc : Scope} {start : Span} {c : HelperCall} {w : Want} {e : Expr} → Passes sc c w e → Asks sc (call start c) w e
+
+-- a section or a helper of the program, with how many parameters and locals it may have
+pub data HasBody (decls : List Decl) : BodyLimits → Section → Type 0 where
+  of_section : {x : Section} → Has decls (atomic x) → HasBody decls section_limits x
+  of_helper : {x : Section} → Has decls (helper x) → HasBody decls helper_limits x
 
 -- a statement of the program, with the scope there
 pub data HasStmt (decls : List Decl) : Scope → Stmt → Type 0 where
-  in_section : {x : Section} {sc : Scope} {s : Stmt} →
-      Has decls (atomic x) → Among (entry decls x) x.body.stmts sc s → HasStmt decls sc s
+  in_body : {limits : BodyLimits} {x : Section} {sc : Scope} {s : Stmt} →
+      HasBody decls limits x → Among (entry decls limits x) x.body.stmts sc s → HasStmt decls sc s
+
+-- a call of a helper, with the scope there
+pub data HasHelperCall (decls : List Decl) : Scope → HelperCall → Type 0 where
+  by_let : {sc : Scope} {l : CalledLocal} → HasStmt decls sc (let_call l) → HasHelperCall decls sc l.call
+  by_itself : {sc : Scope} {start : Span} {c : HelperCall} → HasStmt decls sc (call start c) → HasHelperCall decls sc c
 
 -- an expression of the program, with the scope there and what is wanted of it
 pub data HasExpr (decls : List Decl) : Scope → Want → Expr → Type 0 where
@@ -115,10 +141,11 @@ pub data HasPlace (decls : List Decl) : Scope → Place → Type 0 where
 
 -- a local that the program declares, with the scope ahead of it
 pub data Binds (decls : List Decl) : Scope → Ident → Type 0 where
-  parameter : {x : Section} (p : Param) (before behind : List Param) →
-      Has decls (atomic x) → x.params ≡ before ++ p ∷ behind → Binds decls (entered (ahead_of decls x) before) p.name
+  parameter : {limits : BodyLimits} {x : Section} (p : Param) (before behind : List Param) →
+      HasBody decls limits x → x.params ≡ before ++ p ∷ behind → Binds decls (entered (ahead_of decls limits x) before) p.name
   a_let : {sc : Scope} {l : Local} → HasStmt decls sc (let_local l) → Binds decls sc l.name
   an_owned_let : {sc : Scope} {l : Local} {o : Owner} → HasStmt decls sc (let_owned l o) → Binds decls sc l.name
+  a_called_let : {sc : Scope} {l : CalledLocal} → HasStmt decls sc (let_call l) → Binds decls sc l.name
   a_var : {sc : Scope} {l : Local} → HasStmt decls sc (var_local l) → Binds decls sc l.name
 
 -- a type of the program, with the scope there
@@ -130,11 +157,13 @@ pub data HasType (decls : List Decl) : Scope → ValueType → Type 0 where
       Has decls (struct s) → Has s.members (final_member f) → HasType decls (outside decls) (ref_type f.target)
   of_field : {s : Struct} {f : Field} →
       Has decls (struct s) → Has s.members (field_member f) → HasType decls (outside decls) f.value_type
-  of_parameter : {x : Section} {p : Param} →
-      Has decls (atomic x) → Has x.params p → HasType decls (outside decls) p.value_type
-  of_result : {x : Section} {t : ValueType} → Has decls (atomic x) → x.result ≡ Some t → HasType decls (outside decls) t
+  of_parameter : {limits : BodyLimits} {x : Section} {p : Param} →
+      HasBody decls limits x → Has x.params p → HasType decls (outside decls) p.value_type
+  of_result : {limits : BodyLimits} {x : Section} {t : ValueType} →
+      HasBody decls limits x → x.result ≡ Some t → HasType decls (outside decls) t
   of_a_let : {sc : Scope} {l : Local} → HasStmt decls sc (let_local l) → HasType decls sc l.value_type
   of_an_owned_let : {sc : Scope} {l : Local} {o : Owner} → HasStmt decls sc (let_owned l o) → HasType decls sc l.value_type
+  of_a_called_let : {sc : Scope} {l : CalledLocal} → HasStmt decls sc (let_call l) → HasType decls sc l.value_type
   of_a_var : {sc : Scope} {l : Local} → HasStmt decls sc (var_local l) → HasType decls sc l.value_type
 
 -- a name behind `where` that is to be a final reference's, for a value of the struct with these members

@@ -1,6 +1,6 @@
 //! What holds of resolution and of faults: functions that do nothing, and whose contracts are the laws.
 
-ghost use Rattle.resolution.specs.Laws.{TheLeastIsAFault, NoneGoesBeforeTheLeast, NoLeastIsNoFault, HaveAtMostOneLeast, FaultlessAreResolved, ResolvedAreWellFormed};
+ghost use Rattle.resolution.specs.Laws.{TheLeastIsAFault, NoneGoesBeforeTheLeast, NoLeastIsNoFault, HaveAtMostOneLeast, FaultlessAreResolved, ResolvedAreChecked, WithoutHelpersAreWellFormed};
 
 /// The least fault of the list is a fault of the program, and no fault of the program goes before it; and where the
 /// list is empty, the program has no fault.
@@ -20,7 +20,13 @@ pub fn faultless_are_resolved()
     ensures { FaultlessAreResolved }
 {}
 
-/// What a program with no fault is resolved to is well formed.
-pub fn resolved_are_well_formed()
-    ensures { ResolvedAreWellFormed }
+/// What a program with no fault is resolved to is as an accepted program should be, if its calls of helpers keep to the
+/// limits.
+pub fn resolved_are_checked()
+    ensures { ResolvedAreChecked }
+{}
+
+/// What a program with no fault, in which no helper is declared, is resolved to is well formed.
+pub fn without_helpers()
+    ensures { WithoutHelpersAreWellFormed }
 {}

@@ -2,6 +2,7 @@
 //! the faults of trees that stand for none.
 #![tactic(auto)]
 
+pub mod body_limits;
 pub mod init_target;
 pub mod laws;
 pub mod owner_field;

@@ -2,79 +2,22 @@
 
 ghost use Rattle.std.specs.Prelude.{◌≡◌};
 ghost use Rattle.source.specs.Tokens.{seen};
-ghost use Rattle.syntax.specs.Views.{ident, local_of, owner_of, stmt_of, stmts_of, else_of};
+ghost use Rattle.syntax.specs.Views.{ident, stmt_of, stmts_of, else_of};
 ghost use Rattle.token_parts.specs.Reading.{Gives};
-ghost use Rattle.statement_parser.specs.Statements.{local_at, owner_at, let_at, var_at, assign_at, stmt_at, braced_at, else_with, if_with, while_with, stmts_in, stmts_with};
+ghost use Rattle.statement_parser.specs.Statements.{assign_at, stmt_at, braced_at, else_with, if_with, while_with, stmts_in, stmts_with};
 
-use crate::expr::{condition, ended, expr, place};
+use crate::call::call_rest;
+use crate::expr::{condition, ended, place};
+use crate::local::{let_rest, var_rest};
 use source::span::Span;
 use source::token::{Keyword, Sign, Token};
 use std::alloc::Global;
-use syntax::tree::{Block, If, Local, Name, OwnedLocal, Owner, Stmt, While};
+use syntax::tree::{Block, If, Name, Stmt, While};
 use token_parts::growth::push;
-use token_parts::parts::value_type;
 use token_parts::stop::Stop;
 use token_parts::take::{
-    ended_by, is_sign_next, is_word_next, named, take_name, take_open, take_sign, take_word,
+    ended_by, is_sign_next, is_word_next, named, take_open, take_sign, take_word,
 };
-
-/// What stands behind `let` or `var`, a word that stands at `start`, up to the end of the value.
-fn local(alloc: Global, start: Span, tokens: &[Token], room: u32) -> Result<(Local, &[Token]), Stop>
-    ensures { Gives (λ x. (local_of x.0, seen x.1.now)) result (local_at room start (seen tokens.now)) }
-{
-    let (name, rest) = ended_by(take_name(tokens), Sign::Colon)?;
-    let (value_type, rest) = ended_by(value_type(rest), Sign::Equals)?;
-    let (value, rest) = expr(alloc, rest, room)?;
-    let local = Local {
-        start,
-        name,
-        value_type,
-        value,
-    };
-    Ok((local, rest))
-}
-
-/// The owner of a local, from the word `where` on.
-fn owner(tokens: &[Token]) -> Result<(Owner, &[Token]), Stop>
-    ensures { Gives (λ x. (owner_of x.0, seen x.1.now)) result (owner_at (seen tokens.now)) }
-{
-    let (_, rest) = take_word(tokens, Keyword::Where)?;
-    let (field, rest) = ended_by(take_name(rest), Sign::DoubleEquals)?;
-    let (local, rest) = take_name(rest)?;
-    Ok((Owner { field, local }, rest))
-}
-
-/// A `let`, behind its first word, which stands at `start`.
-fn let_rest(
-    alloc: Global,
-    start: Span,
-    tokens: &[Token],
-    room: u32,
-) -> Result<(Stmt, &[Token]), Stop>
-    ensures { Gives (λ x. (stmt_of x.0, seen x.1.now)) result (let_at room start (seen tokens.now)) }
-{
-    let (local, rest) = local(alloc, start, tokens, room)?;
-    if !is_word_next(rest, Keyword::Where) {
-        let (_, rest) = take_sign(rest, Sign::Semicolon)?;
-        return Ok((Stmt::Let(Box::new(alloc, local)?), rest));
-    }
-    let (owner, rest) = ended_by(owner(rest), Sign::Semicolon)?;
-    let owned = OwnedLocal { local, owner };
-    Ok((Stmt::LetOwned(Box::new(alloc, owned)?), rest))
-}
-
-/// A `var`, behind its first word, which stands at `start`.
-fn var_rest(
-    alloc: Global,
-    start: Span,
-    tokens: &[Token],
-    room: u32,
-) -> Result<(Stmt, &[Token]), Stop>
-    ensures { Gives (λ x. (stmt_of x.0, seen x.1.now)) result (var_at room start (seen tokens.now)) }
-{
-    let (local, rest) = ended_by(local(alloc, start, tokens, room), Sign::Semicolon)?;
-    Ok((Stmt::Var(Box::new(alloc, local)?), rest))
-}
 
 /// An assignment, behind its first name.
 fn assignment(
@@ -113,6 +56,7 @@ fn stmt(alloc: Global, tokens: &[Token], room: u32) -> Result<(Stmt, &[Token]), 
             let (value, rest) = ended(alloc, rest, room)?;
             Ok((Stmt::Return(*span, value), rest))
         }
+        Token::Word(span, Keyword::Call) => call_rest(alloc, *span, rest, room),
         _ => Err(Stop::Unexpected(tokens.len())),
     }
 }

@@ -1,16 +1,17 @@
 -- What stands ahead of places, and the numbers of declarations and members.
 use Rattle.std.proofs.Common.{◌≡◌, ℕ, zero, suc, ◌+◌, List, [], ◌∷◌, ◌++◌, Option, Some, None, Bool, true, false, length, take, refl, sym, ap, ◌∙◌, arith, if◌then◌else◌}
-use Rattle.std.specs.Prelude.{slice_get, nat_le}
+use Rattle.std.specs.Prelude.{slice_get, nat_le, min}
 use Rattle.std.proofs.lemmas.Bool.Decides.{nat_tests}
 use Rattle.std.specs.Borrow.{Bor}
 use Rattle.std.specs.Slice.{IsItemAt}
-use Rattle.syntax.specs.Trees.{Decl, lock, struct, global, array, pool, init, atomic, thread, Member, lock_member, final_member, field_member}
+use Rattle.syntax.specs.Trees.{Decl, lock, struct, global, array, pool, init, atomic, helper, thread, Section, Member, lock_member, final_member, field_member}
+use Rattle.resolution.specs.Limits.{SECTION_LIMIT}
 use Rattle.resolution.specs.Scopes.{count, alike, number_at, members_alike, number_in}
 use Rattle.symbols.specs.declared.declarations.Counts.{Counts}
 use Rattle.symbols.specs.declared.members.MemberCounts.{MemberCounts}
 use Rattle.symbols.specs.Found.{or_else, AreAhead}
 use Rattle.symbols.proofs.Items.{item_here, item_past}
-use Rattle.symbols.specs.Counted.{count_of, counted, no_counts, counts_from, member_count, member_counted, no_members, member_counts_from}
+use Rattle.symbols.specs.Counted.{count_of, counted, no_counts, counts_from, limited_of, limited, member_count, member_counted, no_members, member_counts_from}
 
 -- ---- one place more
 
@@ -81,6 +82,7 @@ counted_is c (lock a) (array b) = omega arith
 counted_is c (lock a) (pool b) = omega arith
 counted_is c (lock a) (init b) = omega arith
 counted_is c (lock a) (atomic b) = omega arith
+counted_is c (lock a) (helper b) = omega arith
 counted_is c (lock a) (thread b) = omega arith
 counted_is c (struct a) (lock b) = omega arith
 counted_is c (struct a) (struct b) = omega arith
@@ -89,6 +91,7 @@ counted_is c (struct a) (array b) = omega arith
 counted_is c (struct a) (pool b) = omega arith
 counted_is c (struct a) (init b) = omega arith
 counted_is c (struct a) (atomic b) = omega arith
+counted_is c (struct a) (helper b) = omega arith
 counted_is c (struct a) (thread b) = omega arith
 counted_is c (global a) (lock b) = omega arith
 counted_is c (global a) (struct b) = omega arith
@@ -97,6 +100,7 @@ counted_is c (global a) (array b) = omega arith
 counted_is c (global a) (pool b) = omega arith
 counted_is c (global a) (init b) = omega arith
 counted_is c (global a) (atomic b) = omega arith
+counted_is c (global a) (helper b) = omega arith
 counted_is c (global a) (thread b) = omega arith
 counted_is c (array a) (lock b) = omega arith
 counted_is c (array a) (struct b) = omega arith
@@ -105,6 +109,7 @@ counted_is c (array a) (array b) = omega arith
 counted_is c (array a) (pool b) = omega arith
 counted_is c (array a) (init b) = omega arith
 counted_is c (array a) (atomic b) = omega arith
+counted_is c (array a) (helper b) = omega arith
 counted_is c (array a) (thread b) = omega arith
 counted_is c (pool a) (lock b) = omega arith
 counted_is c (pool a) (struct b) = omega arith
@@ -113,6 +118,7 @@ counted_is c (pool a) (array b) = omega arith
 counted_is c (pool a) (pool b) = omega arith
 counted_is c (pool a) (init b) = omega arith
 counted_is c (pool a) (atomic b) = omega arith
+counted_is c (pool a) (helper b) = omega arith
 counted_is c (pool a) (thread b) = omega arith
 counted_is c (init a) (lock b) = omega arith
 counted_is c (init a) (struct b) = omega arith
@@ -121,6 +127,7 @@ counted_is c (init a) (array b) = omega arith
 counted_is c (init a) (pool b) = omega arith
 counted_is c (init a) (init b) = omega arith
 counted_is c (init a) (atomic b) = omega arith
+counted_is c (init a) (helper b) = omega arith
 counted_is c (init a) (thread b) = omega arith
 counted_is c (atomic a) (lock b) = omega arith
 counted_is c (atomic a) (struct b) = omega arith
@@ -129,7 +136,17 @@ counted_is c (atomic a) (array b) = omega arith
 counted_is c (atomic a) (pool b) = omega arith
 counted_is c (atomic a) (init b) = omega arith
 counted_is c (atomic a) (atomic b) = omega arith
+counted_is c (atomic a) (helper b) = omega arith
 counted_is c (atomic a) (thread b) = omega arith
+counted_is c (helper a) (lock b) = omega arith
+counted_is c (helper a) (struct b) = omega arith
+counted_is c (helper a) (global b) = omega arith
+counted_is c (helper a) (array b) = omega arith
+counted_is c (helper a) (pool b) = omega arith
+counted_is c (helper a) (init b) = omega arith
+counted_is c (helper a) (atomic b) = omega arith
+counted_is c (helper a) (helper b) = omega arith
+counted_is c (helper a) (thread b) = omega arith
 counted_is c (thread a) (lock b) = omega arith
 counted_is c (thread a) (struct b) = omega arith
 counted_is c (thread a) (global b) = omega arith
@@ -137,6 +154,7 @@ counted_is c (thread a) (array b) = omega arith
 counted_is c (thread a) (pool b) = omega arith
 counted_is c (thread a) (init b) = omega arith
 counted_is c (thread a) (atomic b) = omega arith
+counted_is c (thread a) (helper b) = omega arith
 counted_is c (thread a) (thread b) = omega arith
 
 pub counts_append : (c : Counts) (ds : List Decl) (d : Decl) → counts_from c (ds ++ d ∷ []) ≡ counted (counts_from c ds) d
@@ -155,10 +173,25 @@ no_count (array a) = refl
 no_count (pool a) = refl
 no_count (init a) = refl
 no_count (atomic a) = refl
+no_count (helper a) = refl
 no_count (thread a) = refl
 
 pub counts_none : (ds : List Decl) (x : Decl) → count_of (counts_from no_counts ds) x ≡ count (alike x) ds
 counts_none ds x = let a = counts_are no_counts ds x in let b = no_count x in omega (arith, a, b)
+
+bodies_none : (ds : List Decl) (s : Section) → min (counts_from no_counts ds).sections SECTION_LIMIT + min (counts_from no_counts ds).helpers SECTION_LIMIT ≡ min (count (alike (atomic s)) ds) SECTION_LIMIT + min (count (alike (helper s)) ds) SECTION_LIMIT
+bodies_none ds s = ap (λ (n : ℕ). min n SECTION_LIMIT + min (counts_from no_counts ds).helpers SECTION_LIMIT) (counts_none ds (atomic s)) ∙ ap (λ (n : ℕ). min (count (alike (atomic s)) ds) SECTION_LIMIT + min n SECTION_LIMIT) (counts_none ds (helper s))
+
+pub limited_none : (ds : List Decl) (x : Decl) → limited_of (counts_from no_counts ds) x ≡ limited ds x
+limited_none ds (lock a) = counts_none ds (lock a)
+limited_none ds (struct a) = counts_none ds (struct a)
+limited_none ds (global a) = counts_none ds (global a)
+limited_none ds (array a) = counts_none ds (array a)
+limited_none ds (pool a) = counts_none ds (pool a)
+limited_none ds (init a) = counts_none ds (init a)
+limited_none ds (atomic a) = bodies_none ds a
+limited_none ds (helper a) = bodies_none ds a
+limited_none ds (thread a) = counts_none ds (thread a)
 
 -- the number that the table gives
 pub number_is : (decls : List Decl) (ahead : List Counts) (all c : Counts) (place : ℕ) (d : Decl) → AreAhead (counts_from no_counts) decls ahead all → c ≡ or_else (slice_get ahead place) all → count_of c d ≡ number_at decls place d

@@ -3,7 +3,7 @@ use Rattle.std.proofs.Common.{◌≡◌, ℕ, ◌+◌, List, [], ◌∷◌, ◌+
 use Rattle.std.specs.Prelude.{slice_get, is_some}
 use Rattle.std.specs.Option.{option_or}
 use Rattle.resolution.specs.declared.init_target.InitTarget.{InitTarget}
-use Rattle.syntax.specs.Trees.{Decl, lock, struct, global, array, pool, init, atomic, thread}
+use Rattle.syntax.specs.Trees.{Decl, lock, struct, global, array, pool, init, atomic, helper, thread}
 use Rattle.resolution.specs.Scopes.{◌>>=◌, place_of, place_from}
 use Rattle.resolution.specs.Constants.{init_target_of, gives}
 use Rattle.resolution.specs.Facts.{passing}
@@ -42,4 +42,5 @@ repeated_is decls ds t (global v) table = refl
 repeated_is decls ds t (array a) table = refl
 repeated_is decls ds t (pool p) table = refl
 repeated_is decls ds t (atomic s) table = refl
+repeated_is decls ds t (helper s) table = refl
 repeated_is decls ds t (thread t') table = refl

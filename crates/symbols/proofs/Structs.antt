@@ -8,7 +8,7 @@ use Rattle.source.specs.Mistakes.{least_of}
 use Rattle.syntax.specs.declared.tree.Decl as rust
 use Rattle.syntax.specs.declared.tree.Decl.TheVariants as variant
 use Rattle.syntax.specs.declared.tree.Struct as rust_struct
-use Rattle.syntax.specs.Trees.{Decl, lock, struct, global, array, pool, init, atomic, thread, Struct, Member, lock_member, final_member, field_member}
+use Rattle.syntax.specs.Trees.{Decl, lock, struct, global, array, pool, init, atomic, helper, thread, Struct, Member, lock_member, final_member, field_member}
 use Rattle.syntax.specs.Views.{decl_of, struct_of}
 use Rattle.resolution.specs.Scopes.{structs_in}
 use Rattle.resolution.specs.Numbers.{new_field}
@@ -49,6 +49,7 @@ structs_push (array x ∷ ds) d = structs_push ds d
 structs_push (pool x ∷ ds) d = structs_push ds d
 structs_push (init x ∷ ds) d = structs_push ds d
 structs_push (atomic x ∷ ds) d = structs_push ds d
+structs_push (helper x ∷ ds) d = structs_push ds d
 structs_push (thread x ∷ ds) d = structs_push ds d
 
 -- what a declaration adds
@@ -63,6 +64,7 @@ faults_more (array x) ds = refl
 faults_more (pool x) ds = refl
 faults_more (init x) ds = refl
 faults_more (atomic x) ds = refl
+faults_more (helper x) ds = refl
 faults_more (thread x) ds = refl
 
 -- a struct
@@ -85,6 +87,7 @@ none_struct (variant.Array x) h = refl
 none_struct (variant.Pool x) h = refl
 none_struct (variant.Init x) h = refl
 none_struct (variant.Atomic x) h = refl
+none_struct (variant.Helper x) h = refl
 none_struct (variant.Thread x) h = refl
 
 pub none_added : (d : rust.Decl) (ss : List rust_struct.Struct) → ((x : rust_struct.Struct) → d ≡ variant.Struct x → ⊥) → map struct_of ss ≡ map struct_of ss ++ structs_in (decl_of d ∷ [])
@@ -98,4 +101,5 @@ none_blamed (variant.Array x) f h = refl
 none_blamed (variant.Pool x) f h = refl
 none_blamed (variant.Init x) f h = refl
 none_blamed (variant.Atomic x) f h = refl
+none_blamed (variant.Helper x) f h = refl
 none_blamed (variant.Thread x) f h = refl

@@ -3,13 +3,15 @@ use Rattle.std.proofs.Common.{◌≡◌, ℕ, zero, suc, ◌+◌, ◌*◌, ◌<�
 use Rattle.std.specs.Prelude.{min, nat_le, nat_lt, ◌&&◌}
 use Rattle.std.proofs.lemmas.Bool.Decides.{nat_tests}
 use Rattle.source.specs.declared.fault.Code.TheVariants.{LimitExceeded}
-use Rattle.syntax.specs.Trees.{Decl, lock, struct, global, array, pool, init, atomic, thread, Member}
+use Rattle.syntax.specs.Trees.{Decl, lock, struct, global, array, pool, init, atomic, helper, thread, Section, Member}
 use Rattle.source.specs.declared.mistake.Mistake.{Mistake}
-use Rattle.resolution.specs.Limits.{CLASS_LIMIT, OBJECT_LIMIT, CELL_LIMIT, CALL_LIMIT}
-use Rattle.resolution.specs.Scopes.{count, alike, member_name}
+use Rattle.resolution.specs.Limits.{CLASS_LIMIT, OBJECT_LIMIT, CELL_LIMIT, SECTION_LIMIT, CALL_LIMIT}
+use Rattle.resolution.specs.Scopes.{count, alike, has_body, member_name}
+use Rattle.resolution.specs.Facts.{bodies_counted}
 use Rattle.resolution.specs.Numbers.{is_lock, classes_of, objects_of, cells_of, calls_of, total}
 use Rattle.resolution.specs.FaultLists.{one_if, lock_count, member_counts, count_faults}
 use Rattle.symbols.specs.declared.totals.Totals.{Totals}
+use Rattle.symbols.specs.Counted.{limited}
 use Rattle.symbols.specs.Capped.{added_by, totals_of, both_totals, faults_by}
 
 -- ---- products
@@ -93,14 +95,27 @@ over_if s t p e = ap (λ (b : Bool). one_if b LimitExceeded p) e
 both_lists : (a b c d : List Mistake) → a ≡ c → b ≡ d → a ++ b ≡ c ++ d
 both_lists a b c d e f = ap (λ (x : List Mistake). x ++ b) e ∙ ap (λ (x : List Mistake). c ++ x) f
 
-pub faults_are : (decls ds : List Decl) (d : Decl) → faults_by (count (alike d) ds) (totals_of decls ds) (added_by decls d) d ≡ count_faults decls ds d
+both_full : (L n a b : ℕ) → n ≡ a + b → nat_le L (min a L + min b L) ≡ nat_le L n
+both_full L n a b e = decide (nat_le L (min a L + min b L)) (nat_le L n) refl refl
+  where
+    decide : (x y : Bool) → nat_le L (min a L + min b L) ≡ x → nat_le L n ≡ y → x ≡ y
+    decide true true ex ey = refl
+    decide true false ex ey = grind (arith, nat_tests)
+    decide false true ex ey = grind (arith, nat_tests)
+    decide false false ex ey = refl
+
+bodies_full : (ds : List Decl) (s : Section) → nat_le SECTION_LIMIT (limited ds (atomic s)) ≡ nat_le SECTION_LIMIT (count has_body ds)
+bodies_full ds s = both_full SECTION_LIMIT (count has_body ds) (count (alike (atomic s)) ds) (count (alike (helper s)) ds) (bodies_counted ds s s)
+
+pub faults_are : (decls ds : List Decl) (d : Decl) → faults_by (limited ds d) (totals_of decls ds) (added_by decls d) d ≡ count_faults decls ds d
 faults_are decls ds (lock x) = over_if _ _ x.span.start (same_le CLASS_LIMIT (total classes_of ds))
 faults_are decls ds (struct s) = ap (λ (fs : List Mistake). one_if (nat_le 64 (count (alike (struct s)) ds)) LimitExceeded s.name.span.start ++ fs) (counts_same (min (total classes_of ds) (CLASS_LIMIT + 1)) (total classes_of ds) 0 s.members (capped_le CLASS_LIMIT (total classes_of ds)))
 faults_are decls ds (global v) = over_if _ _ v.name.span.start (same_test CELL_LIMIT (total (cells_of decls) ds) (cells_of decls (global v)))
 faults_are decls ds (array a) = over_if _ _ a.name.span.start (same_test CELL_LIMIT (total (cells_of decls) ds) (cells_of decls (array a)))
 faults_are decls ds (pool p) = both_lists _ _ _ _ (over_if _ _ p.name.span.start (same_test OBJECT_LIMIT (total objects_of ds) (objects_of (pool p)))) (over_if _ _ p.name.span.start (same_test CELL_LIMIT (total (cells_of decls) ds) (cells_of decls (pool p))))
 faults_are decls ds (init i) = refl
-faults_are decls ds (atomic s) = refl
+faults_are decls ds (atomic s) = over_if _ _ s.name.span.start (bodies_full ds s)
+faults_are decls ds (helper s) = over_if _ _ s.name.span.start (bodies_full ds s)
 faults_are decls ds (thread t) = ap (λ (fs : List Mistake). one_if (nat_le 64 (count (alike (thread t)) ds)) LimitExceeded t.name.span.start ++ fs) (over_if _ _ t.name.span.start (same_test CALL_LIMIT (total calls_of ds) (calls_of (thread t))))
 
 -- ---- a product of capped numbers

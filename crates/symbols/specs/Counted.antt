@@ -1,6 +1,8 @@
 -- How many there are of each kind.
-use Rattle.std.specs.Prelude.{ℕ, ◌+◌, List, [], ◌∷◌, Bool, if◌then◌else◌}
-use Rattle.syntax.specs.Trees.{Decl, lock, struct, global, array, pool, init, atomic, thread, Member, lock_member, final_member, field_member}
+use Rattle.std.specs.Prelude.{ℕ, ◌+◌, min, List, [], ◌∷◌, Bool, if◌then◌else◌}
+use Rattle.syntax.specs.Trees.{Decl, lock, struct, global, array, pool, init, atomic, helper, thread, Member, lock_member, final_member, field_member}
+use Rattle.resolution.specs.Limits.{SECTION_LIMIT}
+use Rattle.resolution.specs.Scopes.{count, alike}
 use Rattle.symbols.specs.declared.declarations.Counts.{Counts}
 use Rattle.symbols.specs.declared.members.MemberCounts.{MemberCounts}
 
@@ -13,6 +15,7 @@ count_of c (array a) = c.arrays
 count_of c (pool p) = c.pools
 count_of c (init i) = c.inits
 count_of c (atomic s) = c.sections
+count_of c (helper s) = c.helpers
 count_of c (thread t) = c.threads
 
 -- one more
@@ -24,15 +27,29 @@ counted c (array a) = record c { arrays = c.arrays + 1 }
 counted c (pool p) = record c { pools = c.pools + 1 }
 counted c (init i) = record c { inits = c.inits + 1 }
 counted c (atomic s) = record c { sections = c.sections + 1 }
+counted c (helper s) = record c { helpers = c.helpers + 1 }
 counted c (thread t) = record c { threads = c.threads + 1 }
 
 abbrev pub no_counts : Counts
-no_counts = record { locks = 0; structs = 0; globals = 0; arrays = 0; pools = 0; inits = 0; sections = 0; threads = 0 }
+no_counts = record { locks = 0; structs = 0; globals = 0; arrays = 0; pools = 0; inits = 0; sections = 0; helpers = 0; threads = 0 }
 
 -- these many, and then the declarations
 abbrev pub counts_from : Counts → List Decl → Counts
 counts_from c [] = c
 counts_from c (d ∷ ds) = counts_from (counted c d) ds
+
+-- how many there are that have a limit together with this one: those of its kind; of sections and helpers, which have one limit together, those
+-- of both, of each no more than the limit
+abbrev pub limited_of : Counts → Decl → ℕ
+limited_of c (atomic s) = min c.sections SECTION_LIMIT + min c.helpers SECTION_LIMIT
+limited_of c (helper s) = min c.sections SECTION_LIMIT + min c.helpers SECTION_LIMIT
+limited_of c d = count_of c d
+
+-- the same of declarations
+abbrev pub limited : List Decl → Decl → ℕ
+limited ds (atomic s) = min (count (alike (atomic s)) ds) SECTION_LIMIT + min (count (alike (helper s)) ds) SECTION_LIMIT
+limited ds (helper s) = min (count (alike (atomic s)) ds) SECTION_LIMIT + min (count (alike (helper s)) ds) SECTION_LIMIT
+limited ds d = count (alike d) ds
 
 -- how many there are of a member's kind
 abbrev pub member_count : MemberCounts → Member → ℕ

@@ -4,6 +4,7 @@ use Rattle.core_lang.specs.declared.tree.LocalKind.{LocalKind}
 use Rattle.core_lang.specs.declared.value.ValueType.{ValueType}
 use Rattle.syntax.specs.Trees.{Decl, Ident}
 use Rattle.syntax.specs.Views.{decl_of}
+use Rattle.resolution.specs.declared.body_limits.BodyLimits.{BodyLimits}
 use Rattle.resolution.specs.Scopes.{Local, Scope, Meaning, a_local, a_decl, nothing, bound}
 use Rattle.symbols.specs.declared.scope.Local as the_local
 use Rattle.symbols.specs.declared.scope.Meaning as m
@@ -15,13 +16,14 @@ local_seen l = record { name = string_bytes l.name; kind = l.kind; value_type = 
 abbrev pub locals_seen : List the_local.Local → List Local
 locals_seen ls = map local_seen ls
 
--- the locals of a section so far, and the type of its result
+-- the locals of a section or a helper so far, the type of its result, and how many there may be
 pub record KnownLocals : Type 0 where
   pub locals : List Local
   pub result : Option ValueType
+  pub limits : BodyLimits
 
 abbrev pub scope_of : List Decl → KnownLocals → Scope
-scope_of decls k = record { decls = decls; locals = k.locals; result = k.result }
+scope_of decls k = record { decls = decls; locals = k.locals; result = k.result; limits = k.limits }
 
 -- a local of this kind, name and type more, whatever is declared
 abbrev pub IsBound : KnownLocals → KnownLocals → LocalKind → Ident → Option ValueType → Type 0

@@ -6,12 +6,13 @@ ghost use Rattle.resolution.specs.Scopes.{declared, bears, the_decl, number_at, 
 ghost use Rattle.source.specs.Mistakes.{least_of};
 ghost use Rattle.resolution.specs.FaultLists.{twice_faults, struct_faults};
 ghost use Rattle.symbols.specs.Found.{IsTableOf, IsTableWith, declared_in, AreAhead};
-ghost use Rattle.symbols.specs.Counted.{count_of, counted, counts_from, no_counts};
+ghost use Rattle.symbols.specs.Counted.{count_of, counted, counts_from, no_counts, limited, limited_of};
 ghost use Rattle.symbols.specs.Faults.{name_faults};
 ghost use Rattle.symbols.specs.Views.{decls_of, name_seen, struct_in, AreStructures};
 
 use crate::members::Structure;
 use crate::names::Names;
+use crate::totals::SECTION_LIMIT;
 use source::fault::Code;
 use source::mistake::{Mistake, note};
 use std::alloc::{AllocError, Global};
@@ -35,6 +36,8 @@ pub struct Counts {
     pub inits: usize,
     /// The sections.
     pub sections: usize,
+    /// The helpers.
+    pub helpers: usize,
     /// The threads.
     pub threads: usize,
 }
@@ -89,6 +92,7 @@ fn name_in(d: &Decl) -> Option<&Name>
         Decl::Pool(pool) => Some(&pool.name),
         Decl::Init(_) => None,
         Decl::Atomic(section) => Some(&section.name),
+        Decl::Helper(helper) => Some(&helper.name),
         Decl::Thread(thread) => Some(&thread.name),
     }
 }
@@ -114,6 +118,7 @@ impl Counts {
             pools: 0,
             inits: 0,
             sections: 0,
+            helpers: 0,
             threads: 0,
         }
     }
@@ -130,7 +135,27 @@ impl Counts {
             Decl::Pool(_) => self.pools,
             Decl::Init(_) => self.inits,
             Decl::Atomic(_) => self.sections,
+            Decl::Helper(_) => self.helpers,
             Decl::Thread(_) => self.threads,
+        }
+    }
+
+    /// How many there are that have a limit together with a declaration: those of its kind; of sections and helpers those
+    /// of both, of each no more than the limit.
+    fn limited(self, d: &Decl) -> usize
+        ensures { result ≡ limited_of self (decl_of d.now) }
+    {
+        match d {
+            Decl::Atomic(_) | Decl::Helper(_) => {
+                self.sections.min(SECTION_LIMIT) + self.helpers.min(SECTION_LIMIT)
+            }
+            Decl::Lock(_)
+            | Decl::Struct(_)
+            | Decl::Global(_)
+            | Decl::Array(_)
+            | Decl::Pool(_)
+            | Decl::Init(_)
+            | Decl::Thread(_) => self.of(d),
         }
     }
 
@@ -147,6 +172,7 @@ impl Counts {
             Decl::Pool(_) => count_one(&mut self.pools),
             Decl::Init(_) => count_one(&mut self.inits),
             Decl::Atomic(_) => count_one(&mut self.sections),
+            Decl::Helper(_) => count_one(&mut self.helpers),
             Decl::Thread(_) => count_one(&mut self.threads),
         }
     }
@@ -295,6 +321,15 @@ impl<'t> Declarations<'t> {
         ensures { result ≡ number_at (decls_of self.now) place (decl_of d.now) }
     {
         self.ahead_of(place).of(d)
+    }
+
+    /// How many declarations ahead of a place have a limit together with the one there: those of its kind; of sections and
+    /// helpers those of both, of each no more than the limit.
+    #[tactic(auto, using(crate::proofs::Ahead::limited_none))]
+    pub(crate) fn limited(&self, place: usize, d: &Decl) -> usize
+        ensures { result ≡ limited (take place (decls_of self.now)) (decl_of d.now) }
+    {
+        self.ahead_of(place).limited(d)
     }
 
     /// The struct of this number, with its tables. `None` where there are no more structs than that.

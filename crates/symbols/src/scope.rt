@@ -16,6 +16,7 @@ use crate::note::note_if;
 use crate::table::SymbolTable;
 use core_lang::tree::LocalKind;
 use core_lang::value::ValueType;
+use resolution::body_limits::BodyLimits;
 use source::fault::Code;
 use source::mistake::{Mistake, note};
 use std::alloc::{AllocError, Global};
@@ -37,7 +38,7 @@ pub struct Local {
     pub is_visible: bool,
 }
 
-/// The locals of a section so far, by number, and the type of its result.
+/// The locals of a section or a helper so far, by number, the type of its result, and how many there may be.
 #[derive(Drop)]
 pub struct Locals {
     /// The number of the first local of each name.
@@ -46,9 +47,11 @@ pub struct Locals {
     items: Vec<Local>,
     /// The type of the result. `None` where there is no result, or its type names no struct.
     result: Option<ValueType>,
+    /// How many parameters and locals there may be.
+    limits: BodyLimits,
 }
 
-// They stand for the locals and the type, and the table is that of the locals.
+// They stand for the locals, the type and the limits, and the table is that of the locals.
 impl Model for Locals {
     ghost use Rattle.resolution.specs.Scopes.{local_bears};
     ghost use Rattle.symbols.specs.Found.{IsTableOf};
@@ -56,7 +59,7 @@ impl Model for Locals {
 
     ghost Value = { KnownLocals };
 
-    ghost view = { λ ls. record { locals = locals_seen ls.items.items; result = ls.result } };
+    ghost view = { λ ls. record { locals = locals_seen ls.items.items; result = ls.result; limits = ls.limits } };
 
     ghost invariant = { λ ls. IsTableOf local_bears (locals_seen ls.items.items) ls.names };
 }
@@ -89,19 +92,28 @@ fn push_local(
 }
 
 impl Locals {
-    /// No locals, in a section whose result has this type.
-    pub fn new(alloc: Global, result_type: Option<ValueType>) -> Locals
+    /// No locals, where the result has this type and so many parameters and locals may stand.
+    pub fn new(alloc: Global, result_type: Option<ValueType>, limits: BodyLimits) -> Locals
         ensures none { result.locals ≡ [] }
         ensures result_type { result.result ≡ result_type }
+        ensures limits { result.limits ≡ limits }
     {
         Locals {
             names: Names::new(alloc),
             items: Vec::new(alloc),
             result: result_type,
+            limits,
         }
     }
 
-    /// The type of the section's result. `None` where there is no result, or its type names no struct.
+    /// How many parameters and locals there may be.
+    pub fn limits(&self) -> BodyLimits
+        ensures { result ≡ self.now.limits }
+    {
+        self.limits
+    }
+
+    /// The type of the result. `None` where there is no result, or its type names no struct.
     pub fn result(&self) -> Option<ValueType>
         ensures { result ≡ self.now.result }
     {
@@ -150,7 +162,7 @@ impl Locals {
         };
         let Ok(()) = push_local(alloc, &mut self.names, &mut self.items, &name.text, local) else {
             // There may be a local that the table lacks, so none is kept.
-            *self = Locals::new(alloc, None);
+            *self = Locals::new(alloc, None, self.limits);
             return Err(AllocError);
         };
         Ok(())
@@ -160,6 +172,7 @@ impl Locals {
     pub fn hide_from(&mut self, place: usize)
         ensures hidden { self.new.locals ≡ hidden_from place self.old.locals }
         ensures result_type { self.new.result ≡ self.old.result }
+        ensures limits { self.new.limits ≡ self.old.limits }
     {
         for i in place..self.items.len() {
             self.items[i].is_visible = false;
@@ -167,7 +180,7 @@ impl Locals {
     }
 }
 
-/// What a name means outside of sections.
+/// What a name means outside of sections and helpers.
 fn meaning_outside<'a>(symbols: &'a SymbolTable, name: &Name) -> Meaning<'a>
     ensures { meaning_of result ≡ meaning (outside (decls_of symbols.now)) (ident name.now).text }
 {
@@ -177,7 +190,7 @@ fn meaning_outside<'a>(symbols: &'a SymbolTable, name: &Name) -> Meaning<'a>
     }
 }
 
-/// What a name means in a section: the first local of the name if that is in scope, else what it means outside.
+/// What a name means in a section or a helper: the first local of the name if that is in scope, else what it means outside.
 pub fn meaning_at<'a>(symbols: &'a SymbolTable, locals: &'a Locals, name: &Name) -> Meaning<'a>
     ensures { meaning_of result ≡ meaning (scope_of (decls_of symbols.now) locals.now) (ident name.now).text }
 {

@@ -194,6 +194,7 @@ fn value_in(place: usize, d: &Decl) -> Option<&Const>
         | Decl::Array(_)
         | Decl::Pool(_)
         | Decl::Atomic(_)
+        | Decl::Helper(_)
         | Decl::Thread(_) => None,
     }
 }

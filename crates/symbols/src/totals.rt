@@ -32,8 +32,8 @@ pub const OBJECT_LIMIT: usize = 65536;
 /// How many cells there may be: one for each global, each element of an array and each field of an object.
 pub const CELL_LIMIT: usize = 262144;
 
-/// How many sections there may be.
-const SECTION_LIMIT: usize = 256;
+/// How many sections and helpers there may be together.
+pub(crate) const SECTION_LIMIT: usize = 256;
 
 /// How many threads there may be.
 const THREAD_LIMIT: usize = 64;
@@ -160,7 +160,7 @@ impl Totals {
                 totals.cells = cells_of_pool(decls, pool);
             }
             Decl::Thread(thread) => totals.calls = calls_of_items(&thread.items),
-            Decl::Init(_) | Decl::Atomic(_) => {}
+            Decl::Init(_) | Decl::Atomic(_) | Decl::Helper(_) => {}
         }
         totals
     }
@@ -254,7 +254,9 @@ fn note_decl(number: usize, ahead: Totals, own: Totals, d: &Decl, least: &mut Op
             note_if(is_over, code, p.name.start as usize, least);
         }
         Decl::Init(_) => {}
-        Decl::Atomic(s) => note_if(SECTION_LIMIT <= number, code, s.name.start as usize, least),
+        Decl::Atomic(s) | Decl::Helper(s) => {
+            note_if(SECTION_LIMIT <= number, code, s.name.start as usize, least);
+        }
         Decl::Thread(t) => {
             note_if(THREAD_LIMIT <= number, code, t.name.start as usize, least);
             let is_over = passes(CALL_LIMIT, ahead.calls, own.calls);
@@ -278,7 +280,7 @@ pub(crate) fn judge_totals(
     let items = decls.items();
     for (place, d) in items.iter().enumerate() {
         let own = Totals::of(decls, d);
-        note_decl(decls.number(place, d), totals, own, d, least);
+        note_decl(decls.limited(place, d), totals, own, d, least);
         let Ok(()) = ahead.push(totals) else {
             drop(ahead);
             return Err(AllocError);

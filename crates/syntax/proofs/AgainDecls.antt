@@ -5,9 +5,9 @@ use Rattle.source.specs.declared.span.Span.{Span}
 use Rattle.source.specs.declared.token.Keyword.TheVariants as keyword
 use Rattle.source.specs.declared.token.Sign.TheVariants.{OpenBrace, CloseBrace, CloseParen, Semicolon, Colon, Equals}
 use Rattle.source.specs.Tokens.{Tok}
-use Rattle.syntax.specs.Trees.{Protection, Variable, Array, Member, lock_member, final_member, field_member, Section, Call, Item, call, repeat, Items, no_items, item, Init, Decl, lock, struct, global, array, pool, init, atomic, thread}
+use Rattle.syntax.specs.Trees.{Protection, Variable, Array, Member, lock_member, final_member, field_member, Section, Call, Item, repeat, Items, no_items, item, Init, Decl, lock, struct, global, array, pool, init, atomic, helper, thread}
 use Rattle.syntax.specs.Views.{option_of}
-use Rattle.syntax.specs.Grammar.{IsOptional, AreMany, no_more, one_more, IsAfter, IsType, IsConst, IsProtection, is_protection, is_field, is_final, IsMember, is_lock_member, is_final_member, is_field_member, is_struct, IsVariable, is_variable, IsArray, is_array, is_pool, IsInit, is_init, IsParam, is_param, IsSection, is_section, is_block, IsCall, is_call, IsItem, is_call_item, is_repeat, IsItems, are_no_items, are_items, is_thread, IsDecl, is_lock, is_struct_decl, is_global, is_array_decl, is_pool_decl, is_init_decl, is_atomic, is_thread_decl}
+use Rattle.syntax.specs.Grammar.{IsOptional, AreMany, no_more, one_more, IsAfter, IsType, IsConst, IsProtection, is_protection, is_field, is_final, IsMember, is_lock_member, is_final_member, is_field_member, is_struct, IsVariable, is_variable, IsArray, is_array, is_pool, IsInit, is_init, IsParam, is_param, IsSection, is_section, is_block, IsCall, is_call, IsItem, is_call_item, is_repeat, IsItems, are_no_items, are_items, is_thread, IsDecl, is_lock, is_struct_decl, is_global, is_array_decl, is_pool_decl, is_init_decl, is_atomic, is_helper, is_thread_decl}
 use Rattle.syntax.specs.Printing.{many_text, listed_text, optional_text, index_text, type_text, const_text, field_text, indent, deeper, stmts_text, protection_text, value_text, result_text, member_text, param_text, call_text, item_text, items_text, decl_text}
 use Rattle.syntax.specs.Bare.{nowhere, bare_type, bare_const, bare_number, bare_variable, bare_array, bare_init, bare_protection, bare_member, bare_param, bare_section, bare_call, bare_item, bare_items, bare_decl, bare}
 use Rattle.syntax.proofs.Marks.{Apart}
@@ -156,7 +156,7 @@ mutual
   item_again : {i : Item} {ts rest : List Tok} → IsItem i ts rest → Good ts → (d : ℕ) {total : ℕ} {tail : List ℕ} (r : Reads total tail (kinds rest)) → Apart tail → Again IsItem bare_item i total (item_text d i ++ tail) ts r.tokens
   item_again (is_call_item f) g d r a =
       let i = call_again f g r a in
-      record { reads = i.reads; tree = call i.tree; is = is_call_item i.is; same = ap call i.same }
+      record { reads = i.reads; tree = Item.call i.tree; is = is_call_item i.is; same = ap Item.call i.same }
   item_again (is_repeat {n} {is} f) g d {tail = tail} r a =
       let i = items_again f g.1.1.1 (deeper d) (line_on (indent_on d (sign_on CloseBrace r a))) refl in
       let o = sign_on OpenBrace i.reads (items_apart (deeper d) is (10 ∷ (indent d ++ 125 ∷ tail)) refl) in
@@ -280,6 +280,10 @@ decl_again (is_atomic {s} f) g {total} {tail} r =
     let i = section_again f g.1 (line_on r) refl in
     let w = word_on keyword.Atomic (gap_on (along (sym (section_line s.name.text (listed_text param_text s.params) (optional_text result_text s.result) (stmts_text 1 s.body.stmts) tail)) i.reads)) refl in
     record { reads = w; tree = atomic i.tree; is = is_atomic i.is; same = ap atomic i.same }
+decl_again (is_helper {s} f) g {total} {tail} r =
+    let i = section_again f g.1 (line_on r) refl in
+    let w = word_on keyword.Call (gap_on (along (sym (section_line s.name.text (listed_text param_text s.params) (optional_text result_text s.result) (stmts_text 1 s.body.stmts) tail)) i.reads)) refl in
+    record { reads = w; tree = helper i.tree; is = is_helper i.is; same = ap helper i.same }
 decl_again (is_thread_decl (is_thread {t} f)) g {total} {tail} r =
     let c = sign_on CloseBrace (line_on r) refl in
     let is = items_again f g.1.1.1 1 (line_on c) refl in

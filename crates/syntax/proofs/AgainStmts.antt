@@ -4,13 +4,13 @@ use Rattle.source.specs.declared.span.Span.{Span}
 use Rattle.source.specs.declared.token.Keyword.TheVariants as keyword
 use Rattle.source.specs.declared.token.Sign.TheVariants.{OpenBrace, CloseBrace, CloseParen, Semicolon, Colon, Equals, DoubleEquals}
 use Rattle.source.specs.Tokens.{Tok}
-use Rattle.syntax.specs.Trees.{Local, Stmt, let_local, let_owned, var_local, assign, if_then, while, print, return_value, Stmts, no_stmts, stmt, Otherwise, no_else, else_do, Block}
-use Rattle.syntax.specs.Grammar.{IsLocal, is_local, IsOwner, is_owner, IsStmt, is_let, is_let_owned, is_var, is_assign, is_if, is_while, is_print, is_return, IsStmts, are_no_stmts, are_stmts, IsBraced, is_braced, IsElse, is_no_else, is_else}
-use Rattle.syntax.specs.Printing.{type_text, expr_text, place_text, indent, deeper, local_text, owner_text, stmt_text, stmts_text, else_text}
-use Rattle.syntax.specs.Bare.{nowhere, bare_local, bare_owner, bare_stmt, bare_stmts, bare_else, bare_block}
+use Rattle.syntax.specs.Trees.{Local, HelperCall, Stmt, let_local, let_owned, let_call, var_local, assign, if_then, while, print, return_value, Stmts, no_stmts, stmt, Otherwise, no_else, else_do, Block}
+use Rattle.syntax.specs.Grammar.{ANY, IsExpr, IsLocal, is_local, IsOwner, is_owner, IsHelperCall, is_helper_call, IsStmt, is_let, is_let_owned, is_let_call, is_var, is_assign, is_if, is_while, is_print, is_return, is_call_stmt, IsStmts, are_no_stmts, are_stmts, IsBraced, is_braced, IsElse, is_no_else, is_else}
+use Rattle.syntax.specs.Printing.{listed_text, type_text, expr_text, place_text, indent, deeper, local_text, owner_text, helper_call_text, stmt_text, stmts_text, else_text}
+use Rattle.syntax.specs.Bare.{nowhere, bare_expr, bare_local, bare_owner, bare_helper_call, bare_stmt, bare_stmts, bare_else, bare_block}
 use Rattle.syntax.proofs.Marks.{Apart}
-use Rattle.syntax.proofs.Good.{Good, type_good, expr_good, place_good, local_good, stmt_good, braced_good}
-use Rattle.syntax.proofs.Backward.{kinds, Reads, start_of, named, along, word_on, sign_on, name_on, paren_on, gap_on, line_on, indent_on, Again, Rereads}
+use Rattle.syntax.proofs.Good.{Good, type_good, expr_good, place_good, local_good, any_good, stmt_good, braced_good}
+use Rattle.syntax.proofs.Backward.{kinds, Reads, start_of, named, along, word_on, sign_on, name_on, paren_on, gap_on, line_on, indent_on, Again, Rereads, listed_again}
 use Rattle.syntax.proofs.AgainExprs.{type_again, expr_again, place_again}
 
 -- ---- the texts of lines, grouped to the right
@@ -23,6 +23,12 @@ owner_line f l tail = simp append_assoc
 
 owned_line : (l o tail : List ℕ) → ((l ++ o) ++ 59 ∷ []) ++ tail ≡ l ++ (o ++ 59 ∷ tail)
 owned_line l o tail = simp append_assoc
+
+helper_call_line : (x es tail : List ℕ) → (((x ++ 40 ∷ []) ++ es) ++ 41 ∷ []) ++ tail ≡ x ++ 40 ∷ (es ++ 41 ∷ tail)
+helper_call_line x es tail = simp append_assoc
+
+called_line : (x t c tail : List ℕ) → (((((x ++ 58 ∷ 32 ∷ []) ++ t) ++ 32 ∷ 61 ∷ 32 ∷ 99 ∷ 97 ∷ 108 ∷ 108 ∷ 32 ∷ []) ++ c) ++ 59 ∷ []) ++ tail ≡ x ++ 58 ∷ 32 ∷ (t ++ 32 ∷ 61 ∷ 32 ∷ 99 ∷ 97 ∷ 108 ∷ 108 ∷ 32 ∷ (c ++ 59 ∷ tail))
+called_line x t c tail = simp append_assoc
 
 assign_line : (p e tail : List ℕ) → (((p ++ 32 ∷ 61 ∷ 32 ∷ []) ++ e) ++ 59 ∷ []) ++ tail ≡ p ++ 32 ∷ 61 ∷ 32 ∷ (e ++ 59 ∷ tail)
 assign_line p e tail = simp append_assoc
@@ -72,6 +78,20 @@ owner_again o ts rest is_owner g total tail r a =
       same = refl;
     }
 
+argument_again : Rereads (IsExpr ANY) bare_expr expr_text
+argument_again e ts rest f g total tail r a = expr_again f g r a
+
+helper_call_again : {c : HelperCall} {ts rest : List Tok} → IsHelperCall c ts rest → Good ts → {total : ℕ} {tail : List ℕ} (r : Reads total tail (kinds rest)) → Apart tail → Again IsHelperCall bare_helper_call c total (helper_call_text c ++ tail) ts r.tokens
+helper_call_again (is_helper_call {c} f) g {total} {tail} r a =
+    let es = listed_again (IsExpr ANY) bare_expr expr_text any_good argument_again c.arguments _ _ f g.1.1 total _ (sign_on CloseParen r a) refl in
+    let n = name_on c.helper.text g.0 (paren_on es.reads) refl in
+    record {
+      reads = along (sym (helper_call_line c.helper.text (listed_text expr_text c.arguments) tail)) n;
+      tree = record { helper = named c.helper n; arguments = es.tree };
+      is = is_helper_call es.is;
+      same = rw es.same refl;
+    }
+
 -- the same local's statement, whose first word stands there
 abbrev from_start : Span → Local → Local
 from_start at l = record { start = at; name = l.name; value_type = l.value_type; value = l.value }
@@ -97,6 +117,18 @@ mutual
         tree = let_owned (from_start (start_of w) i.tree) x.tree;
         is = is_let_owned (restarted (start_of w) i.is) x.is;
         same = rw (i.same, x.same) refl;
+      }
+  stmt_again (is_let_call {l} t f) g d {total} {tail} r a =
+      let i = helper_call_again f (type_good _ _ _ t g.1.1.1).1.1 (sign_on Semicolon r a) refl in
+      let c = gap_on (sign_on Equals (gap_on (word_on keyword.Call (gap_on i.reads) refl)) refl) in
+      let y = type_again l.value_type _ _ t g.1.1.1 total _ c refl in
+      let n = name_on l.name.text g.1.0 (sign_on Colon (gap_on y.reads) refl) refl in
+      let w = word_on keyword.Let (gap_on (along (sym (called_line l.name.text (type_text l.value_type) (helper_call_text l.call) tail)) n)) refl in
+      record {
+        reads = w;
+        tree = let_call (record { start = start_of w; name = named l.name n; value_type = y.tree; call = i.tree });
+        is = is_let_call y.is i.is;
+        same = rw (y.same, i.same) refl;
       }
   stmt_again (is_var {l} f) g d {tail = tail} r a =
       let i = local_again f g.1 (sign_on Semicolon r a) refl in
@@ -141,6 +173,10 @@ mutual
       let i = expr_again f g.1 (sign_on Semicolon r a) refl in
       let w = word_on keyword.Return (gap_on (along (sym (append_assoc (expr_text e) (59 ∷ []) tail)) i.reads)) refl in
       record { reads = w; tree = return_value (start_of w) i.tree; is = is_return i.is; same = ap (return_value nowhere) i.same }
+  stmt_again (is_call_stmt {c} f) g d {tail = tail} r a =
+      let i = helper_call_again f g.1 (sign_on Semicolon r a) refl in
+      let w = word_on keyword.Call (gap_on (along (sym (append_assoc (helper_call_text c) (59 ∷ []) tail)) i.reads)) refl in
+      record { reads = w; tree = Stmt.call (start_of w) i.tree; is = is_call_stmt i.is; same = ap (Stmt.call nowhere) i.same }
 
   pub stmts_again : {ss : Stmts} {ts rest : List Tok} → IsStmts ss ts rest → Good ts → (d : ℕ) {total : ℕ} {tail : List ℕ} (r : Reads total tail (kinds rest)) → Apart tail → Again IsStmts bare_stmts ss total (stmts_text d ss ++ tail) ts r.tokens
   stmts_again are_no_stmts g d r a = record { reads = r; tree = no_stmts; is = are_no_stmts; same = refl }

@@ -8,8 +8,8 @@ use Rattle.source.specs.declared.span.Span.{Span}
 use Rattle.source.specs.declared.token.Sign.{Sign}
 use Rattle.source.specs.declared.token.Sign.TheVariants.{Colon, Dot, Equals}
 use Rattle.std.specs.Prelude.{Option}
-use Rattle.syntax.specs.Trees.{Place, Expr, Links, Local, Owner, Stmt, Stmts, Otherwise, Section, Call, Item, Items, Decl}
-use Rattle.syntax.specs.Grammar.{IsOptional, left_out, given, AreMany, no_more, one_more, IsAfter, after, AreListed, none_listed, listed, IsName, is_name, IsType, is_int_type, is_ref_type, IsConst, is_int_const, is_negative, is_null_const, is_member_const, IsExpr, is_int, is_null, is_place, is_paren, is_prefix, is_chain, is_compare, IsPlace, is_lone, is_element, is_path, IsLinks, are_no_links, is_link, IsLocal, is_local, IsOwner, is_owner, IsStmt, is_let, is_let_owned, is_var, is_assign, is_if, is_while, is_print, is_return, IsStmts, are_no_stmts, are_stmts, IsBraced, is_braced, IsElse, is_no_else, is_else, is_block, IsIndex, is_index, IsProtection, is_protection, is_field, is_final, IsMember, is_lock_member, is_final_member, is_field_member, is_struct, is_variable, is_array, is_pool, is_init, IsParam, is_param, IsSection, is_section, IsCall, is_call, IsItem, is_call_item, is_repeat, IsItems, are_no_items, are_items, is_thread, IsDecl, is_lock, is_struct_decl, is_global, is_array_decl, is_pool_decl, is_init_decl, is_atomic, is_thread_decl}
+use Rattle.syntax.specs.Trees.{Place, Expr, Links, Local, Owner, HelperCall, Stmt, Stmts, Otherwise, Section, Call, Item, Items, Decl}
+use Rattle.syntax.specs.Grammar.{IsOptional, left_out, given, AreMany, no_more, one_more, IsAfter, after, AreListed, none_listed, listed, IsName, is_name, IsType, is_int_type, is_ref_type, IsConst, is_int_const, is_negative, is_null_const, is_member_const, ANY, IsExpr, is_int, is_null, is_place, is_paren, is_prefix, is_chain, is_compare, IsPlace, is_lone, is_element, is_path, IsLinks, are_no_links, is_link, IsLocal, is_local, IsOwner, is_owner, IsHelperCall, is_helper_call, IsStmt, is_let, is_let_owned, is_let_call, is_var, is_assign, is_if, is_while, is_print, is_return, is_call_stmt, IsStmts, are_no_stmts, are_stmts, IsBraced, is_braced, IsElse, is_no_else, is_else, is_block, IsIndex, is_index, IsProtection, is_protection, is_field, is_final, IsMember, is_lock_member, is_final_member, is_field_member, is_struct, is_variable, is_array, is_pool, is_init, IsParam, is_param, IsSection, is_section, IsCall, is_call, IsItem, is_call_item, is_repeat, IsItems, are_no_items, are_items, is_thread, IsDecl, is_lock, is_struct_decl, is_global, is_array_decl, is_pool_decl, is_init_decl, is_atomic, is_helper, is_thread_decl}
 
 abbrev pub GoodKind : Lexeme → Type 0
 GoodKind (name x) = IsUnit x (name x) × (length x ≤ NAME_LIMIT)
@@ -96,16 +96,24 @@ local_good (is_local t e) g = expr_good e (type_good _ _ _ t g.1.1).1
 pub owner_good : {o : Owner} {ts rest : List Tok} → IsOwner o ts rest → Good ts → Good rest
 owner_good is_owner g = g.1.1.1.1
 
+pub any_good : Keeps (IsExpr ANY)
+any_good x ts rest e g = expr_good e g
+
+helper_call_good : {c : HelperCall} {ts rest : List Tok} → IsHelperCall c ts rest → Good ts → Good rest
+helper_call_good (is_helper_call es) g = (listed_good any_good es g.1.1).1
+
 mutual
   pub stmt_good : {s : Stmt} {ts rest : List Tok} → IsStmt s ts rest → Good ts → Good rest
   stmt_good (is_let l) g = (local_good l g.1).1
   stmt_good (is_let_owned l o) g = (owner_good o (local_good l g.1)).1
+  stmt_good (is_let_call t c) g = (helper_call_good c (type_good _ _ _ t g.1.1.1).1.1).1
   stmt_good (is_var l) g = (local_good l g.1).1
   stmt_good (is_assign p e) g = (expr_good e (place_good p g).1).1
   stmt_good (is_if e b o) g = else_good o (braced_good b (expr_good e g.1.1).1)
   stmt_good (is_while e b) g = braced_good b (expr_good e g.1.1).1
   stmt_good (is_print e) g = (expr_good e g.1).1
   stmt_good (is_return e) g = (expr_good e g.1).1
+  stmt_good (is_call_stmt c) g = (helper_call_good c g.1).1
 
   pub stmts_good : {ss : Stmts} {ts rest : List Tok} → IsStmts ss ts rest → Good ts → Good rest
   stmts_good are_no_stmts g = g
@@ -163,4 +171,5 @@ decl_good (is_array_decl (is_array t n p)) g = (optional_good protection_good p 
 decl_good (is_pool_decl (is_pool n)) g = (index_good _ _ _ n g.1.1.1).1
 decl_good (is_init_decl (is_init n c)) g = (const_good _ _ _ c (index_good _ _ _ n g.1.1).1.1.1).1
 decl_good (is_atomic s) g = section_good s g.1
+decl_good (is_helper s) g = section_good s g.1
 decl_good (is_thread_decl (is_thread is)) g = (items_good is g.1.1.1).1

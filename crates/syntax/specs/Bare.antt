@@ -4,7 +4,7 @@ use Rattle.source.specs.declared.span.Span.{Span}
 use Rattle.source.specs.Tokens.{Tok}
 use Rattle.source.specs.Texts.{HasTokens}
 use Rattle.source.specs.declared.token.Number.{Number}
-use Rattle.syntax.specs.Trees.{Ident, ValueType, int_type, ref_type, Const, int_const, negative, null_const, member_const, Place, lone, element, path, Expr, int, null, place, paren, prefix, chain, compare, Links, no_links, link, Local, Owner, Stmt, let_local, let_owned, var_local, assign, if_then, while, print, return_value, Stmts, no_stmts, stmt, Otherwise, no_else, else_do, Block, Protection, Variable, Array, Final, Field, Member, lock_member, final_member, field_member, Struct, Pool, Init, Param, Section, Call, Item, call, repeat, Items, no_items, item, Thread, Decl, lock, struct, global, array, pool, init, atomic, thread}
+use Rattle.syntax.specs.Trees.{Ident, ValueType, int_type, ref_type, Const, int_const, negative, null_const, member_const, Place, lone, element, path, Expr, int, null, place, paren, prefix, chain, compare, Links, no_links, link, Local, Owner, HelperCall, CalledLocal, Stmt, let_local, let_owned, let_call, var_local, assign, if_then, while, print, return_value, Stmts, no_stmts, stmt, Otherwise, no_else, else_do, Block, Protection, Variable, Array, Final, Field, Member, lock_member, final_member, field_member, Struct, Pool, Init, Param, Section, Call, Item, call, repeat, Items, no_items, item, Thread, Decl, lock, struct, global, array, pool, init, atomic, helper, thread}
 use Rattle.syntax.specs.Views.{option_of}
 use Rattle.syntax.specs.Grammar.{HasTree}
 
@@ -53,16 +53,24 @@ bare_local l = record { start = nowhere; name = bare_name l.name; value_type = b
 abbrev pub bare_owner : Owner → Owner
 bare_owner o = record { field = bare_name o.field; local = bare_name o.local }
 
+abbrev pub bare_helper_call : HelperCall → HelperCall
+bare_helper_call c = record { helper = bare_name c.helper; arguments = map bare_expr c.arguments }
+
+abbrev pub bare_called_local : CalledLocal → CalledLocal
+bare_called_local l = record { start = nowhere; name = bare_name l.name; value_type = bare_type l.value_type; call = bare_helper_call l.call }
+
 abbrev mutual
   pub bare_stmt : Stmt → Stmt
   bare_stmt (let_local l) = let_local (bare_local l)
   bare_stmt (let_owned l o) = let_owned (bare_local l) (bare_owner o)
+  bare_stmt (let_call l) = let_call (bare_called_local l)
   bare_stmt (var_local l) = var_local (bare_local l)
   bare_stmt (assign p e) = assign (bare_place p) (bare_expr e)
   bare_stmt (if_then at e body close other) = if_then nowhere (bare_expr e) (bare_stmts body) nowhere (bare_else other)
   bare_stmt (while at e body close) = while nowhere (bare_expr e) (bare_stmts body) nowhere
   bare_stmt (print at e) = print nowhere (bare_expr e)
   bare_stmt (return_value at e) = return_value nowhere (bare_expr e)
+  bare_stmt (call at c) = call nowhere (bare_helper_call c)
 
   pub bare_stmts : Stmts → Stmts
   bare_stmts no_stmts = no_stmts
@@ -133,6 +141,7 @@ bare_decl (array a) = array (bare_array a)
 bare_decl (pool p) = pool (bare_pool p)
 bare_decl (init i) = init (bare_init i)
 bare_decl (atomic s) = atomic (bare_section s)
+bare_decl (helper s) = helper (bare_section s)
 bare_decl (thread t) = thread (bare_thread t)
 
 -- a tree without the places of its parts

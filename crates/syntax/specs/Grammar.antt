@@ -17,7 +17,7 @@ use Rattle.syntax.specs.declared.tree.Prefix.TheVariants.{Negate, Not}
 use Rattle.syntax.specs.declared.tree.Comparison.{Comparison}
 use Rattle.syntax.specs.declared.tree.Comparison.TheVariants.{Equal, NotEqual, Less, LessOrEqual, Greater, GreaterOrEqual}
 use Rattle.source.specs.declared.token.Number.{Number}
-use Rattle.syntax.specs.Trees.{Ident, ValueType, int_type, ref_type, Const, int_const, negative, null_const, member_const, Place, lone, element, path, Expr, int, null, place, paren, prefix, chain, compare, Links, no_links, link, Local, Owner, Stmt, let_local, let_owned, var_local, assign, if_then, while, print, return_value, Stmts, no_stmts, stmt, Otherwise, no_else, else_do, Block, Protection, Variable, Array, Final, Field, Member, lock_member, final_member, field_member, Struct, Pool, Init, Param, Section, Call, Item, call, repeat, Items, no_items, item, Thread, Decl, lock, struct, global, array, pool, init, atomic, thread}
+use Rattle.syntax.specs.Trees.{Ident, ValueType, int_type, ref_type, Const, int_const, negative, null_const, member_const, Place, lone, element, path, Expr, int, null, place, paren, prefix, chain, compare, Links, no_links, link, Local, Owner, HelperCall, CalledLocal, Stmt, let_local, let_owned, let_call, var_local, assign, if_then, while, print, return_value, Stmts, no_stmts, stmt, Otherwise, no_else, else_do, Block, Protection, Variable, Array, Final, Field, Member, lock_member, final_member, field_member, Struct, Pool, Init, Param, Section, Call, Item, call, repeat, Items, no_items, item, Thread, Decl, lock, struct, global, array, pool, init, atomic, helper, thread}
 
 abbrev pub tok : Lexeme → Span → Tok
 tok k at = record { kind = k; span = at }
@@ -179,6 +179,12 @@ pub data IsOwner : Owner → List Tok → List Tok → Type 0 where
   is_owner : {o : Owner} {start equals : Span} {rest : List Tok}
       → IsOwner o (tok (word keyword.Where) start ∷ name_tok o.field ∷ tok (mark DoubleEquals) equals ∷ name_tok o.local ∷ rest) rest
 
+-- a call of a helper, behind the word `call`
+pub data IsHelperCall : HelperCall → List Tok → List Tok → Type 0 where
+  is_helper_call : {c : HelperCall} {before after : Span} {ts rest : List Tok}
+      → AreListed (IsExpr ANY) c.arguments ts (tok (mark CloseParen) after ∷ rest)
+      → IsHelperCall c (name_tok c.helper ∷ tok (mark OpenParen) before ∷ ts) rest
+
 mutual
   pub data IsStmt : Stmt → List Tok → List Tok → Type 0 where
     is_let : {l : Local} {semicolon : Span} {ts rest : List Tok}
@@ -188,6 +194,10 @@ mutual
         → IsLocal l ts mid
         → IsOwner o mid (tok (mark Semicolon) semicolon ∷ rest)
         → IsStmt (let_owned l o) (tok (word keyword.Let) l.start ∷ ts) rest
+    is_let_call : {l : CalledLocal} {colon equals start semicolon : Span} {ts mid rest : List Tok}
+        → IsType l.value_type ts (tok (mark Equals) equals ∷ tok (word keyword.Call) start ∷ mid)
+        → IsHelperCall l.call mid (tok (mark Semicolon) semicolon ∷ rest)
+        → IsStmt (let_call l) (tok (word keyword.Let) l.start ∷ name_tok l.name ∷ tok (mark Colon) colon ∷ ts) rest
     is_var : {l : Local} {semicolon : Span} {ts rest : List Tok}
         → IsLocal l ts (tok (mark Semicolon) semicolon ∷ rest)
         → IsStmt (var_local l) (tok (word keyword.Var) l.start ∷ ts) rest
@@ -210,6 +220,9 @@ mutual
     is_return : {e : Expr} {start semicolon : Span} {ts rest : List Tok}
         → IsExpr ANY e ts (tok (mark Semicolon) semicolon ∷ rest)
         → IsStmt (return_value start e) (tok (word keyword.Return) start ∷ ts) rest
+    is_call_stmt : {c : HelperCall} {start semicolon : Span} {ts rest : List Tok}
+        → IsHelperCall c ts (tok (mark Semicolon) semicolon ∷ rest)
+        → IsStmt (Stmt.call start c) (tok (word keyword.Call) start ∷ ts) rest
 
   pub data IsStmts : Stmts → List Tok → List Tok → Type 0 where
     are_no_stmts : {ts : List Tok} → IsStmts no_stmts ts ts
@@ -228,7 +241,7 @@ mutual
         → IsBraced ss close ts rest
         → IsElse (else_do ss close) (tok (word keyword.Else) at ∷ ts) rest
 
--- a section's body
+-- the body of a section or a helper
 pub data IsBlock : Block → List Tok → List Tok → Type 0 where
   is_block : {b : Block} {ts rest : List Tok} → IsBraced b.stmts b.close ts rest → IsBlock b ts rest
 
@@ -294,6 +307,7 @@ pub data IsInit : Init → List Tok → List Tok → Type 0 where
 pub data IsParam : Param → List Tok → List Tok → Type 0 where
   is_param : {p : Param} {ts rest : List Tok} → IsType p.value_type ts (name_tok p.name ∷ rest) → IsParam p ts rest
 
+-- a section or a helper, behind its first word
 pub data IsSection : Section → List Tok → List Tok → Type 0 where
   is_section : {s : Section} {before after : Span} {ts1 ts2 ts3 rest : List Tok}
       → AreListed IsParam s.params ts1 (tok (mark CloseParen) after ∷ ts2)
@@ -308,7 +322,7 @@ pub data IsCall : Call → List Tok → List Tok → Type 0 where
 
 mutual
   pub data IsItem : Item → List Tok → List Tok → Type 0 where
-    is_call_item : {c : Call} {ts rest : List Tok} → IsCall c ts rest → IsItem (call c) ts rest
+    is_call_item : {c : Call} {ts rest : List Tok} → IsCall c ts rest → IsItem (Item.call c) ts rest
     is_repeat : {n : Number} {is : Items} {start begin close : Span} {ts rest : List Tok}
         → IsItems is ts (tok (mark CloseBrace) close ∷ rest)
         → IsItem (repeat n is) (tok (word keyword.Repeat) start ∷ int_tok n ∷ tok (mark OpenBrace) begin ∷ ts) rest
@@ -332,6 +346,7 @@ pub data IsDecl : Decl → List Tok → List Tok → Type 0 where
   is_pool_decl : {p : Pool} {start : Span} {ts rest : List Tok} → IsPool p ts rest → IsDecl (pool p) (tok (word keyword.Pool) start ∷ ts) rest
   is_init_decl : {i : Init} {ts rest : List Tok} → IsInit i ts rest → IsDecl (init i) (tok (word keyword.Init) i.start ∷ ts) rest
   is_atomic : {s : Section} {start : Span} {ts rest : List Tok} → IsSection s ts rest → IsDecl (atomic s) (tok (word keyword.Atomic) start ∷ ts) rest
+  is_helper : {s : Section} {start : Span} {ts rest : List Tok} → IsSection s ts rest → IsDecl (helper s) (tok (word keyword.Call) start ∷ ts) rest
   is_thread_decl : {t : Thread} {start : Span} {ts rest : List Tok} → IsThread t ts rest → IsDecl (thread t) (tok (word keyword.Thread) start ∷ ts) rest
 
 -- the tokens spell the program, whatever the nesting: declarations, and the end of the text

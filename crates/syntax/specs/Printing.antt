@@ -6,7 +6,7 @@ use Rattle.syntax.specs.declared.tree.Op.{Op}
 use Rattle.syntax.specs.declared.tree.Comparison.{Comparison}
 use Rattle.syntax.specs.declared.tree.Prefix.{Prefix}
 use Rattle.source.specs.declared.token.Number.{Number}
-use Rattle.syntax.specs.Trees.{Ident, ValueType, int_type, ref_type, Const, int_const, negative, null_const, member_const, Place, lone, element, path, Expr, int, null, place, paren, prefix, chain, compare, Links, no_links, link, Local, Owner, Stmt, let_local, let_owned, var_local, assign, if_then, while, print, return_value, Stmts, no_stmts, stmt, Otherwise, no_else, else_do, Protection, Variable, Array, Member, lock_member, final_member, field_member, Struct, Pool, Init, Param, Section, Call, Item, call, repeat, Items, no_items, item, Thread, Decl, lock, struct, global, array, pool, init, atomic, thread}
+use Rattle.syntax.specs.Trees.{Ident, ValueType, int_type, ref_type, Const, int_const, negative, null_const, member_const, Place, lone, element, path, Expr, int, null, place, paren, prefix, chain, compare, Links, no_links, link, Local, Owner, HelperCall, CalledLocal, Stmt, let_local, let_owned, let_call, var_local, assign, if_then, while, print, return_value, Stmts, no_stmts, stmt, Otherwise, no_else, else_do, Protection, Variable, Array, Member, lock_member, final_member, field_member, Struct, Pool, Init, Param, Section, Call, Item, call, repeat, Items, no_items, item, Thread, Decl, lock, struct, global, array, pool, init, atomic, helper, thread}
 use Rattle.syntax.specs.Grammar.{sign_of, prefix_sign, comparison_sign}
 
 -- ---- lists, and parts that may be left out
@@ -99,17 +99,25 @@ local_text l = l.name.text ++ codes ": " ++ type_text l.value_type ++ codes " = 
 abbrev pub owner_text : Owner → List ℕ
 owner_text o = codes " where " ++ o.field.text ++ codes " == " ++ o.local.text
 
+abbrev pub helper_call_text : HelperCall → List ℕ
+helper_call_text c = c.helper.text ++ codes "(" ++ listed_text expr_text c.arguments ++ codes ")"
+
+abbrev pub called_text : CalledLocal → List ℕ
+called_text l = l.name.text ++ codes ": " ++ type_text l.value_type ++ codes " = call " ++ helper_call_text l.call
+
 abbrev mutual
   -- at this depth
   pub stmt_text : ℕ → Stmt → List ℕ
   stmt_text d (let_local l) = codes "let " ++ local_text l ++ codes ";"
   stmt_text d (let_owned l o) = codes "let " ++ local_text l ++ owner_text o ++ codes ";"
+  stmt_text d (let_call l) = codes "let " ++ called_text l ++ codes ";"
   stmt_text d (var_local l) = codes "var " ++ local_text l ++ codes ";"
   stmt_text d (assign p e) = place_text p ++ codes " = " ++ expr_text e ++ codes ";"
   stmt_text d (if_then at e body close other) = codes "if (" ++ expr_text e ++ codes ")" ++ braced d (stmts_text (deeper d) body) ++ else_text d other
   stmt_text d (while at e body close) = codes "while (" ++ expr_text e ++ codes ")" ++ braced d (stmts_text (deeper d) body)
   stmt_text d (print at e) = codes "print " ++ expr_text e ++ codes ";"
   stmt_text d (return_value at e) = codes "return " ++ expr_text e ++ codes ";"
+  stmt_text d (call at c) = codes "call " ++ helper_call_text c ++ codes ";"
 
   -- each on a line of its own
   pub stmts_text : ℕ → Stmts → List ℕ
@@ -171,9 +179,10 @@ pool_text p = codes "pool " ++ p.target.text ++ codes " " ++ p.name.text ++ inde
 abbrev pub init_text : Init → List ℕ
 init_text i = codes "init " ++ i.pool.text ++ index_text i.index ++ codes "." ++ i.field.text ++ codes " = " ++ const_text i.value ++ codes ";\n"
 
-abbrev pub section_text : Section → List ℕ
-section_text s =
-    codes "atomic " ++ s.name.text ++ codes "(" ++ listed_text param_text s.params ++ codes ")"
+-- a section or a helper, with this word before its name
+abbrev pub section_text : List ℕ → Section → List ℕ
+section_text word s =
+    word ++ s.name.text ++ codes "(" ++ listed_text param_text s.params ++ codes ")"
     ++ optional_text result_text s.result ++ codes " {" ++ stmts_text 1 s.body.stmts ++ codes "\n}\n"
 
 abbrev pub decl_text : Decl → List ℕ
@@ -183,7 +192,8 @@ decl_text (global v) = variable_text v
 decl_text (array a) = array_text a
 decl_text (pool p) = pool_text p
 decl_text (init i) = init_text i
-decl_text (atomic s) = section_text s
+decl_text (atomic s) = section_text (codes "atomic ") s
+decl_text (helper s) = section_text (codes "call ") s
 decl_text (thread t) = thread_text t
 
 abbrev pub tree_text : List Decl → List ℕ

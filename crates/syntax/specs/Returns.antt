@@ -1,8 +1,8 @@
--- Where a `return` is misplaced or missing: it is the last statement of the body of a section that
--- has a result, and stands nowhere else.
+-- Where a `return` is misplaced or missing: it is the last statement of the body of a section or a
+-- helper that has a result, and stands nowhere else.
 use Rattle.std.specs.Prelude.{◌≡◌, ℕ, ◌≤◌, List, ◌∷◌, Some, None}
 use Rattle.source.specs.declared.span.Span.{Span}
-use Rattle.syntax.specs.Trees.{ValueType, Expr, Stmt, if_then, while, return_value, Stmts, no_stmts, stmt, Otherwise, else_do, Section, Decl, atomic}
+use Rattle.syntax.specs.Trees.{ValueType, Expr, Stmt, if_then, while, return_value, Stmts, no_stmts, stmt, Otherwise, else_do, Section, Decl, atomic, helper}
 
 -- a `return` at this byte is this statement
 pub data IsReturn : Stmt → ℕ → Type 0 where
@@ -32,7 +32,7 @@ pub data EndsInReturn : Stmts → Type 0 where
   last_returns : {s : Stmt} {at : ℕ} → IsReturn s at → EndsInReturn (stmt s no_stmts)
   ends_later : {s : Stmt} {more : Stmts} → EndsInReturn more → EndsInReturn (stmt s more)
 
--- a section's fault, at this byte
+-- the fault of a section or a helper, at this byte
 pub data IsSectionFault : Section → ℕ → Type 0 where
   no_result : {s : Section} {at : ℕ} → s.result ≡ None → HasReturn s.body.stmts at → IsSectionFault s at
   stray : {s : Section} {t : ValueType} {at : ℕ} → s.result ≡ Some t → HasStrayReturn s.body.stmts at → IsSectionFault s at
@@ -41,6 +41,7 @@ pub data IsSectionFault : Section → ℕ → Type 0 where
 -- a program's
 pub data IsReturnFault : List Decl → ℕ → Type 0 where
   this_section : {s : Section} {ds : List Decl} {at : ℕ} → IsSectionFault s at → IsReturnFault (atomic s ∷ ds) at
+  this_helper : {s : Section} {ds : List Decl} {at : ℕ} → IsSectionFault s at → IsReturnFault (helper s ∷ ds) at
   later_section : {d : Decl} {ds : List Decl} {at : ℕ} → IsReturnFault ds at → IsReturnFault (d ∷ ds) at
 
 -- no fault of returns

@@ -54,17 +54,31 @@ pub record Owner : Type 0 where
   pub field : Ident
   pub local : Ident
 
+-- a call of a helper
+pub record HelperCall : Type 0 where
+  pub helper : Ident
+  pub arguments : List Expr
+
+-- a `let` of what a helper returns
+pub record CalledLocal : Type 0 where
+  pub start : Span
+  pub name : Ident
+  pub value_type : ValueType
+  pub call : HelperCall
+
 -- a statement, those of a block with where its closing brace stands, and what stands behind `else`
 mutual
   pub data Stmt : Type 0 where
     let_local : Local → Stmt
     let_owned : Local → Owner → Stmt
+    let_call : CalledLocal → Stmt
     var_local : Local → Stmt
     assign : Place → Expr → Stmt
     if_then : (start : Span) → Expr → Stmts → (close : Span) → Otherwise → Stmt
     while : (start : Span) → Expr → Stmts → (close : Span) → Stmt
     print : (start : Span) → Expr → Stmt
     return_value : (start : Span) → Expr → Stmt
+    call : (start : Span) → HelperCall → Stmt
 
   pub data Stmts : Type 0 where
     no_stmts : Stmts
@@ -133,12 +147,14 @@ pub record Param : Type 0 where
   pub name : Ident
   pub value_type : ValueType
 
+-- a section or a helper
 pub record Section : Type 0 where
   pub name : Ident
   pub params : List Param
   pub result : Option ValueType
   pub body : Block
 
+-- a call of a section
 pub record Call : Type 0 where
   pub section : Ident
   pub arguments : List Const
@@ -165,4 +181,5 @@ pub data Decl : Type 0 where
   pool : Pool → Decl
   init : Init → Decl
   atomic : Section → Decl
+  helper : Section → Decl
   thread : Thread → Decl

@@ -18,6 +18,8 @@ use Rattle.syntax.specs.declared.tree.Link as the_link
 use Rattle.syntax.specs.declared.tree.Local as the_local
 use Rattle.syntax.specs.declared.tree.Owner as the_owner
 use Rattle.syntax.specs.declared.tree.OwnedLocal as the_owned_local
+use Rattle.syntax.specs.declared.tree.HelperCall as the_helper_call
+use Rattle.syntax.specs.declared.tree.CalledLocal as the_called_local
 use Rattle.syntax.specs.declared.tree.Stmt as the_stmt
 use Rattle.syntax.specs.declared.tree.Stmt.{Row_of-Stmt, end_of-Stmt, more_of-Stmt}
 use Rattle.syntax.specs.declared.tree.If as the_if
@@ -41,7 +43,7 @@ use Rattle.syntax.specs.declared.tree.Thread as the_thread
 use Rattle.syntax.specs.declared.tree.Decl as the_decl
 use Rattle.syntax.specs.declared.tree.Decl.TheVariants as decl_case
 use Rattle.syntax.specs.declared.tree.Tree.{Tree}
-use Rattle.syntax.specs.Trees.{Ident, ValueType, int_type, ref_type, Const, int_const, negative, null_const, member_const, Place, lone, element, path, Expr, int, null, place, paren, prefix, chain, compare, Links, no_links, link, Local, Owner, Stmt, let_local, let_owned, var_local, assign, if_then, while, print, return_value, Stmts, no_stmts, stmt, Otherwise, no_else, else_do, Block, Protection, Variable, Array, Final, Field, Member, lock_member, final_member, field_member, Struct, Pool, Init, Param, Section, Call, Item, call, repeat, Items, no_items, item, Thread, Decl, lock, struct, global, array, pool, init, atomic, thread}
+use Rattle.syntax.specs.Trees.{Ident, ValueType, int_type, ref_type, Const, int_const, negative, null_const, member_const, Place, lone, element, path, Expr, int, null, place, paren, prefix, chain, compare, Links, no_links, link, Local, Owner, HelperCall, CalledLocal, Stmt, let_local, let_owned, let_call, var_local, assign, if_then, while, print, return_value, Stmts, no_stmts, stmt, Otherwise, no_else, else_do, Block, Protection, Variable, Array, Final, Field, Member, lock_member, final_member, field_member, Struct, Pool, Init, Param, Section, Call, Item, call, repeat, Items, no_items, item, Thread, Decl, lock, struct, global, array, pool, init, atomic, helper, thread}
 use Rattle.syntax.specs.Grammar.{level_of}
 
 abbrev pub ident : the_name.Name → Ident
@@ -110,16 +112,24 @@ owner_of o = record { field = ident o.field; local = ident o.local }
 abbrev pub owned_local_of : the_owned_local.OwnedLocal → Stmt
 owned_local_of l = let_owned (local_of l.local) (owner_of l.owner)
 
+abbrev pub helper_call_of : the_helper_call.HelperCall → HelperCall
+helper_call_of c = record { helper = ident c.helper; arguments = map expr_of c.arguments.items }
+
+abbrev pub called_local_of : the_called_local.CalledLocal → CalledLocal
+called_local_of l = record { start = l.start; name = ident l.name; value_type = type_of l.value_type; call = helper_call_of l.call }
+
 abbrev mutual
   pub stmt_of : the_stmt.Stmt → Stmt
   stmt_of (the_stmt.Let l) = let_local (local_of l.value)
   stmt_of (the_stmt.LetOwned l) = owned_local_of l.value
+  stmt_of (the_stmt.LetCall l) = let_call (called_local_of l.value)
   stmt_of (the_stmt.Var l) = var_local (local_of l.value)
   stmt_of (the_stmt.Assign p e) = assign (place_of p) (expr_of e)
   stmt_of (the_stmt.If' _ choice) = if_of choice
   stmt_of (the_stmt.While' _ start e _ body close) = while start (expr_of e) (stmts_of_row body) close
   stmt_of (the_stmt.Print start e) = print start (expr_of e)
   stmt_of (the_stmt.Return start e) = return_value start (expr_of e)
+  stmt_of (the_stmt.Call start c) = call start (helper_call_of c.value)
 
   pub if_of : the_if.If → Stmt
   if_of (the_if.If' start e _ body close other) = if_then start (expr_of e) (stmts_of_row body) close (otherwise_of other)
@@ -213,6 +223,7 @@ decl_of (decl_case.Array a) = array (array_of a)
 decl_of (decl_case.Pool p) = pool (pool_of p)
 decl_of (decl_case.Init i) = init (init_of i)
 decl_of (decl_case.Atomic s) = atomic (section_of s)
+decl_of (decl_case.Helper s) = helper (section_of s)
 decl_of (decl_case.Thread t) = thread (thread_of t)
 
 abbrev pub tree_of : Tree → List Decl

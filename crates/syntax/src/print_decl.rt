@@ -167,10 +167,11 @@ fn push_params(out: &mut Printer, params: &[Param])
     }
 }
 
-fn push_section(out: &mut Printer, section: &Section)
-    ensures { Adds out.old out.new (section_text (section_of section.now)) }
+/// A section or a helper, with this word before its name.
+fn push_section(out: &mut Printer, word: &str, section: &Section)
+    ensures { Adds out.old out.new (section_text word.now (section_of section.now)) }
 {
-    out.push_named("atomic ", &section.name);
+    out.push_named(word, &section.name);
     out.push_str("(");
     push_params(out, &section.params);
     out.push_str(")");
@@ -193,7 +194,8 @@ fn push_decl(out: &mut Printer, decl: &Decl)
         Decl::Array(array) => push_array(out, array),
         Decl::Pool(pool) => push_pool(out, pool),
         Decl::Init(init) => push_init(out, init),
-        Decl::Atomic(section) => push_section(out, section),
+        Decl::Atomic(section) => push_section(out, "atomic ", section),
+        Decl::Helper(section) => push_section(out, "call ", section),
         Decl::Thread(thread) => push_thread(out, thread),
     }
 }

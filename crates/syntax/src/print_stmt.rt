@@ -1,14 +1,16 @@
 //! The texts of statements.
 
-ghost use Rattle.std.specs.Prelude.{◌≡◌, ◌++◌, codes};
+ghost use Rattle.std.specs.Prelude.{◌≡◌, ◌++◌, codes, map};
 ghost use Rattle.syntax.specs.Adding.{Adds};
-ghost use Rattle.syntax.specs.Views.{place_of, expr_of, local_of, owner_of, owned_local_of, stmt_of, if_of, stmts_of, else_of};
+ghost use Rattle.syntax.specs.Views.{place_of, expr_of, local_of, owner_of, owned_local_of, helper_call_of, called_local_of, stmt_of, if_of, stmts_of, else_of};
 ghost use Rattle.syntax.specs.Rows.{while_of};
-ghost use Rattle.syntax.specs.Printing.{place_text, expr_text, indent, deeper, local_text, owner_text, stmt_text, stmts_text, braced, else_text};
+ghost use Rattle.syntax.specs.Printing.{many_text, after_comma, listed_text, place_text, expr_text, indent, deeper, local_text, owner_text, helper_call_text, called_text, stmt_text, stmts_text, braced, else_text};
 
 use crate::print::{push_expr, push_place, push_type};
 use crate::printer::Printer;
-use crate::tree::{Block, Expr, If, Local, OwnedLocal, Owner, Place, Stmt, While};
+use crate::tree::{
+    Block, CalledLocal, Expr, HelperCall, If, Local, OwnedLocal, Owner, Place, Stmt, While,
+};
 
 pub fn push_indent(out: &mut Printer, depth: usize)
     ensures { Adds out.old out.new (indent depth) }
@@ -61,6 +63,66 @@ fn push_owned(out: &mut Printer, owned: &OwnedLocal, depth: usize)
     out.push_str(";");
 }
 
+/// Expressions, with a comma before each.
+fn push_more_arguments(out: &mut Printer, arguments: &[Expr])
+    ensures { Adds out.old out.new (many_text (after_comma expr_text) (map expr_of arguments.now)) }
+{
+    'arguments: for argument in arguments {
+        out.push_str(", ");
+        push_expr(out, argument);
+    }
+}
+
+/// Expressions, with commas between them.
+fn push_arguments(out: &mut Printer, arguments: &[Expr])
+    ensures { Adds out.old out.new (listed_text expr_text (map expr_of arguments.now)) }
+{
+    match arguments {
+        [] => {}
+        [first, more @ ..] => {
+            push_expr(out, first);
+            push_more_arguments(out, more);
+        }
+    }
+}
+
+fn push_helper_call(out: &mut Printer, call: &HelperCall)
+    ensures { Adds out.old out.new (helper_call_text (helper_call_of call.now)) }
+{
+    out.push_name(&call.helper);
+    out.push_str("(");
+    push_arguments(out, &call.arguments);
+    out.push_str(")");
+}
+
+/// A local of what a helper returns, behind the word `let`.
+fn push_called_rest(out: &mut Printer, called: &CalledLocal)
+    ensures { Adds out.old out.new (called_text (called_local_of called.now)) }
+{
+    out.push_name(&called.name);
+    out.push_str(": ");
+    push_type(out, &called.value_type);
+    out.push_str(" = call ");
+    push_helper_call(out, &called.call);
+}
+
+fn push_called(out: &mut Printer, called: &CalledLocal)
+    ensures { Adds out.old out.new (codes "let " ++ called_text (called_local_of called.now) ++ codes ";") }
+{
+    out.push_str("let ");
+    push_called_rest(out, called);
+    out.push_str(";");
+}
+
+/// The statement of a call whose result is dropped.
+fn push_call(out: &mut Printer, call: &HelperCall)
+    ensures { Adds out.old out.new (codes "call " ++ helper_call_text (helper_call_of call.now) ++ codes ";") }
+{
+    out.push_str("call ");
+    push_helper_call(out, call);
+    out.push_str(";");
+}
+
 fn push_assignment(out: &mut Printer, place: &Place, e: &Expr)
     ensures { Adds out.old out.new (place_text (place_of place.now) ++ codes " = " ++ expr_text (expr_of e.now) ++ codes ";") }
 {
@@ -87,12 +149,14 @@ fn push_stmt(out: &mut Printer, s: &Stmt, depth: usize)
     match s {
         Stmt::Let(local) => push_plain(out, "let ", local),
         Stmt::LetOwned(owned) => push_owned(out, owned, depth),
+        Stmt::LetCall(called) => push_called(out, called),
         Stmt::Var(local) => push_plain(out, "var ", local),
         Stmt::Assign(place, e) => push_assignment(out, place, e),
         Stmt::If(choice) => push_if(out, choice, depth),
         Stmt::While(repetition) => push_while(out, repetition, depth),
         Stmt::Print(_, e) => push_worded(out, "print ", e),
         Stmt::Return(_, e) => push_worded(out, "return ", e),
+        Stmt::Call(_, call) => push_call(out, call),
     }
 }
 

@@ -212,6 +212,23 @@ pub struct OwnedLocal {
     pub owner: Owner,
 }
 
+/// `f(a + 1, b)`: a call of a helper.
+#[derive(Drop)]
+pub struct HelperCall {
+    pub helper: Name,
+    pub arguments: Vec<Expr>,
+}
+
+/// `let x: int = call f(e);`
+#[derive(Drop)]
+pub struct CalledLocal {
+    /// Where the statement stands, by its first word.
+    pub start: Span,
+    pub name: Name,
+    pub value_type: ValueType,
+    pub call: HelperCall,
+}
+
 /// A statement.
 ///
 /// A program may have one for every four bytes, so a statement takes 56 bytes: what is larger stands
@@ -223,6 +240,8 @@ pub enum Stmt {
     Let(Box<Local>),
     /// `let n: ref S = e where owner == b;`
     LetOwned(Box<OwnedLocal>),
+    /// `let x: int = call f(e);`
+    LetCall(Box<CalledLocal>),
     /// `var x: int = e;`
     Var(Box<Local>),
     /// `x = e;`
@@ -235,6 +254,8 @@ pub enum Stmt {
     Print(Span, Expr),
     /// `return e;`, and where its first word stands.
     Return(Span, Expr),
+    /// `call f(e);`, and where its first word stands.
+    Call(Span, Box<HelperCall>),
 }
 
 /// `if (e) { .. }` or `if (e) { .. } else { .. }`
@@ -348,14 +369,15 @@ pub struct Init {
     pub value: Const,
 }
 
-/// A parameter of a section.
+/// A parameter of a section or a helper.
 #[derive(Drop)]
 pub struct Param {
     pub name: Name,
     pub value_type: ValueType,
 }
 
-/// `atomic f(int a, int b): int { .. }`: an atomic section.
+/// `atomic f(int a, int b): int { .. }`: an atomic section, or `call f(int a, int b): int { .. }`: a helper, which has the
+/// same parts.
 #[derive(Drop)]
 pub struct Section {
     pub name: Name,
@@ -405,6 +427,8 @@ pub enum Decl {
     Init(Init),
     /// `atomic f() { .. }`
     Atomic(Section),
+    /// `call f(int a): int { .. }`: a helper.
+    Helper(Section),
     /// `thread t { .. }`
     Thread(Thread),
 }

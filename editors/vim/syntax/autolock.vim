@@ -11,9 +11,8 @@ syntax keyword autolockType int ref
 syntax keyword autolockBinding let var where
 syntax keyword autolockConditional if else
 syntax keyword autolockRepeat while repeat
-syntax keyword autolockStatement print return
+syntax keyword autolockStatement print return call
 syntax keyword autolockConstant null
-syntax keyword autolockReserved call
 syntax match autolockNumber '\<\d\+\>'
 syntax match autolockOperator '[-+*/%!<>=]\|&&\|||'
 syntax keyword autolockTodo TODO FIXME contained
@@ -27,7 +26,6 @@ highlight default link autolockConditional Conditional
 highlight default link autolockRepeat Repeat
 highlight default link autolockStatement Statement
 highlight default link autolockConstant Constant
-highlight default link autolockReserved Error
 highlight default link autolockNumber Number
 highlight default link autolockOperator Operator
 highlight default link autolockTodo Todo

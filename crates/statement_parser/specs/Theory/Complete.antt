@@ -2,7 +2,7 @@
 use Rattle.std.proofs.Common.{◌≡◌, ℕ, zero, suc, ◌≤◌, false, List, ◌∷◌, length, Some, None, Ok, refl, sym, ap, ◌∙◌, subst, arith, le_trans, le_refl}
 use Rattle.source.specs.declared.span.Span.{Span}
 use Rattle.source.specs.declared.token.Keyword.TheVariants as keyword
-use Rattle.source.specs.declared.token.Sign.TheVariants.{OpenParen, CloseParen, OpenBracket, CloseBracket, Semicolon, Dot, Equals}
+use Rattle.source.specs.declared.token.Sign.TheVariants.{OpenParen, CloseParen, OpenBracket, CloseBracket, Semicolon, Comma, Dot, Equals}
 use Rattle.source.specs.Tokens.{word, mark, Tok}
 use Rattle.syntax.specs.declared.tree.Op.{Op}
 use Rattle.syntax.specs.declared.tree.Op.TheVariants.{Add, Sub, Mul, Div, Rem, And, Or}
@@ -14,15 +14,15 @@ use Rattle.syntax.specs.declared.tree.Comparison.{Comparison}
 use Rattle.syntax.specs.declared.tree.Comparison.TheVariants.{Equal, NotEqual, Less, LessOrEqual, Greater, GreaterOrEqual}
 use Rattle.source.specs.declared.token.Number.{Number}
 use Rattle.syntax.specs.Trees.{Ident, Place, lone, element, path, Expr, int, null, place, paren, prefix, chain, compare, Links, no_links, link}
-use Rattle.syntax.specs.Grammar.{tok, name_tok, int_tok, sign_of, level_of, prefix_sign, comparison_sign, rank, below, PRIM, SUM, COMPARED, ANY, AreMany, IsAfter, IsName, is_name, IsPlace, is_lone, is_element, is_path, IsExpr, is_int, is_null, is_place, is_paren, is_prefix, is_chain, is_compare, IsLinks, are_no_links, is_link}
-use Rattle.token_parts.specs.Reading.{◌>>=◌, Reader, turn, sign_at, open_at, name_at, skip_at, is_next, choose}
+use Rattle.syntax.specs.Grammar.{tok, name_tok, int_tok, sign_of, level_of, prefix_sign, comparison_sign, rank, below, PRIM, SUM, COMPARED, ANY, AreMany, IsAfter, AreListed, IsName, is_name, IsPlace, is_lone, is_element, is_path, IsExpr, is_int, is_null, is_place, is_paren, is_prefix, is_chain, is_compare, IsLinks, are_no_links, is_link}
+use Rattle.token_parts.specs.Reading.{◌>>=◌, Reader, turn, sign_at, open_at, name_at, skip_at, is_next, listed_at, choose}
 use Rattle.statement_parser.specs.Expressions.{op_at, next_link, add_link, links_at, chained, chain_at, element_at, fields_at, path_at, alone_at, place_at, prefix_at, unary_from, unary_with, prim_with, comparison_at, compared_from, compared_with, sum_with, inside_at, prim_at, operand_at, level_at, expr_at, ended_at, condition_at}
 use Rattle.token_parts.specs.Theory.Readers.{Shortens}
 use Rattle.token_parts.specs.Theory.Many.{many_at-turn}
 use Rattle.statement_parser.specs.Theory.Chains.{next_link_shortens}
-use Rattle.statement_parser.specs.Theory.Shorter.{operand_shortens}
+use Rattle.statement_parser.specs.Theory.Shorter.{operand_shortens, next_argument_shortens}
 use Rattle.token_parts.specs.Theory.Shorter.{next_name_shortens}
-use Rattle.token_parts.specs.Theory.Finding.{Finds, found, deep, finds_then, same_finds, FindsPart, NoSign, ends_found, then_found, and_found, production_found, sign_found, name_found, each_found, choose_left, choose_right, Anything}
+use Rattle.token_parts.specs.Theory.Finding.{Finds, found, deep, finds_then, same_finds, FindsPart, NotNext, NoSign, Closes, listed_ended, ends_found, then_found, and_found, production_found, sign_found, name_found, each_found, choose_left, choose_right, Anything}
 use Rattle.token_parts.specs.Theory.Joined.{Done, done, Both, both}
 use Rattle.token_parts.specs.Theory.Law.{IsTok, is_tok}
 use Rattle.statement_parser.specs.Theory.Productions.{IsFields, is_fields, IsEnded, ended}
@@ -301,6 +301,17 @@ pub no_ops_close : (at : Span) (ts : List Tok) → NoOps ANY (tok (mark ClosePar
 unfolding comparison_at skip_at
 no_ops_close at ts = record { none = λ k low. none_before_close at ts k; no_comparison = λ low. refl; no_place = record { no_bracket = refl; no_dot = refl; no_field = refl } }
 
+none_before_comma : (at : Span) (ts : List Tok) (k : Level) → op_at k (tok (mark Comma) at ∷ ts) ≡ None
+unfolding op_at
+none_before_comma at ts Term = refl
+none_before_comma at ts Sum = refl
+none_before_comma at ts Conjunction = refl
+none_before_comma at ts Disjunction = refl
+
+pub no_ops_comma : (at : Span) (ts : List Tok) → NoOps ANY (tok (mark Comma) at ∷ ts)
+unfolding comparison_at skip_at
+no_ops_comma at ts = record { none = λ k low. none_before_comma at ts k; no_comparison = λ low. refl; no_place = record { no_bracket = refl; no_dot = refl; no_field = refl } }
+
 none_before_bracket : (at : Span) (ts : List Tok) (k : Level) → op_at k (tok (mark CloseBracket) at ∷ ts) ≡ None
 unfolding op_at
 none_before_bracket at ts Term = refl
@@ -432,6 +443,22 @@ mutual
 pub any_found : {e : Expr} {ts rest : List Tok} → IsExpr ANY e ts rest → (room : ℕ) → NoOps ANY rest → Finds (expr_at room ts) (e, rest)
 any_found h room stops = expr_found h room stops
 
+-- with what no expression begins
+place_starts : {p : Place} {ts rest : List Tok} → IsPlace p ts rest → NotNext (mark CloseParen) ts × NotNext (word keyword.Call) ts
+place_starts is_lone = (refl, refl)
+place_starts (is_element h) = (refl, refl)
+place_starts (is_path h) = (refl, refl)
+
+pub expr_starts : {n : ℕ} {e : Expr} {ts rest : List Tok} → IsExpr n e ts rest → NotNext (mark CloseParen) ts × NotNext (word keyword.Call) ts
+expr_starts is_int = (refl, refl)
+expr_starts is_null = (refl, refl)
+expr_starts (is_place p) = place_starts p
+expr_starts (is_paren h) = (refl, refl)
+expr_starts (is_prefix {op = Negate} low h) = (refl, refl)
+expr_starts (is_prefix {op = Not} low h) = (refl, refl)
+expr_starts (is_chain le a b) = expr_starts a
+expr_starts (is_compare le a b) = expr_starts a
+
 -- ---- expressions with what ends them
 
 -- no operator stands before a semicolon
@@ -452,3 +479,15 @@ pub condition_found : (room : ℕ) (e : Expr) (before behind : Span) (ts rest : 
 unfolding condition_at open_at inside_at sign_at
 condition_found zero e before behind ts rest h = deep (suc (length ts)) refl
 condition_found (suc room) e before behind ts rest h = finds_then (expr_at room ts) (λ e. sign_at CloseParen e.1 >>= λ c. Ok (e.0, c.1)) (e, tok (mark CloseParen) behind ∷ rest) (e, rest) (any_found h room (no_ops_close behind rest)) (found refl)
+
+-- ---- expressions with commas between them
+
+-- a closing parenthesis comes next, before which an expression ends
+abbrev pub ClosesAll : List Tok → Type 0
+ClosesAll ts = Closes ts × NoOps ANY ts
+
+pub arguments_found : (room r : ℕ) → room ≡ suc r → FindsPart ClosesAll (AreListed (IsExpr ANY)) (listed_at (inside_at room))
+unfolding inside_at
+arguments_found room r e =
+    subst (λ (n : ℕ). FindsPart ClosesAll (AreListed (IsExpr ANY)) (listed_at (inside_at n))) (sym e)
+    (listed_ended (NoOps ANY) (IsExpr ANY) (expr_at r) (λ x ts mid h stops. any_found h r stops) no_ops_comma (next_argument_shortens r) (λ x ts rest h. (expr_starts h).0))

@@ -1,24 +1,33 @@
 -- The law of statements.
-use Rattle.std.proofs.Common.{◌≡◌, ℕ, zero, suc, ◌+◌, ◌<◌, List, ◌∷◌, refl, subst, arith}
+use Rattle.std.proofs.Common.{◌≡◌, ℕ, zero, suc, ◌+◌, ◌<◌, List, [], ◌∷◌, refl, arith}
 use Rattle.source.specs.declared.span.Span.{Span}
 use Rattle.source.specs.declared.token.Keyword.TheVariants as keyword
-use Rattle.source.specs.declared.token.Sign.TheVariants.{OpenBrace, CloseBrace, Semicolon, Colon, Equals, DoubleEquals}
+use Rattle.source.specs.declared.token.Sign.TheVariants.{OpenBrace, CloseBrace, OpenParen, CloseParen, Semicolon, Colon, Equals, DoubleEquals}
 use Rattle.source.specs.Tokens.{Lexeme, name, word, mark, Tok}
-use Rattle.syntax.specs.Trees.{Ident, int_type, Expr, Local, Owner, Stmt, let_local, let_owned, var_local, assign, if_then, while, print, return_value, Stmts, no_stmts, stmt, Otherwise, no_else, else_do}
-use Rattle.syntax.specs.Grammar.{tok, name_tok, ANY, IsName, is_name, IsType, is_int_type, IsPlace, IsExpr, is_int, IsLocal, is_local, IsOwner, is_owner, IsStmt, is_let, is_let_owned, is_var, is_assign, is_if, is_while, is_print, is_return, IsStmts, are_no_stmts, are_stmts, IsBraced, is_braced, IsElse, is_no_else, is_else}
+use Rattle.syntax.specs.Trees.{Ident, ValueType, int_type, Expr, Local, Owner, HelperCall, Stmt, let_local, let_owned, let_call, var_local, assign, if_then, while, print, return_value, Stmts, no_stmts, stmt, Otherwise, no_else, else_do}
+use Rattle.syntax.specs.Grammar.{tok, name_tok, AreListed, none_listed, ANY, IsName, is_name, IsType, is_int_type, IsPlace, IsExpr, is_int, IsLocal, is_local, IsOwner, is_owner, IsHelperCall, is_helper_call, IsStmt, is_let, is_let_owned, is_let_call, is_var, is_assign, is_if, is_while, is_print, is_return, is_call_stmt, IsStmts, are_no_stmts, are_stmts, IsBraced, is_braced, IsElse, is_no_else, is_else}
 use Rattle.token_parts.specs.Reading.{Reader, next_until}
 use Rattle.statement_parser.specs.Expressions.{inside_at, expr_at}
-use Rattle.statement_parser.specs.Statements.{local_at, owner_at, owned_at, plain_at, let_at, var_at, assign_at, braced_with, some_else, nothing_else, else_with, if_with, while_with, stmt_from, stmt_with, stmt_at, stmts_with, stmts_in, braced_at}
+use Rattle.statement_parser.specs.Statements.{TypedName, local_with, called_with, typed_at, owner_at, owned_at, plain_at, helper_call_at, called_at, valued_at, let_at, var_at, call_stmt_at, assign_at, braced_with, some_else, nothing_else, else_with, if_with, while_with, stmt_from, stmt_with, stmt_at, stmts_with, stmts_in, braced_at}
 use Rattle.token_parts.specs.Theory.Law.{Law, give_law, at_rest, Head, refuses, takes, first_law, IsTok, is_tok}
 use Rattle.token_parts.specs.Theory.Laws.{many_law}
-use Rattle.token_parts.specs.Theory.Joined.{Done, done, Both, both, nowhere, Part, Rest, ends_with, then_part, then_open, production, sign_part, word_part, name_part, until_law, choose_law, weaken_law, either}
+use Rattle.token_parts.specs.Theory.Joined.{Done, done, Both, both, nowhere, Part, Rest, ends_with, then_part, then_open, production, sign_part, word_part, name_part, listed_part, until_law, choose_law, weaken_law, either}
 use Rattle.statement_parser.specs.Theory.Productions.{zero_expr, any_part, expr_law, IsEnded, ended, ended_part, inside_law, place_part, IsCondition, is_condition, condition_part}
 use Rattle.token_parts.specs.Theory.PartLaws.{one_is, no_name, zero_tok, type_part}
 
 -- ---- what the parts of each production make
 
-local_is : {start : Span} {y : Local} {ts rest : List Tok} → Both IsName (λ x. Both (IsTok (mark Colon)) (λ c. Both IsType (λ t. Both (IsTok (mark Equals)) (λ q. Both (IsExpr ANY) (λ e. Done (record { start = start; name = x; value_type = t; value = e })))))) y ts rest → (y.start ≡ start) × IsLocal y ts rest
-local_is (both is_name (both is_tok (both t (both is_tok (both e done))))) = (refl, is_local t e)
+-- a local's name and type, and the sign `=`, behind a first word that stands there
+pub data IsTyped (start : Span) : TypedName → List Tok → List Tok → Type 0 where
+  is_typed : {x : Ident} {t : ValueType} {colon equals : Span} {ts rest : List Tok}
+      → IsType t ts (tok (mark Equals) equals ∷ rest)
+      → IsTyped start (record { start = start; name = x; value_type = t }) (name_tok x ∷ tok (mark Colon) colon ∷ ts) rest
+
+typed_is : {start : Span} {y : TypedName} {ts rest : List Tok} → Both IsName (λ x. Both (IsTok (mark Colon)) (λ c. Both IsType (λ t. Both (IsTok (mark Equals)) (λ q. Done (record { start = start; name = x; value_type = t }))))) y ts rest → IsTyped start y ts rest
+typed_is (both is_name (both is_tok (both t (both is_tok done)))) = is_typed t
+
+helper_call_is : {y : HelperCall} {ts rest : List Tok} → Both IsName (λ x. Both (IsTok (mark OpenParen)) (λ b. Both (AreListed (IsExpr ANY)) (λ es. Both (IsTok (mark CloseParen)) (λ c. Done (record { helper = x; arguments = es }))))) y ts rest → IsHelperCall y ts rest
+helper_call_is (both is_name (both is_tok (both es (both is_tok done)))) = is_helper_call es
 
 owner_is : {y : Owner} {ts rest : List Tok} → Both (IsTok (word keyword.Where)) (λ w. Both IsName (λ f. Both (IsTok (mark DoubleEquals)) (λ q. Both IsName (λ x. Done (record { field = f; local = x }))))) y ts rest → IsOwner y ts rest
 owner_is (both is_tok (both is_name (both is_tok (both is_name done)))) = is_owner
@@ -42,13 +51,6 @@ if_is (both (is_condition e) (both b (both o done))) = is_if e b o
 while_is : {start : Span} {y : Stmt} {ts rest : List Tok} → Both IsCondition (λ e. Both IsBracedPair (λ b. Done (while start e b.0 b.1))) y ts rest → IsStmt y (tok (word keyword.While) start ∷ ts) rest
 while_is (both (is_condition e) (both b done)) = is_while e b
 
--- a local whose first word stands there
-pub data IsLocalFrom (start : Span) : Local → List Tok → List Tok → Type 0 where
-  from_there : {l : Local} {ts rest : List Tok} → l.start ≡ start → IsLocal l ts rest → IsLocalFrom start l ts rest
-
-local_from_is : {start : Span} {y : Local} {ts rest : List Tok} → (y.start ≡ start) × IsLocal y ts rest → IsLocalFrom start y ts rest
-local_from_is h = from_there h.0 h.1
-
 -- what a `let` of this local ends with
 data IsLetEnd (l : Local) : Stmt → List Tok → List Tok → Type 0 where
   ends_plain : {semicolon : Span} {ts : List Tok} → IsLetEnd l (let_local l) (tok (mark Semicolon) semicolon ∷ ts) ts
@@ -64,11 +66,27 @@ let_ended : {l : Local} {y : Stmt} {ts mid rest : List Tok} → IsLocal l ts mid
 let_ended h ends_plain = is_let h
 let_ended h (ends_owned o) = is_let_owned h o
 
-let_is : {start : Span} {y : Stmt} {ts rest : List Tok} → Both (IsLocalFrom start) (λ l. IsLetEnd l) y ts rest → IsStmt y (tok (word keyword.Let) start ∷ ts) rest
-let_is {y = y} {ts = ts} {rest = rest} (both (from_there e h) f) = subst (λ (s : Span). IsStmt y (tok (word keyword.Let) s ∷ ts) rest) e (let_ended h f)
+-- what stands behind the sign `=` of a `let`
+data IsLetRest (t : TypedName) : Stmt → List Tok → List Tok → Type 0 where
+  rest_valued : {e : Expr} {s : Stmt} {ts mid rest : List Tok} → IsExpr ANY e ts mid → IsLetEnd (local_with t e) s mid rest → IsLetRest t s ts rest
+  rest_called : {c : HelperCall} {start semicolon : Span} {ts rest : List Tok}
+      → IsHelperCall c ts (tok (mark Semicolon) semicolon ∷ rest) → IsLetRest t (let_call (called_with t c)) (tok (word keyword.Call) start ∷ ts) rest
 
-var_is : {start : Span} {y : Stmt} {ts rest : List Tok} → Both (IsLocalFrom start) (λ l. Both (IsTok (mark Semicolon)) (λ s. Done (var_local l))) y ts rest → IsStmt y (tok (word keyword.Var) start ∷ ts) rest
-var_is {y = y} {ts = ts} {rest = rest} (both (from_there e h) (both is_tok done)) = subst (λ (s : Span). IsStmt y (tok (word keyword.Var) s ∷ ts) rest) e (is_var h)
+valued_is : {t : TypedName} {y : Stmt} {ts rest : List Tok} → Both (IsExpr ANY) (λ e. IsLetEnd (local_with t e)) y ts rest → IsLetRest t y ts rest
+valued_is (both e f) = rest_valued e f
+
+called_is : {t : TypedName} {y : Stmt} {ts rest : List Tok} → Both (IsTok (word keyword.Call)) (λ w. Both IsHelperCall (λ c. Both (IsTok (mark Semicolon)) (λ s. Done (let_call (called_with t c))))) y ts rest → IsLetRest t y ts rest
+called_is (both is_tok (both c (both is_tok done))) = rest_called c
+
+let_is : {start : Span} {y : Stmt} {ts rest : List Tok} → Both (IsTyped start) (λ t. IsLetRest t) y ts rest → IsStmt y (tok (word keyword.Let) start ∷ ts) rest
+let_is {start = start} (both (is_typed {x = x} {t = t} h) (rest_valued {e = e} i f)) = let_ended {l = record { start = start; name = x; value_type = t; value = e }} (is_local h i) f
+let_is (both (is_typed t) (rest_called c)) = is_let_call t c
+
+var_is : {start : Span} {y : Stmt} {ts rest : List Tok} → Both (IsTyped start) (λ t. Both IsEnded (λ e. Done (var_local (local_with t e)))) y ts rest → IsStmt y (tok (word keyword.Var) start ∷ ts) rest
+var_is (both (is_typed t) (both (ended e) done)) = is_var (is_local t e)
+
+call_stmt_is : {start : Span} {y : Stmt} {ts rest : List Tok} → Both IsHelperCall (λ c. Both (IsTok (mark Semicolon)) (λ s. Done (Stmt.call start c))) y ts rest → IsStmt y (tok (word keyword.Call) start ∷ ts) rest
+call_stmt_is (both c (both is_tok done)) = is_call_stmt c
 
 print_is : {start : Span} {e : Expr} {ts rest : List Tok} → IsEnded e ts rest → IsStmt (print start e) (tok (word keyword.Print) start ∷ ts) rest
 print_is (ended h) = is_print h
@@ -90,40 +108,71 @@ module _ (limit : ℕ) where
     can = λ rest. (record { field = no_name; local = no_name }, tok (word keyword.Where) nowhere ∷ name_tok no_name ∷ tok (mark DoubleEquals) nowhere ∷ name_tok no_name ∷ rest, is_owner);
   }
 
+  typed_law : (d : ℕ) (start : Span) → Law limit (IsTyped start) (typed_at start) 1 d d
+  unfolding typed_at
+  typed_law d start =
+      production limit (IsTyped start)
+      (then_part limit (name_part limit d) (then_part limit (sign_part limit Colon d (λ o. o)) (then_part limit (type_part limit d) (then_part limit (sign_part limit Equals d (λ o. o)) (ends_with limit (λ x. record { start = start; name = x.0.0.0.1; value_type = x.0.1 }))))))
+      (λ y ts rest r. typed_is r)
+
+  typed_part : {P : Type 0} (d : ℕ) (start : Span) → Part limit P (IsTyped start) (typed_at start) 1 d d
+  typed_part d start = record {
+    law = λ p. typed_law d start;
+    can = λ rest. (record { start = start; name = no_name; value_type = int_type }, name_tok no_name ∷ tok (mark Colon) nowhere ∷ tok (word keyword.Int) nowhere ∷ tok (mark Equals) nowhere ∷ rest, is_typed is_int_type);
+  }
+
+  plain_rest : {P X : Type 0} (d : ℕ) (make : X → Local) → Rest limit P (λ (x : X). IsLetEnd (make x)) (λ x. plain_at (make x)) 1 d d
+  plain_rest d make = record {
+    law = λ p x. production limit (IsLetEnd (make x)) (then_part limit (sign_part limit Semicolon d (λ o. o)) (ends_with limit (λ y. let_local (make x)))) (λ y ts rest r. plain_is r);
+    can = λ rest. (tok (mark Semicolon) nowhere ∷ rest, λ x. (let_local (make x), ends_plain));
+  }
+
+  owned_rest : {P X : Type 0} (d : ℕ) (make : X → Local) → Rest limit P (λ (x : X). IsLetEnd (make x)) (λ x. owned_at (make x)) 1 d d
+  owned_rest d make = record {
+    law = λ p x. production limit (IsLetEnd (make x)) (then_part limit (owner_part d) (then_part limit (sign_part limit Semicolon d (λ o. o)) (ends_with limit (λ y. let_owned (make x) y.0.1)))) (λ y ts rest r. owned_is r);
+    can = λ rest. (tok (mark Semicolon) nowhere ∷ rest, λ x. (let_local (make x), ends_plain));
+  }
+
   module _ (room d : ℕ) (sum : d + room ≡ limit) where
-    local_law : (start : Span) → Law limit (IsLocalFrom start) (local_at room start) 1 d d
-    unfolding local_at
-    local_law start =
-        production limit (IsLocalFrom start)
-        (then_part limit (name_part limit d) (then_part limit (sign_part limit Colon d (λ o. o)) (then_part limit (type_part limit d) (then_part limit (sign_part limit Equals d (λ o. o)) (then_part limit (any_part limit (expr_at room) d (λ p. expr_law limit room d sum))
-        (ends_with limit (λ x. record { start = start; name = x.0.0.0.0.1; value_type = x.0.0.1; value = x.1 })))))))
-        (λ y ts rest r. local_from_is (local_is r))
+    helper_call_law : Law limit IsHelperCall (helper_call_at room) 1 d d
+    unfolding helper_call_at
+    helper_call_law =
+        production limit IsHelperCall
+        (then_part limit (name_part limit d) (then_open limit OpenParen room sum tt (then_part limit (listed_part limit (suc d) (any_part limit (inside_at room) (suc d) (inside_law limit room d sum))) (then_part limit (sign_part limit CloseParen (suc d) (λ o. o))
+        (ends_with limit (λ x. record { helper = x.0.0.0.1; arguments = x.0.1 }))))))
+        (λ y ts rest r. helper_call_is r)
 
-    local_part : {P : Type 0} (start : Span) → Part limit P (IsLocalFrom start) (local_at room start) 1 d d
-    local_part start = record {
-      law = λ p. local_law start;
-      can = λ rest. (record { start = start; name = no_name; value_type = int_type; value = zero_expr }, name_tok no_name ∷ tok (mark Colon) nowhere ∷ tok (word keyword.Int) nowhere ∷ tok (mark Equals) nowhere ∷ zero_tok ∷ rest, from_there refl (is_local is_int_type is_int));
+    helper_call_part : {P : Type 0} → Part limit P IsHelperCall (helper_call_at room) 1 d d
+    helper_call_part = record {
+      law = λ p. helper_call_law;
+      can = λ rest. (record { helper = no_name; arguments = [] }, name_tok no_name ∷ tok (mark OpenParen) nowhere ∷ tok (mark CloseParen) nowhere ∷ rest, is_helper_call none_listed);
     }
 
-    plain_rest : {P : Type 0} → Rest limit P (λ (x : Unit {0} × Local). IsLetEnd x.1) (λ x. plain_at x.1) 1 d d
-    plain_rest = record {
-      law = λ p x. production limit (IsLetEnd x.1) (then_part limit (sign_part limit Semicolon d (λ o. o)) (ends_with limit (λ y. let_local x.1))) (λ y ts rest r. plain_is r);
-      can = λ rest. (tok (mark Semicolon) nowhere ∷ rest, λ x. (let_local x.1, ends_plain));
+    valued_rest : {P : Type 0} → Rest limit P (λ (x : Unit {0} × TypedName). IsLetRest x.1) (λ x. valued_at room x.1) 1 d d
+    valued_rest = record {
+      law = λ p x.
+          production limit (IsLetRest x.1) (then_part limit (any_part limit (expr_at room) d (λ p. expr_law limit room d sum)) (either limit (word keyword.Where) (owned_rest d (λ (y : Unit {0} × Expr). local_with x.1 y.1)) (plain_rest d (λ (y : Unit {0} × Expr). local_with x.1 y.1)))) (λ y ts rest r. valued_is r);
+      can = λ rest. (zero_tok ∷ tok (mark Semicolon) nowhere ∷ rest, λ x. (let_local (local_with x.1 zero_expr), rest_valued is_int ends_plain));
     }
 
-    owned_rest : {P : Type 0} → Rest limit P (λ (x : Unit {0} × Local). IsLetEnd x.1) (λ x. owned_at x.1) 1 d d
-    owned_rest = record {
-      law = λ p x. production limit (IsLetEnd x.1) (then_part limit (owner_part d) (then_part limit (sign_part limit Semicolon d (λ o. o)) (ends_with limit (λ y. let_owned x.1 y.0.1)))) (λ y ts rest r. owned_is r);
-      can = λ rest. (tok (mark Semicolon) nowhere ∷ rest, λ x. (let_local x.1, ends_plain));
+    called_rest : {P : Type 0} → Rest limit P (λ (x : Unit {0} × TypedName). IsLetRest x.1) (λ x. called_at room x.1) 1 d d
+    called_rest = record {
+      law = λ p x.
+          production limit (IsLetRest x.1) (then_part limit (word_part limit keyword.Call d) (then_part limit helper_call_part (then_part limit (sign_part limit Semicolon d (λ o. o)) (ends_with limit (λ y. let_call (called_with x.1 y.0.1)))))) (λ y ts rest r. called_is r);
+      can = λ rest. (zero_tok ∷ tok (mark Semicolon) nowhere ∷ rest, λ x. (let_local (local_with x.1 zero_expr), rest_valued is_int ends_plain));
     }
 
     let_law : (start : Span) → Law limit (at_rest IsStmt (tok (word keyword.Let) start)) (let_at room start) 1 d d
     unfolding let_at
-    let_law start = production limit (at_rest IsStmt (tok (word keyword.Let) start)) (then_part limit (local_part start) (either limit (word keyword.Where) owned_rest plain_rest)) (λ y ts rest r. let_is r)
+    let_law start = production limit (at_rest IsStmt (tok (word keyword.Let) start)) (then_part limit (typed_part d start) (either limit (word keyword.Call) called_rest valued_rest)) (λ y ts rest r. let_is r)
 
     var_law : (start : Span) → Law limit (at_rest IsStmt (tok (word keyword.Var) start)) (var_at room start) 1 d d
     unfolding var_at
-    var_law start = production limit (at_rest IsStmt (tok (word keyword.Var) start)) (then_part limit (local_part start) (then_part limit (sign_part limit Semicolon d (λ o. o)) (ends_with limit (λ x. var_local x.0.1)))) (λ y ts rest r. var_is r)
+    var_law start = production limit (at_rest IsStmt (tok (word keyword.Var) start)) (then_part limit (typed_part d start) (then_part limit (ended_part limit room d sum) (ends_with limit (λ x. var_local (local_with x.0.1 x.1))))) (λ y ts rest r. var_is r)
+
+    call_stmt_law : (start : Span) → Law limit (at_rest IsStmt (tok (word keyword.Call) start)) (call_stmt_at room start) 1 d d
+    unfolding call_stmt_at
+    call_stmt_law start = production limit (at_rest IsStmt (tok (word keyword.Call) start)) (then_part limit helper_call_part (then_part limit (sign_part limit Semicolon d (λ o. o)) (ends_with limit (λ x. Stmt.call start x.0.1)))) (λ y ts rest r. call_stmt_is r)
 
     assign_law : (x : Ident) → Law limit (at_rest IsStmt (name_tok x)) (assign_at room x) 0 d d
     unfolding assign_at
@@ -177,6 +226,7 @@ module _ (limit : ℕ) where
       stmt_head (word keyword.While) at = takes 1 (λ e. cc) (λ o. absurd o) (while_law at)
       stmt_head (word keyword.Print) at = takes 1 (λ e. cc) (λ o. absurd o) (production limit (at_rest IsStmt (tok (word keyword.Print) at)) (then_part limit (ended_part limit room d sum) (ends_with limit (λ x. print at x.1))) (one_is _ (λ x ts rest h. print_is h)))
       stmt_head (word keyword.Return) at = takes 1 (λ e. cc) (λ o. absurd o) (production limit (at_rest IsStmt (tok (word keyword.Return) at)) (then_part limit (ended_part limit room d sum) (ends_with limit (λ x. return_value at x.1))) (one_is _ (λ x ts rest h. return_is h)))
+      stmt_head (word keyword.Call) at = takes 1 (λ e. cc) (λ o. absurd o) (call_stmt_law at)
       stmt_head _ at = refuses (λ ts. refl)
 
       stmt_with_law : Law limit IsStmt (stmt_with room body) 1 d d

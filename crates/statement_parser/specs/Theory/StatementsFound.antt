@@ -2,36 +2,47 @@
 use Rattle.std.proofs.Common.{◌≡◌, ℕ, zero, suc, true, false, List, [], ◌∷◌, length, Ok, refl, sym, subst}
 use Rattle.source.specs.declared.span.Span.{Span}
 use Rattle.source.specs.declared.token.Keyword.TheVariants as keyword
-use Rattle.source.specs.declared.token.Sign.TheVariants.{OpenBrace, CloseBrace, OpenParen, Semicolon, Colon, Equals, DoubleEquals}
+use Rattle.source.specs.declared.token.Sign.TheVariants.{OpenBrace, CloseBrace, OpenParen, CloseParen, Semicolon, Colon, Equals, DoubleEquals}
 use Rattle.source.specs.Tokens.{Lexeme, name, word, mark, end, Tok}
 use Rattle.source.specs.Tokens as lexeme
-use Rattle.syntax.specs.Trees.{Ident, Place, Expr, Local, Owner, Stmt, let_local, let_owned, var_local, assign, if_then, while, print, return_value, Stmts, no_stmts, stmt, Otherwise, no_else, else_do}
-use Rattle.syntax.specs.Grammar.{tok, name_tok, ANY, IsName, is_name, IsType, IsPlace, is_lone, is_element, is_path, IsExpr, IsLocal, is_local, IsOwner, is_owner, IsStmt, is_let, is_let_owned, is_var, is_assign, is_if, is_while, is_print, is_return, IsStmts, are_no_stmts, are_stmts, IsBraced, is_braced, IsElse, is_no_else, is_else}
+use Rattle.syntax.specs.Trees.{Ident, Place, Expr, Local, Owner, HelperCall, CalledLocal, Stmt, let_local, let_owned, let_call, var_local, assign, if_then, while, print, return_value, Stmts, no_stmts, stmt, Otherwise, no_else, else_do}
+use Rattle.syntax.specs.Grammar.{tok, name_tok, AreListed, ANY, IsName, is_name, IsType, IsPlace, is_lone, is_element, is_path, IsExpr, IsLocal, is_local, IsOwner, is_owner, IsHelperCall, is_helper_call, IsStmt, is_let, is_let_owned, is_let_call, is_var, is_assign, is_if, is_while, is_print, is_return, is_call_stmt, IsStmts, are_no_stmts, are_stmts, IsBraced, is_braced, IsElse, is_no_else, is_else}
 use Rattle.token_parts.specs.Reading.{◌>>=◌, same_kind, sign_at, open_at, word_at, choose}
-use Rattle.statement_parser.specs.Expressions.{inside_at, place_at, ended_at, condition_at}
-use Rattle.statement_parser.specs.Statements.{local_at, owner_at, owned_at, plain_at, let_at, var_at, assign_at, braced_with, some_else, nothing_else, else_with, if_with, while_with, stmt_with, stmt_at, stmts_with, stmts_in, braced_at}
+use Rattle.statement_parser.specs.Expressions.{inside_at, place_at, expr_at, ended_at, condition_at}
+use Rattle.statement_parser.specs.Statements.{TypedName, local_with, called_with, typed_at, owner_at, owned_at, plain_at, helper_call_at, called_at, valued_at, let_at, var_at, call_stmt_at, assign_at, braced_with, some_else, nothing_else, else_with, if_with, while_with, stmt_with, stmt_at, stmts_with, stmts_in, braced_at}
 use Rattle.token_parts.specs.Theory.Law.{IsTok, is_tok}
 use Rattle.token_parts.specs.Theory.Joined.{Done, done, Both, both}
 use Rattle.statement_parser.specs.Theory.Productions.{IsEnded, ended}
-use Rattle.statement_parser.specs.Theory.StatementLaws.{IsLocalFrom, from_there, IsBracedPair}
+use Rattle.statement_parser.specs.Theory.StatementLaws.{IsTyped, is_typed, IsBracedPair}
 use Rattle.statement_parser.specs.Theory.StatementTurns.{next_stmt_shortens}
-use Rattle.statement_parser.specs.Theory.Complete.{NoOps, no_ops_semicolon, no_ops_where, no_place_equals, PlaceFound, place_found, any_found, ended_found, condition_found}
-use Rattle.token_parts.specs.Theory.Finding.{Finds, found, deep, finds_then, FindsPart, Anything, ends_found, then_found, and_found, production_found, sign_found, word_found, name_found, NotNext, IsNext, until_none, until_found, choose_left, choose_right}
-use Rattle.token_parts.specs.Theory.PartsFound.{type_found}
+use Rattle.statement_parser.specs.Theory.Complete.{NoOps, no_ops_close, no_ops_semicolon, no_ops_where, no_place_equals, PlaceFound, place_found, any_found, expr_starts, ended_found, condition_found, ClosesAll, arguments_found}
+use Rattle.token_parts.specs.Theory.Finding.{Finds, found, deep, finds_then, FindsPart, Anything, ends_found, then_found, and_found, production_found, sign_found, word_found, open_then, name_found, NotNext, IsNext, until_none, until_found, choose_left, choose_right}
+use Rattle.token_parts.specs.Theory.PartsFound.{type_found, close_closes}
 
-local_back : {start : Span} {y : Local} {ts rest : List Tok} → IsLocalFrom start y ts rest → Both IsName (λ x. Both (IsTok (mark Colon)) (λ c. Both IsType (λ t. Both (IsTok (mark Equals)) (λ q. Both (IsExpr ANY) (λ e. Done (record { start = start; name = x; value_type = t; value = e })))))) y ts rest
-local_back (from_there {l = l} {rest = rest} same (is_local t e)) = both is_name (both is_tok (both t (both is_tok (both e (subst (λ (s : Span). Done (record { start = s; name = l.name; value_type = l.value_type; value = l.value }) l rest rest) same done)))))
+-- ---- names with types, and calls
 
-local_ends : {x y : Local} {ts rest : List Tok} → Done x y ts rest → NoOps ANY rest → NoOps ANY ts
-local_ends done stops = stops
+typed_back : {start : Span} {y : TypedName} {ts rest : List Tok} → IsTyped start y ts rest → Both IsName (λ x. Both (IsTok (mark Colon)) (λ c. Both IsType (λ t. Both (IsTok (mark Equals)) (λ q. Done (record { start = start; name = x; value_type = t }))))) y ts rest
+typed_back (is_typed t) = both is_name (both is_tok (both t (both is_tok done)))
 
-local_found : (room : ℕ) (start : Span) → FindsPart (NoOps ANY) (IsLocalFrom start) (local_at room start)
-unfolding local_at
-local_found room start =
-    production_found (IsLocalFrom start)
-    (and_found name_found (and_found (sign_found Colon) (and_found type_found (and_found (sign_found Equals) (then_found {F = NoOps ANY} (λ e ts mid h f. any_found h room f) (λ x a y ts rest r f. local_ends r f)
-    (ends_found (λ x. record { start = start; name = x.0.0.0.0.1; value_type = x.0.0.1; value = x.1 })))))))
-    (λ y ts rest h. local_back h)
+typed_found : (start : Span) → FindsPart Anything (IsTyped start) (typed_at start)
+unfolding typed_at
+typed_found start =
+    production_found (IsTyped start)
+    (and_found name_found (and_found (sign_found Colon) (and_found type_found (and_found (sign_found Equals) (ends_found (λ x. record { start = start; name = x.0.0.0.1; value_type = x.0.1 }))))))
+    (λ y ts rest h. typed_back h)
+
+call_closes : {A : Type 0} {R : Span → A → List Tok → List Tok → Type 0} {y : A} {ts rest : List Tok} → Both (IsTok (mark CloseParen)) R y ts rest → ClosesAll ts
+call_closes (both {x = at} {mid = ts} is_tok r) = (close_closes (both {x = at} is_tok r), no_ops_close at ts)
+
+helper_call_back : {y : HelperCall} {ts rest : List Tok} → IsHelperCall y ts rest → Both IsName (λ x. Both (IsTok (mark OpenParen)) (λ b. Both (AreListed (IsExpr ANY)) (λ es. Both (IsTok (mark CloseParen)) (λ c. Done (record { helper = x; arguments = es }))))) y ts rest
+helper_call_back (is_helper_call es) = both is_name (both is_tok (both es (both is_tok done)))
+
+helper_call_found : (room : ℕ) → FindsPart Anything IsHelperCall (helper_call_at room)
+unfolding helper_call_at
+helper_call_found room =
+    production_found IsHelperCall
+    (and_found name_found (open_then OpenParen room (λ r e. then_found {F = ClosesAll} (arguments_found room r e) (λ x a y ts rest q f. call_closes q) (and_found (sign_found CloseParen) (ends_found (λ x. record { helper = x.0.0.0.1; arguments = x.0.1 }))))))
+    (λ y ts rest h. helper_call_back h)
 
 assign_found : (room : ℕ) (x : Ident) (p : Place) (e : Expr) (equals : Span) (ts us rest : List Tok) → Finds (place_at room (inside_at room) x ts) (p, tok (mark Equals) equals ∷ us) → IsEnded e us rest → Finds (assign_at room x ts) (assign p e, rest)
 unfolding assign_at sign_at
@@ -82,28 +93,55 @@ owner_stops (is_owner {o} {start} {equals} {rest}) = no_ops_where start (name_to
 owner_begins : {o : Owner} {ts rest : List Tok} → IsOwner o ts rest → IsNext (word keyword.Where) ts
 owner_begins is_owner = refl
 
+-- the name and the type of a local
+abbrev typed_local : Local → TypedName
+typed_local l = record { start = l.start; name = l.name; value_type = l.value_type }
+
+abbrev typed_called : CalledLocal → TypedName
+typed_called l = record { start = l.start; name = l.name; value_type = l.value_type }
+
+-- a `let` of a value, by what stands behind it
+valued_found : (room : ℕ) (t : TypedName) (e : Expr) (s : Stmt) (ts us mid rest : List Tok) → IsTyped t.start t ts us → IsExpr ANY e us mid → NoOps ANY mid → Finds (choose (word keyword.Where) (owned_at (local_with t e)) (plain_at (local_with t e)) mid) (s, rest) → Finds (stmt_at room (tok (word keyword.Let) t.start ∷ ts)) (s, rest)
+unfolding stmt_with let_at
+valued_found room t e s ts us mid rest h i stops f =
+    finds_then (typed_at t.start ts) (λ t. choose (word keyword.Call) (called_at room t.0) (valued_at room t.0) t.1) (t, us) (s, rest) (typed_found t.start t ts us h tt)
+    (choose_right (word keyword.Call) (called_at room t) (valued_at room t) us (s, rest) (expr_starts i).1
+    (finds_then (expr_at room us) (λ e. choose (word keyword.Where) (owned_at (local_with t e.0)) (plain_at (local_with t e.0)) e.1) (e, mid) (s, rest) (any_found i room stops) f))
+
 let_found : (room : ℕ) (l : Local) (semicolon : Span) (ts rest : List Tok) → IsLocal l ts (tok (mark Semicolon) semicolon ∷ rest) → Finds (stmt_at room (tok (word keyword.Let) l.start ∷ ts)) (let_local l, rest)
-unfolding stmt_with let_at sign_at
-let_found room l semicolon ts rest h =
+unfolding sign_at
+let_found room l semicolon _ rest (is_local {mid = mid} t e) =
     let us = tok (mark Semicolon) semicolon ∷ rest in
-    finds_then (local_at room l.start ts) (λ l. choose (word keyword.Where) (owned_at l.0) (plain_at l.0) l.1) (l, us) (let_local l, rest) (local_found room l.start l ts us (from_there refl h) (no_ops_semicolon semicolon rest))
-    (choose_right (word keyword.Where) (owned_at l) (plain_at l) us (let_local l, rest) refl (found refl))
+    valued_found room (typed_local l) l.value (let_local l) _ mid us rest (is_typed t) e (no_ops_semicolon semicolon rest) (choose_right (word keyword.Where) (owned_at l) (plain_at l) us (let_local l, rest) refl (found refl))
 
 owned_found : (l : Local) (o : Owner) (semicolon : Span) (ts rest : List Tok) → IsOwner o ts (tok (mark Semicolon) semicolon ∷ rest) → Finds (owned_at l ts) (let_owned l o, rest)
 unfolding sign_at
 owned_found l o semicolon ts rest h = finds_then (owner_at ts) (λ o. sign_at Semicolon o.1 >>= λ s. Ok (let_owned l o.0, s.1)) (o, tok (mark Semicolon) semicolon ∷ rest) (let_owned l o, rest) (owner_found o ts _ h tt) (found refl)
 
 let_owned_found : (room : ℕ) (l : Local) (o : Owner) (semicolon : Span) (ts mid rest : List Tok) → IsLocal l ts mid → IsOwner o mid (tok (mark Semicolon) semicolon ∷ rest) → Finds (stmt_at room (tok (word keyword.Let) l.start ∷ ts)) (let_owned l o, rest)
-unfolding stmt_with let_at
-let_owned_found room l o semicolon ts mid rest h g =
-    finds_then (local_at room l.start ts) (λ l. choose (word keyword.Where) (owned_at l.0) (plain_at l.0) l.1) (l, mid) (let_owned l o, rest) (local_found room l.start l ts mid (from_there refl h) (owner_stops g))
-    (choose_left (word keyword.Where) (owned_at l) (plain_at l) mid (let_owned l o, rest) (owner_begins g) (owned_found l o semicolon mid rest g))
+let_owned_found room l o semicolon _ mid rest (is_local {mid = us} t e) g =
+    valued_found room (typed_local l) l.value (let_owned l o) _ us mid rest (is_typed t) e (owner_stops g) (choose_left (word keyword.Where) (owned_at l) (plain_at l) mid (let_owned l o, rest) (owner_begins g) (owned_found l o semicolon mid rest g))
+
+let_call_found : (room : ℕ) (l : CalledLocal) (start semicolon : Span) (ts mid rest : List Tok) → IsTyped l.start (typed_called l) ts (tok (word keyword.Call) start ∷ mid) → IsHelperCall l.call mid (tok (mark Semicolon) semicolon ∷ rest) → Finds (stmt_at room (tok (word keyword.Let) l.start ∷ ts)) (let_call l, rest)
+unfolding stmt_with let_at word_at sign_at
+let_call_found room l start semicolon ts mid rest h g =
+    let t = typed_called l in
+    let us = tok (word keyword.Call) start ∷ mid in
+    finds_then (typed_at l.start ts) (λ t. choose (word keyword.Call) (called_at room t.0) (valued_at room t.0) t.1) (t, us) (let_call l, rest) (typed_found l.start t ts us h tt)
+    (choose_left (word keyword.Call) (called_at room t) (valued_at room t) us (let_call l, rest) refl
+    (finds_then (helper_call_at room mid) (λ c. sign_at Semicolon c.1 >>= λ s. Ok (let_call (called_with t c.0), s.1)) (l.call, tok (mark Semicolon) semicolon ∷ rest) (let_call l, rest) (helper_call_found room l.call mid _ g tt) (found refl)))
 
 var_found : (room : ℕ) (l : Local) (semicolon : Span) (ts rest : List Tok) → IsLocal l ts (tok (mark Semicolon) semicolon ∷ rest) → Finds (stmt_at room (tok (word keyword.Var) l.start ∷ ts)) (var_local l, rest)
-unfolding stmt_with var_at sign_at
-var_found room l semicolon ts rest h =
-    let us = tok (mark Semicolon) semicolon ∷ rest in
-    finds_then (local_at room l.start ts) (λ l. sign_at Semicolon l.1 >>= λ s. Ok (var_local l.0, s.1)) (l, us) (var_local l, rest) (local_found room l.start l ts us (from_there refl h) (no_ops_semicolon semicolon rest)) (found refl)
+unfolding stmt_with var_at
+var_found room l semicolon ts rest (is_local {mid = mid} t e) =
+    let n = typed_local l in
+    finds_then (typed_at l.start ts) (λ t. ended_at room t.1 >>= λ e. Ok (var_local (local_with t.0 e.0), e.1)) (n, mid) (var_local l, rest) (typed_found l.start n ts mid (is_typed t) tt)
+    (finds_then (ended_at room mid) (λ e. Ok (var_local (local_with n e.0), e.1)) (l.value, rest) (var_local l, rest) (ended_found room l.value mid rest (ended e) tt) (found refl))
+
+call_stmt_found : (room : ℕ) (start : Span) (c : HelperCall) (semicolon : Span) (ts rest : List Tok) → IsHelperCall c ts (tok (mark Semicolon) semicolon ∷ rest) → Finds (stmt_at room (tok (word keyword.Call) start ∷ ts)) (Stmt.call start c, rest)
+unfolding stmt_with call_stmt_at sign_at
+call_stmt_found room start c semicolon ts rest h =
+    finds_then (helper_call_at room ts) (λ c. sign_at Semicolon c.1 >>= λ s. Ok (Stmt.call start c.0, s.1)) (c, tok (mark Semicolon) semicolon ∷ rest) (Stmt.call start c, rest) (helper_call_found room c ts _ h tt) (found refl)
 
 print_found : (room : ℕ) (start : Span) (e : Expr) (ts rest : List Tok) → IsEnded e ts rest → Finds (stmt_at room (tok (word keyword.Print) start ∷ ts)) (print start e, rest)
 unfolding stmt_with
@@ -121,12 +159,14 @@ place_begins (is_path h) = (refl, refl)
 stmt_begins : {s : Stmt} {ts rest : List Tok} → IsStmt s ts rest → NotNext (mark CloseBrace) ts × NotNext (word keyword.Else) ts
 stmt_begins (is_let h) = (refl, refl)
 stmt_begins (is_let_owned h o) = (refl, refl)
+stmt_begins (is_let_call t c) = (refl, refl)
 stmt_begins (is_var h) = (refl, refl)
 stmt_begins (is_assign p h) = place_begins p
 stmt_begins (is_if e b o) = (refl, refl)
 stmt_begins (is_while e b) = (refl, refl)
 stmt_begins (is_print h) = (refl, refl)
 stmt_begins (is_return h) = (refl, refl)
+stmt_begins (is_call_stmt c) = (refl, refl)
 
 kind_no_else : (k : Lexeme) → same_kind k (mark CloseBrace) ≡ true → same_kind k (word keyword.Else) ≡ false
 kind_no_else (mark m) e = refl
@@ -155,12 +195,14 @@ mutual
   stmt_found : {s : Stmt} {ts rest : List Tok} → IsStmt s ts rest → (room : ℕ) → NotNext (word keyword.Else) rest → Finds (stmt_at room ts) (s, rest)
   stmt_found (is_let {l = l} {semicolon = semicolon} {ts = ts} {rest = rest} h) room follow = let_found room l semicolon ts rest h
   stmt_found (is_let_owned {l = l} {o = o} {semicolon = semicolon} {ts = ts} {mid = mid} {rest = rest} h g) room follow = let_owned_found room l o semicolon ts mid rest h g
+  stmt_found (is_let_call {l = l} {start = start} {semicolon = semicolon} {mid = mid} {rest = rest} t c) room follow = let_call_found room l start semicolon _ mid rest (is_typed t) c
   stmt_found (is_var {l = l} {semicolon = semicolon} {ts = ts} {rest = rest} h) room follow = var_found room l semicolon ts rest h
   stmt_found (is_assign {p = p} {e = e} {equals = equals} {ts = ts} {mid = mid} {rest = rest} i h) room follow = place_assign room p e equals ts mid rest (place_found i room (no_place_equals equals mid)) (ended h)
   stmt_found (is_if {e = e} {body = body} {other = other} {start = start} {before = before} {after = behind} {close = close} {ts = ts} {mid = mid} {next = next} {rest = rest} h b o) room follow = if_found room start before e body close other ts mid next rest (condition_found room e before behind ts mid h) (braced_found b room) (else_found o room follow)
   stmt_found (is_while {e = e} {body = body} {start = start} {before = before} {after = behind} {close = close} {ts = ts} {mid = mid} {rest = rest} h b) room follow = while_found room start before e body close ts mid rest (condition_found room e before behind ts mid h) (braced_found b room)
   stmt_found (is_print {e = e} {start = start} {ts = ts} {rest = rest} h) room follow = print_found room start e ts rest (ended h)
   stmt_found (is_return {e = e} {start = start} {ts = ts} {rest = rest} h) room follow = return_found room start e ts rest (ended h)
+  stmt_found (is_call_stmt {c = c} {start = start} {semicolon = semicolon} {ts = ts} {rest = rest} h) room follow = call_stmt_found room start c semicolon ts rest h
 
   stmts_found : {ss : Stmts} {ts rest : List Tok} → IsStmts ss ts rest → (room : ℕ) → IsNext (mark CloseBrace) rest → Finds (stmts_with (stmt_at room) ts) (ss, rest)
   stmts_found (are_no_stmts {ts = ts}) room follow = no_stmts_found room ts follow

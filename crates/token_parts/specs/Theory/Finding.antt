@@ -132,22 +132,37 @@ skip_found : (s : Sign) (at : Span) (ts : List Tok) → skip_at s (tok (mark s) 
 unfolding skip_at
 skip_found s at ts = ap (λ (b : Bool). cond b (Some ts) None) (same_sign-refl s)
 
-module _ {A : Type 0} (R : A → List Tok → List Tok → Type 0) (f : Reader A) (part : FindsPart Anything R f) where
-  module _ (s : Sign) (shorter : NextShortens (next_after s f)) where
+-- items that are read where E holds of the tokens behind them
+module _ {A : Type 0} (E : List Tok → Type 0) (R : A → List Tok → List Tok → Type 0) (f : Reader A) (part : FindsPart E R f) where
+  -- an item may end where others follow
+  module _ (s : Sign) (before_sign : (at : Span) (ts : List Tok) → E (tok (mark s) at ∷ ts)) where
+    ends_before : {xs : List A} {ts rest : List Tok} → AreMany (IsAfter s R) xs ts rest → E rest → E ts
+    ends_before no_more e = e
+    ends_before (one_more (after {at = at} {ts = ts} r) more) e = before_sign at ts
+
+  module _ (s : Sign) (before_sign : (at : Span) (ts : List Tok) → E (tok (mark s) at ∷ ts)) (shorter : NextShortens (next_after s f)) where
     each_turn : (ts : List Tok) → after_each s f ts ≡ turn [] ◌∷◌ (after_each s f) (next_after s f ts) ts
     unfolding after_each
     each_turn = many_at-turn [] ◌∷◌ (next_after s f) shorter
 
-    pub each_found : FindsPart (NoSign s) (AreMany (IsAfter s R)) (after_each s f)
-    each_found _ ts mid no_more follow = found (each_turn ts ∙ ap (λ o. turn [] ◌∷◌ (after_each s f) (behind f o) ts) follow)
-    each_found _ ts rest (one_more {xs = xs} {mid = mid} (after {x = x} {at = at} {ts = us} r) more) follow =
-        same_finds _ (f us >>= λ y. after_each s f y.1 >>= λ l. Ok (y.0 ∷ l.0, l.1)) (x ∷ xs, rest) (each_turn ts ∙ ap (λ o. turn [] ◌∷◌ (after_each s f) (behind f o) ts) (skip_found s at us)) (finds_then (f us) (λ y. after_each s f y.1 >>= λ l. Ok (y.0 ∷ l.0, l.1)) (x, mid) (x ∷ xs, rest) (part x us mid r tt) (finds_then (after_each s f mid) (λ l. Ok (x ∷ l.0, l.1)) (xs, rest) (x ∷ xs, rest) (each_found xs mid rest more follow) (found refl)))
+    pub each_ended : FindsPart (λ ts. NoSign s ts × E ts) (AreMany (IsAfter s R)) (after_each s f)
+    each_ended _ ts mid no_more follow = found (each_turn ts ∙ ap (λ o. turn [] ◌∷◌ (after_each s f) (behind f o) ts) follow.0)
+    each_ended _ ts rest (one_more {xs = xs} {mid = mid} (after {x = x} {at = at} {ts = us} r) more) follow =
+        same_finds _ (f us >>= λ y. after_each s f y.1 >>= λ l. Ok (y.0 ∷ l.0, l.1)) (x ∷ xs, rest) (each_turn ts ∙ ap (λ o. turn [] ◌∷◌ (after_each s f) (behind f o) ts) (skip_found s at us)) (finds_then (f us) (λ y. after_each s f y.1 >>= λ l. Ok (y.0 ∷ l.0, l.1)) (x, mid) (x ∷ xs, rest) (part x us mid r (ends_before s before_sign more follow.1)) (finds_then (after_each s f mid) (λ l. Ok (x ∷ l.0, l.1)) (xs, rest) (x ∷ xs, rest) (each_ended xs mid rest more follow) (found refl)))
+
+  pub listed_ended : ((at : Span) (ts : List Tok) → E (tok (mark Comma) at ∷ ts)) → NextShortens (next_after Comma f) → ((x : A) (ts rest : List Tok) → R x ts rest → NotNext (mark CloseParen) ts) → FindsPart (λ ts. Closes ts × E ts) (AreListed R) (listed_at f)
+  unfolding listed_at
+  listed_ended before_comma shorter starts _ ts mid none_listed follow = found (ap (λ (b : Bool). listed_from f b ts) follow.0.closing)
+  listed_ended before_comma shorter starts _ ts rest (listed {x = x} {xs = xs} {mid = mid} r more) follow =
+      same_finds _ (listed_from f false ts) (x ∷ xs, rest) (ap (λ (b : Bool). listed_from f b ts) (starts x ts mid r)) (finds_then (f ts) (λ y. after_each Comma f y.1 >>= λ l. Ok (y.0 ∷ l.0, l.1)) (x, mid) (x ∷ xs, rest) (part x ts mid r (ends_before Comma before_comma more follow.1)) (finds_then (after_each Comma f mid) (λ l. Ok (x ∷ l.0, l.1)) (xs, rest) (x ∷ xs, rest) (each_ended Comma before_comma shorter xs mid rest more (follow.0.no_comma, follow.1)) (found refl)))
+
+-- items that anything may follow
+module _ {A : Type 0} (R : A → List Tok → List Tok → Type 0) (f : Reader A) (part : FindsPart Anything R f) where
+  pub each_found : (s : Sign) → NextShortens (next_after s f) → FindsPart (NoSign s) (AreMany (IsAfter s R)) (after_each s f)
+  each_found s shorter x ts mid h follow = each_ended Anything R f part s (λ at us. tt) shorter x ts mid h (follow, tt)
 
   pub listed_found : NextShortens (next_after Comma f) → ((x : A) (ts rest : List Tok) → R x ts rest → NotNext (mark CloseParen) ts) → FindsPart Closes (AreListed R) (listed_at f)
-  unfolding listed_at
-  listed_found shorter starts _ ts mid none_listed follow = found (ap (λ (b : Bool). listed_from f b ts) follow.closing)
-  listed_found shorter starts _ ts rest (listed {x = x} {xs = xs} {mid = mid} r more) follow =
-      same_finds _ (listed_from f false ts) (x ∷ xs, rest) (ap (λ (b : Bool). listed_from f b ts) (starts x ts mid r)) (finds_then (f ts) (λ y. after_each Comma f y.1 >>= λ l. Ok (y.0 ∷ l.0, l.1)) (x, mid) (x ∷ xs, rest) (part x ts mid r tt) (finds_then (after_each Comma f mid) (λ l. Ok (x ∷ l.0, l.1)) (xs, rest) (x ∷ xs, rest) (each_found Comma shorter xs mid rest more follow.no_comma) (found refl)))
+  listed_found shorter starts x ts mid h follow = listed_ended Anything R f part (λ at us. tt) shorter starts x ts mid h (follow, tt)
 
 -- ---- items up to a token of a kind
 

@@ -1,7 +1,7 @@
 use Rattle.token_parts.specs.Theory.Readers.{fails_on}
 use Rattle.std.proofs.lemmas.Result.{err_from_is_err_and}
 use Rattle.std.proofs.Common.{refl}
-use Rattle.source.specs.declared.token.Keyword.TheVariants.{Lock, Struct, Global, Pool, Init, Atomic, Thread}
+use Rattle.source.specs.declared.token.Keyword.TheVariants.{Lock, Struct, Global, Pool, Init, Atomic, Call, Thread}
 use Rattle.parser.specs.Declarations.{decl_at}
 use Rattle.token_parts.specs.Theory.First.{word_first}
 use Rattle.parser.proofs.decl.decl.Goals as goal
@@ -48,6 +48,22 @@ pub returns-in-Word-default-Init : goal.returns-in-Word-default-Init
 unfolding decl_at
 returns-in-Word-default-Init c = rw (word_first c.args.tokens.now c.first-item.result c.in-len1-up.len_at_least c.first-item.is c.in-Word-default-Init.span c.in-Word-default-Init.field-1 Init c.in-Word-default-Init.is (rw c.in-Word-default-Init.is at c.in-Word-default-Init.field-1-is) (decl_at c.args.room)) c.init.ensures
 
-pub returns-in-Word-default-Atomic : goal.returns-in-Word-default-Atomic
+pub returns-in_ok-section-in-Word-default-Atomic : goal.returns-in_ok-section-in-Word-default-Atomic
 unfolding decl_at
-returns-in-Word-default-Atomic c = rw (word_first c.args.tokens.now c.first-item.result c.in-len1-up.len_at_least c.first-item.is c.in-Word-default-Atomic.field-0 c.in-Word-default-Atomic.field-1 Atomic c.in-Word-default-Atomic.is (rw c.in-Word-default-Atomic.is at c.in-Word-default-Atomic.field-1-is) (decl_at c.args.room)) c.section.ensures
+returns-in_ok-section-in-Word-default-Atomic c = rw (word_first c.args.tokens.now c.first-item.result c.in-len1-up.len_at_least c.first-item.is c.in-Word-default-Atomic.field-0 c.in-Word-default-Atomic.field-1 Atomic c.in-Word-default-Atomic.is (rw c.in-Word-default-Atomic.is at c.in-Word-default-Atomic.field-1-is) (decl_at c.args.room), c.in_ok-section-in-Word-default-Atomic.ensures) refl
+
+pub returns-in_err-section-in-Word-default-Atomic : goal.returns-in_err-section-in-Word-default-Atomic
+unfolding decl_at
+returns-in_err-section-in-Word-default-Atomic c =
+    let p = err_from_is_err_and c.from_residual-in_err-section-in-Word-default-Atomic.result c.from_residual-in_err-section-in-Word-default-Atomic.ensures.1 in
+    rw (p.1, p.2, word_first c.args.tokens.now c.first-item.result c.in-len1-up.len_at_least c.first-item.is c.in-Word-default-Atomic.field-0 c.in-Word-default-Atomic.field-1 Atomic c.in-Word-default-Atomic.is (rw c.in-Word-default-Atomic.is at c.in-Word-default-Atomic.field-1-is) (decl_at c.args.room)) (fails_on c.in_err-section-in-Word-default-Atomic.field-0.0 _ _ c.in_err-section-in-Word-default-Atomic.ensures)
+
+pub returns-in_ok-helper-in-Word-default-Call : goal.returns-in_ok-helper-in-Word-default-Call
+unfolding decl_at
+returns-in_ok-helper-in-Word-default-Call c = rw (word_first c.args.tokens.now c.first-item.result c.in-len1-up.len_at_least c.first-item.is c.in-Word-default-Call.field-0 c.in-Word-default-Call.field-1 Call c.in-Word-default-Call.is (rw c.in-Word-default-Call.is at c.in-Word-default-Call.field-1-is) (decl_at c.args.room), c.in_ok-helper-in-Word-default-Call.ensures) refl
+
+pub returns-in_err-helper-in-Word-default-Call : goal.returns-in_err-helper-in-Word-default-Call
+unfolding decl_at
+returns-in_err-helper-in-Word-default-Call c =
+    let p = err_from_is_err_and c.from_residual-in_err-helper-in-Word-default-Call.result c.from_residual-in_err-helper-in-Word-default-Call.ensures.1 in
+    rw (p.1, p.2, word_first c.args.tokens.now c.first-item.result c.in-len1-up.len_at_least c.first-item.is c.in-Word-default-Call.field-0 c.in-Word-default-Call.field-1 Call c.in-Word-default-Call.is (rw c.in-Word-default-Call.is at c.in-Word-default-Call.field-1-is) (decl_at c.args.room)) (fails_on c.in_err-helper-in-Word-default-Call.field-0.0 _ _ c.in_err-helper-in-Word-default-Call.ensures)

@@ -10,7 +10,7 @@ use Rattle.token_parts.specs.Reading.{choose, ◌>>=◌}
 use Rattle.token_parts.specs.Theory.Readers.{fails_on}
 use Rattle.token_parts.specs.Theory.Loops.{fewer}
 use Rattle.statement_parser.specs.Theory.StatementTurns.{stmt_shortens, stmts_go_on, stmts_end, stmts_stop}
-use Rattle.source.specs.declared.token.Keyword.TheVariants.{Let, Var, If, While, Print, Return}
+use Rattle.source.specs.declared.token.Keyword.TheVariants.{Let, Var, If, While, Print, Return, Call}
 use Rattle.source.specs.declared.token.Token.TheVariants as token
 use Rattle.std.specs.Rc.{rc_str_bytes}
 use Rattle.syntax.specs.Trees.{Ident, Expr, print, return_value}
@@ -145,6 +145,10 @@ stmt-returns-in-Word-default-If t c = rw (word_first c.args.tokens.now c.first-i
 pub stmt-returns-in-Word-default-While : goal.stmt-returns-in-Word-default-While
 unfolding stmt_with
 stmt-returns-in-Word-default-While t c = rw (word_first c.args.tokens.now c.first-item.result c.in-len1-up.len_at_least c.first-item.is c.in-Word-default-While.span c.in-Word-default-While.field-1 While c.in-Word-default-While.is (rw c.in-Word-default-While.is at c.in-Word-default-While.field-1-is) (stmt_at c.args.room)) c.while_rest.ensures
+
+pub stmt-returns-in-Word-default-Call : goal.stmt-returns-in-Word-default-Call
+unfolding stmt_with
+stmt-returns-in-Word-default-Call t c = rw (word_first c.args.tokens.now c.first-item.result c.in-len1-up.len_at_least c.first-item.is c.in-Word-default-Call.span c.in-Word-default-Call.field-1 Call c.in-Word-default-Call.is (rw c.in-Word-default-Call.is at c.in-Word-default-Call.field-1-is) (stmt_at c.args.room)) c.call_rest.ensures
 
 pub stmt-returns-in_ok-named-in-Name : goal.stmt-returns-in_ok-named-in-Name
 unfolding stmt_with

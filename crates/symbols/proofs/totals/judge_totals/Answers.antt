@@ -4,7 +4,7 @@ use Rattle.std.proofs.lemmas.List.{take_all, drop_all}
 use Rattle.syntax.specs.declared.tree.Decl as rust
 use Rattle.syntax.specs.Trees.{Decl}
 use Rattle.syntax.specs.Views.{decl_of}
-use Rattle.resolution.specs.Scopes.{alike, count, number_at}
+use Rattle.symbols.specs.Counted.{limited}
 use Rattle.source.specs.Mistakes.{least_of}
 use Rattle.resolution.specs.FaultLists.{count_faults, total_faults}
 use Rattle.symbols.specs.declared.totals.Totals.{Totals}
@@ -31,11 +31,11 @@ loop-place-preserved c =
     let more = take-here decl_of items i x lt is in
     let F = totals_of all in
     let new : c.with-totals.result ≡ F (ds ++ d ∷ []) = c.with-totals.ensures.sum ∙ ap (λ (t : Totals). both_totals t c.of-own.result) c.loop-place.invariant.so_far ∙ ap (both_totals (F ds)) c.of-own.ensures ∙ totals_push all ds d in
-    let number : c.number.result ≡ count (alike d) ds = c.number.ensures ∙ ap (λ (xs : List rust.Decl). number_at (decls_of xs) i d) (sym c.items-items.ensures) ∙ ap (count (alike d)) (take_map decl_of i items) in
+    let number : c.limited.result ≡ limited ds d = c.limited.ensures ∙ ap (λ (xs : List rust.Decl). limited (take i (decls_of xs)) d) (sym c.items-items.ensures) ∙ ap (λ (es : List Decl). limited es d) (take_map decl_of i items) in
     let noted : c.note_decl.new.least ≡ least_of c.loop-place.least (count_faults all ds d) =
     c.note_decl.ensures ∙ ap (λ (n : ℕ). least_of c.loop-place.least (faults_by n c.loop-place.totals c.of-own.result d)) number
-    ∙ ap (λ (t : Totals). least_of c.loop-place.least (faults_by (count (alike d) ds) t c.of-own.result d)) c.loop-place.invariant.so_far
-    ∙ ap (λ (t : Totals). least_of c.loop-place.least (faults_by (count (alike d) ds) (F ds) t d)) c.of-own.ensures
+    ∙ ap (λ (t : Totals). least_of c.loop-place.least (faults_by (limited ds d) t c.of-own.result d)) c.loop-place.invariant.so_far
+    ∙ ap (λ (t : Totals). least_of c.loop-place.least (faults_by (limited ds d) (F ds) t d)) c.of-own.ensures
     ∙ ap (least_of c.loop-place.least) (faults_are all ds d) in
     record {
       counts = subst (λ (es : List Decl). AreAhead F es c.push.new.self.items c.with-totals.result) (sym more)

@@ -21,6 +21,9 @@ push_stmt-returns-in-Let t c = rw c.in-Let.is ((rw c.deref.ensures at c.push_pla
 pub push_stmt-returns-in-LetOwned : goal.push_stmt-returns-in-LetOwned
 push_stmt-returns-in-LetOwned t c = rw c.in-LetOwned.is ((rw c.deref-in-LetOwned.ensures at c.push_owned.ensures))
 
+pub push_stmt-returns-in-LetCall : goal.push_stmt-returns-in-LetCall
+push_stmt-returns-in-LetCall t c = rw c.in-LetCall.is ((rw c.deref-in-LetCall.ensures at c.push_called.ensures))
+
 pub push_stmt-returns-in-Var : goal.push_stmt-returns-in-Var
 push_stmt-returns-in-Var t c = rw c.in-Var.is ((rw c.deref-in-Var.ensures at c.push_plain-in-Var.ensures))
 
@@ -39,6 +42,9 @@ push_stmt-returns-in-Print t c = rw c.in-Print.is (c.push_worded.ensures)
 
 pub push_stmt-returns-in-Return : goal.push_stmt-returns-in-Return
 push_stmt-returns-in-Return t c = rw c.in-Return.is (c.push_worded-in-Return.ensures)
+
+pub push_stmt-returns-in-Call : goal.push_stmt-returns-in-Call
+push_stmt-returns-in-Call t c = rw c.in-Call.is ((rw c.deref-in-Call.ensures at c.push_call.ensures))
 
 pub push_if-returns : goal.push_if-returns
 push_if-returns t c =

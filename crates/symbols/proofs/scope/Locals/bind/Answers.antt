@@ -31,5 +31,5 @@ returns c =
     let name : string_bytes c.in_ok-from_str.field-0 ≡ text = c.in_ok-from_str.ensures.ok ∙ c.as_str.ensures.value in
     let same : locals_seen c.push_local.new.items.items ≡ locals_seen s.items.items ++ named text ∷ [] =
     ap locals_seen c.in-Ok.ensures.items ∙ map-append local_seen s.items.items (_ ∷ []) ∙ ap (λ (n : List ℕ). locals_seen s.items.items ++ named n ∷ []) name in
-    λ decls. ap (λ (ls : List Local). scope_of decls (record { locals = ls; result = s.result })) same
+    λ decls. ap (λ (ls : List Local). scope_of decls (record { locals = ls; result = s.result; limits = s.limits })) same
     ∙ ap (λ (k : KnownLocals). bound (scope_of decls k) c.args.kind (ident c.args.name.now) c.args.value_type) c.self.view_is

@@ -14,6 +14,7 @@ loop-i-init c =
       hides = ap (hidden_from c.args.place) same;
       table = subst (λ (ls : List Local). IsTableOf local_bears ls c.self.inside.names) same c.self.invariant;
       type_same = ap (λ (k : KnownLocals). k.result) c.self.view_is;
+      limits_same = ap (λ (k : KnownLocals). k.limits) c.self.view_is;
       len = sym (seen_length c.self.inside.items.items) ∙ ap length same;
     }
 
@@ -30,6 +31,7 @@ loop-i-preserved c =
           ∙ c.loop-i.invariant.hides;
       table = c.loop-i.invariant.table;
       type_same = c.loop-i.invariant.type_same;
+      limits_same = c.loop-i.invariant.limits_same;
       len = grind (arith, common_steps);
     }
 

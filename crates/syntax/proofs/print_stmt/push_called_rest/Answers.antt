@@ -1,0 +1,6 @@
+use Rattle.syntax.proofs.Added.{followed_by}
+use Rattle.syntax.proofs.print_stmt.push_called_rest.Goals as goal
+
+pub returns : goal.returns
+returns c =
+    followed_by (followed_by (followed_by (followed_by c.push_name.ensures c.push_str.ensures) c.push_type.ensures) c.push_str-2.ensures) c.push_helper_call.ensures
