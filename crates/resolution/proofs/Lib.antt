@@ -36,3 +36,5 @@ pub mod LaidLocks
 pub mod LaidScripts
 pub mod WithinLimits
 pub mod WellFormed
+pub mod CallSites
+pub mod TreeGraphs

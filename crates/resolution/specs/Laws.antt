@@ -18,6 +18,8 @@ use Rattle.resolution.specs.Resolved.{Resolves}
 use Rattle.resolution.specs.Where.{Has}
 use Rattle.resolution.specs.Faults.{IsFault, HasNoFault}
 use Rattle.resolution.specs.FaultLists.{program_faults}
+use Rattle.call_graph.specs.Programs.{IsGraphOf}
+use Rattle.resolution.specs.CallGraphs.{tree_graph}
 
 -- the least fault of the program's list, if there is one
 abbrev pub the_least : List Decl → Option Mistake
@@ -46,6 +48,10 @@ NoLeastIsNoFault = (decls : List Decl) → the_least decls ≡ None → HasNoFau
 -- a program with no fault is resolved
 abbrev pub FaultlessAreResolved : Type 0
 FaultlessAreResolved = (decls : List Decl) → ReturnsRight decls → the_least decls ≡ None → (p : core.Program) × (resolved decls ≡ Some p)
+
+-- the graph of a tree with no fault is that of what it is resolved to
+abbrev pub GraphOfResolved : Type 0
+GraphOfResolved = (decls : List Decl) (program : Typed) → the_least decls ≡ None → Resolves decls program → IsGraphOf program (tree_graph decls)
 
 -- calls of helpers keep to the limits: no helper is too deep, and no section gets too many locals or points from helpers
 pub record CallsKeepLimits (program : Typed) : Type 0 where

@@ -1,6 +1,6 @@
 //! What holds of resolution and of faults: functions that do nothing, and whose contracts are the laws.
 
-ghost use Rattle.resolution.specs.Laws.{TheLeastIsAFault, NoneGoesBeforeTheLeast, NoLeastIsNoFault, HaveAtMostOneLeast, FaultlessAreResolved, ResolvedAreChecked, WithoutHelpersAreWellFormed};
+ghost use Rattle.resolution.specs.Laws.{TheLeastIsAFault, NoneGoesBeforeTheLeast, NoLeastIsNoFault, HaveAtMostOneLeast, FaultlessAreResolved, GraphOfResolved, ResolvedAreChecked, WithoutHelpersAreWellFormed};
 
 /// The least fault of the list is a fault of the program, and no fault of the program goes before it; and where the
 /// list is empty, the program has no fault.
@@ -18,6 +18,11 @@ pub fn one_least()
 /// A program with no fault is resolved.
 pub fn faultless_are_resolved()
     ensures { FaultlessAreResolved }
+{}
+
+/// The graph of what a tree with no fault calls is that of the program to which it is resolved.
+pub fn graph_of_resolved()
+    ensures { GraphOfResolved }
 {}
 
 /// What a program with no fault is resolved to is as an accepted program should be, if its calls of helpers keep to the
