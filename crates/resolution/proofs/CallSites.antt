@@ -1,8 +1,8 @@
 -- The calls and points of resolved statements are those of the tree.
-use Rattle.std.proofs.Common.{◌≡◌, ℕ, zero, suc, ◌+◌, List, [], ◌∷◌, ◌++◌, map, length, Option, Some, None, Bool, true, false, if◌then◌else◌, refl, sym, ap, ◌∙◌, subst, arith}
+use Rattle.std.proofs.Common.{◌≡◌, ℕ, ◌+◌, List, [], ◌∷◌, ◌++◌, map, length, Option, Some, None, Bool, true, false, if◌then◌else◌, refl, sym, ap, ◌∙◌, subst, arith}
 use Rattle.std.specs.Prelude.{is_some, ⊤}
 use Rattle.std.proofs.lemmas.List.{map-append}
-use Rattle.syntax.specs.Trees.{Expr, HelperCall, CalledLocal, Stmt, let_local, let_owned, let_call, var_local, assign, if_then, while, print, return_value, call, Stmts, no_stmts, stmt, Otherwise, no_else, else_do, Section, Decl, helper}
+use Rattle.syntax.specs.Trees.{Expr, Stmt, let_local, let_owned, let_call, var_local, assign, if_then, while, print, return_value, call, Stmts, no_stmts, stmt, no_else, else_do, Section, helper}
 use Rattle.core_lang.specs.declared.value.ValueType as core_type
 use Rattle.core_lang.specs.declared.tree.Stmt as s
 use Rattle.core_lang.specs.declared.tree.Action as a
@@ -15,8 +15,8 @@ use Rattle.resolution.specs.CoreViews.{core_action, core_stmts_row, core_stmts}
 use Rattle.resolution.specs.Scopes.{◌>>=◌, Scope, meaning, helper_meant, number_at, type_of, left}
 use Rattle.resolution.specs.Expressions.{want, fitting, as_value, number_resolved, test_resolved, typed}
 use Rattle.resolution.specs.Owners.{owned_by}
-use Rattle.resolution.specs.Statements.{Target, to_local, to_global, to_element, to_field, Assignee, target_of, wanted_by, first_name, Part, does, gives, acts_if, binds, set_to, assigns, prints, returns, repeats, chooses, chooses_between, Body, given_back, preceded, block_without, block_of, typed_values, called, call_resolved, type_given, can_take, after, after_all, first_value, typed_stmt, typed_if, typed_body}
-use Rattle.resolution.specs.CallGraphs.{site_at, call_sites, stmt_calls, else_calls, stmts_calls, stmt_points, else_points, stmts_points}
+use Rattle.resolution.specs.Statements.{Target, to_local, to_global, to_element, to_field, Assignee, target_of, wanted_by, first_name, Part, does, gives, acts_if, binds, set_to, assigns, prints, returns, repeats, chooses, chooses_between, Body, given_back, preceded, block_without, block_of, typed_values, called, call_resolved, type_given, can_take, after, after_all, first_value, typed_stmt, typed_body}
+use Rattle.resolution.specs.CallGraphs.{site_at, call_sites, stmt_calls, stmts_calls, stmt_points, stmts_points}
 
 -- ---- of resolved statements as data
 

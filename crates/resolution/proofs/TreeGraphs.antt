@@ -1,6 +1,6 @@
 -- The graph of a tree is that of the program which it stands for.
-use Rattle.std.proofs.Common.{◌≡◌, ℕ, zero, suc, ◌+◌, ◌<◌, ◌≤◌, List, [], ◌∷◌, ◌++◌, map, take, length, Option, Some, None, Bool, true, false, ◌⊎◌, inl, inr, refl, sym, ap, ◌∙◌, subst, length-append, arith}
-use Rattle.std.specs.Prelude.{slice_get, is_some, option_map}
+use Rattle.std.proofs.Common.{◌≡◌, ℕ, zero, suc, ◌+◌, ◌<◌, ◌≤◌, List, [], ◌∷◌, map, take, length, Option, Some, None, refl, sym, ap, ◌∙◌, subst, length-append, arith}
+use Rattle.std.specs.Prelude.{slice_get, is_some}
 use Rattle.std.proofs.lemmas.List.{length-map}
 use Rattle.std.proofs.lemmas.Option.{slice_get_within}
 use Rattle.syntax.specs.Trees.{ValueType, Section, Decl, lock, struct, global, array, pool, init, atomic, helper, thread}
@@ -8,14 +8,13 @@ use Rattle.core_lang.specs.declared.value.ValueType as core_type
 use Rattle.core_lang.specs.declared.tree.Section as the_section
 use Rattle.core_lang.specs.declared.typed.Typed.{Typed}
 use Rattle.core_lang.specs.Scopes.{numbers_from, bound_in_all, IsWellScoped}
-use Rattle.call_graph.specs.declared.graph.CallSite.{CallSite}
 use Rattle.call_graph.specs.Graphs.{Body}
-use Rattle.call_graph.specs.Programs.{site_of, IsBodyOf, IsGraphOf}
+use Rattle.call_graph.specs.Programs.{IsBodyOf, IsGraphOf}
 use Rattle.resolution.specs.declared.body_limits.BodyLimits.{BodyLimits}
 use Rattle.resolution.specs.Core as core
 use Rattle.resolution.specs.CoreViews.{core_local, core_section, core_of}
 use Rattle.resolution.specs.Limits.{SECTION_LIMIT, section_limits, helper_limits}
-use Rattle.resolution.specs.Scopes.{◌>>=◌, Scope, outside, count, alike, number_at, type_of, entered}
+use Rattle.resolution.specs.Scopes.{◌>>=◌, outside, count, alike, number_at, type_of}
 use Rattle.resolution.specs.Statements as statements
 use Rattle.resolution.specs.Statements.{typed_body, after_all}
 use Rattle.resolution.specs.Resolution.{resolved, ahead_of, entry, core_locals, section_with, section_of, typed_section}
@@ -50,7 +49,10 @@ with_type decls s locals body t r (Some v) x is e =
     let y : core.Section = record { name = s.name.text; parameters = length s.params; locals = locals; result_type = Some v; body = body.stmts; result = Some r } in
     let same : y ≡ x = cc in
     record {
-      locals = locals; body = body; locals_are = refl; body_is = refl;
+      locals = locals;
+      body = body;
+      locals_are = refl;
+      body_is = refl;
       same_parameters = ap (λ (z : core.Section). z.parameters) (sym same);
       same_locals = ap (λ (z : core.Section). z.locals) (sym same);
       same_body = ap (λ (z : core.Section). z.body) (sym same);
@@ -64,7 +66,10 @@ without_type decls s locals body x is e =
     let y : core.Section = record { name = s.name.text; parameters = length s.params; locals = locals; result_type = None; body = body.stmts; result = None } in
     let same : y ≡ x = cc in
     record {
-      locals = locals; body = body; locals_are = refl; body_is = refl;
+      locals = locals;
+      body = body;
+      locals_are = refl;
+      body_is = refl;
       same_parameters = ap (λ (z : core.Section). z.parameters) (sym same);
       same_locals = ap (λ (z : core.Section). z.locals) (sym same);
       same_body = ap (λ (z : core.Section). z.body) (sym same);
@@ -221,7 +226,7 @@ module _ (decls : List Decl) (clean : Clean decls) (program : Typed) (is : resol
       let from = helper_back decls decls k b (take_back SECTION_LIMIT (helper_bodies decls decls) k b at) in
       let x = helper_at decls clean (core_of program) is from.0 from.1.0 from.1.1 in
       let lt : number_at decls from.0 (helper from.1.0) < length (map core_section program.shape.helpers.items) =
-          slice_get_within (map core_section program.shape.helpers.items) (number_at decls from.0 (helper from.1.0)) x.0 x.1 in
+      slice_get_within (map core_section program.shape.helpers.items) (number_at decls from.0 (helper from.1.0)) x.0 x.1 in
       omega (arith, lt, from.1.2, length-map program.shape.helpers.items core_section)
 
   pub graph_is : IsGraphOf program (tree_graph decls)

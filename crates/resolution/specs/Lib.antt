@@ -19,4 +19,4 @@ pub mod Facts
 -- what the public clauses cite
 pub use Rattle.resolution.specs.Resolved.{Resolves}
 pub use Rattle.resolution.specs.Faults.{IsFault, IsRefusal, HasNoFault}
-pub use Rattle.resolution.specs.Laws.{TheLeastIsAFault, NoneGoesBeforeTheLeast, NoLeastIsNoFault, HaveAtMostOneLeast, FaultlessAreResolved, GraphOfResolved, CallsKeepLimits, ResolvedAreChecked, DeclaresNoHelper, WithoutHelpersAreWellFormed}
+pub use Rattle.resolution.specs.Laws.{TheLeastIsAFault, NoneGoesBeforeTheLeast, NoLeastIsNoFault, HaveAtMostOneLeast, FaultlessAreResolved, GraphOfResolved, ResolvedAreChecked, DeclaresNoHelper, WithoutHelpersAreWellFormed}

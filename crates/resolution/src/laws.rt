@@ -2,13 +2,17 @@
 
 ghost use Rattle.resolution.specs.Laws.{TheLeastIsAFault, NoneGoesBeforeTheLeast, NoLeastIsNoFault, HaveAtMostOneLeast, FaultlessAreResolved, GraphOfResolved, ResolvedAreChecked, WithoutHelpersAreWellFormed};
 
+use call_graph::laws::{faultless_keep_limits, listed_faults};
+
 /// The least fault of the list is a fault of the program, and no fault of the program goes before it; and where the
 /// list is empty, the program has no fault.
 pub fn least_fault()
     ensures fault { TheLeastIsAFault }
     ensures least { NoneGoesBeforeTheLeast }
     ensures none { NoLeastIsNoFault }
-{}
+{
+    listed_faults();
+}
 
 /// A program has at most one least fault: two faults before which none goes are the same.
 pub fn one_least()
@@ -25,11 +29,13 @@ pub fn graph_of_resolved()
     ensures { GraphOfResolved }
 {}
 
-/// What a program with no fault is resolved to is as an accepted program should be, if its calls of helpers keep to the
-/// limits.
+/// What a program with no fault is resolved to is as an accepted program should be.
 pub fn resolved_are_checked()
     ensures { ResolvedAreChecked }
-{}
+{
+    listed_faults();
+    faultless_keep_limits();
+}
 
 /// What a program with no fault, in which no helper is declared, is resolved to is well formed.
 pub fn without_helpers()
