@@ -1,5 +1,5 @@
 -- Statements and parameters one after another, blocks, and statements through their boxes.
-use Rattle.std.proofs.Common.{◌≡◌, Global, ℕ, ◌+◌, ◌<◌, List, [], ◌∷◌, ◌++◌, Option, Some, None, length, drop, get_or, map, refl, sym, ap, ◌∙◌, append_assoc, arith}
+use Rattle.std.proofs.Common.{◌≡◌, Global, ℕ, ◌+◌, ◌<◌, List, ◌++◌, Option, length, drop, get_or, map, refl, sym, ap, ◌∙◌, append_assoc, arith}
 use Rattle.std.specs.Prelude.{Box}
 use Rattle.syntax.specs.declared.tree.Stmt as tree_stmt
 use Rattle.syntax.specs.declared.tree.Stmt.{While, If}
@@ -35,7 +35,7 @@ calls_step sc sc' old new whole items i item lt is behind more before =
     let rest = stmts_of (drop (i + 1) items) in
     step (λ ss. old ++ stmts_calls sc (stmts_of ss)) (λ ss. new ++ stmts_calls sc' (stmts_of ss)) items i item whole lt is
     (ap (λ (z : Scope). new ++ stmts_calls z rest) behind ∙ ap (λ (l : List CallSite). l ++ stmts_calls (after sc (stmt_of item)) rest) more
-      ∙ append_assoc old (stmt_calls sc (stmt_of item)) (stmts_calls (after sc (stmt_of item)) rest))
+    ∙ append_assoc old (stmt_calls sc (stmt_of item)) (stmts_calls (after sc (stmt_of item)) rest))
     before
 
 pub points_step : (old new whole : ℕ) (items : List tree_stmt.Stmt) (i : ℕ) (item : tree_stmt.Stmt) → i < length items → item ≡ get_or items i item →
@@ -96,9 +96,9 @@ left_is decls old inner new number ss here within made result limits =
     let sc = scope_of decls old in
     let end = after_all sc ss in
     let made_is : scope_of decls new ≡ record (scope_of decls inner) { locals = hidden_from number inner.locals } =
-        ap (λ (l : List Local). record { decls = decls; locals = l; result = new.result; limits = new.limits }) made
-        ∙ ap (λ (r : Option core_type.ValueType). record { decls = decls; locals = hidden_from number inner.locals; result = r; limits = new.limits }) result
-        ∙ ap (λ (l : BodyLimits). record { decls = decls; locals = hidden_from number inner.locals; result = inner.result; limits = l }) limits in
+    ap (λ (l : List Local). record { decls = decls; locals = l; result = new.result; limits = new.limits }) made
+    ∙ ap (λ (r : Option core_type.ValueType). record { decls = decls; locals = hidden_from number inner.locals; result = r; limits = new.limits }) result
+    ∙ ap (λ (l : BodyLimits). record { decls = decls; locals = hidden_from number inner.locals; result = inner.result; limits = l }) limits in
     made_is ∙ ap (λ (z : Scope). record z { locals = hidden_from number z.locals }) within
     ∙ ap (λ (n : ℕ). record end { locals = hidden_from n end.locals }) here
     ∙ ap (λ (ds : List Decl). record { decls = ds; locals = hidden_from (length sc.locals) end.locals; result = end.result; limits = end.limits }) (all_decls sc ss)

@@ -1,8 +1,8 @@
 //! Programs.
 
-ghost use Rattle.std.specs.Prelude.{◌≡◌, ◌≤◌, ◌<◌, length, OnOk};
+ghost use Rattle.std.specs.Prelude.{◌≡◌, [], OnOk};
 ghost use Rattle.source.specs.Mistakes.{least_of};
-ghost use Rattle.call_graph.specs.Graphs.{graph_of, bodies_of};
+ghost use Rattle.call_graph.specs.Graphs.{graph_of};
 ghost use Rattle.call_graph.specs.FaultLists.{graph_faults};
 ghost use Rattle.resolution.specs.CallGraphs.{section_bodies, tree_graph};
 ghost use Rattle.symbols.specs.{decls_of};
@@ -31,9 +31,8 @@ const HELPER_LIMITS: BodyLimits = BodyLimits {
 impl Reader<'_> {
     // Adds the helpers, as many as there may be.
     fn add_helpers(&self, graph: &mut CallGraph) -> Result<(), AllocError>
-        requires { length graph.old.helpers.items ≡ 0 }
-        ensures helpers { OnOk result (bodies_of graph.new.helpers.items ≡ first_helpers (decls_of self.now.symbols.now)) }
-        ensures sections { graph.new.sections ≡ graph.old.sections }
+        requires { (graph_of graph.old).helpers ≡ [] }
+        ensures { OnOk result (graph_of graph.new ≡ record (graph_of graph.old) { helpers = first_helpers (decls_of self.now.symbols.now) }) }
     {
         for d in self.symbols.items() {
             if let Decl::Helper(s) = d {
@@ -48,9 +47,8 @@ impl Reader<'_> {
 
     // Adds the sections.
     fn add_sections(&self, graph: &mut CallGraph) -> Result<(), AllocError>
-        requires { length graph.old.sections.items ≡ 0 }
-        ensures helpers { graph.new.helpers ≡ graph.old.helpers }
-        ensures sections { OnOk result (bodies_of graph.new.sections.items ≡ section_bodies (decls_of self.now.symbols.now) (decls_of self.now.symbols.now)) }
+        requires { (graph_of graph.old).sections ≡ [] }
+        ensures { OnOk result (graph_of graph.new ≡ record (graph_of graph.old) { sections = section_bodies (decls_of self.now.symbols.now) (decls_of self.now.symbols.now) }) }
     {
         for d in self.symbols.items() {
             if let Decl::Atomic(s) = d {

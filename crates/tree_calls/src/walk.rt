@@ -109,12 +109,7 @@ impl Reader<'_> {
     }
 
     // A `let` or `var` with its value.
-    fn local(
-        &self,
-        kind: LocalKind,
-        local: &tree::Local,
-        walk: &mut Walk,
-    ) -> Result<(), AllocError>
+    fn local(&self, kind: LocalKind, local: &tree::Local, walk: &mut Walk) -> Result<(), AllocError>
         ensures scope { OnOk result (scope_at self.now walk.new.locals ≡ bound (scope_at self.now walk.old.locals) kind (local_of local.now).name (type_of (scope_at self.now walk.old.locals) (local_of local.now).value_type)) }
         ensures calls { OnOk result (walk.new.calls ≡ walk.old.calls) }
         ensures points { OnOk result (walk.new.points ≡ walk.old.points + 1) }
@@ -135,7 +130,12 @@ impl Reader<'_> {
             Stmt::LetOwned(owned) => self.local(LocalKind::Let, &owned.local, walk),
             Stmt::LetCall(local) => {
                 self.call(&local.call, true, walk)?;
-                self.bind(&local.name, LocalKind::Let, &local.value_type, &mut walk.locals)
+                self.bind(
+                    &local.name,
+                    LocalKind::Let,
+                    &local.value_type,
+                    &mut walk.locals,
+                )
             }
             Stmt::Var(local) => self.local(LocalKind::Var, local, walk),
             Stmt::If(choice) => self.choice(choice, walk),

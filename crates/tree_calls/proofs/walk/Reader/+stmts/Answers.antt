@@ -1,4 +1,4 @@
-use Rattle.std.proofs.Common.{◌≡◌, ℕ, ◌+◌, ◌++◌, List, Vec, Global, sym, ap, ◌∙◌, subst}
+use Rattle.std.proofs.Common.{◌≡◌, ◌+◌, ◌++◌, List, Vec, Global, ap, ◌∙◌, subst}
 use Rattle.std.specs.Prelude.{OnOk}
 use Rattle.syntax.specs.declared.tree.If.{out-If}
 use Rattle.syntax.specs.Trees.{Stmt}
@@ -26,7 +26,7 @@ choice-returns-clause-scope t c =
     let sc = scope_at reader c.args.walk.now.locals in
     let sc2 = scope_at reader c.block.new.walk.locals in
     let behind : sc2 ≡ behind_block sc (stmts_of (out-If c.args.choice.now).block.stmts.items) =
-        c.in_ok-block.ensures.scope ∙ ap (λ (k : KnownLocals). behind_block (scope_at reader k) (stmts_of (out-If c.args.choice.now).block.stmts.items)) c.in_ok-point.ensures.locals in
+    c.in_ok-block.ensures.scope ∙ ap (λ (k : KnownLocals). behind_block (scope_at reader k) (stmts_of (out-If c.args.choice.now).block.stmts.items)) c.in_ok-point.ensures.locals in
     on_ok_by c.otherwise.result (if_scope sc sc2 c.args.choice.now behind _) c.otherwise.ensures.scope
 
 pub choice-returns-clause-calls : goal.choice-returns-clause-calls
@@ -37,8 +37,8 @@ choice-returns-clause-calls t c =
     let body = stmts_of (out-If c.args.choice.now).block.stmts.items in
     let behind : sc2 ≡ behind_block sc body = c.in_ok-block.ensures.scope ∙ ap (λ (k : KnownLocals). behind_block (scope_at reader k) body) c.in_ok-point.ensures.locals in
     let first : c.block.new.walk.calls.items ≡ c.args.walk.now.calls.items ++ stmts_calls sc body =
-        c.in_ok-block.ensures.calls ∙ ap (λ (l : List CallSite). l ++ stmts_calls (scope_at reader c.point.new.self.locals) body) (ap (λ (v : Vec CallSite Global). v.items) c.in_ok-point.ensures.calls)
-        ∙ ap (λ (k : KnownLocals). c.args.walk.now.calls.items ++ stmts_calls (scope_at reader k) body) c.in_ok-point.ensures.locals in
+    c.in_ok-block.ensures.calls ∙ ap (λ (l : List CallSite). l ++ stmts_calls (scope_at reader c.point.new.self.locals) body) (ap (λ (v : Vec CallSite Global). v.items) c.in_ok-point.ensures.calls)
+    ∙ ap (λ (k : KnownLocals). c.args.walk.now.calls.items ++ stmts_calls (scope_at reader k) body) c.in_ok-point.ensures.locals in
     on_ok_by c.otherwise.result (if_calls sc sc2 c.args.choice.now behind c.args.walk.now.calls.items c.block.new.walk.calls.items _ first) c.otherwise.ensures.calls
 
 pub choice-returns-clause-points : goal.choice-returns-clause-points
