@@ -5,7 +5,7 @@ ghost use Rattle.syntax.specs.Trees.{struct};
 ghost use Rattle.syntax.specs.Views.{ident, array_of, struct_of, variable_of};
 ghost use Rattle.resolution.specs.CoreViews.{core_of, core_struct, core_section};
 ghost use Rattle.resolution.specs.Core.{global_lock};
-ghost use Rattle.resolution.specs.Resolution.{with_class, with_cell, empty_struct, global_with, array_with, with_section, with_thread, with_elements};
+ghost use Rattle.resolution.specs.Resolution.{with_class, with_cell, empty_struct, global_with, array_with, with_section, with_helper, with_thread, with_elements};
 ghost use Rattle.constants.specs.{calls_in};
 ghost use Rattle.declarations.specs.Grown.{if_right};
 ghost use Rattle.declarations.specs.Values.{known, extended_of};
@@ -87,6 +87,17 @@ pub fn add_section(section: Option<Section>, typed: &mut Typed) -> Result<bool, 
         return Ok(false);
     };
     typed.sections.push(section)?;
+    Ok(true)
+}
+
+/// Adds a helper, if it is right.
+pub fn add_helper(helper: Option<Section>, typed: &mut Typed) -> Result<bool, AllocError>
+    ensures { IfOk result (λ right. if_right right typed.new ≡ with_helper (core_of typed.old) (option_map core_section helper)) }
+{
+    let Some(helper) = helper else {
+        return Ok(false);
+    };
+    typed.shape.helpers.push(helper)?;
     Ok(true)
 }
 

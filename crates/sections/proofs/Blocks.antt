@@ -12,7 +12,7 @@ use Rattle.syntax.specs.declared.tree.Block as tree_block
 use Rattle.syntax.specs.declared.tree.Local as tree_local
 use Rattle.syntax.specs.declared.tree.Param as tree_param
 use Rattle.syntax.specs.Views.{expr_of, stmt_of, if_of, local_of, stmts_of, else_of, param_of}
-use Rattle.syntax.specs.Trees.{Decl, Stmt, let_local, let_owned, var_local, assign, if_then, while, print, return_value, Stmts, no_stmts, stmt, no_else, else_do, Param, Section}
+use Rattle.syntax.specs.Trees.{Decl, Stmt, let_local, let_owned, let_call, var_local, assign, if_then, while, print, return_value, call, Stmts, no_stmts, stmt, no_else, else_do, Param, Section}
 use Rattle.core_lang.specs.declared.value.ValueType as core_type
 use Rattle.syntax.specs.Rows.{while_of, stmt_of-While, if_of-out}
 use Rattle.core_lang.specs.declared.tree.LocalKind.TheVariants.{Parameter}
@@ -24,11 +24,11 @@ use Rattle.resolution.specs.CoreViews.{core_stmt, core_stmts, core_return}
 use Rattle.resolution.specs.declared.wanted.Want.TheVariants.{Condition}
 use Rattle.sections.specs.declared.stmt.Body as the_body
 use Rattle.sections.specs.Targets.{Row, row_of, body_of, pushed_to, body_pushed}
-use Rattle.resolution.specs.Limits.{PARAMETER_LIMIT}
-use Rattle.resolution.specs.Scopes.{Scope, hidden_from, bound, entered, outside, type_of, left}
+use Rattle.resolution.specs.declared.body_limits.BodyLimits.{BodyLimits}
+use Rattle.resolution.specs.Scopes.{Scope, hidden_from, bound, entered, outside, type_of, result_of, left}
 use Rattle.resolution.specs.Expressions.{typed, test_resolved}
 use Rattle.resolution.specs.Statements.{Part, does, gives, Body, given_back, preceded, typed_body, typed_stmt, typed_if, after, after_else, after_all, block_of, repeats, chooses_between}
-use Rattle.resolution.specs.Resolution.{result_of, ahead_of, entry, core_locals, section_of, typed_section}
+use Rattle.resolution.specs.Resolution.{ahead_of, core_locals, section_of, section_in}
 use Rattle.source.specs.Mistakes.{least_of}
 use Rattle.resolution.specs.FaultLists.{one_if, local_faults, type_faults, param_faults, stmt_faults, stmts_faults, wanted_faults, else_faults}
 use Rattle.symbols.specs.Steps.{step, noted_one, noted_two, noted_three}
@@ -139,7 +139,7 @@ stmt_scope_step sc sc' whole items i item lt is behind before =
 
 pub param_fault_step : (sc sc' : Scope) (items : List tree_param.Param) (i : ℕ) (item : tree_param.Param) (f g h k whole : Option Mistake) →
     i < length items → item ≡ get_or items i item →
-    g ≡ least_of f (local_faults sc (param_of item).name) → h ≡ least_of g (one_if (nat_le PARAMETER_LIMIT i) LimitExceeded (param_of item).name.span.start) →
+    g ≡ least_of f (local_faults sc (param_of item).name) → h ≡ least_of g (one_if (nat_le sc.limits.parameters i) LimitExceeded (param_of item).name.span.start) →
     k ≡ least_of h (type_faults (outside sc.decls) (param_of item).value_type) → sc' ≡ bound sc Parameter (param_of item).name (type_of (outside sc.decls) (param_of item).value_type) →
     least_of f (param_faults sc i (map param_of (drop i items))) ≡ whole → least_of k (param_faults sc' (i + 1) (map param_of (drop (i + 1) items))) ≡ whole
 param_fault_step sc sc' items i item f g h k whole lt is one two three behind before =
@@ -147,7 +147,7 @@ param_fault_step sc sc' items i item f g h k whole lt is one two three behind be
     let rest = map param_of (drop (i + 1) items) in
     step (λ ps. least_of f (param_faults sc i (map param_of ps))) (λ ps. least_of k (param_faults sc' (i + 1) (map param_of ps))) items i item whole lt is
     (ap (λ (z : Scope). least_of k (param_faults z (i + 1) rest)) behind
-    ∙ noted_three f g h k (local_faults sc p.name) (one_if (nat_le PARAMETER_LIMIT i) LimitExceeded p.name.span.start) (type_faults (outside sc.decls) p.value_type) (param_faults (bound sc Parameter p.name (type_of (outside sc.decls) p.value_type)) (i + 1) rest) one two three)
+    ∙ noted_three f g h k (local_faults sc p.name) (one_if (nat_le sc.limits.parameters i) LimitExceeded p.name.span.start) (type_faults (outside sc.decls) p.value_type) (param_faults (bound sc Parameter p.name (type_of (outside sc.decls) p.value_type)) (i + 1) rest) one two three)
     before
 
 pub param_scope_step : (sc sc' whole : Scope) (items : List tree_param.Param) (i : ℕ) (item : tree_param.Param) →
@@ -161,6 +161,7 @@ param_scope_step sc sc' whole items i item lt is behind before =
 after_decls : (sc : Scope) (s : Stmt) → (after sc s).decls ≡ sc.decls
 after_decls sc (let_local l) = refl
 after_decls sc (let_owned l o) = refl
+after_decls sc (let_call l) = refl
 after_decls sc (var_local l) = refl
 after_decls sc (assign p e) = refl
 after_decls sc (if_then start e body close no_else) = refl
@@ -168,6 +169,7 @@ after_decls sc (if_then start e body close (else_do other end)) = refl
 after_decls sc (while start e body close) = refl
 after_decls sc (print start e) = refl
 after_decls sc (return_value start e) = refl
+after_decls sc (call start c) = refl
 
 all_decls : (sc : Scope) (ss : Stmts) → (after_all sc ss).decls ≡ sc.decls
 all_decls sc no_stmts = refl
@@ -177,6 +179,23 @@ all_result : (sc : Scope) (ss : Stmts) → (after_all sc ss).result ≡ sc.resul
 all_result sc no_stmts = refl
 all_result sc (stmt s rest) = all_result (after sc s) rest ∙ after_result sc s
 
+after_limits : (sc : Scope) (s : Stmt) → (after sc s).limits ≡ sc.limits
+after_limits sc (let_local l) = refl
+after_limits sc (let_owned l o) = refl
+after_limits sc (let_call l) = refl
+after_limits sc (var_local l) = refl
+after_limits sc (assign p e) = refl
+after_limits sc (if_then start e body close no_else) = refl
+after_limits sc (if_then start e body close (else_do other end)) = refl
+after_limits sc (while start e body close) = refl
+after_limits sc (print start e) = refl
+after_limits sc (return_value start e) = refl
+after_limits sc (call start c) = refl
+
+all_limits : (sc : Scope) (ss : Stmts) → (after_all sc ss).limits ≡ sc.limits
+all_limits sc no_stmts = refl
+all_limits sc (stmt s rest) = all_limits (after sc s) rest ∙ after_limits sc s
+
 -- behind a block, whose locals are hidden
 pub left_is : (sc inner new : Scope) (number : ℕ) (ss : Stmts) → number ≡ length sc.locals → inner ≡ after_all sc ss → new ≡ record inner { locals = hidden_from number inner.locals } →
     new ≡ left sc (after_all sc ss)
@@ -184,8 +203,9 @@ left_is sc inner new number ss here within made =
     let end = after_all sc ss in
     made ∙ ap (λ (z : Scope). record z { locals = hidden_from number z.locals }) within
     ∙ ap (λ (n : ℕ). record end { locals = hidden_from n end.locals }) here
-    ∙ ap (λ (ds : List Decl). record { decls = ds; locals = hidden_from (length sc.locals) end.locals; result = end.result }) (all_decls sc ss)
-    ∙ ap (λ (r : Option core_type.ValueType). record { decls = sc.decls; locals = hidden_from (length sc.locals) end.locals; result = r }) (all_result sc ss)
+    ∙ ap (λ (ds : List Decl). record { decls = ds; locals = hidden_from (length sc.locals) end.locals; result = end.result; limits = end.limits }) (all_decls sc ss)
+    ∙ ap (λ (r : Option core_type.ValueType). record { decls = sc.decls; locals = hidden_from (length sc.locals) end.locals; result = r; limits = end.limits }) (all_result sc ss)
+    ∙ ap (λ (l : BodyLimits). record { decls = sc.decls; locals = hidden_from (length sc.locals) end.locals; result = sc.result; limits = l }) (all_limits sc ss)
 
 -- ---- a whole section
 
@@ -193,17 +213,20 @@ entered_decls : (sc : Scope) (ps : List Param) → (entered sc ps).decls ≡ sc.
 entered_decls sc [] = refl
 entered_decls sc (p ∷ ps) = entered_decls (bound sc Parameter p.name (type_of (outside sc.decls) p.value_type)) ps
 
-module _ (ds : List Decl) (s : Section) (result : Option core_type.ValueType) (start inner end : Scope) (locals : Option (List core.Local)) (body : Option Body) where
-  pub section_is : result ≡ result_of ds s → start ≡ record (outside ds) { result = result } → inner ≡ entered start s.params → body ≡ typed_body inner s.body.stmts →
-      end ≡ after_all inner s.body.stmts → locals ≡ core_locals end.locals → section_of end.decls s locals body ≡ typed_section ds s
-  section_is hr hs hi hb he hl =
-      let first : start ≡ ahead_of ds s = hs ∙ ap (λ (r : Option core_type.ValueType). record (outside ds) { result = r }) hr in
-      let here : inner ≡ entry ds s = hi ∙ ap (λ (z : Scope). entered z s.params) first in
-      let last : end ≡ after_all (entry ds s) s.body.stmts = he ∙ ap (λ (z : Scope). after_all z s.body.stmts) here in
-      let same : end.decls ≡ ds = ap (λ (z : Scope). z.decls) last ∙ all_decls (entry ds s) s.body.stmts ∙ entered_decls (ahead_of ds s) s.params in
+module _ (sc : Scope) (s : Section) (inner end : Scope) (locals : Option (List core.Local)) (body : Option Body) where
+  pub section_is : inner ≡ entered sc s.params → body ≡ typed_body inner s.body.stmts → end ≡ after_all inner s.body.stmts → locals ≡ core_locals end.locals →
+      section_of end.decls s locals body ≡ section_in sc s
+  section_is hi hb he hl =
+      let begun = entered sc s.params in
+      let last : end ≡ after_all begun s.body.stmts = he ∙ ap (λ (z : Scope). after_all z s.body.stmts) hi in
+      let same : end.decls ≡ sc.decls = ap (λ (z : Scope). z.decls) last ∙ all_decls begun s.body.stmts ∙ entered_decls sc s.params in
       ap (λ (x : List Decl). section_of x s locals body) same
-      ∙ ap (λ (x : Option (List core.Local)). section_of ds s x body) (hl ∙ ap (λ (z : Scope). core_locals z.locals) last)
-      ∙ ap (λ (x : Option Body). section_of ds s (core_locals (after_all (entry ds s) s.body.stmts).locals) x) (hb ∙ ap (λ (z : Scope). typed_body z s.body.stmts) here)
+      ∙ ap (λ (x : Option (List core.Local)). section_of sc.decls s x body) (hl ∙ ap (λ (z : Scope). core_locals z.locals) last)
+      ∙ ap (λ (x : Option Body). section_of sc.decls s (core_locals (after_all begun s.body.stmts).locals) x) (hb ∙ ap (λ (z : Scope). typed_body z s.body.stmts) hi)
+
+-- the scope that a checker begins with
+pub begun_is : (ds : List Decl) (limits : BodyLimits) (s : Section) (result : Option core_type.ValueType) (start : Scope) → result ≡ result_of ds s → start ≡ record (outside ds) { result = result; limits = limits } → start ≡ ahead_of ds limits s
+begun_is ds limits s result start hr hs = hs ∙ ap (λ (r : Option core_type.ValueType). record (outside ds) { result = r; limits = limits }) hr
 
 -- ---- loops and choices
 

@@ -1,4 +1,5 @@
 pub mod Targets
+pub mod Calls
 pub mod Whole
 -- what the public clauses cite
 pub use Rattle.resolution.specs.CoreViews.{core_section}

@@ -5,6 +5,7 @@ use Rattle.source.specs.declared.mistake.Mistake.{Mistake}
 use Rattle.syntax.specs.Trees as trees
 use Rattle.core_lang.specs.declared.value.ValueType.TheVariants.{Reference}
 use Rattle.core_lang.specs.declared.tree.LocalKind.{LocalKind}
+use Rattle.core_lang.specs.declared.tree.LocalKind.TheVariants.{Let}
 use Rattle.core_lang.specs.declared.tree.Condition as the_condition
 use Rattle.core_lang.specs.declared.tree.Stmt as the_stmt
 use Rattle.resolution.specs.Core as core
@@ -98,6 +99,10 @@ choice_with sc c other = typed_if sc c.start (test_seen c.condition) (block_seen
 -- behind a local
 abbrev pub behind_local : Scope → LocalKind → trees.Local → Scope
 behind_local sc kind l = bound sc kind l.name (type_of sc l.value_type)
+
+-- behind a `let` of a call
+abbrev pub behind_called : Scope → trees.CalledLocal → Scope
+behind_called sc l = bound sc Let l.name (type_of sc l.value_type)
 
 -- behind a block
 abbrev pub behind_block : Scope → trees.Stmts → Scope

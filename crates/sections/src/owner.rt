@@ -28,8 +28,8 @@ use syntax::tree::{Member, Name, Owner};
 /// How many structs there may be.
 const STRUCT_LIMIT: u32 = 64;
 
-/// How many locals a section may have.
-const LOCAL_LIMIT: u32 = 64;
+/// How long a source may be. None has as many locals.
+const SOURCE_LIMIT: u32 = 1048576;
 
 /// What a local opens with.
 #[derive(Drop)]
@@ -132,7 +132,7 @@ fn tested_by(
         return Ok(None);
     };
     let structure = up_to(STRUCT_LIMIT, field.structure);
-    let Some((structure, owner)) = structure.zip(up_to(LOCAL_LIMIT, local)) else {
+    let Some((structure, owner)) = structure.zip(up_to(SOURCE_LIMIT, local)) else {
         drop(value);
         return Ok(None);
     };
@@ -146,8 +146,7 @@ fn tested_by(
 }
 
 /// A local's value with what stands behind its `where`, of which each name is judged in any case: the final reference has
-/// to name what the local does. Where the struct or the local is one too many there is no value, and a fault tells of that
-/// elsewhere.
+/// to name what the local does. Where the struct is one too many there is no value, and a fault tells of that elsewhere.
 #[tactic(auto, using(source::specs::Leasts::least_append))]
 pub fn owned_by(
     checker: &Checker,

@@ -1,23 +1,25 @@
-//! Sections.
+//! Sections and helpers.
 
 ghost use Rattle.std.specs.Prelude.{◌≡◌, OnOk, IfOk, option_map, map};
 ghost use Rattle.syntax.specs.Views.{param_of, section_of as section_view};
 ghost use Rattle.resolution.specs.CoreViews as core;
 ghost use Rattle.resolution.specs.CoreViews.{core_section};
-ghost use Rattle.resolution.specs.Scopes.{entered};
-ghost use Rattle.resolution.specs.Resolution.{core_locals, core_local, result_of, typed_section};
+ghost use Rattle.resolution.specs.Limits.{section_limits, helper_limits};
+ghost use Rattle.resolution.specs.Scopes.{entered, result_of};
+ghost use Rattle.resolution.specs.Resolution.{core_locals, core_local, section_in, typed_section};
 ghost use Rattle.source.specs.Mistakes.{least_of};
 ghost use Rattle.resolution.specs.FaultLists.{param_faults, result_faults, section_faults};
 ghost use Rattle.symbols.specs.{decls_of, local_seen};
 ghost use Rattle.expressions.specs.Checkers.{scope};
 ghost use Rattle.resolved_expressions.specs.Parts.{pushed};
-ghost use Rattle.sections.specs.Whole.{locals_of, section_from, section_if};
+ghost use Rattle.sections.specs.Whole.{locals_of, section_from, section_if, blamed_in};
 
 use crate::stmt::{Body, judge_body};
 use core_lang::tree;
 use core_lang::tree::{LocalKind, Section};
 use core_lang::value::ValueType;
 use expressions::checker::Checker;
+use resolution::body_limits::BodyLimits;
 use resolved_expressions::judged::{Judged, Least};
 use source::fault::Code;
 use source::mistake::Mistake;
@@ -28,8 +30,17 @@ use symbols::table::SymbolTable;
 use syntax::tree as written;
 use syntax::tree::Param;
 
-/// How many parameters a section may have.
-const PARAMETER_LIMIT: usize = 8;
+/// What a section may have.
+const SECTION_LIMITS: BodyLimits = BodyLimits {
+    parameters: 8,
+    locals: 64,
+};
+
+/// What a helper may have: no source is long enough for more.
+const HELPER_LIMITS: BodyLimits = BodyLimits {
+    parameters: 1048576,
+    locals: 1048576,
+};
 
 /// A local, if its type has no fault.
 fn core_local(l: &Local) -> Judged<tree::Local>
@@ -77,7 +88,7 @@ fn core_locals(alloc: Global, locals: &[Local]) -> Judged<Vec<tree::Local>>
     Ok(made)
 }
 
-/// The type of a section's result, if it has one without a fault.
+/// The type of the result of a section or a helper, if it has one without a fault.
 fn result_type(symbols: &SymbolTable, s: &written::Section, least: &mut Least) -> Option<ValueType>
     ensures value { result ≡ result_of (decls_of symbols.now) (section_view s.now) }
     ensures faults { least.new ≡ least_of least.old (result_faults (decls_of symbols.now) (section_view s.now).result) }
@@ -91,7 +102,7 @@ fn result_type(symbols: &SymbolTable, s: &written::Section, least: &mut Least) -
     }
 }
 
-/// Declares a section's parameters, and notes what is wrong with them.
+/// Declares the parameters of a section or a helper, and notes what is wrong with them.
 #[tactic(auto, using(source::specs::Leasts::least_append))]
 fn judge_params(
     checker: &mut Checker,
@@ -104,7 +115,7 @@ fn judge_params(
     for (place, param) in params.iter().enumerate() {
         checker.note_name(&param.name, least);
         note_if(
-            PARAMETER_LIMIT <= place,
+            checker.limits().parameters <= place,
             Code::LimitExceeded,
             param.name.start as usize,
             least,
@@ -115,7 +126,7 @@ fn judge_params(
     Ok(())
 }
 
-/// A section's parts put together, where its result and its `return` agree.
+/// The parts of a section or a helper put together, where its result and its `return` agree.
 fn section_with(
     checker: &Checker,
     s: &written::Section,
@@ -155,7 +166,7 @@ fn section_with(
     }))
 }
 
-/// A section's parts put together, if none is missing.
+/// The parts of a section or a helper put together, if none is missing.
 fn section_of(
     checker: &Checker,
     s: &written::Section,
@@ -170,6 +181,21 @@ fn section_of(
     section_with(checker, s, locals, body)
 }
 
+/// A section or a helper, in the checker at its start, with what is wrong with its parameters and its statements.
+#[tactic(auto, using(source::specs::Leasts::least_append))]
+fn judge_in(checker: &mut Checker, s: &written::Section, least: &mut Least) -> Judged<Section>
+    ensures value { IfOk result (λ r. option_map core_section r ≡ section_in (scope checker.old) (section_view s.now)) }
+    ensures faults { OnOk result (least.new ≡ least_of least.old (blamed_in (scope checker.old) (section_view s.now))) }
+{
+    judge_params(checker, &s.params, least)?;
+    let body = judge_body(checker, &s.body.stmts, least)?;
+    let Ok(locals) = core_locals(checker.alloc(), checker.locals()) else {
+        drop(body);
+        return Err(AllocError);
+    };
+    section_of(checker, s, locals, body)
+}
+
 /// The section that a tree stands for: each name replaced by the number of what it means, every expression typed.
 /// `None` where something in it has no type, or its result and its `return` don't agree. What is wrong with it is
 /// noted. The one error is a refused growth.
@@ -180,25 +206,30 @@ pub fn judge_section(
     s: &written::Section,
     least: &mut Option<Mistake>,
 ) -> Result<Option<Section>, AllocError>
-    ensures value { IfOk result (λ r. option_map core_section r ≡ typed_section (decls_of symbols.now) (section_view s.now)) }
-    ensures faults { OnOk result (least.new ≡ least_of least.old (section_faults (decls_of symbols.now) (section_view s.now))) }
+    ensures value { IfOk result (λ r. option_map core_section r ≡ typed_section (decls_of symbols.now) section_limits (section_view s.now)) }
+    ensures faults { OnOk result (least.new ≡ least_of least.old (section_faults (decls_of symbols.now) section_limits (section_view s.now))) }
 {
     let result = result_type(symbols, s, least);
-    let mut checker = Checker::new(alloc, symbols, result);
-    let Ok(()) = judge_params(&mut checker, &s.params, least) else {
-        drop(checker);
-        return Err(AllocError);
-    };
-    let Ok(body) = judge_body(&mut checker, &s.body.stmts, least) else {
-        drop(checker);
-        return Err(AllocError);
-    };
-    let Ok(locals) = core_locals(alloc, checker.locals()) else {
-        drop(checker);
-        drop(body);
-        return Err(AllocError);
-    };
-    let section = section_of(&checker, s, locals, body);
+    let mut checker = Checker::new(alloc, symbols, result, SECTION_LIMITS);
+    let section = judge_in(&mut checker, s, least);
     drop(checker);
     section
+}
+
+/// The helper that a tree stands for, as [`judge_section`] says. It has no limits of its own.
+#[tactic(auto, using(source::specs::Leasts::least_append))]
+pub fn judge_helper(
+    alloc: Global,
+    symbols: &SymbolTable,
+    s: &written::Section,
+    least: &mut Option<Mistake>,
+) -> Result<Option<Section>, AllocError>
+    ensures value { IfOk result (λ r. option_map core_section r ≡ typed_section (decls_of symbols.now) helper_limits (section_view s.now)) }
+    ensures faults { OnOk result (least.new ≡ least_of least.old (section_faults (decls_of symbols.now) helper_limits (section_view s.now))) }
+{
+    let given = result_type(symbols, s, least);
+    let mut checker = Checker::new(alloc, symbols, given, HELPER_LIMITS);
+    let helper = judge_in(&mut checker, s, least);
+    drop(checker);
+    helper
 }

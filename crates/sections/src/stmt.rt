@@ -3,16 +3,18 @@
 ghost use Rattle.std.specs.Prelude.{◌≡◌, OnOk, IfOk, Some, None, map, option_map};
 ghost use Rattle.syntax.specs.Trees.{assign};
 ghost use Rattle.syntax.specs.Rows.{while_of};
-ghost use Rattle.syntax.specs.Views.{ident, expr_of, place_of, stmt_of, if_of, stmts_of, local_of, owner_of, else_of};
+ghost use Rattle.syntax.specs.Views.{ident, expr_of, place_of, stmt_of, if_of, stmts_of, local_of, owner_of, called_local_of, else_of};
 ghost use Rattle.core_lang.specs.declared.tree.LocalKind.TheVariants.{Let};
 ghost use Rattle.resolution.specs.CoreViews.{core_expr, core_stmt, core_action};
 ghost use Rattle.resolution.specs.Scopes.{bound, type_of};
-ghost use Rattle.resolution.specs.Statements.{does, acts, first_value, local_bound, owned_bound, binds, assigns, prints, returns, repeats, chooses, chooses_between, block_of, after, after_else, after_all, typed_stmt, typed_body};
+ghost use Rattle.resolution.specs.Statements.{does, acts, first_value, local_bound, owned_bound, called_bound, acts_if, binds, assigns, prints, returns, repeats, chooses, chooses_between, block_of, after, after_else, after_all, typed_stmt, typed_body};
 ghost use Rattle.source.specs.Mistakes.{least_of};
-ghost use Rattle.resolution.specs.FaultLists.{binding_faults, stmt_faults, else_faults, stmts_faults};
+ghost use Rattle.resolution.specs.FaultLists.{binding_faults, called_faults, stmt_faults, else_faults, stmts_faults};
 ghost use Rattle.expressions.specs.Checkers.{scope};
-ghost use Rattle.sections.specs.Targets.{next_bound, owned_faults, assignee_of, part_of, body_of, test_seen, block_seen, choice_with, behind_local, behind_block, row_of, pushed_to, body_pushed};
+ghost use Rattle.sections.specs.Calls.{acts_where};
+ghost use Rattle.sections.specs.Targets.{next_bound, owned_faults, assignee_of, part_of, body_of, test_seen, block_seen, choice_with, behind_local, behind_called, behind_block, row_of, pushed_to, body_pushed};
 
+use crate::call::{judge_call, takes_result};
 use crate::owner::{Opening, owned_by};
 use crate::target::{Assignee, Target, first_name, judge_target, wanted_by};
 use core_lang::tree::{Action, Condition, Expr, LocalKind, Return, Stmt};
@@ -54,6 +56,28 @@ fn act(start: usize, action: Action) -> Option<Part>
     ensures { option_map part_of result ≡ acts start (core_action action) }
 {
     Some(Part::Does(Stmt { start, action }))
+}
+
+/// A statement that does something, if that is right.
+fn act_if(start: usize, action: Option<Action>) -> Option<Part>
+    ensures { option_map part_of result ≡ acts_if start (option_map core_action action) }
+{
+    match action {
+        Some(action) => act(start, action),
+        None => None,
+    }
+}
+
+/// The same, where what it gives is taken.
+fn act_where(takes: bool, start: usize, action: Option<Action>) -> Option<Part>
+    ensures { option_map part_of result ≡ acts_where takes start (option_map core_action action) }
+{
+    if takes {
+        act_if(start, action)
+    } else {
+        drop(action);
+        None
+    }
 }
 
 /// A local is bound, unless its type is faulty.
@@ -294,6 +318,25 @@ fn judge_owned(
     bind_next(checker, LocalKind::Let, local, opening)
 }
 
+/// A `let` of what a helper gives back.
+#[tactic(auto, using(source::specs::Leasts::least_append))]
+fn judge_called(checker: &mut Checker, local: &tree::CalledLocal, least: &mut Least) -> Judged<Part>
+    ensures value { IfOk result (λ r. option_map part_of r ≡ called_bound (scope checker.old) (called_local_of local.now)) }
+    ensures faults { OnOk result (least.new ≡ least_of least.old (called_faults (scope checker.old) (called_local_of local.now))) }
+    ensures scope { OnOk result (scope checker.new ≡ behind_called (scope checker.old) (called_local_of local.now)) }
+{
+    checker.note_name(&local.name, least);
+    let value_type = checker.local_type(&local.value_type, least);
+    let takes = takes_result(checker, value_type, &local.call, least);
+    let number = checker.next();
+    let action = judge_call(checker, &local.call, Some(number), least)?;
+    let Ok(()) = checker.bind(&local.name, LocalKind::Let, value_type) else {
+        drop(action);
+        return Err(AllocError);
+    };
+    Ok(act_where(takes, local.start.start as usize, action))
+}
+
 /// An assignment, resolved, if its place and its value have types that fit.
 fn judge_assignment(checker: &Checker, p: &Place, e: &tree::Expr, least: &mut Least) -> Judged<Part>
     ensures value { IfOk result (λ r. option_map part_of r ≡ typed_stmt (scope checker.now) (assign (place_of p.now) (expr_of e.now))) }
@@ -317,6 +360,7 @@ fn judge_stmt(checker: &mut Checker, s: &tree::Stmt, least: &mut Least) -> Judge
     match s {
         tree::Stmt::Let(local) => judge_local(checker, LocalKind::Let, local, least),
         tree::Stmt::LetOwned(owned) => { judge_owned(checker, &owned.local, &owned.owner, least) }
+        tree::Stmt::LetCall(local) => judge_called(checker, local, least),
         tree::Stmt::Var(local) => judge_local(checker, LocalKind::Var, local, least),
         tree::Stmt::Assign(place, e) => judge_assignment(checker, place, e, least),
         tree::Stmt::If(choice) => judge_choice(checker, choice, least),
@@ -328,6 +372,10 @@ fn judge_stmt(checker: &mut Checker, s: &tree::Stmt, least: &mut Least) -> Judge
         tree::Stmt::Return(start, e) => {
             let value = checker.value(want(checker.result()), e, least)?;
             Ok(give(start.start as usize, value))
+        }
+        tree::Stmt::Call(start, call) => {
+            let action = judge_call(checker, call, None, least)?;
+            Ok(act_if(start.start as usize, action))
         }
     }
 }

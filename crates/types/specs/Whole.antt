@@ -2,8 +2,9 @@
 use Rattle.std.specs.Prelude.{ℕ, List, Option}
 use Rattle.syntax.specs.Trees.{Decl, Variable, Array, Section, Thread}
 use Rattle.resolution.specs.Core as core
+use Rattle.resolution.specs.Limits.{section_limits, helper_limits}
 use Rattle.resolution.specs.Scopes.{◌>>=◌}
-use Rattle.resolution.specs.Resolution.{extended, with_section, with_thread, typed_section, typed_calls, global_with, array_with}
+use Rattle.resolution.specs.Resolution.{extended, with_section, with_helper, with_thread, typed_section, typed_calls, global_with, array_with}
 use Rattle.declarations.specs.Values as builder
 use Rattle.types.specs.declared.program.Judge.{Judge}
 
@@ -25,7 +26,11 @@ array_if decls p a = p >>= λ q. array_with decls q a
 
 -- a program, if there is one, with a section more
 abbrev pub section_if : List Decl → Option core.Program → Section → Option core.Program
-section_if decls p s = p >>= λ q. with_section q (typed_section decls s)
+section_if decls p s = p >>= λ q. with_section q (typed_section decls section_limits s)
+
+-- a program, if there is one, with a helper more
+abbrev pub helper_if : List Decl → Option core.Program → Section → Option core.Program
+helper_if decls p s = p >>= λ q. with_helper q (typed_section decls helper_limits s)
 
 -- a program, if there is one, with a thread more
 abbrev pub thread_if : List Decl → Option core.Program → Thread → Option core.Program

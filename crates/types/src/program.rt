@@ -4,16 +4,18 @@ ghost use Rattle.std.specs.Prelude.{◌≡◌, OnOk, IfOk, IfErr, option_map, sl
 ghost use Rattle.syntax.specs.Trees.{pool, struct};
 ghost use Rattle.syntax.specs.Views.{array_of, decl_of, items_of, pool_of, section_of, struct_of, thread_of, tree_of, variable_of};
 ghost use Rattle.syntax.specs.Returns.{ReturnsRight};
-ghost use Rattle.core_lang.specs.WellFormed.{IsWellFormed};
+ghost use Rattle.core_lang.specs.WellFormed.{IsChecked, IsWellFormed};
 ghost use Rattle.resolution.specs.CoreViews.{core_of};
 ghost use Rattle.resolution.specs.Resolution.{resolved_from, nothing_yet};
+ghost use Rattle.resolution.specs.Limits.{section_limits, helper_limits};
 ghost use Rattle.resolution.specs.Resolved.{Resolves};
 ghost use Rattle.resolution.specs.Faults.{IsFault, IsRefusal, HasNoFault};
+ghost use Rattle.resolution.specs.Laws.{CallsKeepLimits, DeclaresNoHelper};
 ghost use Rattle.source.specs.Mistakes.{least_of, IsLeastOf};
 ghost use Rattle.resolution.specs.FaultLists.{global_faults, array_faults, section_faults, decl_faults, each_faults, items_faults};
 ghost use Rattle.symbols.specs.{decls_of};
 ghost use Rattle.declarations.specs.Grown.{built};
-ghost use Rattle.types.specs.Whole.{known, extended_if, global_if, array_if, section_if, thread_if};
+ghost use Rattle.types.specs.Whole.{known, extended_if, global_if, array_if, section_if, helper_if, thread_if};
 
 use annotations::note_lock;
 use constants::constant::note_opening;
@@ -22,12 +24,12 @@ use constants::thread::{note_items, typed_calls};
 use core_lang::shape::Shape;
 use core_lang::typed::Typed;
 use core_lang::{shape, typed};
-use declarations::grown::{Builder, Grown, add_lock, add_section};
+use declarations::grown::{Builder, Grown, add_helper, add_lock, add_section};
 use declarations::pool::note_missing;
 use declarations::struct_builder::note_members;
 use resolution::laws;
 use resolved_expressions::wanted::want;
-use sections::section::judge_section;
+use sections::section::{judge_helper, judge_section};
 use source::fault::{Fault, Refusal};
 use source::mistake::Mistake;
 use std::alloc::{AllocError, Global};
@@ -140,11 +142,28 @@ impl<'a> Judge<'a> {
         least: &mut Option<Mistake>,
     ) -> Result<(), AllocError>
         ensures value { OnOk result (built grown.new ≡ section_if (known self.now) (built grown.old) (section_of s.now)) }
-        ensures faults { OnOk result (least.new ≡ least_of least.old (section_faults (known self.now) (section_of s.now))) }
+        ensures faults { OnOk result (least.new ≡ least_of least.old (section_faults (known self.now) section_limits (section_of s.now))) }
     {
         let section = judge_section(self.builder.alloc, self.builder.symbols, s, least)?;
         if grown.is_right {
             grown.is_right = add_section(section, &mut grown.typed)?;
+        }
+        Ok(())
+    }
+
+    // A helper.
+    fn judge_helper(
+        &self,
+        s: &Section,
+        grown: &mut Grown,
+        least: &mut Option<Mistake>,
+    ) -> Result<(), AllocError>
+        ensures value { OnOk result (built grown.new ≡ helper_if (known self.now) (built grown.old) (section_of s.now)) }
+        ensures faults { OnOk result (least.new ≡ least_of least.old (section_faults (known self.now) helper_limits (section_of s.now))) }
+    {
+        let helper = judge_helper(self.builder.alloc, self.builder.symbols, s, least)?;
+        if grown.is_right {
+            grown.is_right = add_helper(helper, &mut grown.typed)?;
         }
         Ok(())
     }
@@ -200,6 +219,7 @@ impl<'a> Judge<'a> {
                 Ok(())
             }
             Decl::Atomic(s) => self.judge_atomic(s, grown, least),
+            Decl::Helper(s) => self.judge_helper(s, grown, least),
             Decl::Thread(t) => self.judge_thread(t, grown, least),
         }
     }
@@ -264,8 +284,11 @@ pub fn check(alloc: Global, tree: &Tree) -> Result<Typed, Refusal>
     requires { ReturnsRight (tree_of tree.now) }
     // What is answered is the program that the tree stands for.
     ensures resolves { IfOk result (Resolves (tree_of tree.now)) }
-    // Its numbers all name what they should, and its sections are well typed.
-    ensures well_formed { IfOk result IsWellFormed }
+    // Its numbers all name what they should, and its sections and helpers are well typed; that calls of helpers keep to
+    // the limits is for others to tell.
+    ensures checked { IfOk result (λ program. CallsKeepLimits program → IsChecked program) }
+    // Without helpers it is well formed.
+    ensures well_formed { IfOk result (λ program. DeclaresNoHelper (tree_of tree.now) → IsWellFormed program) }
     // A tree with a fault is never accepted.
     ensures faultless { OnOk result (HasNoFault (tree_of tree.now)) }
     // A fault is a fault of the tree.
@@ -275,7 +298,8 @@ pub fn check(alloc: Global, tree: &Tree) -> Result<Typed, Refusal>
 {
     laws::least_fault();
     laws::faultless_are_resolved();
-    laws::resolved_are_well_formed();
+    laws::resolved_are_checked();
+    laws::without_helpers();
     let mut least = None;
     let symbols = SymbolTable::new(alloc, &tree.decls, &mut least)?;
     // Behind a fault nothing is built.

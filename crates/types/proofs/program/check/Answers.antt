@@ -39,6 +39,16 @@ returns-clause-resolves c =
     let none = was_none c.new.new.least (each_faults (decls_of c.in_ok-symbols.symbols) 0 (decls_of c.in_ok-symbols.symbols)) (sym c.in_ok-judge_all.ensures.faults ∙ c.in_default.is) in
     sym (whole_built ds (decls_of c.in_ok-symbols.symbols) _ (built c.judge_all.new.grown) same (begun c.new.new.least c.is_none.result c.nothing.result none c.is_none.ensures c.nothing.ensures) c.in_ok-judge_all.ensures.value) ∙ ap (λ b. if_right b c.judge_all.new.grown.typed) c.if-not-grown.false
 
+pub returns-clause-checked : goal.returns-clause-checked
+returns-clause-checked c =
+    let ds = tree_of c.args.tree.now in
+    let items = ap (map decl_of) c.deref.ensures.value in
+    let same = ap (map decl_of) c.in_ok-symbols.ensures.items ∙ items in
+    let whole = whole_least ds (decls_of c.in_ok-symbols.symbols) c.new.new.least c.judge_all.new.least same (c.in_ok-symbols.ensures.faults ∙ ap (least_after None) items) c.in_ok-judge_all.ensures.faults in
+    let none = was_none c.new.new.least (each_faults (decls_of c.in_ok-symbols.symbols) 0 (decls_of c.in_ok-symbols.symbols)) (sym c.in_ok-judge_all.ensures.faults ∙ c.in_default.is) in
+    let all = whole_built ds (decls_of c.in_ok-symbols.symbols) _ (built c.judge_all.new.grown) same (begun c.new.new.least c.is_none.result c.nothing.result none c.is_none.ensures c.nothing.ensures) c.in_ok-judge_all.ensures.value in
+    c.resolved_are_checked.ensures ds c.judge_all.new.grown.typed (sym whole ∙ c.in_default.is) (sym all ∙ ap (λ b. if_right b c.judge_all.new.grown.typed) c.if-not-grown.false)
+
 pub returns-clause-well_formed : goal.returns-clause-well_formed
 returns-clause-well_formed c =
     let ds = tree_of c.args.tree.now in
@@ -47,7 +57,7 @@ returns-clause-well_formed c =
     let whole = whole_least ds (decls_of c.in_ok-symbols.symbols) c.new.new.least c.judge_all.new.least same (c.in_ok-symbols.ensures.faults ∙ ap (least_after None) items) c.in_ok-judge_all.ensures.faults in
     let none = was_none c.new.new.least (each_faults (decls_of c.in_ok-symbols.symbols) 0 (decls_of c.in_ok-symbols.symbols)) (sym c.in_ok-judge_all.ensures.faults ∙ c.in_default.is) in
     let all = whole_built ds (decls_of c.in_ok-symbols.symbols) _ (built c.judge_all.new.grown) same (begun c.new.new.least c.is_none.result c.nothing.result none c.is_none.ensures c.nothing.ensures) c.in_ok-judge_all.ensures.value in
-    c.resolved_are_well_formed.ensures ds c.judge_all.new.grown.typed (sym whole ∙ c.in_default.is) (sym all ∙ ap (λ b. if_right b c.judge_all.new.grown.typed) c.if-not-grown.false)
+    c.without_helpers.ensures ds c.judge_all.new.grown.typed (sym whole ∙ c.in_default.is) (sym all ∙ ap (λ b. if_right b c.judge_all.new.grown.typed) c.if-not-grown.false)
 
 pub returns-clause-faultless : goal.returns-clause-faultless
 returns-clause-faultless c =
