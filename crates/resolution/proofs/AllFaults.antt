@@ -1,5 +1,5 @@
 -- Each true fault is listed.
-use Rattle.std.proofs.Common.{◌≡◌, ℕ, zero, suc, ◌+◌, ◌<◌, ◌≤◌, List, [], ◌∷◌, ◌++◌, length, Option, Some, None, Bool, true, false, refl, sym, ap, ◌∙◌, subst, if◌then◌else◌, append_assoc, arith}
+use Rattle.std.proofs.Common.{◌≡◌, ℕ, zero, suc, ◌+◌, ◌<◌, ◌≤◌, ◌⊎◌, inl, inr, List, [], ◌∷◌, ◌++◌, length, Option, Some, None, Bool, true, false, refl, sym, ap, ◌∙◌, subst, if◌then◌else◌, append_assoc, arith}
 use Rattle.std.specs.Prelude.{nat_le, nat_lt, not, is_some, ◌==◌, ◌&&◌, ◌||◌, slice_get}
 use Rattle.std.proofs.lemmas.Bool.Decides.{nat_tests}
 use Rattle.source.specs.Texts.{NUMBER_LIMIT}
@@ -32,10 +32,12 @@ use Rattle.resolution.specs.Annotations.{AnnotationCursor, stepped_on, cursor_at
 use Rattle.resolution.specs.Resolution.{ahead_of}
 use Rattle.resolution.specs.Where.{Has, first, further, HasStmt, HasExpr, HasPlace, is_read, is_written, Binds, NamesOwner, names_owner, HasCall, HasConst, of_variable, of_elements, Annotates, annotates}
 use Rattle.resolution.specs.Faults as fault
-use Rattle.resolution.specs.Faults.{start_of, const_start, IsTooLarge, IsDeclaredTwice, Reaches, stays, goes_on, Walks, walks, NamesGlobal, IsLockDecl, IsLockMember, IsFinalMember, IsUnknown, AreUnlike, IsEquality, IsOfNumbers, IsNoValue, HasNoElements, IsNoReference, IsNoStruct, IsSection, IsPool, IsWrongType, IsWrongCount, IsNotAssignable, IsUnprotected, EndsAtNoLock, PassesNonFinal, limit_of, IsOverLimit, IsFinalMissing, IsOutOfRange, IsLockAsValue, IsFault, too_large, declared_twice, unknown, wrong_type, miscounted, not_assignable, without_lock, ends_at_no_lock, passes_non_final, over_limit, final_missing, out_of_range, lock_as_value}
+use Rattle.resolution.specs.Faults.{start_of, const_start, IsTooLarge, IsDeclaredTwice, Reaches, stays, goes_on, Walks, walks, NamesGlobal, IsLockDecl, IsLockMember, IsFinalMember, IsUnknown, AreUnlike, IsEquality, IsOfNumbers, IsNoValue, HasNoElements, IsNoReference, IsNoStruct, IsSection, IsPool, IsWrongType, IsWrongCount, IsNotAssignable, IsUnprotected, EndsAtNoLock, PassesNonFinal, limit_of, IsOverLimit, IsFinalMissing, IsOutOfRange, IsLockAsValue, IsFault, too_large, declared_twice, unknown, wrong_type, miscounted, not_assignable, without_lock, ends_at_no_lock, passes_non_final, over_limit, final_missing, out_of_range, lock_as_value, of_calls}
 use Rattle.resolution.specs.FaultLists as list
-use Rattle.resolution.specs.FaultLists.{one, one_if, unfit, unfit_member, no_struct, type_faults, number_faults, index_faults, own_faults, sort_misfit, const_faults, argument_faults, no_elements, no_member, no_field, step_faults, end_faults, walk_faults, path_faults, misfit, unlike, side_faults, operator_faults, expr_faults, place_faults, wanted_faults, taken, local_faults, no_target, no_array, final_faults, target_faults, no_final_in, owner_field_faults, other_type, owner_faults, global_lock_faults, lock_faults, passed_faults, last_faults, passed, along_faults, annotation_faults, protection_faults, opening_faults, some_lacks, is_at, is_due, lacks, missing_faults, field_faults, named_faults, null_faults, init_faults, call_faults, again, twice, twice_faults, member_twice_faults, struct_faults, first_too_many, lock_count, member_counts, count_faults, total_faults, given_before, init_target_again, repeated, repeated_faults, each_faults, program_faults}
+use Rattle.resolution.specs.FaultLists.{one, one_if, unfit, unfit_member, no_struct, type_faults, number_faults, index_faults, own_faults, sort_misfit, const_faults, argument_faults, no_elements, no_member, no_field, step_faults, end_faults, walk_faults, path_faults, misfit, unlike, side_faults, operator_faults, expr_faults, place_faults, wanted_faults, taken, local_faults, no_target, no_array, final_faults, target_faults, no_final_in, owner_field_faults, other_type, owner_faults, global_lock_faults, lock_faults, passed_faults, last_faults, passed, along_faults, annotation_faults, protection_faults, opening_faults, some_lacks, is_at, is_due, lacks, missing_faults, field_faults, named_faults, null_faults, init_faults, call_faults, again, twice, twice_faults, member_twice_faults, struct_faults, first_too_many, lock_count, member_counts, count_faults, total_faults, given_before, init_target_again, repeated, repeated_faults, each_faults, declaration_faults}
 use Rattle.source.specs.Leasts.{IsAmong}
+use Rattle.call_graph.specs.Faults.{IsGraphFault}
+use Rattle.resolution.specs.CallGraphs.{tree_graph}
 use Rattle.resolution.specs.declared.body_limits.BodyLimits.{BodyLimits}
 use Rattle.resolution.proofs.TrueStatements.{entered_limits}
 use Rattle.resolution.proofs.Members.{at, at_if}
@@ -84,25 +86,25 @@ in_structs (atomic s ∷ ds) r (further h) f i = in_structs ds r h f i
 in_structs (helper s ∷ ds) r (further h) f i = in_structs ds r h f i
 in_structs (thread t ∷ ds) r (further h) f i = in_structs ds r h f i
 
-of_twice : (decls : List Decl) (f : Mistake) → IsAmong f (twice_faults [] decls) → IsAmong f (program_faults decls)
+of_twice : (decls : List Decl) (f : Mistake) → IsAmong f (twice_faults [] decls) → IsAmong f (declaration_faults decls)
 of_twice decls f i =
     m.in_left f (twice_faults [] decls ++ struct_faults decls ++ total_faults decls [] decls ++ repeated_faults decls [] decls) (each_faults decls 0 decls)
     (m.in_left f (twice_faults [] decls ++ struct_faults decls ++ total_faults decls [] decls) (repeated_faults decls [] decls)
     (m.in_left f (twice_faults [] decls ++ struct_faults decls) (total_faults decls [] decls) (m.in_left f (twice_faults [] decls) (struct_faults decls) i)))
 
-pub of_structs : (decls : List Decl) (f : Mistake) → IsAmong f (struct_faults decls) → IsAmong f (program_faults decls)
+pub of_structs : (decls : List Decl) (f : Mistake) → IsAmong f (struct_faults decls) → IsAmong f (declaration_faults decls)
 of_structs decls f i =
     m.in_left f (twice_faults [] decls ++ struct_faults decls ++ total_faults decls [] decls ++ repeated_faults decls [] decls) (each_faults decls 0 decls)
     (m.in_left f (twice_faults [] decls ++ struct_faults decls ++ total_faults decls [] decls) (repeated_faults decls [] decls)
     (m.in_left f (twice_faults [] decls ++ struct_faults decls) (total_faults decls [] decls) (m.in_right f (twice_faults [] decls) _ i)))
 
-pub of_totals : (decls : List Decl) (f : Mistake) → IsAmong f (total_faults decls [] decls) → IsAmong f (program_faults decls)
+pub of_totals : (decls : List Decl) (f : Mistake) → IsAmong f (total_faults decls [] decls) → IsAmong f (declaration_faults decls)
 of_totals decls f i =
     m.in_left f (twice_faults [] decls ++ struct_faults decls ++ total_faults decls [] decls ++ repeated_faults decls [] decls) (each_faults decls 0 decls)
     (m.in_left f (twice_faults [] decls ++ struct_faults decls ++ total_faults decls [] decls) (repeated_faults decls [] decls)
     (m.in_right f (twice_faults [] decls ++ struct_faults decls) _ i))
 
-of_repeated : (decls : List Decl) (f : Mistake) → IsAmong f (repeated_faults decls [] decls) → IsAmong f (program_faults decls)
+of_repeated : (decls : List Decl) (f : Mistake) → IsAmong f (repeated_faults decls [] decls) → IsAmong f (declaration_faults decls)
 of_repeated decls f i =
     m.in_left f (twice_faults [] decls ++ struct_faults decls ++ total_faults decls [] decls ++ repeated_faults decls [] decls) (each_faults decls 0 decls)
     (m.in_right f (twice_faults [] decls ++ struct_faults decls ++ total_faults decls [] decls) _ i)
@@ -126,18 +128,18 @@ twice_in decls p (fault.top_level {sc = sc} {x = x} {f = f} h is) =
 -- ---- places
 
 -- what is listed for a place that is read and for one that is written
-of_place : (decls : List Decl) (sc : Scope) (p : Place) → HasPlace decls sc p → (f : Mistake) → (sc.decls ≡ decls → IsAmong f (place_faults sc p)) → (sc.decls ≡ decls → IsAmong f (target_faults sc p)) → IsAmong f (program_faults decls)
+of_place : (decls : List Decl) (sc : Scope) (p : Place) → HasPlace decls sc p → (f : Mistake) → (sc.decls ≡ decls → IsAmong f (place_faults sc p)) → (sc.decls ≡ decls → IsAmong f (target_faults sc p)) → IsAmong f (declaration_faults decls)
 of_place decls sc p (is_read {w = w} h) f read written = of_expr decls sc w (place p) h f (read (expr_decls decls sc w (place p) h))
 of_place decls sc p (is_written {e = e} h) f read written = of_stmt decls sc (assign p e) h f (m.in_left f (target_faults sc p) (wanted_faults sc (wanted_by (target_of sc p)) e) (written (stmt_decls decls sc (assign p e) h)))
 
-of_indexed : (decls : List Decl) (sc : Scope) (x : Ident) (e : Expr) → HasPlace decls sc (element x e) → (f : Mistake) → (sc.decls ≡ decls → IsAmong f (no_elements sc.decls x.span.start (meaning sc x.text))) → IsAmong f (program_faults decls)
+of_indexed : (decls : List Decl) (sc : Scope) (x : Ident) (e : Expr) → HasPlace decls sc (element x e) → (f : Mistake) → (sc.decls ≡ decls → IsAmong f (no_elements sc.decls x.span.start (meaning sc x.text))) → IsAmong f (declaration_faults decls)
 of_indexed decls sc x e h f i =
     let a = no_elements sc.decls x.span.start (meaning sc x.text) in
     of_place decls sc (element x e) h f
     (λ s. m.in_left f (a ++ expr_faults sc e) (misfit (Value Integer) (start_of e) (typed sc e)) (m.in_left f a (expr_faults sc e) (i s)))
     (λ s. m.in_left f (a ++ no_array sc.decls x.span.start (meaning sc x.text)) (wanted_faults sc (Value Integer) e) (m.in_left f a (no_array sc.decls x.span.start (meaning sc x.text)) (i s)))
 
-of_path : (decls : List Decl) (sc : Scope) (x : Ident) (fs : List Ident) → HasPlace decls sc (path x fs) → (f : Mistake) → (sc.decls ≡ decls → IsAmong f (path_faults sc.decls x.span.start (meaning sc x.text) fs)) → IsAmong f (program_faults decls)
+of_path : (decls : List Decl) (sc : Scope) (x : Ident) (fs : List Ident) → HasPlace decls sc (path x fs) → (f : Mistake) → (sc.decls ≡ decls → IsAmong f (path_faults sc.decls x.span.start (meaning sc x.text) fs)) → IsAmong f (declaration_faults decls)
 of_path decls sc x fs h f i =
     of_place decls sc (path x fs) h f i (λ s. m.in_left f (path_faults sc.decls x.span.start (meaning sc x.text) fs) (final_faults x.span.start (walk_from sc.decls (meaning sc x.text) fs)) (i s))
 
@@ -184,17 +186,17 @@ in_along_end decls p from y ys st x stays f i = i
 in_along_end decls p from y (v ∷ vs) st x (goes_on {next = next} e r) f i =
     m.in_right f (passed decls p (Some from) y) _ (subst (λ (o : Option AnnotationCursor). IsAmong f (along_faults decls p o v vs)) (sym e) (in_along_end decls p next v vs st x r f i))
 
-of_annotation : (decls : List Decl) (n : ℕ) (ms : List Member) (p : Protection) → Annotates decls n ms p → (f : Mistake) → IsAmong f (annotation_faults decls (cursor_at n ms) p (the_member ms p.first.text)) → IsAmong f (program_faults decls)
+of_annotation : (decls : List Decl) (n : ℕ) (ms : List Member) (p : Protection) → Annotates decls n ms p → (f : Mistake) → IsAmong f (annotation_faults decls (cursor_at n ms) p (the_member ms p.first.text)) → IsAmong f (declaration_faults decls)
 of_annotation decls n ms p (annotates {s = s} {f = g} here b e) f i =
     of_place_at decls n (struct s) here f (in_members_field decls n s.members s.members g b f (m.in_right f (type_faults (outside decls) g.value_type) _ (subst (λ (o : Option Protection). IsAmong f (protection_faults decls n s.members g.name.span.start o)) (sym e) i)))
 
 -- a walk's name that others follow
-of_passed : (decls : List Decl) (p : Protection) (st : AnnotationCursor) (x z : Ident) (zs : List Ident) → Walks decls p st x (z ∷ zs) → (f : Mistake) → IsAmong f (passed decls p.first.span.start (Some st) x) → IsAmong f (program_faults decls)
+of_passed : (decls : List Decl) (p : Protection) (st : AnnotationCursor) (x z : Ident) (zs : List Ident) → Walks decls p st x (z ∷ zs) → (f : Mistake) → IsAmong f (passed decls p.first.span.start (Some st) x) → IsAmong f (declaration_faults decls)
 of_passed decls p st x z zs (walks {i = n} {ms = ms} {own = o} h is r) f i =
     of_annotation decls n ms p h f (subst (λ (q : Option (ℕ × Member)). IsAmong f (annotation_faults decls (cursor_at n ms) p q)) (sym is) (in_along decls p.first.span.start (cursor_at n ms) p.first p.rest st x z zs r f i))
 
 -- its last name
-of_last : (decls : List Decl) (p : Protection) (st : AnnotationCursor) (x : Ident) → Walks decls p st x [] → (f : Mistake) → IsAmong f (list.ended decls p.first.span.start (Some st) x) → IsAmong f (program_faults decls)
+of_last : (decls : List Decl) (p : Protection) (st : AnnotationCursor) (x : Ident) → Walks decls p st x [] → (f : Mistake) → IsAmong f (list.ended decls p.first.span.start (Some st) x) → IsAmong f (declaration_faults decls)
 of_last decls p st x (walks {i = n} {ms = ms} {own = o} h is r) f i =
     of_annotation decls n ms p h f (subst (λ (q : Option (ℕ × Member)). IsAmong f (annotation_faults decls (cursor_at n ms) p q)) (sym is) (in_along_end decls p.first.span.start (cursor_at n ms) p.first p.rest st x r f i))
 
@@ -203,7 +205,7 @@ unknown_passed decls p st y [] h e = of_last decls p st y h _ (at UnknownName y.
 unknown_passed decls p st y (z ∷ zs) h e = of_passed decls p st y z zs h _ (at UnknownName y.span.start _ (ap (passed_faults decls p.first.span.start y.span.start (length st.through)) e))
 
 -- one that is to name a global lock
-of_global_lock : (decls : List Decl) (p : Protection) → NamesGlobal decls p → (f : Mistake) → IsAmong f (global_lock_faults decls p.first.span.start (the_decl decls p.first.text) p.rest) → IsAmong f (program_faults decls)
+of_global_lock : (decls : List Decl) (p : Protection) → NamesGlobal decls p → (f : Mistake) → IsAmong f (global_lock_faults decls p.first.span.start (the_decl decls p.first.text) p.rest) → IsAmong f (declaration_faults decls)
 of_global_lock decls p (fault.of_global (of_variable {v = v} h e)) f i =
     of_decl decls (global v) h f (λ n here. m.in_left f (type_faults (outside decls) v.value_type ++ lock_faults decls v.name.span.start v.protection) (opening_faults decls (want (type_of (outside decls) v.value_type)) v.value)
     (m.in_right f (type_faults (outside decls) v.value_type) _ (subst (λ (o : Option Protection). IsAmong f (lock_faults decls v.name.span.start o)) (sym e) i)))
@@ -214,24 +216,24 @@ of_global_lock decls p (fault.no_member {i = n} {ms = ms} h is) f i =
 
 -- ---- inits
 
-init_part : (decls : List Decl) (x : Init) → Has decls (init x) → (f : Mistake) → IsAmong f (index_faults decls x.pool.span.start (the_decl decls x.pool.text) x.index ++ named_faults decls x.field.span.start (pool_members decls (the_decl decls x.pool.text)) x.field.text) → IsAmong f (program_faults decls)
+init_part : (decls : List Decl) (x : Init) → Has decls (init x) → (f : Mistake) → IsAmong f (index_faults decls x.pool.span.start (the_decl decls x.pool.text) x.index ++ named_faults decls x.field.span.start (pool_members decls (the_decl decls x.pool.text)) x.field.text) → IsAmong f (declaration_faults decls)
 init_part decls x h f i =
     let a = index_faults decls x.pool.span.start (the_decl decls x.pool.text) x.index in
     let b = named_faults decls x.field.span.start (pool_members decls (the_decl decls x.pool.text)) x.field.text in
     let c = const_faults decls (member_want decls (initialised decls x)) x.value in
     of_decl decls (init x) h f (λ n here. m.in_left f (a ++ b ++ c) (null_faults decls (initialised decls x) x.value) (m.in_left f (a ++ b) c i))
 
-of_init_index : (decls : List Decl) (x : Init) → Has decls (init x) → (f : Mistake) → IsAmong f (index_faults decls x.pool.span.start (the_decl decls x.pool.text) x.index) → IsAmong f (program_faults decls)
+of_init_index : (decls : List Decl) (x : Init) → Has decls (init x) → (f : Mistake) → IsAmong f (index_faults decls x.pool.span.start (the_decl decls x.pool.text) x.index) → IsAmong f (declaration_faults decls)
 of_init_index decls x h f i = init_part decls x h f (m.in_left f (index_faults decls x.pool.span.start (the_decl decls x.pool.text) x.index) _ i)
 
-of_init_field : (decls : List Decl) (x : Init) (ms : List Member) → Has decls (init x) → pool_members decls (the_decl decls x.pool.text) ≡ Some ms → (f : Mistake) → IsAmong f (field_faults x.field.span.start (the_member ms x.field.text)) → IsAmong f (program_faults decls)
+of_init_field : (decls : List Decl) (x : Init) (ms : List Member) → Has decls (init x) → pool_members decls (the_decl decls x.pool.text) ≡ Some ms → (f : Mistake) → IsAmong f (field_faults x.field.span.start (the_member ms x.field.text)) → IsAmong f (declaration_faults decls)
 of_init_field decls x ms h is f i =
     init_part decls x h f (m.in_right f (index_faults decls x.pool.span.start (the_decl decls x.pool.text) x.index) _ (subst (λ (o : Option (List Member)). IsAmong f (named_faults decls x.field.span.start o x.field.text)) (sym is) i))
 
 -- ---- what stands behind `where`
 
 -- a field's name
-of_member : (decls : List Decl) (ms : List Member) (y : Ident) → NamesOwner decls ms y → (f : Mistake) → ((ds : List Decl) → ds ≡ decls → IsAmong f (list.no_final ds y.span.start (the_member ms y.text))) → IsAmong f (program_faults decls)
+of_member : (decls : List Decl) (ms : List Member) (y : Ident) → NamesOwner decls ms y → (f : Mistake) → ((ds : List Decl) → ds ≡ decls → IsAmong f (list.no_final ds y.span.start (the_member ms y.text))) → IsAmong f (declaration_faults decls)
 of_member decls ms y (names_owner {sc = sc} {l = l} {o = o} {k = k} {s = s} h is here) f i =
     let same = stmt_decls decls sc (let_owned l o) h in
     let found : the_struct sc.decls k ≡ Some s = ap (λ (ds : List Decl). the_struct ds k) same ∙ here in
@@ -246,7 +248,7 @@ of_owner_name decls sc l o h c e = of_owner decls sc l o h _ (m.in_right _ (owne
 
 -- ---- E06
 
-const_own : (decls : List Decl) (w : Want) (x : Ident) (n : Number) → HasConst decls w (member_const x n) → (f : Mistake) → IsAmong f (index_faults decls x.span.start (the_decl decls x.text) n) → IsAmong f (program_faults decls)
+const_own : (decls : List Decl) (w : Want) (x : Ident) (n : Number) → HasConst decls w (member_const x n) → (f : Mistake) → IsAmong f (index_faults decls x.span.start (the_decl decls x.text) n) → IsAmong f (declaration_faults decls)
 const_own decls w x n h f i = of_const decls w (member_const x n) h f (m.in_left f (own_faults decls (member_const x n)) _ i)
 
 call_at : (decls : List Decl) (c : Call) (k : Code) → HasCall decls c → call_faults decls c.section.span.start (the_decl decls c.section.text) c.arguments ≡ one k c.section.span.start → listed decls k c.section.span.start
@@ -494,7 +496,7 @@ in_totals decls ahead [] rest d f i = m.in_left f (count_faults decls ahead d) (
 in_totals decls ahead (b ∷ before) rest d f i =
     m.in_right f (count_faults decls ahead b) _ (in_totals decls (ahead ++ b ∷ []) before rest d f (subst (λ (ds : List Decl). IsAmong f (count_faults decls ds d)) (sym (append_assoc ahead (b ∷ []) before)) i))
 
-pub of_counts : (decls before behind : List Decl) (d : Decl) → decls ≡ before ++ d ∷ behind → (f : Mistake) → IsAmong f (count_faults decls before d) → IsAmong f (program_faults decls)
+pub of_counts : (decls before behind : List Decl) (d : Decl) → decls ≡ before ++ d ∷ behind → (f : Mistake) → IsAmong f (count_faults decls before d) → IsAmong f (declaration_faults decls)
 of_counts decls before behind d parts f i = of_totals decls f (subst (λ (ds : List Decl). IsAmong f (total_faults decls [] ds)) (sym parts) (in_totals decls [] before behind d f i))
 
 parts_has : (before behind : List Decl) (d : Decl) → Has (before ++ d ∷ behind) d
@@ -593,7 +595,7 @@ in_member_counts classes n (b ∷ ahead) rest x f i =
     locks_ahead (field_member z) = omega arith
 
 of_member_counts : (decls before behind : List Decl) (s : Struct) (ahead rest : List Member) (x : Member) → decls ≡ before ++ struct s ∷ behind → s.members ≡ ahead ++ x ∷ rest → (f : Mistake) →
-    IsAmong f (member_own (total classes_of before + count is_lock ahead) (length ahead) x) → IsAmong f (program_faults decls)
+    IsAmong f (member_own (total classes_of before + count is_lock ahead) (length ahead) x) → IsAmong f (declaration_faults decls)
 of_member_counts decls before behind s ahead rest x parts inner f i =
     of_counts decls before behind (struct s) parts f (m.in_right f (one_if (nat_le STRUCT_LIMIT (count (alike (struct s)) before)) LimitExceeded s.name.span.start) _
     (subst (λ (ms : List Member). IsAmong f (member_counts (total classes_of before) 0 ms)) (sym inner) (in_member_counts (total classes_of before) 0 ahead rest x f
@@ -662,7 +664,7 @@ lacks_in decls n len all k (y ∷ ms) (suc j) x here due some =
     or_either (is_due decls all k y && some_lacks decls n k len) (lacks decls n len all (k + 1) ms)
     (lacks_in decls n len all (k + 1) ms j x here (subst (λ (i : ℕ). is_due decls all i x ≡ true) z due) (subst (λ (i : ℕ). some_lacks decls n i len ≡ true) z some))
 
-missing_in : (decls : List Decl) (p : ℕ) → IsFinalMissing decls p → listed decls FinalWithoutOpeningValue p
+pub missing_in : (decls : List Decl) (p : ℕ) → IsFinalMissing decls p → listed decls FinalWithoutOpeningValue p
 missing_in decls p (fault.not_given k {p = q} {ms = ms} name {m = x} {f = g} {s = s} n here is to target less none) =
     let found = member_is ms name x (final_member g) to in
     of_place_at decls k (pool q) here _ (m.in_right _ (type_faults (outside decls) (ref_type q.target)) _
@@ -715,17 +717,19 @@ locks_in decls p (fault.lock_initialised {i = x} {m = n} {y = y} h is) =
 
 -- ---- the whole
 
-pub all_faults : (decls : List Decl) (c : Code) (p : ℕ) → IsFault decls c p → listed decls c p
-all_faults decls c p (too_large h) = large decls p h
-all_faults decls c p (declared_twice h) = twice_in decls p h
-all_faults decls c p (unknown h) = unknown_in decls p h
-all_faults decls c p (wrong_type h) = wrong_in decls p h
-all_faults decls c p (miscounted h) = counted decls p h
-all_faults decls c p (not_assignable h) = fixed_in decls p h
-all_faults decls c p (without_lock h) = bare_in decls p h
-all_faults decls c p (ends_at_no_lock h) = ends_in decls p h
-all_faults decls c p (passes_non_final h) = passes_in decls p h
-all_faults decls c p (over_limit h) = over_in decls p h
-all_faults decls c p (final_missing h) = missing_in decls p h
-all_faults decls c p (out_of_range h) = range_in decls p h
-all_faults decls c p (lock_as_value h) = locks_in decls p h
+-- a fault of the program is one of its graph, or is listed
+pub all_faults : (decls : List Decl) (c : Code) (p : ℕ) → IsFault decls c p → IsGraphFault (tree_graph decls) c p ⊎ listed decls c p
+all_faults decls c p (too_large h) = inr (large decls p h)
+all_faults decls c p (declared_twice h) = inr (twice_in decls p h)
+all_faults decls c p (unknown h) = inr (unknown_in decls p h)
+all_faults decls c p (wrong_type h) = inr (wrong_in decls p h)
+all_faults decls c p (miscounted h) = inr (counted decls p h)
+all_faults decls c p (not_assignable h) = inr (fixed_in decls p h)
+all_faults decls c p (without_lock h) = inr (bare_in decls p h)
+all_faults decls c p (ends_at_no_lock h) = inr (ends_in decls p h)
+all_faults decls c p (passes_non_final h) = inr (passes_in decls p h)
+all_faults decls c p (over_limit h) = inr (over_in decls p h)
+all_faults decls c p (final_missing h) = inr (missing_in decls p h)
+all_faults decls c p (out_of_range h) = inr (range_in decls p h)
+all_faults decls c p (lock_as_value h) = inr (locks_in decls p h)
+all_faults decls c p (of_calls h) = inl h

@@ -18,7 +18,7 @@ use Rattle.resolution.specs.Scopes.{Scope, Local, outside, Meaning, a_local, a_d
 use Rattle.resolution.specs.Expressions.{ResolvedExpr, value, truth, fits, value_of, member_value, local_path, cell_of, fitting, as_value, as_truth, test_resolved, named_value, element_value, path_value, Walk, reached, at_lock, lost, stepped, walked, at_local, walk_from, over_step, over_member, over, member_number}
 use Rattle.resolution.specs.Where.{Has, first, further, HasType, of_global, of_array, of_pool, of_final, of_field}
 use Rattle.resolution.specs.FaultLists as list
-use Rattle.resolution.specs.FaultLists.{one, one_if, unfit, no_struct, type_faults, number_faults, no_elements, no_member, no_field, step_faults, end_faults, walk_faults, path_faults, misfit, unlike, side_faults, operator_faults, expr_faults, place_faults, link_faults, wanted_faults, program_faults}
+use Rattle.resolution.specs.FaultLists.{one, one_if, unfit, no_struct, type_faults, number_faults, no_elements, no_member, no_field, step_faults, end_faults, walk_faults, path_faults, misfit, unlike, side_faults, operator_faults, expr_faults, place_faults, link_faults, wanted_faults, declaration_faults}
 use Rattle.source.specs.Leasts.{IsAmong}
 use Rattle.resolution.proofs.Members as m
 use Rattle.resolution.proofs.Named.{named_is, member_is}
@@ -51,7 +51,7 @@ is_there None e = cc
 
 -- nothing is listed for the program
 abbrev pub Clean : List Decl → Type 0
-Clean decls = NoneIn (program_faults decls)
+Clean decls = NoneIn (declaration_faults decls)
 
 pub at_has : {A : Type 0} (xs : List A) (n : ℕ) (x : A) → slice_get xs n ≡ Some x → Has xs x
 at_has [] n x e = cc

@@ -23,7 +23,7 @@ use Rattle.resolution.specs.FaultLists.{one_if, again, member_twice_faults, memb
 use Rattle.source.specs.Leasts.{IsAmong}
 use Rattle.resolution.proofs.Named.{named_is, member_is}
 use Rattle.resolution.proofs.Parts.{of_decl}
-use Rattle.resolution.proofs.AllFaults.{in_member_twice, all_faults}
+use Rattle.resolution.proofs.AllFaults.{in_member_twice, missing_in}
 use Rattle.resolution.proofs.InitTargets.{Giving, giving, names_it, initialised_is}
 use Rattle.resolution.proofs.FaultlessExpressions.{NoneIn, none_left, none_right, not_one, not_if, at_has, Clean, Found, Typing, known, known_named}
 use Rattle.resolution.proofs.FaultlessConstants.{const_is, referred_is}
@@ -188,5 +188,5 @@ ready decls clean i n p s at less are has once m (final_member f) here =
     let g : InitTarget = record { pool = i; index = n; member = m } in
     let k = known_named decls clean f.target (of_final has (at_has s.members m (final_member f) here)) in
     final_ready decls clean g f k (given decls g) refl
-    (λ e. clean _ (all_faults decls FinalWithoutOpeningValue p.name.span.start (final_missing (fault.not_given i f.name.text n at are (first_of_name s.members once m (final_member f) here) k.is less e))))
+    (λ e. clean _ (missing_in decls p.name.span.start (fault.not_given i f.name.text n at are (first_of_name s.members once m (final_member f) here) k.is less e)))
     (λ c e. judged decls clean i n m p s.members (final_member f) at are here c (giving decls g c e))

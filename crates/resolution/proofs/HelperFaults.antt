@@ -12,14 +12,14 @@ use Rattle.resolution.specs.Expressions.{fits_type}
 use Rattle.resolution.specs.Where.{HasStmt, HasHelperCall}
 use Rattle.resolution.specs.Faults.{IsNoHelper}
 use Rattle.resolution.specs.FaultLists as list
-use Rattle.resolution.specs.FaultLists.{one, one_if, unfit, passed_values_faults, given_back_faults, program_faults}
+use Rattle.resolution.specs.FaultLists.{one, one_if, unfit, passed_values_faults, given_back_faults, declaration_faults}
 use Rattle.source.specs.Leasts.{IsAmong}
 use Rattle.resolution.proofs.Members.{at}
 use Rattle.resolution.proofs.Members as m
 use Rattle.resolution.proofs.Parts.{of_helper_call, of_given_back}
 
 abbrev pub listed : List Decl → Code → ℕ → Type 0
-listed decls c p = IsAmong (record { code = c; start = p }) (program_faults decls)
+listed decls c p = IsAmong (record { code = c; start = p }) (declaration_faults decls)
 
 -- what is noted unless the type has a fault
 pub unfit_in : (decls : List Decl) (c : Code) (p : ℕ) (x : Meaning) → has_type decls x ≡ true → unfit decls c p x ≡ one c p

@@ -35,4 +35,7 @@ pub mod LaidProgram
 pub mod LaidLocks
 pub mod LaidScripts
 pub mod WithinLimits
+pub mod CallSites
+pub mod TreeGraphs
+pub mod GraphFaults
 pub mod WellFormed

@@ -22,7 +22,7 @@ use Rattle.resolution.specs.Where as site
 use Rattle.resolution.specs.Where.{Has, first, further, HasLink, this_link, later_link, operand_want, prefix_want, side_want, Within, itself, in_parentheses, in_prefix, in_first, in_operand, in_left, in_right, in_index, Among, here, later, in_then, in_else, in_while, IsArgument, for_parameter, for_nothing, Asks, of_let, of_owned, of_let_call, of_var, of_assign, of_index, of_while, of_print, of_return, of_call_alone, HasBody, of_section, of_helper, HasStmt, in_body, HasHelperCall, by_let, by_itself, HasExpr, in_stmt, Binds, parameter, a_let, an_owned_let, a_called_let, a_var, HasType, of_global, of_array, of_pool, of_final, of_field, of_parameter, of_result, of_a_let, of_an_owned_let, of_a_called_let, of_a_var, InItems, this_call, in_repeat, later_call, HasCall, in_thread, HasConst, opening, initial, argument}
 use Rattle.resolution.specs.Faults.{start_of}
 use Rattle.resolution.specs.FaultLists as list
-use Rattle.resolution.specs.FaultLists.{one, one_if, misfit, no_elements, no_array, operator_faults, side_faults, expr_faults, link_faults, wanted_faults, local_faults, type_faults, target_faults, binding_faults, owner_faults, values_faults, each_value_faults, passed_values_faults, helper_call_faults, given_back_faults, called_faults, stmt_faults, stmts_faults, param_faults, result_faults, section_faults, const_faults, argument_faults, lock_faults, protection_faults, members_faults, opening_faults, missing_faults, index_faults, named_faults, null_faults, call_faults, item_faults, items_faults, decl_faults, each_faults, twice_faults, struct_faults, total_faults, repeated_faults, program_faults}
+use Rattle.resolution.specs.FaultLists.{one, one_if, misfit, no_elements, no_array, operator_faults, side_faults, expr_faults, link_faults, wanted_faults, local_faults, type_faults, target_faults, binding_faults, owner_faults, values_faults, each_value_faults, passed_values_faults, helper_call_faults, given_back_faults, called_faults, stmt_faults, stmts_faults, param_faults, result_faults, section_faults, const_faults, argument_faults, lock_faults, protection_faults, members_faults, opening_faults, missing_faults, index_faults, named_faults, null_faults, call_faults, item_faults, items_faults, decl_faults, each_faults, twice_faults, struct_faults, total_faults, repeated_faults, declaration_faults}
 use Rattle.source.specs.Leasts.{IsAmong}
 use Rattle.resolution.proofs.Members as m
 use Rattle.resolution.proofs.TrueStatements.{after_same, entered_same}
@@ -155,36 +155,36 @@ in_each decls n (x ∷ ds) zero d at f i =
 in_each decls n (x ∷ ds) (suc j) d at f i =
     m.in_right f (decl_faults decls n x) _ (in_each decls (n + 1) ds j d at f (subst (λ (k : ℕ). IsAmong f (decl_faults decls k d)) (let z : n + suc j ≡ n + 1 + j = omega arith in z) i))
 
-pub of_place_at : (decls : List Decl) (n : ℕ) (d : Decl) → slice_get decls n ≡ Some d → (f : Mistake) → IsAmong f (decl_faults decls n d) → IsAmong f (program_faults decls)
+pub of_place_at : (decls : List Decl) (n : ℕ) (d : Decl) → slice_get decls n ≡ Some d → (f : Mistake) → IsAmong f (decl_faults decls n d) → IsAmong f (declaration_faults decls)
 of_place_at decls n d at f i =
     m.in_right f (twice_faults [] decls ++ struct_faults decls ++ total_faults decls [] decls ++ repeated_faults decls [] decls) _
     (in_each decls 0 decls n d at f (subst (λ (k : ℕ). IsAmong f (decl_faults decls k d)) (let z : n ≡ 0 + n = omega arith in z) i))
 
 -- of a declaration whose faults are the same at each place
-pub of_decl : (decls : List Decl) (d : Decl) → Has decls d → (f : Mistake) → ((n : ℕ) → slice_get decls n ≡ Some d → IsAmong f (decl_faults decls n d)) → IsAmong f (program_faults decls)
+pub of_decl : (decls : List Decl) (d : Decl) → Has decls d → (f : Mistake) → ((n : ℕ) → slice_get decls n ≡ Some d → IsAmong f (decl_faults decls n d)) → IsAmong f (declaration_faults decls)
 of_decl decls d h f i = let at = has_at decls d h in of_place_at decls at.0 d at.1 f (i at.0 at.1)
 
 -- of a section or a helper
-of_body : (decls : List Decl) (limits : BodyLimits) (x : Section) → HasBody decls limits x → (f : Mistake) → IsAmong f (section_faults decls limits x) → IsAmong f (program_faults decls)
+of_body : (decls : List Decl) (limits : BodyLimits) (x : Section) → HasBody decls limits x → (f : Mistake) → IsAmong f (section_faults decls limits x) → IsAmong f (declaration_faults decls)
 of_body decls limits x (of_section h) f i = of_decl decls (atomic x) h f (λ n at. i)
 of_body decls limits x (of_helper h) f i = of_decl decls (helper x) h f (λ n at. i)
 
-pub of_stmt : (decls : List Decl) (sc : Scope) (s : Stmt) → HasStmt decls sc s → (f : Mistake) → IsAmong f (stmt_faults sc s) → IsAmong f (program_faults decls)
+pub of_stmt : (decls : List Decl) (sc : Scope) (s : Stmt) → HasStmt decls sc s → (f : Mistake) → IsAmong f (stmt_faults sc s) → IsAmong f (declaration_faults decls)
 of_stmt decls sc s (in_body {limits = limits} {x = x} h a) f i =
     of_body decls limits x h f (m.in_right f (result_faults decls x.result ++ param_faults (ahead_of decls limits x) 0 x.params) _ (among (entry decls limits x) sc x.body.stmts s a f i))
 
 -- what is listed for a `let` with an owner: for its parts as those of any, and for what stands behind `where`
-of_binding : (decls : List Decl) (sc : Scope) (l : tree.Local) (o : Owner) → HasStmt decls sc (let_owned l o) → (f : Mistake) → IsAmong f (binding_faults sc l) → IsAmong f (program_faults decls)
+of_binding : (decls : List Decl) (sc : Scope) (l : tree.Local) (o : Owner) → HasStmt decls sc (let_owned l o) → (f : Mistake) → IsAmong f (binding_faults sc l) → IsAmong f (declaration_faults decls)
 of_binding decls sc l o h f i = of_stmt decls sc (let_owned l o) h f (m.in_left f (binding_faults sc l) (owner_faults sc (type_of sc l.value_type) o) i)
 
-pub of_owner : (decls : List Decl) (sc : Scope) (l : tree.Local) (o : Owner) → HasStmt decls sc (let_owned l o) → (f : Mistake) → IsAmong f (owner_faults sc (type_of sc l.value_type) o) → IsAmong f (program_faults decls)
+pub of_owner : (decls : List Decl) (sc : Scope) (l : tree.Local) (o : Owner) → HasStmt decls sc (let_owned l o) → (f : Mistake) → IsAmong f (owner_faults sc (type_of sc l.value_type) o) → IsAmong f (declaration_faults decls)
 of_owner decls sc l o h f i = of_stmt decls sc (let_owned l o) h f (m.in_right f (binding_faults sc l) (owner_faults sc (type_of sc l.value_type) o) i)
 
 pub stmt_decls : (decls : List Decl) (sc : Scope) (s : Stmt) → HasStmt decls sc s → sc.decls ≡ decls
 stmt_decls decls sc s (in_body {limits = limits} {x = x} h a) = same_decls (entry decls limits x) sc x.body.stmts s a ∙ entered_same (ahead_of decls limits x) x.params
 
 -- what is listed for a call of a helper, and for a `let` of one
-pub of_helper_call : (decls : List Decl) (sc : Scope) (c : HelperCall) → HasHelperCall decls sc c → (f : Mistake) → IsAmong f (helper_call_faults sc c) → IsAmong f (program_faults decls)
+pub of_helper_call : (decls : List Decl) (sc : Scope) (c : HelperCall) → HasHelperCall decls sc c → (f : Mistake) → IsAmong f (helper_call_faults sc c) → IsAmong f (declaration_faults decls)
 of_helper_call decls sc c (by_let {l = l} h) f i =
     of_stmt decls sc (let_call l) h f
     (m.in_right f (local_faults sc l.name ++ type_faults sc l.value_type ++ given_back_faults sc.decls l.call.helper.span.start (type_of sc l.value_type) (helper_meant (meaning sc l.call.helper.text))) _ i)
@@ -195,24 +195,24 @@ helper_call_decls decls sc c (by_let {l = l} h) = stmt_decls decls sc (let_call 
 helper_call_decls decls sc c (by_itself {start = start} h) = stmt_decls decls sc (call start c) h
 
 -- what is listed for a `let` of a call, ahead of the call
-of_called : (decls : List Decl) (sc : Scope) (l : CalledLocal) → HasStmt decls sc (let_call l) → (f : Mistake) → IsAmong f (local_faults sc l.name ++ type_faults sc l.value_type) → IsAmong f (program_faults decls)
+of_called : (decls : List Decl) (sc : Scope) (l : CalledLocal) → HasStmt decls sc (let_call l) → (f : Mistake) → IsAmong f (local_faults sc l.name ++ type_faults sc l.value_type) → IsAmong f (declaration_faults decls)
 of_called decls sc l h f i =
     let d = given_back_faults sc.decls l.call.helper.span.start (type_of sc l.value_type) (helper_meant (meaning sc l.call.helper.text)) in
     of_stmt decls sc (let_call l) h f (m.in_left f (local_faults sc l.name ++ type_faults sc l.value_type ++ d) (helper_call_faults sc l.call) (m.in_left f (local_faults sc l.name ++ type_faults sc l.value_type) d i))
 
 pub of_given_back : (decls : List Decl) (sc : Scope) (l : CalledLocal) → HasStmt decls sc (let_call l) → (f : Mistake) →
-    IsAmong f (given_back_faults sc.decls l.call.helper.span.start (type_of sc l.value_type) (helper_meant (meaning sc l.call.helper.text))) → IsAmong f (program_faults decls)
+    IsAmong f (given_back_faults sc.decls l.call.helper.span.start (type_of sc l.value_type) (helper_meant (meaning sc l.call.helper.text))) → IsAmong f (declaration_faults decls)
 of_given_back decls sc l h f i =
     let d = given_back_faults sc.decls l.call.helper.span.start (type_of sc l.value_type) (helper_meant (meaning sc l.call.helper.text)) in
     of_stmt decls sc (let_call l) h f (m.in_left f (local_faults sc l.name ++ type_faults sc l.value_type ++ d) (helper_call_faults sc l.call) (m.in_right f (local_faults sc l.name ++ type_faults sc l.value_type) d i))
 
-pub of_wanted : (decls : List Decl) (sc : Scope) (w : Want) (e : Expr) → HasExpr decls sc w e → (f : Mistake) → IsAmong f (wanted_faults sc w e) → IsAmong f (program_faults decls)
+pub of_wanted : (decls : List Decl) (sc : Scope) (w : Want) (e : Expr) → HasExpr decls sc w e → (f : Mistake) → IsAmong f (wanted_faults sc w e) → IsAmong f (declaration_faults decls)
 of_wanted decls sc w e (in_stmt {s = s} {w = v} {e = whole} h asks within) f i = of_stmt decls sc s h f (asked sc s v whole asks f (part sc v w whole e within f i))
 
 pub expr_decls : (decls : List Decl) (sc : Scope) (w : Want) (e : Expr) → HasExpr decls sc w e → sc.decls ≡ decls
 expr_decls decls sc w e (in_stmt {s = s} h asks within) = stmt_decls decls sc s h
 
-pub of_expr : (decls : List Decl) (sc : Scope) (w : Want) (e : Expr) → HasExpr decls sc w e → (f : Mistake) → IsAmong f (expr_faults sc e) → IsAmong f (program_faults decls)
+pub of_expr : (decls : List Decl) (sc : Scope) (w : Want) (e : Expr) → HasExpr decls sc w e → (f : Mistake) → IsAmong f (expr_faults sc e) → IsAmong f (declaration_faults decls)
 of_expr decls sc w e h f i = of_wanted decls sc w e h f (m.in_left f (expr_faults sc e) (misfit w (start_of e) (typed sc e)) i)
 
 -- ---- locals
@@ -229,7 +229,7 @@ abbrev pub own : Scope → List Param → Param → List Mistake
 own sc before p = local_faults sc p.name ++ one_if (nat_le sc.limits.parameters (length before)) LimitExceeded p.name.span.start ++ type_faults (outside sc.decls) p.value_type
 
 pub of_param : (decls : List Decl) (limits : BodyLimits) (x : Section) (before behind : List Param) (p : Param) → HasBody decls limits x → x.params ≡ before ++ p ∷ behind →
-    (f : Mistake) → IsAmong f (own (entered (ahead_of decls limits x) before) before p) → IsAmong f (program_faults decls)
+    (f : Mistake) → IsAmong f (own (entered (ahead_of decls limits x) before) before p) → IsAmong f (declaration_faults decls)
 of_param decls limits x before behind p h parts f i =
     let ahead = ahead_of decls limits x in
     let sc = entered ahead before in
@@ -238,7 +238,7 @@ of_param decls limits x before behind p h parts f i =
     (in_params ahead before behind p 0 f (subst (λ (k : ℕ). IsAmong f (param_faults sc k (p ∷ behind))) (let e : length before ≡ 0 + length before = omega arith in e)
     (m.in_left f (own sc before p) (param_faults (bound sc kind.Parameter p.name (type_of (outside sc.decls) p.value_type)) (length before + 1) behind) i))))))
 
-pub of_local : (decls : List Decl) (sc : Scope) (x : Ident) → Binds decls sc x → (f : Mistake) → IsAmong f (local_faults sc x) → IsAmong f (program_faults decls)
+pub of_local : (decls : List Decl) (sc : Scope) (x : Ident) → Binds decls sc x → (f : Mistake) → IsAmong f (local_faults sc x) → IsAmong f (declaration_faults decls)
 of_local decls sc x (parameter {limits = limits} {x = s} p before behind h parts) f i =
     let at = entered (ahead_of decls limits s) before in
     of_param decls limits s before behind p h parts f (m.in_left f (local_faults at p.name ++ one_if (nat_le at.limits.parameters (length before)) LimitExceeded p.name.span.start) _ (m.in_left f (local_faults at p.name) _ i))
@@ -275,7 +275,7 @@ split_at [] x h = elim h [ ]
 split_at (y ∷ xs) x first = ([], xs, refl)
 split_at (y ∷ xs) x (further h) = let r = split_at xs x h in (y ∷ r.0, r.1, ap (λ (ys : List _). y ∷ ys) r.2)
 
-pub of_type : (decls : List Decl) (sc : Scope) (t : ValueType) → HasType decls sc t → (f : Mistake) → IsAmong f (type_faults sc t) → IsAmong f (program_faults decls)
+pub of_type : (decls : List Decl) (sc : Scope) (t : ValueType) → HasType decls sc t → (f : Mistake) → IsAmong f (type_faults sc t) → IsAmong f (declaration_faults decls)
 of_type decls sc t (of_global {v = v} h) f i =
     of_decl decls (global v) h f (λ n at. m.in_left f (type_faults (outside decls) v.value_type ++ lock_faults decls v.name.span.start v.protection) (opening_faults decls (want (type_of (outside decls) v.value_type)) v.value) (m.in_left f (type_faults (outside decls) v.value_type) _ i))
 of_type decls sc t (of_array {a = a} h) f i = of_decl decls (array a) h f (λ n at. m.in_left f (type_faults (outside decls) a.value_type) (lock_faults decls a.name.span.start a.protection) i)
@@ -303,7 +303,7 @@ in_items decls (item (call b) rest) c this_call f i = m.in_left f (item_faults d
 in_items decls (item (repeat n is) rest) c (in_repeat h) f i = m.in_left f (item_faults decls (repeat n is)) (items_faults decls rest) (in_items decls is c h f i)
 in_items decls (item x rest) c (later_call h) f i = m.in_right f (item_faults decls x) _ (in_items decls rest c h f i)
 
-pub of_call : (decls : List Decl) (c : Call) → HasCall decls c → (f : Mistake) → IsAmong f (call_faults decls c.section.span.start (the_decl decls c.section.text) c.arguments) → IsAmong f (program_faults decls)
+pub of_call : (decls : List Decl) (c : Call) → HasCall decls c → (f : Mistake) → IsAmong f (call_faults decls c.section.span.start (the_decl decls c.section.text) c.arguments) → IsAmong f (declaration_faults decls)
 of_call decls c (in_thread {t = t} h a) f i = of_decl decls (thread t) h f (λ n at. in_items decls t.items c a f i)
 
 in_arguments : (decls : List Decl) (ps : List Param) (cs : List Const) (k : ℕ) (p : Param) (c : Const) → slice_get ps k ≡ Some p → slice_get cs k ≡ Some c → (f : Mistake) → IsAmong f (const_faults decls (want_of decls p) c) → IsAmong f (argument_faults decls ps cs)
@@ -315,7 +315,7 @@ in_arguments decls (q ∷ ps) (d ∷ cs) zero p c a b f i =
     m.in_left f (const_faults decls (want_of decls q) d) (argument_faults decls ps cs) (subst (λ (z : Param). IsAmong f (const_faults decls (want_of decls z) d)) (sym x) (subst (λ (z : Const). IsAmong f (const_faults decls (want_of decls p) z)) (sym y) i))
 in_arguments decls (q ∷ ps) (d ∷ cs) (suc k) p c a b f i = m.in_right f (const_faults decls (want_of decls q) d) _ (in_arguments decls ps cs k p c a b f i)
 
-pub of_const : (decls : List Decl) (w : Want) (c : Const) → HasConst decls w c → (f : Mistake) → IsAmong f (const_faults decls w c) → IsAmong f (program_faults decls)
+pub of_const : (decls : List Decl) (w : Want) (c : Const) → HasConst decls w c → (f : Mistake) → IsAmong f (const_faults decls w c) → IsAmong f (declaration_faults decls)
 of_const decls w c (opening {v = v} h e) f i =
     of_decl decls (global v) h f (λ n at. m.in_right f (type_faults (outside decls) v.value_type ++ lock_faults decls v.name.span.start v.protection) _ (subst (λ (o : Option Const). IsAmong f (opening_faults decls (want (type_of (outside decls) v.value_type)) o)) (sym e) i))
 of_const decls w c (initial {i = x} h) f i =

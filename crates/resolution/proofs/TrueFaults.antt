@@ -12,7 +12,7 @@ use Rattle.resolution.specs.Constants.{init_target_of, giver}
 use Rattle.resolution.specs.Where.{Has, first, further}
 use Rattle.resolution.specs.Faults as fault
 use Rattle.resolution.specs.Faults.{IsFault, declared_twice, over_limit, out_of_range}
-use Rattle.resolution.specs.FaultLists.{one_if, again, twice, twice_faults, member_twice_faults, struct_faults, first_too_many, lock_count, member_counts, count_faults, total_faults, given_before, init_target_again, repeated, repeated_faults, each_faults, program_faults}
+use Rattle.resolution.specs.FaultLists.{one_if, again, twice, twice_faults, member_twice_faults, struct_faults, first_too_many, lock_count, member_counts, count_faults, total_faults, given_before, init_target_again, repeated, repeated_faults, each_faults, declaration_faults}
 use Rattle.source.specs.Leasts.{IsAmong}
 use Rattle.resolution.proofs.Members.{IsTrue_of, both, of_one, of_if}
 use Rattle.resolution.proofs.TrueStatements.{length_push}
@@ -156,7 +156,7 @@ true_repeated decls before (d ∷ ds) parts f i =
 
 -- ---- the whole
 
-pub true_faults : (decls : List Decl) (f : Mistake) → IsAmong f (program_faults decls) → IsTrue_of decls f
+pub true_faults : (decls : List Decl) (f : Mistake) → IsAmong f (declaration_faults decls) → IsTrue_of decls f
 true_faults decls f i =
     let a = twice_faults [] decls in
     let b = struct_faults decls in

@@ -8,12 +8,16 @@ use Rattle.core_lang.specs.WellFormed.{IsChecked, IsWellFormed}
 use Rattle.resolution.specs.CoreViews.{core_section, core_of}
 use Rattle.resolution.specs.Limits.{section_limits, helper_limits}
 use Rattle.resolution.specs.Resolution.{resolved, typed_section}
-use Rattle.resolution.specs.Laws.{CallsKeepLimits, DeclaresNoHelper}
+use Rattle.call_graph.specs.Programs.{CallsKeepLimits}
+use Rattle.call_graph.specs.Laws.{FaultlessKeepLimits, HasNoGraphFault}
+use Rattle.resolution.specs.CallGraphs.{tree_graph}
+use Rattle.resolution.specs.Laws.{DeclaresNoHelper}
 use Rattle.resolution.proofs.Typed.{get_map}
 use Rattle.resolution.proofs.FaultlessExpressions.{Clean}
 use Rattle.resolution.proofs.LaidProgram.{no_helpers, sound, helped, laid_out, protected, opens, sections_are, helpers_are, scripts}
 use Rattle.resolution.proofs.WithinLimits.{within_limits}
 use Rattle.resolution.proofs.WellSections.{section_well_typed, section_well_scoped}
+use Rattle.resolution.proofs.TreeGraphs.{graph_is}
 
 -- a section of the program is that of a declaration
 section_from : (decls : List Decl) → Clean decls → (program : Typed) → resolved decls ≡ Some (core_of program) → (k : ℕ) (x : the_section.Section) → slice_get program.sections.items k ≡ Some x → (s : Section) × (typed_section decls section_limits s ≡ Some (core_section x))
@@ -27,8 +31,14 @@ helper_from decls clean program is k x at =
     let r = helpers_are decls clean program is k (core_section x) (get_map core_section program.shape.helpers.items k x at) in
     (r.1, r.4)
 
-pub checked : (decls : List Decl) → Clean decls → (program : Typed) → resolved decls ≡ Some (core_of program) → CallsKeepLimits program → IsChecked program
-checked decls clean program is keeps = record {
+keeps_limits : (decls : List Decl) → Clean decls → (program : Typed) → resolved decls ≡ Some (core_of program) → FaultlessKeepLimits → HasNoGraphFault (tree_graph decls) → CallsKeepLimits program
+keeps_limits decls clean program is keep none =
+    keep program (tree_graph decls) (graph_is decls clean program is) none (within_limits decls clean program is)
+    (λ k x at. (let r = helper_from decls clean program is k x at in section_well_typed decls program (sound decls clean program is) (helped decls clean program is) helper_limits r.0 x r.1))
+    (λ k x at. (let r = section_from decls clean program is k x at in section_well_scoped decls section_limits r.0 x r.1))
+
+pub checked : (decls : List Decl) → Clean decls → (program : Typed) → resolved decls ≡ Some (core_of program) → FaultlessKeepLimits → HasNoGraphFault (tree_graph decls) → IsChecked program
+checked decls clean program is keep none = record {
   within = within_limits decls clean program is;
   laid_out = laid_out decls clean program is;
   protected = protected decls clean program is;
@@ -37,9 +47,9 @@ checked decls clean program is keeps = record {
   scopes = λ k x at. (let r = section_from decls clean program is k x at in section_well_scoped decls section_limits r.0 x r.1);
   helpers = λ k x at. (let r = helper_from decls clean program is k x at in section_well_typed decls program (sound decls clean program is) (helped decls clean program is) helper_limits r.0 x r.1);
   helper_scopes = λ k x at. (let r = helper_from decls clean program is k x at in section_well_scoped decls helper_limits r.0 x r.1);
-  helper_depths = keeps.helper_depths;
-  written_locals = keeps.written_locals;
-  helper_points = keeps.helper_points;
+  helper_depths = (keeps_limits decls clean program is keep none).helper_depths;
+  written_locals = (keeps_limits decls clean program is keep none).written_locals;
+  helper_points = (keeps_limits decls clean program is keep none).helper_points;
   scripts = scripts decls clean program is;
 }
 

@@ -33,6 +33,8 @@ use Rattle.resolution.specs.Annotations.{AnnotationCursor, stepped_on, cursor_at
 use Rattle.resolution.specs.Resolution.{ahead_of}
 use Rattle.resolution.specs.Where.{operand_want, prefix_want, side_want}
 use Rattle.resolution.specs.Faults.{start_of, const_start}
+use Rattle.call_graph.specs.FaultLists.{graph_faults}
+use Rattle.resolution.specs.CallGraphs.{tree_graph}
 
 abbrev pub fault : Code → ℕ → Mistake
 fault code start = record { code = code; start = start }
@@ -602,5 +604,10 @@ repeated_faults decls before (d ∷ ds) = repeated decls before d ++ repeated_fa
 
 -- ---- the whole
 
+-- of declarations, one by one and behind others
+abbrev pub declaration_faults : List Decl → List Mistake
+declaration_faults decls = twice_faults [] decls ++ struct_faults decls ++ total_faults decls [] decls ++ repeated_faults decls [] decls ++ each_faults decls 0 decls
+
+-- and of what their bodies call
 abbrev pub program_faults : List Decl → List Mistake
-program_faults decls = twice_faults [] decls ++ struct_faults decls ++ total_faults decls [] decls ++ repeated_faults decls [] decls ++ each_faults decls 0 decls
+program_faults decls = declaration_faults decls ++ graph_faults (tree_graph decls)

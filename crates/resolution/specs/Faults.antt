@@ -33,6 +33,8 @@ use Rattle.resolution.specs.Owners.{owner_field}
 use Rattle.resolution.specs.Statements.{is_var, last_field, first_name}
 use Rattle.resolution.specs.Constants.{const_sort, members_of, pool_members, initialised, init_target_of, giver, given}
 use Rattle.resolution.specs.Annotations.{AnnotationCursor, through_member, cursor_at}
+use Rattle.call_graph.specs.Faults.{IsGraphFault}
+use Rattle.resolution.specs.CallGraphs.{tree_graph}
 use Rattle.resolution.specs.Where.{Has, HasLink, HasBody, HasStmt, HasHelperCall, HasExpr, HasPlace, Binds, HasType, NamesOwner, HasCall, HasConst, HasLock, Annotates}
 
 -- ---- where expressions and constants start
@@ -406,6 +408,8 @@ pub data IsFault (decls : List Decl) : Code → ℕ → Type 0 where
   final_missing : {p : ℕ} → IsFinalMissing decls p → IsFault decls FinalWithoutOpeningValue p
   out_of_range : {p : ℕ} → IsOutOfRange decls p → IsFault decls InitOutOfRangeOrRepeated p
   lock_as_value : {p : ℕ} → IsLockAsValue decls p → IsFault decls LockAsValue p
+  -- a circle of helpers, one that is too deep, or a call by which a section has too many locals or points
+  of_calls : {code : Code} {p : ℕ} → IsGraphFault (tree_graph decls) code p → IsFault decls code p
 
 -- the refusal is a fault of the program, with no detail, or for want of memory
 abbrev pub IsRefusal : List Decl → Refusal → Type 0

@@ -1,14 +1,9 @@
 -- What holds of resolution and of faults, as `src/laws.rt` claims it.
-use Rattle.std.specs.Prelude.{◌≡◌, ℕ, ◌≤◌, List, length, slice_get, Option, Some, None, false}
+use Rattle.std.specs.Prelude.{◌≡◌, ℕ, List, Option, Some, None, false}
 use Rattle.source.specs.declared.fault.Code.{Code}
 use Rattle.syntax.specs.Trees.{Decl, Section, helper}
 use Rattle.syntax.specs.Returns.{ReturnsRight}
-use Rattle.core_lang.specs.declared.tree.Section as the_section
 use Rattle.core_lang.specs.declared.typed.Typed.{Typed}
-use Rattle.core_lang.specs.Meaning.{deepest}
-use Rattle.core_lang.specs.Helpers.{IsAtMostDeep}
-use Rattle.core_lang.specs.WrittenLocals.{written_locals}
-use Rattle.core_lang.specs.WrittenPoints.{helper_points}
 use Rattle.core_lang.specs.WellFormed.{IsChecked, IsWellFormed}
 use Rattle.source.specs.declared.mistake.Mistake.{Mistake}
 use Rattle.source.specs.Mistakes.{goes_before, least_of}
@@ -18,6 +13,8 @@ use Rattle.resolution.specs.Resolved.{Resolves}
 use Rattle.resolution.specs.Where.{Has}
 use Rattle.resolution.specs.Faults.{IsFault, HasNoFault}
 use Rattle.resolution.specs.FaultLists.{program_faults}
+use Rattle.call_graph.specs.Programs.{IsGraphOf}
+use Rattle.resolution.specs.CallGraphs.{tree_graph}
 
 -- the least fault of the program's list, if there is one
 abbrev pub the_least : List Decl → Option Mistake
@@ -47,19 +44,14 @@ NoLeastIsNoFault = (decls : List Decl) → the_least decls ≡ None → HasNoFau
 abbrev pub FaultlessAreResolved : Type 0
 FaultlessAreResolved = (decls : List Decl) → ReturnsRight decls → the_least decls ≡ None → (p : core.Program) × (resolved decls ≡ Some p)
 
--- calls of helpers keep to the limits: no helper is too deep, and no section gets too many locals or points from helpers
-pub record CallsKeepLimits (program : Typed) : Type 0 where
-  pub helper_depths : (k : ℕ) (h : the_section.Section) → slice_get program.shape.helpers.items k ≡ Some h →
-      IsAtMostDeep program.shape deepest k
-  pub written_locals : (k : ℕ) (section : the_section.Section) → slice_get program.sections.items k ≡ Some section →
-      length (written_locals program.shape section) ≤ 64
-  pub helper_points : (k : ℕ) (section : the_section.Section) → slice_get program.sections.items k ≡ Some section →
-      helper_points program.shape section ≤ 65536
+-- the graph of a tree with no fault is that of what it is resolved to
+abbrev pub GraphOfResolved : Type 0
+GraphOfResolved = (decls : List Decl) (program : Typed) → the_least decls ≡ None → Resolves decls program → IsGraphOf program (tree_graph decls)
 
 -- and what it is resolved to is as an accepted program should be
 abbrev pub ResolvedAreChecked : Type 0
 ResolvedAreChecked =
-    (decls : List Decl) (program : Typed) → the_least decls ≡ None → Resolves decls program → CallsKeepLimits program → IsChecked program
+    (decls : List Decl) (program : Typed) → the_least decls ≡ None → Resolves decls program → IsChecked program
 
 -- no helper is declared
 abbrev pub DeclaresNoHelper : List Decl → Type 0

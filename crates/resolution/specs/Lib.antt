@@ -11,6 +11,7 @@ pub mod Annotations
 pub mod Resolution
 pub mod Resolved
 pub mod Where
+pub mod CallGraphs
 pub mod Faults
 pub mod FaultLists
 pub mod Laws
@@ -18,4 +19,4 @@ pub mod Facts
 -- what the public clauses cite
 pub use Rattle.resolution.specs.Resolved.{Resolves}
 pub use Rattle.resolution.specs.Faults.{IsFault, IsRefusal, HasNoFault}
-pub use Rattle.resolution.specs.Laws.{TheLeastIsAFault, NoneGoesBeforeTheLeast, NoLeastIsNoFault, HaveAtMostOneLeast, FaultlessAreResolved, CallsKeepLimits, ResolvedAreChecked, DeclaresNoHelper, WithoutHelpersAreWellFormed}
+pub use Rattle.resolution.specs.Laws.{TheLeastIsAFault, NoneGoesBeforeTheLeast, NoLeastIsNoFault, HaveAtMostOneLeast, FaultlessAreResolved, GraphOfResolved, ResolvedAreChecked, DeclaresNoHelper, WithoutHelpersAreWellFormed}

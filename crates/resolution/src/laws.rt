@@ -1,6 +1,8 @@
 //! What holds of resolution and of faults: functions that do nothing, and whose contracts are the laws.
 
-ghost use Rattle.resolution.specs.Laws.{TheLeastIsAFault, NoneGoesBeforeTheLeast, NoLeastIsNoFault, HaveAtMostOneLeast, FaultlessAreResolved, ResolvedAreChecked, WithoutHelpersAreWellFormed};
+ghost use Rattle.resolution.specs.Laws.{TheLeastIsAFault, NoneGoesBeforeTheLeast, NoLeastIsNoFault, HaveAtMostOneLeast, FaultlessAreResolved, GraphOfResolved, ResolvedAreChecked, WithoutHelpersAreWellFormed};
+
+use call_graph::laws::{faultless_keep_limits, listed_faults};
 
 /// The least fault of the list is a fault of the program, and no fault of the program goes before it; and where the
 /// list is empty, the program has no fault.
@@ -8,7 +10,9 @@ pub fn least_fault()
     ensures fault { TheLeastIsAFault }
     ensures least { NoneGoesBeforeTheLeast }
     ensures none { NoLeastIsNoFault }
-{}
+{
+    listed_faults();
+}
 
 /// A program has at most one least fault: two faults before which none goes are the same.
 pub fn one_least()
@@ -20,11 +24,18 @@ pub fn faultless_are_resolved()
     ensures { FaultlessAreResolved }
 {}
 
-/// What a program with no fault is resolved to is as an accepted program should be, if its calls of helpers keep to the
-/// limits.
+/// The graph of what a tree with no fault calls is that of the program to which it is resolved.
+pub fn graph_of_resolved()
+    ensures { GraphOfResolved }
+{}
+
+/// What a program with no fault is resolved to is as an accepted program should be.
 pub fn resolved_are_checked()
     ensures { ResolvedAreChecked }
-{}
+{
+    listed_faults();
+    faultless_keep_limits();
+}
 
 /// What a program with no fault, in which no helper is declared, is resolved to is well formed.
 pub fn without_helpers()

@@ -12,17 +12,25 @@ use Rattle.resolution.specs.Resolution.{nothing_yet, resolved, resolved_from}
 use Rattle.resolution.specs.FaultLists.{twice_faults, struct_faults, total_faults, repeated_faults, each_faults}
 use Rattle.resolution.specs.Laws.{the_least}
 use Rattle.declarations.specs.Grown.{if_right}
+use Rattle.call_graph.specs.FaultLists.{graph_faults}
+use Rattle.resolution.specs.CallGraphs.{tree_graph}
+use Rattle.types.specs.Whole.{judged_faults}
 
 -- the least after the passes over all declarations
 abbrev pub least_after : Option Mistake → List Decl → Option Mistake
 least_after f ds = least_of f (twice_faults [] ds ++ struct_faults ds ++ total_faults ds [] ds ++ repeated_faults ds [] ds)
 
 -- the least of all faults of a program
-pub whole_least : (ds ps : List Decl) (f g : Option Mistake) → ps ≡ ds → f ≡ least_of None (twice_faults [] ds ++ struct_faults ds ++ total_faults ds [] ds ++ repeated_faults ds [] ds) → g ≡ least_of f (each_faults ps 0 ps) → g ≡ the_least ds
+pub whole_least : (ds ps : List Decl) (f g : Option Mistake) → ps ≡ ds → f ≡ least_of None (twice_faults [] ds ++ struct_faults ds ++ total_faults ds [] ds ++ repeated_faults ds [] ds) → g ≡ least_of f (judged_faults ps) → g ≡ the_least ds
 whole_least ds ps f g same hf hg =
-    hg ∙ ap (λ (x : List Decl). least_of f (each_faults x 0 x)) same
-    ∙ ap (λ (o : Option Mistake). least_of o (each_faults ds 0 ds)) hf
-    ∙ sym (least_append None (twice_faults [] ds ++ struct_faults ds ++ total_faults ds [] ds ++ repeated_faults ds [] ds) (each_faults ds 0 ds))
+    let ahead = twice_faults [] ds ++ struct_faults ds ++ total_faults ds [] ds ++ repeated_faults ds [] ds in
+    let each = each_faults ds 0 ds in
+    let calls = graph_faults (tree_graph ds) in
+    hg ∙ ap (λ (x : List Decl). least_of f (judged_faults x)) same
+    ∙ ap (λ (o : Option Mistake). least_of o (judged_faults ds)) hf
+    ∙ least_append (least_of None ahead) each calls
+    ∙ ap (λ (o : Option Mistake). least_of o calls) (sym (least_append None ahead each))
+    ∙ sym (least_append None (ahead ++ each) calls)
 
 some_next : (f g : Mistake) (gs : List Mistake) → ((h : Mistake) → least_of (Some h) gs ≡ None → ⊥) → (b : Bool) → least_of (if b then Some g else Some f) gs ≡ None → ⊥
 some_next f g gs rec true e = rec g e

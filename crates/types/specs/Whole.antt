@@ -1,16 +1,24 @@
 -- What the passes over declarations give, by parts.
-use Rattle.std.specs.Prelude.{ℕ, List, Option}
+use Rattle.std.specs.Prelude.{ℕ, List, ◌++◌, Option}
 use Rattle.syntax.specs.Trees.{Decl, Variable, Array, Section, Thread}
 use Rattle.resolution.specs.Core as core
 use Rattle.resolution.specs.Limits.{section_limits, helper_limits}
 use Rattle.resolution.specs.Scopes.{◌>>=◌}
 use Rattle.resolution.specs.Resolution.{extended, with_section, with_helper, with_thread, typed_section, typed_calls, global_with, array_with}
 use Rattle.declarations.specs.Values as builder
+use Rattle.call_graph.specs.FaultLists.{graph_faults}
+use Rattle.resolution.specs.CallGraphs.{tree_graph}
+use Rattle.resolution.specs.FaultLists.{each_faults}
+use Rattle.source.specs.declared.mistake.Mistake.{Mistake}
 use Rattle.types.specs.declared.program.Judge.{Judge}
 
 -- the declarations, as a judge knows them
 abbrev pub known : Judge → List Decl
 known j = builder.known j.builder
+
+-- the faults of declarations one by one, and of what their bodies call
+abbrev pub judged_faults : List Decl → List Mistake
+judged_faults decls = each_faults decls 0 decls ++ graph_faults (tree_graph decls)
 
 -- a program, if there is one, with one more declaration
 abbrev pub extended_if : List Decl → ℕ → Option core.Program → Decl → Option core.Program

@@ -10,12 +10,12 @@ ghost use Rattle.resolution.specs.Resolution.{resolved_from, nothing_yet};
 ghost use Rattle.resolution.specs.Limits.{section_limits, helper_limits};
 ghost use Rattle.resolution.specs.Resolved.{Resolves};
 ghost use Rattle.resolution.specs.Faults.{IsFault, IsRefusal, HasNoFault};
-ghost use Rattle.resolution.specs.Laws.{CallsKeepLimits, DeclaresNoHelper};
+ghost use Rattle.resolution.specs.Laws.{DeclaresNoHelper};
 ghost use Rattle.source.specs.Mistakes.{least_of, IsLeastOf};
 ghost use Rattle.resolution.specs.FaultLists.{global_faults, array_faults, section_faults, decl_faults, each_faults, items_faults};
 ghost use Rattle.symbols.specs.{decls_of};
 ghost use Rattle.declarations.specs.Grown.{built};
-ghost use Rattle.types.specs.Whole.{known, extended_if, global_if, array_if, section_if, helper_if, thread_if};
+ghost use Rattle.types.specs.Whole.{known, judged_faults, extended_if, global_if, array_if, section_if, helper_if, thread_if};
 
 use annotations::note_lock;
 use constants::constant::note_opening;
@@ -37,6 +37,7 @@ use symbols::members::Structure;
 use symbols::scope::{note_target, note_type, type_outside};
 use symbols::table::SymbolTable;
 use syntax::tree::{Array, Decl, Pool, Section, Thread, Tree, Variable};
+use tree_calls::program::note_calls;
 
 /// Goes over the declarations of a program: notes what is wrong with each, and builds it where nothing is.
 #[derive(Clone, Copy)]
@@ -259,7 +260,8 @@ fn nothing(alloc: Global) -> Typed
     }
 }
 
-/// The declarations of a program, one after another.
+/// The declarations of a program, one after another, and then what their bodies call.
+#[tactic(auto, using(source::specs::Leasts::least_append))]
 fn judge_all(
     alloc: Global,
     symbols: &SymbolTable,
@@ -267,16 +269,17 @@ fn judge_all(
     least: &mut Option<Mistake>,
 ) -> Result<(), AllocError>
     ensures value { OnOk result (built grown.new ≡ resolved_from (decls_of symbols.now) 0 (built grown.old) (decls_of symbols.now)) }
-    ensures faults { OnOk result (least.new ≡ least_of least.old (each_faults (decls_of symbols.now) 0 (decls_of symbols.now))) }
+    ensures faults { OnOk result (least.new ≡ least_of least.old (judged_faults (decls_of symbols.now))) }
 {
     let judge = Judge {
         builder: Builder { alloc, symbols },
     };
-    judge.judge_decls(grown, least)
+    judge.judge_decls(grown, least)?;
+    note_calls(alloc, symbols, least)
 }
 
 /// The program that a tree stands for: each name replaced by the number of what it means, every expression typed. Or
-/// the tree's first fault of names and types (`E05` to `E12`, `E15` to `E17`, `E19`): the one that stands first, and
+/// the tree's first fault of names and types (`E05` to `E12`, `E15` to `E17`, `E19`, `E20`): the one that stands first, and
 /// at one place the one with the lowest code. A tree whose numbers no token can have is refused for those (`E02`).
 ///
 /// The tree has its `return`s in their places, as the parser answers it. The one other error is a refused growth.
@@ -284,9 +287,8 @@ pub fn check(alloc: Global, tree: &Tree) -> Result<Typed, Refusal>
     requires { ReturnsRight (tree_of tree.now) }
     // What is answered is the program that the tree stands for.
     ensures resolves { IfOk result (Resolves (tree_of tree.now)) }
-    // Its numbers all name what they should, and its sections and helpers are well typed; that calls of helpers keep to
-    // the limits is for others to tell.
-    ensures checked { IfOk result (λ program. CallsKeepLimits program → IsChecked program) }
+    // Its numbers all name what they should, its sections and helpers are well typed, and calls keep to the limits.
+    ensures checked { IfOk result IsChecked }
     // Without helpers it is well formed.
     ensures well_formed { IfOk result (λ program. DeclaresNoHelper (tree_of tree.now) → IsWellFormed program) }
     // A tree with a fault is never accepted.

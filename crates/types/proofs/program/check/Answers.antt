@@ -1,7 +1,7 @@
 use Rattle.std.proofs.Common.{sym, ap, ◌∙◌, None}
 use Rattle.std.specs.Prelude.{map}
 use Rattle.syntax.specs.Views.{tree_of, decl_of}
-use Rattle.resolution.specs.FaultLists.{each_faults}
+use Rattle.types.specs.Whole.{judged_faults}
 use Rattle.symbols.specs.Views.{decls_of}
 use Rattle.declarations.specs.Grown.{if_right, built}
 use Rattle.types.proofs.Checked.{least_after, whole_least, was_none, whole_built, none_built, begun}
@@ -27,7 +27,7 @@ unreachable-requires c =
     let items = ap (map decl_of) c.deref.ensures.value in
     let same = ap (map decl_of) c.in_ok-symbols.ensures.items ∙ items in
     let whole = whole_least ds (decls_of c.in_ok-symbols.symbols) c.new.new.least c.judge_all.new.least same (c.in_ok-symbols.ensures.faults ∙ ap (least_after None) items) c.in_ok-judge_all.ensures.faults in
-    let none = was_none c.new.new.least (each_faults (decls_of c.in_ok-symbols.symbols) 0 (decls_of c.in_ok-symbols.symbols)) (sym c.in_ok-judge_all.ensures.faults ∙ c.in_default.is) in
+    let none = was_none c.new.new.least (judged_faults (decls_of c.in_ok-symbols.symbols)) (sym c.in_ok-judge_all.ensures.faults ∙ c.in_default.is) in
     let all = whole_built ds (decls_of c.in_ok-symbols.symbols) _ (built c.judge_all.new.grown) same (begun c.new.new.least c.is_none.result c.nothing.result none c.is_none.ensures c.nothing.ensures) c.in_ok-judge_all.ensures.value in
     none_built ds (built c.judge_all.new.grown) all (ap (λ b. if_right b c.judge_all.new.grown.typed) c.if-not-grown.true) (c.faultless_are_resolved.ensures ds c.requires (sym whole ∙ c.in_default.is))
 
@@ -36,7 +36,7 @@ returns-clause-resolves c =
     let ds = tree_of c.args.tree.now in
     let items = ap (map decl_of) c.deref.ensures.value in
     let same = ap (map decl_of) c.in_ok-symbols.ensures.items ∙ items in
-    let none = was_none c.new.new.least (each_faults (decls_of c.in_ok-symbols.symbols) 0 (decls_of c.in_ok-symbols.symbols)) (sym c.in_ok-judge_all.ensures.faults ∙ c.in_default.is) in
+    let none = was_none c.new.new.least (judged_faults (decls_of c.in_ok-symbols.symbols)) (sym c.in_ok-judge_all.ensures.faults ∙ c.in_default.is) in
     sym (whole_built ds (decls_of c.in_ok-symbols.symbols) _ (built c.judge_all.new.grown) same (begun c.new.new.least c.is_none.result c.nothing.result none c.is_none.ensures c.nothing.ensures) c.in_ok-judge_all.ensures.value) ∙ ap (λ b. if_right b c.judge_all.new.grown.typed) c.if-not-grown.false
 
 pub returns-clause-checked : goal.returns-clause-checked
@@ -45,7 +45,7 @@ returns-clause-checked c =
     let items = ap (map decl_of) c.deref.ensures.value in
     let same = ap (map decl_of) c.in_ok-symbols.ensures.items ∙ items in
     let whole = whole_least ds (decls_of c.in_ok-symbols.symbols) c.new.new.least c.judge_all.new.least same (c.in_ok-symbols.ensures.faults ∙ ap (least_after None) items) c.in_ok-judge_all.ensures.faults in
-    let none = was_none c.new.new.least (each_faults (decls_of c.in_ok-symbols.symbols) 0 (decls_of c.in_ok-symbols.symbols)) (sym c.in_ok-judge_all.ensures.faults ∙ c.in_default.is) in
+    let none = was_none c.new.new.least (judged_faults (decls_of c.in_ok-symbols.symbols)) (sym c.in_ok-judge_all.ensures.faults ∙ c.in_default.is) in
     let all = whole_built ds (decls_of c.in_ok-symbols.symbols) _ (built c.judge_all.new.grown) same (begun c.new.new.least c.is_none.result c.nothing.result none c.is_none.ensures c.nothing.ensures) c.in_ok-judge_all.ensures.value in
     c.resolved_are_checked.ensures ds c.judge_all.new.grown.typed (sym whole ∙ c.in_default.is) (sym all ∙ ap (λ b. if_right b c.judge_all.new.grown.typed) c.if-not-grown.false)
 
@@ -55,7 +55,7 @@ returns-clause-well_formed c =
     let items = ap (map decl_of) c.deref.ensures.value in
     let same = ap (map decl_of) c.in_ok-symbols.ensures.items ∙ items in
     let whole = whole_least ds (decls_of c.in_ok-symbols.symbols) c.new.new.least c.judge_all.new.least same (c.in_ok-symbols.ensures.faults ∙ ap (least_after None) items) c.in_ok-judge_all.ensures.faults in
-    let none = was_none c.new.new.least (each_faults (decls_of c.in_ok-symbols.symbols) 0 (decls_of c.in_ok-symbols.symbols)) (sym c.in_ok-judge_all.ensures.faults ∙ c.in_default.is) in
+    let none = was_none c.new.new.least (judged_faults (decls_of c.in_ok-symbols.symbols)) (sym c.in_ok-judge_all.ensures.faults ∙ c.in_default.is) in
     let all = whole_built ds (decls_of c.in_ok-symbols.symbols) _ (built c.judge_all.new.grown) same (begun c.new.new.least c.is_none.result c.nothing.result none c.is_none.ensures c.nothing.ensures) c.in_ok-judge_all.ensures.value in
     c.without_helpers.ensures ds c.judge_all.new.grown.typed (sym whole ∙ c.in_default.is) (sym all ∙ ap (λ b. if_right b c.judge_all.new.grown.typed) c.if-not-grown.false)
 

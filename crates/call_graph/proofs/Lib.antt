@@ -1,0 +1,10 @@
+pub mod Sets
+pub mod Closing
+pub mod Endless
+pub mod Deep
+pub mod Extending
+pub mod Reaching
+pub mod Noting
+pub mod Listed
+pub mod Faultless
+pub mod Written

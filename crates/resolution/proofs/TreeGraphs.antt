@@ -1,0 +1,240 @@
+-- The graph of a tree is that of the program which it stands for.
+use Rattle.std.proofs.Common.{◌≡◌, ℕ, zero, suc, ◌+◌, ◌<◌, ◌≤◌, List, [], ◌∷◌, map, take, length, Option, Some, None, refl, sym, ap, ◌∙◌, subst, length-append, arith}
+use Rattle.std.specs.Prelude.{slice_get, is_some}
+use Rattle.std.proofs.lemmas.List.{length-map}
+use Rattle.std.proofs.lemmas.Option.{slice_get_within}
+use Rattle.syntax.specs.Trees.{ValueType, Section, Decl, lock, struct, global, array, pool, init, atomic, helper, thread}
+use Rattle.core_lang.specs.declared.value.ValueType as core_type
+use Rattle.core_lang.specs.declared.tree.Section as the_section
+use Rattle.core_lang.specs.declared.typed.Typed.{Typed}
+use Rattle.core_lang.specs.Scopes.{numbers_from, bound_in_all, IsWellScoped}
+use Rattle.call_graph.specs.Graphs.{Body}
+use Rattle.call_graph.specs.Programs.{IsBodyOf, IsGraphOf}
+use Rattle.resolution.specs.declared.body_limits.BodyLimits.{BodyLimits}
+use Rattle.resolution.specs.Core as core
+use Rattle.resolution.specs.CoreViews.{core_local, core_section, core_of}
+use Rattle.resolution.specs.Limits.{SECTION_LIMIT, section_limits, helper_limits}
+use Rattle.resolution.specs.Scopes.{◌>>=◌, outside, count, alike, number_at, type_of}
+use Rattle.resolution.specs.Statements as statements
+use Rattle.resolution.specs.Statements.{typed_body, after_all}
+use Rattle.resolution.specs.Resolution.{resolved, ahead_of, entry, core_locals, section_with, section_of, typed_section}
+use Rattle.resolution.specs.CallGraphs.{stmts_calls, stmts_points, body_in, helper_bodies, section_bodies, tree_graph}
+use Rattle.resolution.proofs.Typed.{get_map}
+use Rattle.resolution.proofs.FaultlessExpressions.{Clean}
+use Rattle.resolution.proofs.LaidProgram.{sections_are, helpers_are}
+use Rattle.resolution.proofs.LaidScripts.{helper_at}
+use Rattle.resolution.proofs.WithinLimits.{within_limits}
+use Rattle.resolution.proofs.WellSections.{locals_length, section_well_scoped}
+use Rattle.resolution.proofs.CallSites.{all_sites, all_points, all_seen, points_all_seen, IfBody, body_has}
+
+-- ---- one section or helper
+
+-- what it is resolved to, by its parts
+record Parts (decls : List Decl) (s : Section) (o : Option (List core.Local)) (b : Option statements.Body) (x : core.Section) : Type 0 where
+  locals : List core.Local
+  body : statements.Body
+  locals_are : o ≡ Some locals
+  body_is : b ≡ Some body
+  same_parameters : x.parameters ≡ length s.params
+  same_locals : x.locals ≡ locals
+  same_body : x.body ≡ body.stmts
+  same_result : is_some s.result ≡ is_some x.result_type
+
+with_type : (decls : List Decl) (s : Section) (locals : List core.Local) (body : statements.Body) (t : ValueType) (r : core.Return) (v : Option core_type.ValueType) (x : core.Section) →
+    s.result ≡ Some t →
+    (v >>= λ v. Some (record { name = s.name.text; parameters = length s.params; locals = locals; result_type = Some v; body = body.stmts; result = Some r })) ≡ Some x →
+    Parts decls s (Some locals) (Some body) x
+with_type decls s locals body t r None x is e = absurd cc
+with_type decls s locals body t r (Some v) x is e =
+    let y : core.Section = record { name = s.name.text; parameters = length s.params; locals = locals; result_type = Some v; body = body.stmts; result = Some r } in
+    let same : y ≡ x = cc in
+    record {
+      locals = locals;
+      body = body;
+      locals_are = refl;
+      body_is = refl;
+      same_parameters = ap (λ (z : core.Section). z.parameters) (sym same);
+      same_locals = ap (λ (z : core.Section). z.locals) (sym same);
+      same_body = ap (λ (z : core.Section). z.body) (sym same);
+      same_result = ap (λ (z : Option ValueType). is_some z) is ∙ ap (λ (z : core.Section). is_some z.result_type) same;
+    }
+
+without_type : (decls : List Decl) (s : Section) (locals : List core.Local) (body : statements.Body) (x : core.Section) → s.result ≡ None →
+    ◌≡◌ {A = Option core.Section} (Some (record { name = s.name.text; parameters = length s.params; locals = locals; result_type = None; body = body.stmts; result = None })) (Some x) →
+    Parts decls s (Some locals) (Some body) x
+without_type decls s locals body x is e =
+    let y : core.Section = record { name = s.name.text; parameters = length s.params; locals = locals; result_type = None; body = body.stmts; result = None } in
+    let same : y ≡ x = cc in
+    record {
+      locals = locals;
+      body = body;
+      locals_are = refl;
+      body_is = refl;
+      same_parameters = ap (λ (z : core.Section). z.parameters) (sym same);
+      same_locals = ap (λ (z : core.Section). z.locals) (sym same);
+      same_body = ap (λ (z : core.Section). z.body) (sym same);
+      same_result = ap (λ (z : Option ValueType). is_some z) is ∙ ap (λ (z : core.Section). is_some z.result_type) same;
+    }
+
+with_parts : (decls : List Decl) (s : Section) (locals : List core.Local) (body : statements.Body) (t : Option ValueType) (r : Option core.Return) (x : core.Section) → s.result ≡ t →
+    section_with decls s locals body.stmts t r ≡ Some x → Parts decls s (Some locals) (Some body) x
+with_parts decls s locals body None None x is e = without_type decls s locals body x is e
+with_parts decls s locals body (Some t) (Some r) x is e = with_type decls s locals body t r (type_of (outside decls) t) x is e
+with_parts decls s locals body None (Some r) x is e = absurd cc
+with_parts decls s locals body (Some t) None x is e = absurd cc
+
+parts_of : (decls : List Decl) (s : Section) (o : Option (List core.Local)) (b : Option statements.Body) (x : core.Section) → section_of decls s o b ≡ Some x → Parts decls s o b x
+parts_of decls s (Some locals) (Some body) x e = with_parts decls s locals body s.result body.result x refl e
+parts_of decls s (Some locals) None x e = absurd cc
+parts_of decls s None b x e = absurd cc
+
+numbers_many : (first n : ℕ) → length (numbers_from first n) ≡ n
+numbers_many first zero = refl
+numbers_many first (suc n) = let h = numbers_many (first + 1) n in omega (arith, h)
+
+pub body_of_section : (decls : List Decl) (limits : BodyLimits) (s : Section) (x : the_section.Section) → typed_section decls limits s ≡ Some (core_section x) →
+    IsBodyOf x (body_in (ahead_of decls limits s) s)
+body_of_section decls limits s x e =
+    let sc = entry decls limits s in
+    let p = parts_of decls s (core_locals (after_all sc s.body.stmts).locals) (typed_body sc s.body.stmts) (core_section x) e in
+    let has = subst (λ (o : Option statements.Body). IfBody o (stmts_calls sc s.body.stmts) (stmts_points s.body.stmts)) p.body_is (body_has sc s.body.stmts) in
+    let scoped : IsWellScoped x = section_well_scoped decls limits s x e in
+    let many : length p.locals ≡ length (after_all sc s.body.stmts).locals = locals_length (after_all sc s.body.stmts).locals p.locals p.locals_are in
+    let own : length (map core_local x.locals.items) ≡ length p.locals = ap (λ (l : List core.Local). length l) p.same_locals in
+    let mapped : length (map core_local x.locals.items) ≡ length x.locals.items = length-map x.locals.items core_local in
+    let bound = ap (λ (l : List ℕ). length l) scoped.bound in
+    let before = numbers_many 0 x.parameters in
+    let whole = numbers_many 0 (length x.locals.items) in
+    record {
+      parameters = sym p.same_parameters;
+      locals = omega (arith, many, own, mapped, bound, before, whole, length-append (numbers_from 0 x.parameters) (bound_in_all x.body.items));
+      points = sym has.1 ∙ ap all_points (sym p.same_body) ∙ sym (points_all_seen x.body.items);
+      has_result = p.same_result;
+      calls = sym has.0 ∙ ap all_sites (sym p.same_body) ∙ sym (all_seen x.body.items);
+    }
+
+-- ---- by number
+
+helper_there : (all ds : List Decl) (i : ℕ) (s : Section) → slice_get ds i ≡ Some (helper s) →
+    slice_get (helper_bodies all ds) (count (alike (helper s)) (take i ds)) ≡ Some (body_in (ahead_of all helper_limits s) s)
+helper_there all [] i s e = absurd cc
+helper_there all (helper x ∷ ds) zero s e = let same : x ≡ s = cc in ap (λ (y : Section). Some (body_in (ahead_of all helper_limits y) y)) same
+helper_there all (lock x ∷ ds) zero s e = absurd cc
+helper_there all (struct x ∷ ds) zero s e = absurd cc
+helper_there all (global x ∷ ds) zero s e = absurd cc
+helper_there all (array x ∷ ds) zero s e = absurd cc
+helper_there all (pool x ∷ ds) zero s e = absurd cc
+helper_there all (init x ∷ ds) zero s e = absurd cc
+helper_there all (atomic x ∷ ds) zero s e = absurd cc
+helper_there all (thread x ∷ ds) zero s e = absurd cc
+helper_there all (helper x ∷ ds) (suc i) s e = helper_there all ds i s e
+helper_there all (lock x ∷ ds) (suc i) s e = helper_there all ds i s e
+helper_there all (struct x ∷ ds) (suc i) s e = helper_there all ds i s e
+helper_there all (global x ∷ ds) (suc i) s e = helper_there all ds i s e
+helper_there all (array x ∷ ds) (suc i) s e = helper_there all ds i s e
+helper_there all (pool x ∷ ds) (suc i) s e = helper_there all ds i s e
+helper_there all (init x ∷ ds) (suc i) s e = helper_there all ds i s e
+helper_there all (atomic x ∷ ds) (suc i) s e = helper_there all ds i s e
+helper_there all (thread x ∷ ds) (suc i) s e = helper_there all ds i s e
+
+section_there : (all ds : List Decl) (i : ℕ) (s : Section) → slice_get ds i ≡ Some (atomic s) →
+    slice_get (section_bodies all ds) (count (alike (atomic s)) (take i ds)) ≡ Some (body_in (ahead_of all section_limits s) s)
+section_there all [] i s e = absurd cc
+section_there all (atomic x ∷ ds) zero s e = let same : x ≡ s = cc in ap (λ (y : Section). Some (body_in (ahead_of all section_limits y) y)) same
+section_there all (lock x ∷ ds) zero s e = absurd cc
+section_there all (struct x ∷ ds) zero s e = absurd cc
+section_there all (global x ∷ ds) zero s e = absurd cc
+section_there all (array x ∷ ds) zero s e = absurd cc
+section_there all (pool x ∷ ds) zero s e = absurd cc
+section_there all (init x ∷ ds) zero s e = absurd cc
+section_there all (helper x ∷ ds) zero s e = absurd cc
+section_there all (thread x ∷ ds) zero s e = absurd cc
+section_there all (atomic x ∷ ds) (suc i) s e = section_there all ds i s e
+section_there all (lock x ∷ ds) (suc i) s e = section_there all ds i s e
+section_there all (struct x ∷ ds) (suc i) s e = section_there all ds i s e
+section_there all (global x ∷ ds) (suc i) s e = section_there all ds i s e
+section_there all (array x ∷ ds) (suc i) s e = section_there all ds i s e
+section_there all (pool x ∷ ds) (suc i) s e = section_there all ds i s e
+section_there all (init x ∷ ds) (suc i) s e = section_there all ds i s e
+section_there all (helper x ∷ ds) (suc i) s e = section_there all ds i s e
+section_there all (thread x ∷ ds) (suc i) s e = section_there all ds i s e
+
+abbrev HelperFrom : List Decl → ℕ → Type 0
+HelperFrom ds k = (i : ℕ) × ((s : Section) × (slice_get ds i ≡ Some (helper s)) × (count (alike (helper s)) (take i ds) ≡ k))
+
+helper_back : (all ds : List Decl) (k : ℕ) (b : Body) → slice_get (helper_bodies all ds) k ≡ Some b → HelperFrom ds k
+helper_back all [] k b e = absurd cc
+helper_back all (helper x ∷ ds) zero b e = (0, (x, refl, refl))
+helper_back all (helper x ∷ ds) (suc k) b e = let r = helper_back all ds k b e in (suc r.0, (r.1.0, r.1.1, ap suc r.1.2))
+helper_back all (lock x ∷ ds) k b e = let r = helper_back all ds k b e in (suc r.0, (r.1.0, r.1.1, r.1.2))
+helper_back all (struct x ∷ ds) k b e = let r = helper_back all ds k b e in (suc r.0, (r.1.0, r.1.1, r.1.2))
+helper_back all (global x ∷ ds) k b e = let r = helper_back all ds k b e in (suc r.0, (r.1.0, r.1.1, r.1.2))
+helper_back all (array x ∷ ds) k b e = let r = helper_back all ds k b e in (suc r.0, (r.1.0, r.1.1, r.1.2))
+helper_back all (pool x ∷ ds) k b e = let r = helper_back all ds k b e in (suc r.0, (r.1.0, r.1.1, r.1.2))
+helper_back all (init x ∷ ds) k b e = let r = helper_back all ds k b e in (suc r.0, (r.1.0, r.1.1, r.1.2))
+helper_back all (atomic x ∷ ds) k b e = let r = helper_back all ds k b e in (suc r.0, (r.1.0, r.1.1, r.1.2))
+helper_back all (thread x ∷ ds) k b e = let r = helper_back all ds k b e in (suc r.0, (r.1.0, r.1.1, r.1.2))
+
+take_there : {A : Type 0} (n : ℕ) (xs : List A) (k : ℕ) (x : A) → k < n → slice_get xs k ≡ Some x → slice_get (take n xs) k ≡ Some x
+take_there zero xs k x lt e = absurd (omega (arith, lt))
+take_there (suc n) [] k x lt e = absurd cc
+take_there (suc n) (y ∷ xs) zero x lt e = e
+take_there (suc n) (y ∷ xs) (suc k) x lt e = take_there n xs k x (omega (arith, lt)) e
+
+take_back : {A : Type 0} (n : ℕ) (xs : List A) (k : ℕ) (x : A) → slice_get (take n xs) k ≡ Some x → slice_get xs k ≡ Some x
+take_back zero xs k x e = absurd cc
+take_back (suc n) [] k x e = absurd cc
+take_back (suc n) (y ∷ xs) zero x e = e
+take_back (suc n) (y ∷ xs) (suc k) x e = take_back n xs k x e
+
+get_some : {A : Type 0} (xs : List A) (n : ℕ) → n < length xs → (x : A) × (slice_get xs n ≡ Some x)
+get_some [] n lt = absurd (omega (arith, lt))
+get_some (x ∷ xs) zero lt = (x, refl)
+get_some (x ∷ xs) (suc n) lt = get_some xs n (omega (arith, lt))
+
+-- a list that has an item at each place that another one has is as long
+as_long : {A B : Type 0} (xs : List A) (ys : List B) → ((k : ℕ) (x : A) → slice_get xs k ≡ Some x → k < length ys) → length xs ≤ length ys
+as_long xs ys h = by_length (length xs) refl
+  where
+    by_length : (n : ℕ) → length xs ≡ n → n ≤ length ys
+    by_length zero e = omega arith
+    by_length (suc n) e = let x = get_some xs n (omega (arith, e)) in let lt : n < length ys = h n x.0 x.1 in omega (arith, lt)
+
+-- ---- the whole
+
+module _ (decls : List Decl) (clean : Clean decls) (program : Typed) (is : resolved decls ≡ Some (core_of program)) where
+  few : length program.shape.helpers.items ≤ SECTION_LIMIT
+  few = let within = within_limits decls clean program is in omega (arith, within.sections)
+
+  helper_is : (k : ℕ) (h : the_section.Section) → slice_get program.shape.helpers.items k ≡ Some h → (b : Body) × (slice_get (tree_graph decls).helpers k ≡ Some b) × IsBodyOf h b
+  helper_is k h at =
+      let r = helpers_are decls clean program is k (core_section h) (get_map core_section program.shape.helpers.items k h at) in
+      let lt : k < length program.shape.helpers.items = slice_get_within program.shape.helpers.items k h at in
+      let b : Body = body_in (ahead_of decls helper_limits r.1) r.1 in
+      let there : slice_get (helper_bodies decls decls) k ≡ Some b = subst (λ (n : ℕ). slice_get (helper_bodies decls decls) n ≡ Some b) r.3 (helper_there decls decls r.0 r.1 r.2) in
+      (b, take_there SECTION_LIMIT (helper_bodies decls decls) k b (omega (arith, lt, few)) there, body_of_section decls helper_limits r.1 h r.4)
+
+  section_is : (k : ℕ) (x : the_section.Section) → slice_get program.sections.items k ≡ Some x → (b : Body) × (slice_get (tree_graph decls).sections k ≡ Some b) × IsBodyOf x b
+  section_is k x at =
+      let r = sections_are decls clean program is k (core_section x) (get_map core_section program.sections.items k x at) in
+      let b : Body = body_in (ahead_of decls section_limits r.1) r.1 in
+      let there : slice_get (section_bodies decls decls) k ≡ Some b = subst (λ (n : ℕ). slice_get (section_bodies decls decls) n ≡ Some b) r.3 (section_there decls decls r.0 r.1 r.2) in
+      (b, there, body_of_section decls section_limits r.1 x r.4)
+
+  helper_known : (k : ℕ) (b : Body) → slice_get (tree_graph decls).helpers k ≡ Some b → k < length program.shape.helpers.items
+  helper_known k b at =
+      let from = helper_back decls decls k b (take_back SECTION_LIMIT (helper_bodies decls decls) k b at) in
+      let x = helper_at decls clean (core_of program) is from.0 from.1.0 from.1.1 in
+      let lt : number_at decls from.0 (helper from.1.0) < length (map core_section program.shape.helpers.items) =
+      slice_get_within (map core_section program.shape.helpers.items) (number_at decls from.0 (helper from.1.0)) x.0 x.1 in
+      omega (arith, lt, from.1.2, length-map program.shape.helpers.items core_section)
+
+  pub graph_is : IsGraphOf program (tree_graph decls)
+  graph_is = record {
+    few =
+        let up = as_long program.shape.helpers.items (tree_graph decls).helpers (λ k h at. (let r = helper_is k h at in slice_get_within (tree_graph decls).helpers k r.0 r.1)) in
+        let down = as_long (tree_graph decls).helpers program.shape.helpers.items helper_known in
+        omega (arith, up, down);
+    helpers = helper_is;
+    sections = section_is;
+  }
