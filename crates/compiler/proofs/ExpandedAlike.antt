@@ -127,30 +127,30 @@ pub expanded_alike : (program other written written' : Typed) → core_of progra
 expanded_alike program other written written' same out out' =
     let helpers : map core_section program.shape.helpers.items ≡ map core_section other.shape.helpers.items = ap (λ (p : Program). p.helpers) same in
     let sections = sections_alike program.shape other.shape program.sections.items other.sections.items written.sections.items written'.sections.items helpers
-        (ap (λ (p : Program). p.sections) same) (zipped (IsWrittenOut program.shape) (AreWrittenLocals program.shape) program.sections.items written.sections.items out.expansion.there out.locals) out.locals out.besides.heads
-        (zipped (IsWrittenOut other.shape) (AreWrittenLocals other.shape) other.sections.items written'.sections.items out'.expansion.there out'.locals) out'.locals out'.besides.heads
+    (ap (λ (p : Program). p.sections) same) (zipped (IsWrittenOut program.shape) (AreWrittenLocals program.shape) program.sections.items written.sections.items out.expansion.there out.locals) out.locals out.besides.heads
+    (zipped (IsWrittenOut other.shape) (AreWrittenLocals other.shape) other.sections.items written'.sections.items out'.expansion.there out'.locals) out'.locals out'.besides.heads
     in
     let classes = seen_so class_data class_of core_class _ _ class_is out.besides.classes ∙ ap (λ (p : Program). p.classes) same
-        ∙ sym (seen_so class_data class_of core_class _ _ class_is out'.besides.classes)
+    ∙ sym (seen_so class_data class_of core_class _ _ class_is out'.besides.classes)
     in
     let structs = seen_so struct_data struct_of core_struct _ _ struct_is out.besides.structs ∙ ap (λ (p : Program). p.structs) same
-        ∙ sym (seen_so struct_data struct_of core_struct _ _ struct_is out'.besides.structs)
+    ∙ sym (seen_so struct_data struct_of core_struct _ _ struct_is out'.besides.structs)
     in
     let globals = seen_so global_data global_of core_global _ _ (λ g. refl) out.besides.globals ∙ ap (λ (p : Program). p.globals) same
-        ∙ sym (seen_so global_data global_of core_global _ _ (λ g. refl) out'.besides.globals)
+    ∙ sym (seen_so global_data global_of core_global _ _ (λ g. refl) out'.besides.globals)
     in
     let arrays = seen_so array_data array_of core_array _ _ (λ x. refl) out.expansion.places.arrays ∙ ap (λ (p : Program). p.arrays) same
-        ∙ sym (seen_so array_data array_of core_array _ _ (λ x. refl) out'.expansion.places.arrays)
+    ∙ sym (seen_so array_data array_of core_array _ _ (λ x. refl) out'.expansion.places.arrays)
     in
     let pools = seen_so pool_data pool_of core_pool _ _ (λ x. refl) out.expansion.places.pools ∙ ap (λ (p : Program). p.pools) same
-        ∙ sym (seen_so pool_data pool_of core_pool _ _ (λ x. refl) out'.expansion.places.pools)
+    ∙ sym (seen_so pool_data pool_of core_pool _ _ (λ x. refl) out'.expansion.places.pools)
     in
     let objects = out.expansion.places.objects ∙ ap (λ (p : Program). p.objects) same ∙ sym out'.expansion.places.objects in
     let finals = out.expansion.places.finals ∙ ap (λ (p : Program). p.finals) same ∙ sym out'.expansion.places.finals in
     let cells = out.expansion.cells ∙ ap (λ (p : Program). p.cells) same ∙ sym out'.expansion.cells in
     let none = ap (map core_section) out.expansion.helpers ∙ sym (ap (map core_section) out'.expansion.helpers) in
     let threads = seen_so thread_data thread_of core_thread _ _ thread_is out.besides.threads ∙ ap (λ (p : Program). p.threads) same
-        ∙ sym (seen_so thread_data thread_of core_thread _ _ thread_is out'.besides.threads)
+    ∙ sym (seen_so thread_data thread_of core_thread _ _ thread_is out'.besides.threads)
     in
     λ i. record {
       classes = classes i;

@@ -137,9 +137,9 @@ found_brings depth shape helpers same (Some h) =
     let p = h.parameters in
     let own = h.locals.items in
     let first : map local_of (map parameter_data (take p own)) ≡ map as_let (take p (map core_local own)) =
-        mapped_twice parameter_data local_of (λ l. as_let (core_local l)) (take p own) (λ l. refl)
-        ∙ sym (mapped_twice core_local as_let (λ l. as_let (core_local l)) (take p own) (λ l. refl))
-        ∙ ap (map as_let) (sym (taken_mapped core_local p own))
+    mapped_twice parameter_data local_of (λ l. as_let (core_local l)) (take p own) (λ l. refl)
+    ∙ sym (mapped_twice core_local as_let (λ l. as_let (core_local l)) (take p own) (λ l. refl))
+    ∙ ap (map as_let) (sym (taken_mapped core_local p own))
     in
     let second = all_locals_are (brought depth shape) (brings_out helpers depth) same own h.body.items in
     let both = mapped_both local_of (map parameter_data (take p own)) (locals_in_all (brought depth shape) own h.body.items) in
@@ -160,7 +160,7 @@ section_locals_are shape x =
     let p = x.parameters in
     let own = x.locals.items in
     let first : map local_of (map local_data (take p own)) ≡ take p (map core_local own) =
-        mapped_twice local_data local_of core_local (take p own) (λ l. refl) ∙ sym (taken_mapped core_local p own)
+    mapped_twice local_data local_of core_local (take p own) (λ l. refl) ∙ sym (taken_mapped core_local p own)
     in
     let second = all_locals_are (brought deepest shape) (brings_out (map core_section shape.helpers.items) deepest) (brings_are shape deepest) own x.body.items in
     mapped_both local_of (map local_data (take p own)) (locals_in_all (brought deepest shape) own x.body.items) ∙ (λ i. first i ++ second i)

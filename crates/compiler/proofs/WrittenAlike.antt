@@ -414,7 +414,7 @@ module _ (Body : Bodies) (bodies : BodiesOut) (follow : BodiesFollow Body bodies
         let out = written bodies (core_action v) start a in
         let second = row_follows rest middle b rear ws first.falling in
         let moved : Follows rear middle b (all_written bodies (core_stmts_row rest) out.at) =
-            subst (λ z. Follows rear middle b (all_written bodies (core_stmts_row rest) z)) first.at second
+        subst (λ z. Follows rear middle b (all_written bodies (core_stmts_row rest) z)) first.at second
         in
         subst (λ zs. Follows zs a b (all_written bodies (core_stmts_row (more_of-Stmt start v rest)) a)) (sym e)
         (both_follow a middle b front rear out (all_written bodies (core_stmts_row rest) out.at) first moved)
@@ -461,7 +461,7 @@ helpers_follow shape (suc depth) helper count first body r fresh (h, is, e, w) =
     let bodies = helpers_written (map core_section shape.helpers.items) depth in
     let inner = body_follows (HelpersWritten shape depth) bodies (helpers_follow shape depth) h first body r fresh w in
     let found : helpers_written (map core_section shape.helpers.items) (suc depth) helper first ≡ body_written bodies (core_section h) first =
-        ap (λ o. body_if o (λ z. body_written bodies z first)) (get_viewed core_section shape.helpers.items helper h is)
+    ap (λ o. body_if o (λ z. body_written bodies z first)) (get_viewed core_section shape.helpers.items helper h is)
     in (
       inner.0 ∙ ap (λ (z : BodyOut). z.stmts) (sym found),
       inner.1 ∙ ap (λ (z : BodyOut). z.result) (sym found),

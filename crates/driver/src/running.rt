@@ -59,11 +59,7 @@ pub fn prepared(alloc: Global, program: &Program) -> Result<Prepared<'_>, NoMemo
 
 /// Runs all calls of a program one after another, thread 0's whole script first, as far as so many
 /// turns of each execution of a loop settle them.
-pub fn run_scripts(
-    alloc: Global,
-    prepared: &Prepared<'_>,
-    turns: u64,
-) -> Result<Ran, NoMemory>
+pub fn run_scripts(alloc: Global, prepared: &Prepared<'_>, turns: u64) -> Result<Ran, NoMemory>
     requires checked { IsChecked prepared.now.program.now }
     requires expansion { IsExpansion prepared.now.program.now prepared.now.written.now }
     ensures ran { IfOk result (IsRan turns prepared.now.program.now) }

@@ -182,7 +182,7 @@ arguments_scoped start scope (e ∷ es) fresh lets names covers (e', rest, r, w,
     let more = arguments_scoped start scope es (fresh + 1) rest (fresh ∷ names) (λ k written c. in_rest fresh written names (covers k written c)) ws in
     let this : Stmt = record { start = start; action = Bind fresh e' } in
     let found : (i : ℕ) → i < length (e ∷ es) → Contains (scope_after_all names (this ∷ rest)) (fresh + i) = λ i lt.
-        argument_there fresh (length es) names rest i (omega (arith, lt)) more.1
+    argument_there fresh (length es) names rest i (omega (arith, lt)) more.1
     in (
       subst (AllScoped names) (sym w) (names_only scope names covers e e' r, more.0),
       subst (λ (zs : List Stmt). (i : ℕ) → i < length (e ∷ es) → Contains (scope_after_all names zs) (fresh + i)) (sym w) found,

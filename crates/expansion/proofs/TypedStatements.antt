@@ -317,7 +317,7 @@ module _ (program program' : Typed) (all : List LocalData) where
           let lets_are = subst (λ (z : Section). AreOf program (local_types own) es (local_types (take z.parameters z.locals.items))) (sym same_one) are in
           let taken : List LocalData = map parameter_data (take s.parameters s.locals.items) in
           let at_lets : all ≡ front ++ (taken ++ (kept.inner ++ (after ++ rest))) =
-              whole ∙ ap (λ (z : List LocalData). front ++ (z ++ (after ++ rest))) kept.brought_is ∙ ap (λ (z : List LocalData). front ++ z) (append_assoc taken kept.inner (after ++ rest))
+          whole ∙ ap (λ (z : List LocalData). front ++ (z ++ (after ++ rest))) kept.brought_is ∙ ap (λ (z : List LocalData). front ++ z) (append_assoc taken kept.inner (after ++ rest))
           in
           let first = arguments_fit own a.scope ready.stands start es (take s.parameters s.locals.items) a.fresh lets front (kept.inner ++ (after ++ rest)) args lets_are ready.count at_lets in
           let middle : At = record a { fresh = fresh } in
@@ -380,8 +380,8 @@ module _ (program program' : Typed) (all : List LocalData) where
             let first = row_keep block a middle block'.items front (there ++ rest) ready w h.1 (first_vars own (assigned_in block) (assigned_in otherwise) only) whole in
             let between = left a middle block'.items here front ready first in
             let second = row_keep otherwise (behind_block a middle) after otherwise'.items (front ++ here) rest
-                (ready_on a (behind_block a middle) block'.items front here ready between) w' h.2 (other_vars own (assigned_in block) (assigned_in otherwise) only)
-                (whole ∙ sym (append_assoc front here (there ++ rest)))
+            (ready_on a (behind_block a middle) block'.items front here ready between) w' h.2 (other_vars own (assigned_in block) (assigned_in otherwise) only)
+            (whole ∙ sym (append_assoc front here (there ++ rest)))
             in
             let together = both_keep a (behind_block a middle) after block'.items otherwise'.items here there between second in
             let test = test_typed program program' expands same own all a.scope ready.stands c c' t h.0 in
@@ -407,7 +407,7 @@ module _ (program program' : Typed) (all : List LocalData) where
             let whole : all ≡ front ++ (here ++ (there ++ rest)) = is ∙ ap (λ (z : List LocalData). front ++ z) (append_assoc here there rest) in
             let first = writes_keep x start a middle head front (there ++ rest) ready w h.0 (first_vars own (assigned_by x) (assigned_in more) only) whole in
             let second = row_keep more middle b tail (front ++ here) rest (ready_on a middle head front here ready first) ws h.1
-                (other_vars own (assigned_by x) (assigned_in more) only) (whole ∙ sym (append_assoc front here (there ++ rest)))
+            (other_vars own (assigned_by x) (assigned_in more) only) (whole ∙ sym (append_assoc front here (there ++ rest)))
             in
             subst (λ zs. Keeps own zs a b (here ++ there)) (sym e) (both_keep a middle b head tail here there first second)
 
@@ -421,6 +421,6 @@ module _ (program program' : Typed) (all : List LocalData) where
           let whole : all ≡ front ++ (here ++ (there ++ rest)) = is ∙ ap (λ (z : List LocalData). front ++ z) (append_assoc here there rest) in
           let first = writes_keep x.action x.start a middle head front (there ++ rest) ready w h.0 (first_vars own (assigned_by x.action) (assigned_in_all xs) only) whole in
           let second = all_keep xs middle b tail (front ++ here) rest (ready_on a middle head front here ready first) ws h.1
-              (other_vars own (assigned_by x.action) (assigned_in_all xs) only) (whole ∙ sym (append_assoc front here (there ++ rest)))
+          (other_vars own (assigned_by x.action) (assigned_in_all xs) only) (whole ∙ sym (append_assoc front here (there ++ rest)))
           in
           subst (λ zs. Keeps own zs a b (here ++ there)) (sym e) (both_keep a middle b head tail here there first second)

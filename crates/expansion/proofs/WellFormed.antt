@@ -115,21 +115,21 @@ module _ (program program' : Typed) (checked : IsChecked program) (expands : IsE
         let le = enough_locals h scoped in
         let many : length taken ≡ p = length-map (take p locals) parameter_data ∙ taken_many locals p le in
         let at_parameters : all ≡ front ++ (taken ++ (inner ++ rest)) =
-            is ∙ ap (λ (z : List LocalData). front ++ (z ++ rest)) brought_is ∙ ap (λ (z : List LocalData). front ++ z) (append_assoc taken inner rest)
+        is ∙ ap (λ (z : List LocalData). front ++ (z ++ rest)) brought_is ∙ ap (λ (z : List LocalData). front ++ z) (append_assoc taken inner rest)
         in
         let stands = parameters_stand locals all p p first (omega arith) (λ i lt.
-            let l = get_some locals i (omega (arith, lt, le)) in
-            let at : first + i ≡ length front + i = omega (arith, e) in
-            let here = parameter_there parameter_data locals all front (inner ++ rest) p i l.0 lt l.1 at_parameters in
-            (l.0, parameter_data l.0, l.1, ap (slice_get all) at ∙ here, refl, λ v. absurd (not_both l.0 v ((scoped.kinds i l.0 l.1).0 lt))))
+        let l = get_some locals i (omega (arith, lt, le)) in
+        let at : first + i ≡ length front + i = omega (arith, e) in
+        let here = parameter_there parameter_data locals all front (inner ++ rest) p i l.0 lt l.1 at_parameters in
+        (l.0, parameter_data l.0, l.1, ap (slice_get all) at ∙ here, refl, λ v. absurd (not_both l.0 v ((scoped.kinds i l.0 l.1).0 lt))))
         in
         let ready : Ready program program' all expands same (HelpersWritten program.shape depth) (brought depth program.shape) (helpers_keep depth) locals p
-            (λ k l here. (scoped.kinds k l here).1) (entered p first) (front ++ taken) =
-            record { stands = stands; behind = omega arith; count = omega (arith, e, many, length-append front taken) }
+        (λ k l here. (scoped.kinds k l here).1) (entered p first) (front ++ taken) =
+        record { stands = stands; behind = omega arith; count = omega (arith, e, many, length-append front taken) }
         in
         let keeps = all_keep program program' all expands same (HelpersWritten program.shape depth) (brought depth program.shape) (helpers_keep depth) locals p
-            (λ k l here. (scoped.kinds k l here).1) h.body.items (entered p first) b body (front ++ taken) rest ready w typed.body scoped.assigned
-            (at_parameters ∙ sym (append_assoc front taken (inner ++ rest)))
+        (λ k l here. (scoped.kinds k l here).1) h.body.items (entered p first) b body (front ++ taken) rest ready w typed.body scoped.assigned
+        (at_parameters ∙ sym (append_assoc front taken (inner ++ rest)))
         in
         let behind = keeps.fresh in
         let total = ap (λ (z : List LocalData). length z) brought_is in
@@ -164,24 +164,24 @@ module _ (program program' : Typed) (checked : IsChecked program) (expands : IsE
       let ends = out.body.2 in
       let last = out.body.4 in
       let stands = parameters_stand own all p p 0 (omega arith) (λ i lt.
-          let l = get_some own i (omega (arith, lt, le)) in
-          let there = parameter_there local_data own all [] here p i l.0 lt l.1 locals_are in
-          (l.0, local_data l.0, l.1, there, refl, λ v. v))
+      let l = get_some own i (omega (arith, lt, le)) in
+      let there = parameter_there local_data own all [] here p i l.0 lt l.1 locals_are in
+      (l.0, local_data l.0, l.1, there, refl, λ v. v))
       in
       let kinds : (k : ℕ) (l : Local) → slice_get own k ≡ Some l → p ≤ k → l.kind ≢ Parameter = λ k l is. (scoped.kinds k l is).1 in
       let ready : Ready program program' all expands same (HelpersWritten program.shape deepest) brings (helpers_keep all deepest) own p kinds (entered p 0) front =
-          record { stands = stands; behind = omega arith; count = omega (arith, many) }
+      record { stands = stands; behind = omega arith; count = omega (arith, many) }
       in
       let keeps = all_keep program program' all expands same (HelpersWritten program.shape deepest) brings (helpers_keep all deepest) own p kinds
-          section.body.items (entered p 0) b section'.body.items front [] ready out.body.1 typed.body scoped.assigned
-          (locals_are ∙ ap (λ (z : List LocalData). front ++ z) (sym (append-nil here)))
+      section.body.items (entered p 0) b section'.body.items front [] ready out.body.1 typed.body scoped.assigned
+      (locals_are ∙ ap (λ (z : List LocalData). front ++ z) (sym (append-nil here)))
       in
       let types : types_of all ≡ local_types section'.locals.items = types_of_locals section'.locals.items in
       let result = result_typed program program' expands same own all b.scope keeps.stands section.result_type section.result section'.result ends typed.result in
       let in_scope = written_out_scoped program.shape section section' out in
       let count : section'.parameters ≡ p = out.parameters in
       let there : (k : ℕ) (l : Local) → slice_get section'.locals.items k ≡ Some l → slice_get all k ≡ Some (local_data l) =
-          λ k l is. get_mapped local_data section'.locals.items k ∙ ap (option_map local_data) is
+      λ k l is. get_mapped local_data section'.locals.items k ∙ ap (option_map local_data) is
       in (
         record {
           body = subst (λ ts. AllWellTyped program' ts section'.body.items) types keeps.fits.typed;
@@ -220,11 +220,11 @@ module _ (program program' : Typed) (checked : IsChecked program) (expands : IsE
       let here : List LocalData = locals_in_all (brought deepest program.shape) own section.body.items in
       let many : length front ≡ p = length-map (take p own) local_data ∙ taken_many own p le in
       let same_front : map local_data (take section'.parameters section'.locals.items) ≡ front =
-          ap (λ n. map local_data (take n section'.locals.items)) found.2.parameters ∙ sym (taken_mapped local_data section'.locals.items p)
-          ∙ ap (take p) locals_are ∙ taken_front front here p many
+      ap (λ n. map local_data (take n section'.locals.items)) found.2.parameters ∙ sym (taken_mapped local_data section'.locals.items p)
+      ∙ ap (take p) locals_are ∙ taken_front front here p many
       in
       let types : local_types (take p own) ≡ local_types (take section'.parameters section'.locals.items) =
-          sym (types_of_locals (take p own)) ∙ ap types_of (sym same_front) ∙ types_of_locals (take section'.parameters section'.locals.items)
+      sym (types_of_locals (take p own)) ∙ ap types_of (sym same_front) ∙ types_of_locals (take section'.parameters section'.locals.items)
       in
       (section', found.1, subst (λ ts. HaveTypes program'.shape ts arguments) types (have_types program program' expands same (local_types (take p own)) arguments fit))
 

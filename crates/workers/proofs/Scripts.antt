@@ -83,8 +83,8 @@ found_reply t position [] p c is mine = absurd cc
 found_reply t position (x ∷ log) zero c is mine =
     let same : x ≡ c = cc in
     let first : replies_of t position (x ∷ log) ≡ reply_at position x ∷ replies_of t (position + 1) log =
-        cond-true (x.thread == t) (reply_at position x ∷ replies_of t (position + 1) log) (replies_of t (position + 1) log)
-        (eq-eqb x.thread t (ap (λ (z : Commit). z.thread) same ∙ mine))
+    cond-true (x.thread == t) (reply_at position x ∷ replies_of t (position + 1) log) (replies_of t (position + 1) log)
+    (eq-eqb x.thread t (ap (λ (z : Commit). z.thread) same ∙ mine))
     in
     (0, ap (λ (hs : List ReplyOf). slice_get (map call_in hs) 0) first ∙ ap (λ (z : Commit). Some (call_of z)) same)
 found_reply t position (x ∷ log) (suc p) c is mine = behind (x.thread == t) (reply_at position x) (found_reply t (position + 1) log p c is mine)

@@ -54,7 +54,7 @@ among_calls t [] p c is mine = absurd cc
 among_calls t (d ∷ cs) zero c is mine =
     let same : d ≡ c = cc in
     let first : calls_by t (d ∷ cs) ≡ script_call d ∷ calls_by t cs =
-        cond-true (d.thread == t) (script_call d ∷ calls_by t cs) (calls_by t cs) (eq-eqb d.thread t (ap (λ (z : Commit). z.thread) same ∙ mine))
+    cond-true (d.thread == t) (script_call d ∷ calls_by t cs) (calls_by t cs) (eq-eqb d.thread t (ap (λ (z : Commit). z.thread) same ∙ mine))
     in
     (0, ap (λ (zs : List Scheduled). slice_get zs 0) first ∙ ap (λ (z : Commit). Some (script_call z)) same)
 among_calls t (d ∷ cs) (suc p) c is mine = behind (d.thread == t) (script_call d) (among_calls t cs p c is mine)
