@@ -1,6 +1,6 @@
 -- Expansions of programs that stand for one resolved program stand for one resolved program.
-use Rattle.std.proofs.Common.{◌≡◌, ℕ, zero, suc, List, [], ◌∷◌, map, Option, Some, None, refl, sym, ap, ◌∙◌, subst}
-use Rattle.std.specs.Prelude.{slice_get, option_map}
+use Rattle.std.proofs.Common.{◌≡◌, ℕ, suc, List, [], ◌∷◌, map, Some, refl, sym, ap, ◌∙◌, subst}
+use Rattle.std.specs.Prelude.{slice_get}
 use Rattle.std.specs.List.{AllZip}
 use Rattle.core_lang.specs.declared.shape.Shape.{Shape}
 use Rattle.core_lang.specs.declared.tree.Section as the_section
@@ -8,19 +8,12 @@ use Rattle.core_lang.specs.declared.typed.Typed.{Typed}
 use Rattle.core_lang.specs.declared.typed.LockClass as the_class
 use Rattle.core_lang.specs.declared.typed.LockClass.TheVariants as class_case
 use Rattle.core_lang.specs.declared.typed.Struct as the_struct
-use Rattle.core_lang.specs.declared.typed.LockField as the_lock
-use Rattle.core_lang.specs.declared.typed.FinalField as the_final
-use Rattle.core_lang.specs.declared.typed.Field as the_field
-use Rattle.core_lang.specs.declared.typed.GlobalVariable as the_global
-use Rattle.core_lang.specs.declared.typed.Call as the_call
 use Rattle.core_lang.specs.declared.typed.Thread as the_thread
-use Rattle.core_lang.specs.declared.shape.Array as the_array
-use Rattle.core_lang.specs.declared.shape.Pool as the_pool
-use Rattle.core_lang.specs.Expansion.{ArrayData, array_data, PoolData, pool_data, HasSamePlaces, IsWrittenOut, IsExpansion}
+use Rattle.core_lang.specs.Expansion.{ArrayData, array_data, PoolData, pool_data, IsWrittenOut}
 use Rattle.core_lang.specs.WrittenLocals.{AreWrittenLocals}
-use Rattle.expansion.specs.Data.{Numbered, lock_field_data, final_data, ClassData, NamedLock, FieldLock, class_data, FieldData, field_data, StructData, struct_data, GlobalData, global_data, CallData, call_data, ThreadData, thread_data, HeadData, head_data, IsSameBesides, IsExpanded}
+use Rattle.expansion.specs.Data.{Numbered, lock_field_data, final_data, ClassData, NamedLock, FieldLock, class_data, FieldData, field_data, StructData, struct_data, GlobalData, global_data, CallData, call_data, ThreadData, thread_data, HeadData, head_data, IsExpanded}
 use Rattle.resolution.specs.Core.{Section, LockClass, global_lock, lock_field, LockField, FinalField, Field, Struct, GlobalVariable, Array, Pool, Call, Thread, Program}
-use Rattle.resolution.specs.CoreViews.{core_local, core_stmts, core_return, core_section, core_class, core_lock, core_final, core_field, core_struct, core_global, core_array, core_pool, core_call, core_thread, core_of}
+use Rattle.resolution.specs.CoreViews.{core_section, core_class, core_lock, core_final, core_field, core_struct, core_global, core_array, core_pool, core_call, core_thread, core_of}
 use Rattle.compiler.proofs.WrittenAlike.{body_alike}
 use Rattle.compiler.proofs.LocalsAlike.{mapped_twice, locals_alike}
 

@@ -11,7 +11,7 @@ use Rattle.core_lang.specs.declared.tree.Action.{Bind, SetLocal, SetGlobal, SetE
 use Rattle.core_lang.specs.declared.tree.Section as the_section
 use Rattle.core_lang.specs.Meaning.{deepest}
 use Rattle.core_lang.specs.WrittenLocals.{LocalData, local_data, parameter_data, own_local, hidden_local, Brought, locals_by, locals_in, locals_in_all, brought_by, brought, written_locals, AreWrittenLocals}
-use Rattle.resolution.specs.Core.{Action, bind, set_local, set_global, set_element, set_field, call, print, if_true, if_else, while_true, Stmts, no_stmts, stmt, Local, Section}
+use Rattle.resolution.specs.Core.{Action, bind, call, if_true, if_else, while_true, Stmts, no_stmts, stmt, Local, Section}
 use Rattle.resolution.specs.CoreViews.{core_action, core_stmts_row, core_stmts, core_local, core_section}
 use Rattle.compiler.proofs.Alike.{mapped_at}
 

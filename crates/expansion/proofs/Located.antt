@@ -1,5 +1,5 @@
 -- Where the locals of what is written out lie in the list of all, and what stands for what.
-use Rattle.std.proofs.Common.{◌≡◌, ℕ, zero, suc, ◌+◌, ◌<◌, ◌≤◌, List, [], ◌∷◌, ◌++◌, length, map, take, Option, Some, None, ◌⊎◌, inl, inr, refl, sym, ap, ◌∙◌, subst, arith, append_assoc}
+use Rattle.std.proofs.Common.{◌≡◌, ℕ, zero, suc, ◌+◌, ◌<◌, ◌≤◌, List, [], ◌∷◌, ◌++◌, length, map, take, Some, ◌⊎◌, inl, inr, refl, sym, ap, ◌∙◌, subst, arith}
 use Rattle.std.specs.Prelude.{slice_get, option_map, ◌≢◌, ⊤}
 use Rattle.std.specs.List.{Contains}
 use Rattle.core_lang.specs.declared.value.ValueType.{ValueType}
@@ -7,7 +7,7 @@ use Rattle.core_lang.specs.declared.tree.LocalKind.TheVariants.{Parameter, Var}
 use Rattle.core_lang.specs.declared.tree.Local.{Local}
 use Rattle.core_lang.specs.Typing.{local_types}
 use Rattle.core_lang.specs.Expansion.{Pair, pair, parameters_at}
-use Rattle.core_lang.specs.WrittenLocals.{LocalData, local_data, parameter_data}
+use Rattle.core_lang.specs.WrittenLocals.{LocalData, parameter_data}
 
 -- ---- lists
 

@@ -1,5 +1,5 @@
 -- A program whose helpers are written out has the cells, the objects and the locks that it had, so its types are the same.
-use Rattle.std.proofs.Common.{◌≡◌, ℕ, zero, suc, ◌+◌, ◌<◌, ◌≤◌, List, [], ◌∷◌, length, map, Some, None, Option, refl, sym, ap, ◌∙◌, subst, arith}
+use Rattle.std.proofs.Common.{◌≡◌, ℕ, zero, suc, ◌+◌, List, [], ◌∷◌, map, Some, None, Option, refl, sym, ap, ◌∙◌, subst, arith}
 use Rattle.std.specs.Prelude.{slice_get}
 use Rattle.core_lang.specs.declared.value.Value.{Value}
 use Rattle.core_lang.specs.declared.value.Value.TheVariants.{Int, Ref}
@@ -10,12 +10,10 @@ use Rattle.core_lang.specs.declared.shape.Pool.{Pool}
 use Rattle.core_lang.specs.declared.shape.Object.{Object}
 use Rattle.core_lang.specs.declared.typed.LockClass.{LockClass}
 use Rattle.core_lang.specs.declared.typed.LockClass.TheVariants as class
-use Rattle.core_lang.specs.declared.typed.LockField.{LockField}
 use Rattle.core_lang.specs.declared.typed.FinalField.{FinalField}
 use Rattle.core_lang.specs.declared.typed.Protection.{Protection}
 use Rattle.core_lang.specs.declared.typed.Field.{Field}
 use Rattle.core_lang.specs.declared.typed.Struct.{Struct}
-use Rattle.core_lang.specs.declared.typed.GlobalVariable.{GlobalVariable}
 use Rattle.core_lang.specs.declared.typed.Owner.{Owner}
 use Rattle.core_lang.specs.declared.typed.Owner.TheVariants as owner
 use Rattle.core_lang.specs.declared.typed.Cell.{Cell}

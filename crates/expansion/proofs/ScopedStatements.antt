@@ -1,9 +1,8 @@
 -- What is written out names only locals in scope.
-use Rattle.std.proofs.Common.{◌≡◌, ℕ, zero, suc, ◌+◌, ◌<◌, ◌≤◌, List, [], ◌∷◌, ◌++◌, length, Option, Some, None, inl, inr, refl, sym, ap, ◌∙◌, subst, arith, Vec, Global}
+use Rattle.std.proofs.Common.{◌≡◌, ℕ, zero, suc, ◌+◌, ◌<◌, ◌≤◌, List, [], ◌∷◌, ◌++◌, length, Option, Some, None, inl, inr, refl, sym, ap, subst, arith, Vec, Global}
 use Rattle.std.specs.List.{Contains}
 use mathlib.Core.Former.{Count}
 use Rattle.core_lang.specs.declared.shape.Shape.{Shape}
-use Rattle.core_lang.specs.declared.tree.Path.{Path}
 use Rattle.core_lang.specs.declared.tree.Expr.{Expr, Number, Null, Place, Global as GlobalCell, Element', Member', Negate', Owned', Chain', Row_of-Operation, end_of-Operation, more_of-Operation}
 use Rattle.core_lang.specs.declared.tree.Condition.{Condition, Compare, Not', And', Or', Row_of-Condition, end_of-Condition, more_of-Condition}
 use Rattle.core_lang.specs.declared.tree.Stmt.{Stmt}
@@ -12,8 +11,8 @@ use Rattle.core_lang.specs.declared.tree.Return.{Return}
 use Rattle.core_lang.specs.declared.tree.Section.{Section}
 use Rattle.core_lang.specs.Lists.{block_of, else_of}
 use Rattle.core_lang.specs.Meaning.{deepest}
-use Rattle.core_lang.specs.Scopes.{NamesOnly, AllNameOnly, EachNamesOnly, TestsOnly, AllTestOnly, scope_after, IsScoped, AreScoped, AllScoped, scope_after_all, numbers_from, ResultNamesOnly}
-use Rattle.core_lang.specs.Expansion.{Pair, pair, At, behind_bound, behind_block, parameters_at, entered, one, Renames, RenamesEach, RenamesTest, RenamesTests, RenamesResult, Arguments, Bound, Bodies, Writes, WritesRow, WritesAll, HelpersWritten, IsWrittenOut}
+use Rattle.core_lang.specs.Scopes.{NamesOnly, AllNameOnly, TestsOnly, AllTestOnly, scope_after, IsScoped, AreScoped, AllScoped, scope_after_all, numbers_from, ResultNamesOnly}
+use Rattle.core_lang.specs.Expansion.{Pair, pair, At, behind_block, parameters_at, entered, one, Renames, RenamesEach, RenamesTest, RenamesTests, RenamesResult, Arguments, Bound, Bodies, Writes, WritesRow, WritesAll, HelpersWritten, IsWrittenOut}
 use Rattle.expansion.proofs.Located.{not_in_none, in_first, in_rest, in_cases}
 
 -- each local that stands for one in scope may be named

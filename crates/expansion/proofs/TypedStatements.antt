@@ -1,8 +1,8 @@
 -- What is written out is well typed, and assigns to variables alone.
-use Rattle.std.proofs.Common.{◌≡◌, ℕ, zero, suc, ◌+◌, ◌<◌, ◌≤◌, List, [], ◌∷◌, ◌++◌, length, map, take, Option, Some, None, inl, inr, refl, sym, ap, ◌∙◌, subst, arith, append_assoc, length-append, Vec, Global}
+use Rattle.std.proofs.Common.{◌≡◌, ℕ, ◌+◌, ◌≤◌, List, [], ◌∷◌, ◌++◌, length, map, take, Option, Some, None, inl, inr, refl, sym, ap, ◌∙◌, subst, arith, append_assoc, length-append, Vec, Global}
 use Rattle.std.specs.Prelude.{slice_get, option_map, ◌≢◌}
 use Rattle.std.specs.List.{Contains}
-use Rattle.std.proofs.lemmas.List.{append-nil, length-map}
+use Rattle.std.proofs.lemmas.List.{append-nil}
 use Rattle.std.proofs.lemmas.List.Elements.{Contains-append_left, Contains-append_right}
 use mathlib.Core.Former.{Count}
 use Rattle.core_lang.specs.declared.value.ValueType.{ValueType}
@@ -18,12 +18,12 @@ use Rattle.core_lang.specs.declared.tree.Section.{Section}
 use Rattle.core_lang.specs.declared.typed.Typed.{Typed}
 use Rattle.core_lang.specs.Lists.{block_of, else_of}
 use Rattle.core_lang.specs.Scopes.{assigned_by, assigned_in, assigned_in_all}
-use Rattle.core_lang.specs.Typing.{local_types, global_type, array_type, field_type, IsPathTo, IsOf, AreOf, IsTest, GivesLocal, Takes, IsWellTyped, AreWellTyped, AllWellTyped, IsResult}
-use Rattle.core_lang.specs.Expansion.{Pair, pair, At, behind_bound, behind_block, one, Renames, Arguments, Bound, Bodies, Writes, WritesRow, WritesAll, IsExpansion}
+use Rattle.core_lang.specs.Typing.{local_types, IsOf, AreOf, IsTest, Takes, IsWellTyped, AreWellTyped, AllWellTyped, IsResult}
+use Rattle.core_lang.specs.Expansion.{Pair, pair, At, behind_bound, behind_block, one, Arguments, Bound, Bodies, Writes, WritesRow, WritesAll, IsExpansion}
 use Rattle.core_lang.specs.WrittenLocals.{LocalData, local_data, parameter_data, own_local, hidden_local, Brought, locals_by, locals_in, locals_in_all}
 use Rattle.expansion.specs.Data.{IsSameBesides}
 use Rattle.expansion.proofs.Places.{field_same, global_same, array_same}
-use Rattle.expansion.proofs.Located.{not_in_none, in_first, in_cases, in_either, get_mapped, mapped_there, get_behind, types_of, StandsFor, IsVar, NoParameters, none_of_both, no_parameters, type_there, stands_more}
+use Rattle.expansion.proofs.Located.{not_in_none, in_first, in_cases, in_either, get_mapped, mapped_there, get_behind, types_of, StandsFor, IsVar, NoParameters, none_of_both, type_there, stands_more}
 use Rattle.expansion.proofs.TypedExprs.{path_typed, typed, test_typed}
 
 -- ---- lists

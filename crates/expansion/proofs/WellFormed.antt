@@ -1,33 +1,29 @@
 -- An accepted program whose helpers are written out is well formed.
-use Rattle.std.proofs.Common.{◌≡◌, ℕ, zero, suc, ◌+◌, ◌<◌, ◌≤◌, List, [], ◌∷◌, ◌++◌, length, map, take, Option, Some, None, refl, sym, ap, ◌∙◌, subst, arith, append_assoc, length-append}
+use Rattle.std.proofs.Common.{◌≡◌, ℕ, zero, suc, ◌+◌, ◌<◌, ◌≤◌, List, [], ◌∷◌, ◌++◌, length, map, take, Some, refl, sym, ap, ◌∙◌, subst, arith, append_assoc, length-append}
 use Rattle.std.specs.Prelude.{slice_get, option_map, ◌≢◌}
-use Rattle.std.specs.List.{AllZip, Contains}
+use Rattle.std.specs.List.{AllZip}
 use Rattle.std.proofs.lemmas.List.{append-nil, length-map}
 use Rattle.core_lang.specs.declared.value.Value.{Value}
-use Rattle.core_lang.specs.declared.value.ValueType.{ValueType}
 use Rattle.core_lang.specs.declared.tree.LocalKind.TheVariants.{Parameter, Var}
 use Rattle.core_lang.specs.declared.tree.Local.{Local}
-use Rattle.core_lang.specs.declared.tree.Stmt.{Stmt}
-use Rattle.core_lang.specs.declared.tree.Return.{Return}
 use Rattle.core_lang.specs.declared.tree.Section.{Section}
 use Rattle.core_lang.specs.declared.typed.Call.{Call}
 use Rattle.core_lang.specs.declared.typed.Thread.{Thread}
 use Rattle.core_lang.specs.declared.typed.Typed.{Typed}
 use Rattle.core_lang.specs.Meaning.{deepest}
-use Rattle.core_lang.specs.Serial.{opening_heap}
-use Rattle.core_lang.specs.Scopes.{bound_in_all, assigned_in_all, numbers_from, IsWellScoped}
-use Rattle.core_lang.specs.Typing.{local_types, HaveTypes, Fit, IsResult, AllWellTyped, IsWellTypedSection}
-use Rattle.core_lang.specs.Expansion.{At, entered, parameters_at, Bodies, HelpersWritten, WritesBody, IsWrittenOut, IsExpansion}
-use Rattle.core_lang.specs.WrittenLocals.{LocalData, local_data, parameter_data, locals_in_all, Brought, brought_by, brought, written_locals, AreWrittenLocals}
+use Rattle.core_lang.specs.Scopes.{bound_in_all, numbers_from, IsWellScoped}
+use Rattle.core_lang.specs.Typing.{local_types, HaveTypes, IsResult, AllWellTyped, IsWellTypedSection}
+use Rattle.core_lang.specs.Expansion.{entered, HelpersWritten, IsWrittenOut, IsExpansion}
+use Rattle.core_lang.specs.WrittenLocals.{LocalData, local_data, parameter_data, locals_in_all, Brought, brought_by, brought, AreWrittenLocals}
 use Rattle.core_lang.specs.Laws.{WrittenOutBindsInOrder}
 use Rattle.core_lang.specs.WellFormed.{CanCall, IsChecked, IsWellFormed}
 use Rattle.expansion.specs.Data.{CallData, call_data, ThreadData, thread_data, IsSameBesides}
 use Rattle.expansion.proofs.Pairs.{zip_back}
 use Rattle.expansion.proofs.Limits.{data_there, within_limits}
 use Rattle.expansion.proofs.Places.{laid_out, protected, opens_typed, have_types}
-use Rattle.expansion.proofs.Located.{get_mapped, get_past, get_some, get_taken, types_of, StandsFor, NoParameters, none_of_both, none_there, no_parameters, parameters_stand, parameter_there}
+use Rattle.expansion.proofs.Located.{get_mapped, get_past, get_some, types_of, NoParameters, none_of_both, none_there, no_parameters, parameters_stand, parameter_there}
 use Rattle.expansion.proofs.TypedExprs.{result_typed}
-use Rattle.expansion.proofs.TypedStatements.{some_same, Fits, Keeps, BodyKeeps, BodiesKeep, Ready, all_keep}
+use Rattle.expansion.proofs.TypedStatements.{some_same, BodiesKeep, Ready, all_keep}
 use Rattle.expansion.proofs.ScopedStatements.{written_out_scoped}
 
 -- ---- lists

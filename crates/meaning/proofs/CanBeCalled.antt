@@ -9,7 +9,6 @@ use Rattle.core_lang.specs.Serial.{Invocation, run_section, run_call}
 use Rattle.core_lang.specs.Typing.{IsHeap}
 use Rattle.core_lang.specs.WellFormed.{CanCall, IsChecked}
 use Rattle.core_lang.specs.Laws.{StaysTyped, NeverGoAstray}
-use Rattle.core_lang.specs.Checked.{checked}
 use Rattle.meaning.specs.declared.run.End.{End}
 use Rattle.meaning.specs.Answer.{IsNothing, Answers, NoneIsBeyond}
 use Rattle.meaning.specs.Laws.{AnswersStayTyped}

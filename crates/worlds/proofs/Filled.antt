@@ -8,9 +8,6 @@ use Rattle.core_lang.specs.declared.value.ValueType.{ValueType}
 use Rattle.core_lang.specs.declared.shape.Shape.{Shape}
 use Rattle.core_lang.specs.declared.tree.Local.{Local}
 use Rattle.core_lang.specs.declared.tree.Section.{Section}
-use Rattle.core_lang.specs.declared.typed.Call.{Call}
-use Rattle.core_lang.specs.declared.typed.Thread.{Thread}
-use Rattle.core_lang.specs.declared.typed.Typed.{Typed}
 use Rattle.core_lang.specs.Serial.{Invocation, Scheduled, invocation}
 use Rattle.core_lang.specs.Laws.{CallsFill}
 use Rattle.core_lang.specs.Scopes.{bound_in_all, numbers_from, IsWellScoped}
