@@ -45,7 +45,7 @@ no_bytes = record {
 abbrev fault_of_long : Fault
 fault_of_long = record { code = LimitExceeded; start = 0; detail = record { bytes = no_bytes; ok = ∣ ([], (refl, refl)) ∣₁ } }
 
-none_accepted : (text : List ℕ) (plan : Plan) → IsLong text → Accepts text plan.program → ⊥
+none_accepted : (text : List ℕ) (plan : Plan) → IsLong text → Accepts text plan.accepted → ⊥
 none_accepted text plan long accepts = accepts.faultless fault_of_long (of_text (too_big long, refl))
 
 given_of_long : (t u : List ℕ) (fault : Fault) → IsLong t → IsLong u → IsOfFirstPass t fault → IsOfFirstPass u fault
@@ -53,18 +53,18 @@ given_of_long t u fault long longer (in_text is) =
     in_text (rw (code_of_long is.0 long, start_of_long is.0 long) (too_big longer), is.1)
 given_of_long t u fault long longer (in_tokens tokens none has is) = absurd (none _ _ (too_big long))
 given_of_long t u fault long longer (in_tree tokens tree none has no_fault has_tree is least) = absurd (none _ _ (too_big long))
-given_of_long t u fault long longer (in_paths tokens tree program none has no_fault has_tree no_names resolves is least) =
+given_of_long t u fault long longer (in_paths tokens tree program written none has no_fault has_tree no_names resolves expanded is least) =
     absurd (none _ _ (too_big long))
-given_of_long t u fault long longer (in_order tokens tree program none has no_fault has_tree no_names resolves no_paths is) =
+given_of_long t u fault long longer (in_order tokens tree program written none has no_fault has_tree no_names resolves expanded no_paths is) =
     absurd (none _ _ (too_big long))
 
 starts_at_0 : (t : List ℕ) (fault : Fault) → IsLong t → IsOfFirstPass t fault → fault.start ≡ 0
 starts_at_0 t fault long (in_text is) = start_of_long is.0 long
 starts_at_0 t fault long (in_tokens tokens none has is) = absurd (none _ _ (too_big long))
 starts_at_0 t fault long (in_tree tokens tree none has no_fault has_tree is least) = absurd (none _ _ (too_big long))
-starts_at_0 t fault long (in_paths tokens tree program none has no_fault has_tree no_names resolves is least) =
+starts_at_0 t fault long (in_paths tokens tree program written none has no_fault has_tree no_names resolves expanded is least) =
     absurd (none _ _ (too_big long))
-starts_at_0 t fault long (in_order tokens tree program none has no_fault has_tree no_names resolves no_paths is) =
+starts_at_0 t fault long (in_order tokens tree program written none has no_fault has_tree no_names resolves expanded no_paths is) =
     absurd (none _ _ (too_big long))
 
 -- and of two such texts it is told alike
