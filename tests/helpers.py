@@ -10,7 +10,8 @@ Both are given to the program, and have to be answered alike:
 check     accepts both, with the same text, where places are those of the first text and names those of the helpers; or
           refuses both, with the same code, at the place that is found here or is that of the same token
 listing   writes the same, with the names of the helpers
-serial    writes the same bytes, with 1,000 turns; and so does simulate, for a few random steps files
+serial    writes the same bytes, with 1,000 turns, which are those that the calls come to in whole_calls.py, where helpers
+          are run as such; and simulate the same for a few random steps files
 replay    says `same` of what serial and run wrote, of both programs; and `differs` at its line where one value is raised
 
 A FILE without helpers, or with a fault for which nothing can be written out, is passed over. `--keep` writes the random
@@ -30,6 +31,7 @@ import tempfile
 
 from helper_programs import drawn, laid_out
 from schedules import drawn as drawn_steps
+from whole_calls import Calls
 from written_out import Bounds, CannotBeWritten, NoProgram, Program, Written, tokens_of, unstable
 
 TOP = pathlib.Path(__file__).resolve().parent.parent
@@ -101,7 +103,7 @@ class Pair:
             self.refused(*faults)
         else:
             origins = self.written.origins
-            text = AT.sub(lambda at: "at %d:%d " % origins[int(at.group(1)), int(at.group(2))], second[1])
+            text = AT.sub(lambda at: "at %d:%d " % origins.get((int(at.group(1)), int(at.group(2))), (0, 0)), second[1])
             self.alike("check", first, (0, self.written.original(text), ""))
         if first[0] == 1:
             for command in ("listing", "serial", "run"):
@@ -124,22 +126,31 @@ class Pair:
     def compare(self, chance, is_drawn):
         if not self.is_accepted(is_drawn):
             return "refused"
+        self.runs_alike(chance)
+        return "accepted"
+
+    def runs_alike(self, chance):
         listings = self.both("listing")
         self.alike("listing", listings[0], (0, self.written.original(listings[1][1]), ""))
         first, second = self.both("serial", *TURNS)
         self.alike("serial", first, second)
-        threads = [d for d in self.program.declarations if d.kind == "thread"]
-        for number in range(4 if threads else 0):
-            rest = "".join(f" {t}*{chance.choice([40, 3000, 20000])}" for t in range(len(threads)))
-            self.write(self.steps, drawn_steps(chance, len(threads)) + (rest * 2 if number % 2 else ""))
-            told = self.both("simulate", last=(self.steps,))
-            self.alike("simulate " + pathlib.Path(self.steps).read_text(), *told)
+        wanted = Calls(self.program, int(TURNS[1])).serial()
+        if first[1:] != (wanted, ""):
+            raise Differs(f"serial:\n{first}\nwhere this was wanted:\n{wanted}")
+        self.simulate(chance)
         if first[0] == 0:
             self.replay(chance, first[1])
             done = self.run("run", self.paths[0])
             self.alike("run", (done[0], done[2]), (0, ""))
             self.replay(chance, done[1])
-        return "unsettled" if first[0] else "accepted"
+
+    def simulate(self, chance):
+        threads = sum(d.kind == "thread" for d in self.program.declarations)
+        for number in range(4 if threads else 0):
+            rest = "".join(f" {thread}*{chance.choice([40, 3000, 20000])}" for thread in range(threads))
+            steps = drawn_steps(chance, threads) + (rest * 2 if number % 2 else "")
+            self.write(self.steps, steps)
+            self.alike("simulate " + steps, *self.both("simulate", last=(self.steps,)))
 
     def replay(self, chance, text):
         self.write(self.history, text)
