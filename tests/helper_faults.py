@@ -8,11 +8,10 @@ broken in one way or two of those below; with `--only` in this one. Which fault 
 the rules of docs/LANGUAGE.md (judged_names.py); `check` has to tell this line, and so have the other commands. Where there
 is no fault of names and types, the program has to be answered like the one with its helpers written out, as in helpers.py.
 
-unknown, count, argument, section_called, thread_called, let_type    at a call
-circle, deep                                                         helpers that call each other, or too deep
-locals_, points, functions                                           around a limit, below it too
-value, twice, result, returned, name                                 in what is around: a helper as a value, a name declared
-                                                                     twice, another result, a return, any name in place of one
+at a call          unknown, count, argument, section_called, thread_called, let_type
+between helpers    circle, deep
+at a limit         locals_, points, functions_; also a little below it
+around             value (a helper as one), twice (a name), result (another one), returned (more or less), name (any other one)
 
 A program that is answered otherwise is kept as faults-NUMBER.al in the current folder. The last line is 'N runs, M failed';
 exit status 1 where M is not 0.
@@ -33,7 +32,7 @@ from judged_names import TEXTS, Reached, first_fault
 from written_out import NAME, Bounds, CannotBeWritten, Node, NoProgram, Program, calls_in, tokens_of, within
 
 CONSTANTS = {"int": "1", "ref N": "q[0]", "ref O": "o[0]"}
-WRONG = ["1", "null", "1 == 1", "q[0]", "o[0]", "nowhere", "head", "(null)", "q", "h0", "n0 + null", "nowhere[1]", "1 < (null)"]
+WRONG = "1,null,1 == 1,q[0],o[0],nowhere,head,(null),q,h0,n0 + null,nowhere[1],1 < (null)".split(",")
 COMMANDS = ("listing", "serial", "run", "simulate")
 
 
@@ -164,7 +163,8 @@ class Broken:
 
     def points(self):
         self.declare(f"call some() {{ {'print 1; ' * 256} }} call one(int k) : int {{ return k; }}")
-        self.declare(f"call more() {{ {'call some(); ' * 16} }} call most() {{ {'call more(); ' * self.chance.randint(14, 16)} }}")
+        self.declare(f"call more() {{ {'call some(); ' * 16} }}")
+        self.declare(f"call most() {{ {'call more(); ' * self.chance.randint(14, 16)} }}")
         section = self.word(self.chance.choice(self.sections).name)
         for text in ["call most();", "call more();", "call one(1);", "call some();", "call one(2);", "call more();"]:
             if self.chance.random() < 0.7:
@@ -180,8 +180,8 @@ class Broken:
         if nodes and self.chance.random() < 0.5:
             node = self.chance.choice(nodes)
             return self.splice(node.first, node.end, name)
-        texts = ["print %s;", "%s = 1;", "%s[0] = 1;", "print %s[0];", "%s.v = 1;", "print %s.v;", "n0 = %s;", "while (%s) { }"]
-        self.insert(self.chance.choice(self.functions), self.chance.choice(texts) % name)
+        texts = ["print %s;", "%s = 1;", "%s[0] = 1;", "print %s[0];", "%s.v = 1;", "print %s.v;", "n0 = %s;"]
+        self.insert(self.chance.choice(self.functions), self.chance.choice([*texts, "while (%s) { }"]) % name)
 
     def nodes(self):
         def inside(node):
@@ -191,9 +191,9 @@ class Broken:
                     yield from inside(part)
 
         for statement in (s for f in self.functions for s in within(f.body)):
-            for node in [getattr(statement, "value", None), getattr(statement, "left", None), *getattr(statement, "arguments", [])]:
-                if node:
-                    yield from inside(node)
+            whole = [getattr(statement, name, None) for name in ("left", "value")]
+            for node in filter(None, [*whole, *getattr(statement, "arguments", [])]):
+                yield from inside(node)
 
     def twice(self):
         helper = self.chance.choice(self.own)

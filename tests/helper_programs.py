@@ -1,8 +1,9 @@
 """Random well-typed programs with helpers, for helpers.py and helper_faults.py.
 
-`drawn(seed)` are the declarations of one. Its helpers call each other up to 8 deep and no circle closes. In most programs a field
-under the lock of an object is reached only by parameters that are given stable paths, by a `let` of them, by a `let` at
-the start of a section, or by `where`, so that no lock class comes before itself; in the others, the wild ones, by anything.
+`drawn(seed)` are the declarations of one. Its helpers call each other up to 8 deep and no circle closes. In most programs
+a field under the lock of an object is reached only by parameters that are given stable paths, by a `let` of them, by a
+`let` at the start of a section, or by `where`, so that no lock class comes before itself; in the others, the wild ones,
+now and then by any `let`, which may make a cycle, or by anything, which may be an unstable base.
 """
 
 import random
@@ -10,8 +11,10 @@ import typing
 
 LOCAL_NAMES = "a b c d e i j k l m r s u v w x y z next link owner sum first _ A1 value".split()
 # Of each struct its fields: name, type, and what it takes to reach one: a root, an owned object, or anything.
-NODE = [("v", "int", "owner"), ("w", "int", "own"), ("c", "int", "any"), ("next", "ref N", "owner"), ("link", "ref N", "any")]
-OWNER = [("sum", "int", "own"), ("tag", "int", "any"), ("first", "ref N", "own"), ("spare", "ref N", "any")]
+FIELDS = {
+    "ref N": [("v", "int", "owner"), ("w", "int", "own"), ("c", "int", "any"), ("next", "ref N", "owner"), ("link", "ref N", "any")],
+    "ref O": [("sum", "int", "own"), ("tag", "int", "any"), ("first", "ref N", "own"), ("spare", "ref N", "any")],
+}
 
 
 class Local(typing.NamedTuple):
@@ -39,10 +42,11 @@ class World:
 
     def __init__(self, chance):
         self.chance = chance
-        self.is_wild, self.is_chain = chance.random() < 0.2, chance.random() < 0.4
+        self.wild = chance.choices([None, "roots", "bases"], [15, 3, 2])[0]
+        self.is_chain = chance.random() < 0.4
         self.locks = ["G", "H", "K"][: chance.randint(1, 3)]
         self.nodes, self.owners = chance.randint(1, 4), chance.randint(1, 3)
-        self.fields = {"ref N": [f for f in NODE if chance.random() < 0.85], "ref O": [f for f in OWNER if chance.random() < 0.85]}
+        self.fields = {kind: [f for f in fields if chance.random() < 0.85] for kind, fields in FIELDS.items()}
         self.numbers = ["n0", "n1", "n2"][: chance.randint(1, 3)]
         self.texts = [f"lock {name};" for name in self.locks]
         self.structs()
@@ -80,8 +84,8 @@ class Body:
         self.known, self.names = [], set()
         self.locals, self.cost, self.depth, self.times = 0, 0, 1, 1
 
-    def is_wild(self, often):
-        return self.world.is_wild and self.chance.random() < often
+    def is_wild(self, what, often):
+        return self.world.wild == what and self.chance.random() < often
 
     def fresh(self):
         left = [n for n in LOCAL_NAMES if n not in self.names]
@@ -100,10 +104,11 @@ class Body:
     def bases(self, kind):
         """Texts that are references of this type, with whether each is a root and whether it is owned."""
         for local in self.known:
+            is_root = local.is_root or (local.kind != "var" and self.is_wild("roots", 0.2))
             if local.type == kind:
-                yield local.name, local.is_root, local.is_owned
+                yield local.name, is_root, local.is_owned
             if kind == "ref O" and local.type == "ref N":
-                yield f"{local.name}.owner", local.is_root or local.is_owned, False
+                yield f"{local.name}.owner", is_root or local.is_owned, False
 
     def accesses(self, of):
         """Accesses to fields of a type that this function may make."""
@@ -111,7 +116,7 @@ class Body:
             for base, is_root, is_owned in self.bases(kind):
                 for name, type_, guard in fields:
                     may = {"any": True, "own": is_root, "owner": is_root or is_owned}[guard]
-                    if type_ == of and (may or self.is_wild(0.3)):
+                    if type_ == of and (may or self.is_wild("bases", 0.7)):
                         yield f"{base}.{name}"
 
     def atom(self):
@@ -155,7 +160,8 @@ class Body:
         if of == "ref N" and kind < 0.38:
             return f"refs[{self.index(2)}]"
         bases = [base for base, _, _ in self.bases(of)]
-        return self.chance.choice(self.chance.choice([each for each in (bases, bases, list(self.accesses(of)), names) if each]))
+        each = [texts for texts in (bases, bases, list(self.accesses(of)), names) if texts]
+        return self.chance.choice(self.chance.choice(each))
 
     def value(self, of, depth=2):
         return self.number(depth) if of == "int" else self.reference(of)
@@ -181,7 +187,7 @@ class Body:
     def binding(self, _):
         if self.locals >= self.room:
             return None
-        kind, is_wild = self.chance.random(), self.is_wild(0.3)
+        kind, is_wild = self.chance.random(), self.is_wild("bases", 0.3)
         roots = [(base, of) for of in ("ref N", "ref O") for base, is_root, _ in self.bases(of) if is_root]
         owners = [local for local in self.known if local.type == "ref O" and (is_wild or local.is_root)]
         if kind < 0.25 and roots:
@@ -236,9 +242,9 @@ class Body:
     def argument(self, parameter):
         if parameter.type == "int":
             return self.number(2)
-        if parameter.is_root and not self.is_wild(0.1):
+        if parameter.is_root and not self.is_wild("roots", 0.15):
             roots = [base for base, is_root, _ in self.bases(parameter.type) if is_root]
-            roots = [f"({base})" if self.is_wild(0.1) else base for base in roots]
+            roots = [f"({base})" if self.is_wild("roots", 0.15) else base for base in roots]
             return self.chance.choice(roots) if roots else None
         return self.reference(parameter.type)
 
@@ -300,7 +306,7 @@ def beginning(body, word):
 def function(world, word, name, helpers):
     """The text of a section or helper, and what calls of it bring."""
     chance = world.chance
-    room = (80 if world.is_wild else 64) if word == "atomic" else 50 if world.is_chain else chance.choice([6, 12, 30, 50])
+    room = (80 if world.wild else 64) if word == "atomic" else 50 if world.is_chain else chance.choice([6, 12, 30, 50])
     body = Body(world, helpers, room)
     parameters = body.parameters(2 if world.is_chain else 4, word == "atomic")
     if word == "call" and chance.random() < 0.05:
