@@ -11,7 +11,7 @@ is no fault of names and types, the program has to be answered like the one with
 at a call          unknown, count, argument, section_called, thread_called, let_type
 between helpers    circle, deep
 at a limit         locals_, points, functions_; also a little below it
-around             value (a helper as one), twice (a name), result (another one), returned (more or less), name (any other one)
+around             value (a helper as one), twice (a name), result (another one), returned (more or less), name (any one)
 
 A program that is answered otherwise is kept as faults-NUMBER.al in the current folder. The last line is 'N runs, M failed';
 exit status 1 where M is not 0.

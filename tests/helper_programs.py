@@ -12,9 +12,10 @@ import typing
 LOCAL_NAMES = "a b c d e i j k l m r s u v w x y z next link owner sum first _ A1 value".split()
 # Of each struct its fields: name, type, and what it takes to reach one: a root, an owned object, or anything.
 FIELDS = {
-    "ref N": [("v", "int", "owner"), ("w", "int", "own"), ("c", "int", "any"), ("next", "ref N", "owner"), ("link", "ref N", "any")],
+    "ref N": [("v", "int", "owner"), ("w", "int", "own"), ("c", "int", "any")],
     "ref O": [("sum", "int", "own"), ("tag", "int", "any"), ("first", "ref N", "own"), ("spare", "ref N", "any")],
 }
+FIELDS["ref N"] += [("next", "ref N", "owner"), ("link", "ref N", "any")]
 
 
 class Local(typing.NamedTuple):
