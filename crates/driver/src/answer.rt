@@ -20,6 +20,7 @@ use check_report::Check;
 use code::listing;
 use compiler::compile;
 use core_lang::laws;
+use core_lang::typed::Typed;
 use lowering::compiled::Program;
 use recorded::Format;
 use register_machine::prepared::Prepared;
@@ -96,14 +97,19 @@ fn listed(alloc: Global, program: &Program) -> Result<Answer, NoMemory>
 }
 
 /// The text of a program's run.
-fn ran(alloc: Global, prepared: &Prepared<'_>, turns: u64) -> Result<Answer, NoMemory>
-    requires checked { IsChecked prepared.now.program.now }
-    requires expansion { IsExpansion prepared.now.program.now prepared.now.written.now }
-    ensures { IfOk result (Meets (IsRun turns prepared.now.program.now)) }
+fn ran(
+    alloc: Global,
+    program: &Typed,
+    prepared: &Prepared<'_>,
+    turns: u64,
+) -> Result<Answer, NoMemory>
+    requires checked { IsChecked program.now }
+    requires same { prepared.now.program.now ≡ program.now }
+    requires expansion { IsExpansion program.now prepared.now.written.now }
+    ensures { IfOk result (Meets (IsRun turns program.now)) }
 {
     laws::settled_are_serial();
-    let program = prepared.program();
-    let ran = run_scripts(alloc, prepared, turns)?;
+    let ran = run_scripts(alloc, program, prepared, turns)?;
     let err = String::new(alloc);
     match ran.unsettled {
         None => Ok(Answer {
@@ -131,7 +137,10 @@ fn of_program(
     match request {
         Request::Check => checked(alloc, text, program),
         Request::Listing => listed(alloc, program),
-        Request::Serial { turns } => ran(alloc, &prepared(alloc, program)?, turns),
+        Request::Serial { turns } => {
+            let prepared = prepared(alloc, program)?;
+            ran(alloc, program.accepted(), &prepared, turns)
+        }
     }
 }
 

@@ -52,25 +52,12 @@ pub fn prepared(alloc: Global, program: &Program) -> Result<Prepared<'_>, NoMemo
     ensures checked { IfOk result (λ prepared. IsChecked prepared.program.now) }
     ensures expansion { IfOk result (λ prepared. IsExpansion prepared.program.now prepared.written.now) }
 {
-    let accepted = program.accepted();
-    let written = program.typed();
-    Prepared::new(alloc, accepted, written)
+    Prepared::new(alloc, program.accepted(), program.typed())
 }
 
 /// Runs all calls of a program one after another, thread 0's whole script first, as far as so many
 /// turns of each execution of a loop settle them.
-pub fn run_scripts(alloc: Global, prepared: &Prepared<'_>, turns: u64) -> Result<Ran, NoMemory>
-    requires checked { IsChecked prepared.now.program.now }
-    requires expansion { IsExpansion prepared.now.program.now prepared.now.written.now }
-    ensures ran { IfOk result (IsRan turns prepared.now.program.now) }
-    ensures cells { IfOk result (λ ran. HasCells prepared.now.program.now ran.heap) }
-{
-    let ran = run_calls(alloc, prepared.program(), prepared, turns)?;
-    Ok(ran)
-}
-
-// The same, of the program that was prepared.
-fn run_calls(
+pub fn run_scripts(
     alloc: Global,
     typed: &Typed,
     prepared: &Prepared<'_>,

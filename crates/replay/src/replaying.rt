@@ -110,9 +110,9 @@ pub fn replay(
 ) -> Result<Judgement, NoMemory>
     requires checked { IsChecked prepared.program.now }
     requires expansion { IsExpansion prepared.program.now prepared.written.now }
-    ensures holds { let format = recorded.now.format in let program = prepared.program.now in
+    ensures holds { let format = recorded.now.format in let program = prepared.entry.program.now in
         IfOk result (λ judgement. Holds turns format program (recorded_lines recorded.now) judgement.verdict) }
-    ensures why { let format = recorded.now.format in let program = prepared.program.now in
+    ensures why { let format = recorded.now.format in let program = prepared.entry.program.now in
         IfOk result (λ judgement. Explains turns format program (recorded_lines recorded.now) judgement.verdict judgement.wanted) }
 {
     let replay = Replay {

@@ -59,9 +59,7 @@ one_more_ran plan t step script call hs h is has same ran =
 -- ---- entries are of scripts
 
 seated_at : (P : Commit → Type 0) (log : List Commit) (p : ℕ) (c : Commit) → All P log → slice_get log p ≡ Some c → P c
-seated_at P [] p c sit is = absurd cc
-seated_at P (x ∷ log) zero c sit is = let same : x ≡ c = cc in subst P same sit.0
-seated_at P (x ∷ log) (suc p) c sit is = seated_at P log p c sit.1 is
+seated_at P log p c sit is = subst P (get_or_from_slice_get log p c c is) (All-get_or P log p c (slice_get_within log p c is) sit)
 
 mapped_or : {X Y : Type 0} (f : X → Y) (xs : List X) (k : ℕ) (d : X) (e : Y) → k < length xs → slice_index_or (map f xs) k e ≡ f (slice_index_or xs k d)
 mapped_or f [] k d e lt = absurd (omega (arith, lt))

@@ -2,6 +2,7 @@
 use Rattle.std.specs.Prelude.{◌^◌, []}
 use Rattle.std.proofs.Common.{refl, lit<, lit≤, Vec, Global}
 use denote.RawPtr.{null_ptr}
+use Rattle.core_lang.specs.declared.typed.Typed.{Typed}
 use Rattle.lowering.specs.Plans.{Plan}
 
 abbrev no_memory : Global
@@ -18,17 +19,21 @@ none = record {
   small = lit< {m = 0} {n = 2 ^ 63} tt;
 }
 
+abbrev pub no_program : Typed
+no_program = record {
+  classes = none;
+  structs = none;
+  globals = none;
+  shape = record { arrays = none; pools = none; objects = none; finals = none; helpers = none };
+  cells = none;
+  sections = none;
+  threads = none;
+}
+
 abbrev pub no_plan : Plan
 no_plan = record {
-  program = record {
-    classes = none;
-    structs = none;
-    globals = none;
-    shape = record { arrays = none; pools = none; objects = none; finals = none; helpers = none };
-    cells = none;
-    sections = none;
-    threads = none;
-  };
+  accepted = no_program;
+  program = no_program;
   ranks = [];
   lists = [];
   layout = record { opening = []; cell_locks = []; locks = []; first_finals = []; finals = [] };

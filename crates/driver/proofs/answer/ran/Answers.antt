@@ -8,7 +8,7 @@ use Rattle.driver.proofs.answer.ran.Goals as goal
 pub returns : goal.returns
 returns c =
     let ran = c.in_ok-ran.ensures.ran in
-    let texts = λ (es : List Entry). unsettled_of c.args.prepared.now.program.now es c.in-Some.thread c.in-Some.step in
+    let texts = λ (es : List Entry). unsettled_of c.args.program.now es c.in-Some.thread c.in-Some.step in
     stopped
-    (stop_told c.settled_are_serial.ensures c.args.turns c.args.prepared.now.program.now c.in-Some.thread c.in-Some.step _ _ _ refl (rw c.in-Some.is at ran.stop)
+    (stop_told c.settled_are_serial.ensures c.args.turns c.args.program.now c.in-Some.thread c.in-Some.step _ _ _ refl (rw c.in-Some.is at ran.stop)
     (c.in_ok-unsettled_text-in-Some.ensures ∙ ap texts (ap (map entry_of) c.deref-in-Some.ensures.value ∙ ran.records)) c.new-err.ensures.bytes)

@@ -4,7 +4,7 @@ use Rattle.replay.specs.Verdicts.{Holds, IsDiffering}
 use Rattle.replay.specs.declared.wanted.Wanted.TheVariants.{Line}
 use Rattle.replay.specs.Reading.{IsAt}
 use Rattle.replay.specs.Wanted.{IsWantedAt}
-use Rattle.replay.proofs.Replays.{read_more, read_other, read_beyond, read_short, wanted_here, wanted_short, explained}
+use Rattle.replay.proofs.Replays.{read_more, read_other, read_beyond, read_same, read_short, wanted_here, wanted_short, explained}
 use Rattle.replay.proofs.candidate.Replay.judgement.Goals as goal
 
 pub returns-in-Other-clause-holds : goal.returns-in-Other-clause-holds
@@ -99,3 +99,14 @@ returns-clause-why c =
     (wanted_short c.args.self.now.turns c.args.self.now.format c.args.self.now.typed.now (map (λ line. line.now) items) c.loop-i.i c.loop-i.at c.loop-i.invariant
     (omega (arith, same, long, most, least)) wanted
     (c.in_ok-wanted-in_default.ensures c.loop-i.invariant.reader [] c.loop-i.invariant.is (λ call begun none. none))))
+
+pub returns-in-Ended-clause-holds : goal.returns-in-Ended-clause-holds
+returns-in-Ended-clause-holds c =
+    let items = c.args.recorded.now.lines.items in
+    let same = ap length c.deref-line-items.ensures.value in
+    let long = length-map items (λ line. line.now) in
+    let most = c.loop-i.auto.i-end in
+    let least = c.loop-i-test.false in
+    subst (Holds c.args.self.now.turns c.args.self.now.format c.args.self.now.typed.now (map (λ line. line.now) items)) (sym c.settled-in-Ended.ensures.verdict)
+    (read_same c.args.self.now.turns c.args.self.now.format c.args.self.now.typed.now (map (λ line. line.now) items) c.loop-i.i c.loop-i.at c.loop-i.invariant
+    (omega (arith, same, long, most, least)) c.in-Ended.is)

@@ -7,7 +7,7 @@ use Rattle.core_lang.specs.WellFormed.{IsChecked, CanCall}
 use Rattle.driver.specs.Running.{scheduled_of}
 use Rattle.driver.proofs.CallLemmas.{Each, Each-at, can_call_all, drop_next, map_parts}
 use Rattle.driver.proofs.RunningLemmas.{goes_further, goes_beyond}
-use Rattle.driver.proofs.running.run_calls.Goals as goal
+use Rattle.driver.proofs.running.run_scripts.Goals as goal
 
 pub run_whole-requires-clause-call : goal.run_whole-requires-clause-call
 run_whole-requires-clause-call c =

@@ -3,7 +3,7 @@ use Rattle.core_lang.specs.Typing.{IsHeap, HasCells}
 use Rattle.report.specs.Entry.{entry_of}
 use Rattle.driver.specs.Running.{scheduled_of}
 use Rattle.driver.proofs.RunningLemmas.{GoesOn}
-use Rattle.driver.proofs.running.run_calls.Given as goal
+use Rattle.driver.proofs.running.run_scripts.Given as goal
 
 -- the entries so far and those of the calls that are left are those of all calls
 abbrev pub invariant-loop-next : goal.invariant-loop-next
