@@ -9,7 +9,7 @@ With no choice of kinds: --cuts --bytes --random 2000, each cut and byte at ever
 --commands      which of the four, joined by commas; by default all
 --cuts          every beginning of each program
 --bytes         each program with one byte replaced by each of `(`, `}`, `0`, `.`, 0x00 and 0x80
---random COUNT  so many programs made from the given ones by a few random changes each
+--random COUNT  so many programs made from the given ones by a few random changes each, and a third of them by a helper and calls
 --every N       only every N-th place of --cuts and --bytes
 --beside BIN    another build of the program, which is to answer each run in the same way, byte for byte; sources with one of
                 the words of --without are passed over
@@ -46,6 +46,13 @@ STEP_ITEMS = (
     b"* 0* *1 0**1 1*1*1 -1 +1 0x1 00 000*0001 3 63 64 99999999999999999999 0*10000000 0*9999999 1*10000001 "
     b"0*99999999999999999999999 a \xff \x00 0,1 0;"
 ).split(b" ")
+# A helper, of which `kind` is the type of parameter and result, and calls of it.
+HELPERS = (
+    b" call zz(%(kind)s k) : %(kind)s { let zy: %(kind)s = k; return zy; } ",
+    b" call zz(%(kind)s k) : %(kind)s { %(body)s return k; } ",
+    b" call zz(%(kind)s k) { %(body)s } ",
+)
+CALLS = (b" call zz(%(value)s); ", b" let zw: %(kind)s = call zz(%(value)s); ", b" { call zz(%(value)s); } ", b" call zz(call); ")
 TOKEN = re.compile(rb"\s+|//[^\n]*|\w+|[=!<>]=|&&|\|\||.", re.S)
 
 
@@ -102,11 +109,33 @@ def replaced(programs, every):
                 yield text[:place] + byte + text[place + 1 :]
 
 
+def with_helper(choose, tokens):
+    """A program with one helper more, mostly between two declarations, and a few calls of it, mostly between statements."""
+    structs = [tokens[n + 2] for n, token in enumerate(tokens[:-2]) if token == b"struct"]
+    kind = b"ref " + choose.choice(structs) if structs and choose.random() < 0.4 else b"int"
+    start = choose.randrange(len(tokens) + 1)
+    words = {
+        b"kind": kind,
+        b"value": choose.choice([b"1", b"7 / 2", b"n"] if kind == b"int" else [b"null", b"(null)", b"a"]),
+        b"body": b"".join(tokens[start : start + choose.randint(0, 12)]) if choose.random() < 0.3 else b"print 1;",
+    }
+    outside, inside, depth = [0, len(tokens)], [], 0
+    for at, token in enumerate(tokens, 1):
+        depth += {b"{": 1, b"}": -1}.get(token, 0)
+        if token in (b"{", b"}", b";"):
+            (inside if depth > 0 else outside).append(at)
+    places = [(choose.choice(inside or outside), choose.choice(CALLS)) for _ in range(choose.randint(1, 3))]
+    for at, text in sorted([*places, (choose.choice(outside), choose.choice(HELPERS))], reverse=True):
+        tokens[at:at] = TOKEN.findall(text % words)
+
+
 def mutated(programs, seed):
     """A program with a few random changes, of tokens and of bytes."""
     choose = random.Random(seed)
     tokens = TOKEN.findall(choose.choice(programs))
-    for _ in range(choose.randint(1, 6)):
+    if choose.random() < 0.3:
+        with_helper(choose, tokens)
+    for _ in range(choose.choice([0, 0, 1, 3]) if b"zz" in tokens else choose.randint(1, 6)):
         at = choose.randrange(len(tokens) + 1)
         kind = choose.randrange(7)
         if kind == 0:
