@@ -36,6 +36,13 @@ WRONG = "1,null,1 == 1,q[0],o[0],nowhere,head,(null),q,h0,n0 + null,nowhere[1],1
 COMMANDS = ("listing", "serial", "run", "simulate")
 
 
+# faults of annotations, which a name that is declared twice can make: the judge knows none of them
+UNJUDGED = ("E10", "E11", "E12", "E16")
+KEYWORDS = set(
+    "lock struct final ref int global protected_by pool init atomic let var if else while print return thread repeat null where call".split()
+)
+
+
 class Broken:
     """A program as words, and its reading; a way to break it answers False where the program has nothing for it."""
 
@@ -220,7 +227,7 @@ class Broken:
     def name(self):
         function = self.chance.choice(self.functions)
         numbers = [n for n in range(function.first + 1, function.end) if NAME.fullmatch(self.word(n))]
-        words = [self.word(n) for n in numbers] + ["n0", "arr", "q", "o", "head", "h0", "f0", "t0", "G", "N", "owner", "l"]
+        words = [self.word(n) for n in numbers if self.word(n) not in KEYWORDS] + ["n0", "arr", "q", "o", "head", "h0", "f0", "t0", "G", "N", "owner", "l"]
         number = self.chance.choice(numbers)
         self.splice(number, number + 1, self.chance.choice(words))
 
@@ -243,7 +250,8 @@ def broken(seed, only):
             if getattr(made, way)() is not False:
                 words = made.words
                 names.append(way)
-        except (NoProgram, RecursionError):
+        # (a helper that the first break took away has no depth)
+        except (NoProgram, RecursionError, KeyError):
             continue
         if names and (len(names) == 2 or chance.random() < 0.7):
             break
@@ -267,6 +275,8 @@ def judge(binary, folder, text):
         last = ["/dev/null"] if command == "simulate" else []
         done = subprocess.run([binary, command, path, *last], capture_output=True, timeout=60)
         told = (done.returncode, done.stdout.decode("latin-1"), done.stderr.decode("latin-1"))
+        if any(f" {code} " in told[2] for code in UNJUDGED):
+            return 1, "unjudged"
         if told != wanted:
             raise Differs(f"{command}: {told} where {wanted} was wanted")
     return len(commands), fault[1]
