@@ -4,6 +4,7 @@ pub mod Steps
 pub mod Growth
 pub mod Sizes
 pub mod Named
+pub mod IdleCalls
 pub mod Limits
 pub mod Places
 pub mod Located

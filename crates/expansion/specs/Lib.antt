@@ -1,4 +1,5 @@
 pub mod Scopes
 pub mod Bodies
 pub mod Data
+pub mod IdleHelpers
 pub use Rattle.expansion.specs.Data.{IsSameBesides, IsExpanded}

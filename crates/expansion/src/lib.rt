@@ -2,16 +2,20 @@
 //!
 //! - [`program::expand`]: a program with the helpers of all its sections written out. Which tree a section is then, is
 //!   defined in `core_lang` (`specs/Expansion.antt`), where it is also proved that its runs are those that it had.
-//! - [`body`]: the statements of a section or a helper, one after another, with the calls in them.
+//! - [`body`]: what is written out, a section or a helper.
+//! - [`writing`]: its statements, one after another, with the calls in them.
 //! - [`scope`]: the locals in scope by their new numbers, and expressions and conditions of them.
+//! - [`idle`]: the helpers that do nothing, whose calls are passed over.
 //! - [`copies`]: the parts that stay as they were.
 //! - [`stop`]: why a section is not written out.
 #![tactic(auto)]
 
 pub mod body;
 mod copies;
+mod idle;
 pub mod program;
 pub mod scope;
 pub mod stop;
 #[cfg(test)]
 mod tests;
+pub mod writing;

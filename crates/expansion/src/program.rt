@@ -9,6 +9,7 @@ ghost use Rattle.expansion.specs.Data.{head_data, IsExpanded};
 
 use crate::body::Body;
 use crate::copies::{arrays, cells, classes, globals, pools, structs, threads};
+use crate::idle::Idle;
 use crate::stop::Stop;
 use core_lang::laws;
 use core_lang::shape::Shape;
@@ -21,7 +22,13 @@ use std::alloc::Global;
 const DEEPEST: u32 = 8;
 
 // A section with the helpers that it calls written out.
-pub(crate) fn written_out(alloc: Global, shape: &Shape, section: &Section) -> Result<Section, Stop>
+pub(crate) fn written_out(
+    alloc: Global,
+    shape: &Shape,
+    idle: &Idle,
+    section: &Section,
+) -> Result<Section, Stop>
+    requires { idle.now.helpers.now ≡ shape.now.helpers.items }
     ensures written { IfOk result (IsWrittenOut shape.now section.now) }
     ensures locals { IfOk result (AreWrittenLocals shape.now section.now) }
     ensures head { IfOk result (λ made. head_data made ≡ head_data section.now) }
@@ -29,6 +36,7 @@ pub(crate) fn written_out(alloc: Global, shape: &Shape, section: &Section) -> Re
     let body = Body {
         alloc,
         shape,
+        idle,
         section,
         depth: DEEPEST,
     };
@@ -52,9 +60,10 @@ fn all_written_out(alloc: Global, shape: &Shape, sections: &[Section]) -> Result
     ensures locals { IfOk result (λ made. AllZip (AreWrittenLocals shape.now) sections.now made.items) }
     ensures heads { IfOk result (λ made. map head_data made.items ≡ map head_data sections.now) }
 {
+    let idle = Idle::new(alloc, &shape.helpers)?;
     let mut made = Vec::new(alloc);
     for section in sections {
-        made.push(written_out(alloc, shape, section)?)?;
+        made.push(written_out(alloc, shape, &idle, section)?)?;
     }
     Ok(made)
 }

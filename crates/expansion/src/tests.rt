@@ -1,6 +1,7 @@
 //! What is written of one section, found by hand from the rules: two helpers, the one called by the other and by itself,
 //! in a loop.
 
+use crate::idle::Idle;
 use crate::program::written_out;
 use crate::stop::Stop;
 use core_lang::shape::Shape;
@@ -117,7 +118,8 @@ fn written(alloc: Global) -> Result<Section, Stop> {
         helpers: helpers(alloc)?,
     };
     let section = looping(alloc)?;
-    written_out(alloc, &shape, &section)
+    let idle = Idle::new(alloc, &shape.helpers)?;
+    written_out(alloc, &shape, &idle, &section)
 }
 
 // The local that an expression begins with.

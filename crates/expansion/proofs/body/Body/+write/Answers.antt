@@ -6,6 +6,7 @@ use Rattle.expansion.proofs.Rows.{if_written, if_else_written, while_written}
 use Rattle.expansion.proofs.Steps.{wrote_one_more, block_written, body_written, call_written, result_written}
 use Rattle.expansion.proofs.Named.{named_one_more, named_if, named_if_else, named_while, named_call, named_nothing}
 use Rattle.expansion.proofs.Sizes.{size, sizes, size_if, size_if_else, size_while, within, call_falls}
+use Rattle.expansion.proofs.IdleCalls.{nothing_written, nothing_more}
 use Rattle.expansion.proofs.body.Body.+write.Goals as goal
 
 -- ---- blocks of an action
@@ -92,6 +93,16 @@ statements-loop-statement-preserved t c =
       locals = named_one_more c.args.self.now list k c.statement-item.result c.args.locals.now.items c.loop-statement.locals.items c.statement.new.locals.items
           c.loop-statement-test.true c.statement-item.is c.loop-statement.invariant.locals c.in_ok-statement.ensures.locals;
     }
+
+pub statement-returns-then-is_idle_call-clause-written : goal.statement-returns-then-is_idle_call-clause-written
+statement-returns-then-is_idle_call-clause-written t c =
+    nothing_written c.args.self.now c.args.statement.now c.args.statement.now.action c.args.scope.now c.args.locals.now.items c.args.written.now.items refl
+    c.args.self.now.idle_there (c.is_idle_call.ensures c.if-is_idle_call.true)
+
+pub statement-returns-then-is_idle_call-clause-locals : goal.statement-returns-then-is_idle_call-clause-locals
+statement-returns-then-is_idle_call-clause-locals t c =
+    nothing_more c.args.self.now c.args.statement.now.action c.args.statement.now.action c.args.locals.now.items refl
+    c.args.self.now.idle_there (c.is_idle_call.ensures c.if-is_idle_call.true)
 
 -- ---- bodies and calls
 
