@@ -9,8 +9,7 @@ use Rattle.core_lang.specs.declared.tree.Return.{Return}
 use Rattle.core_lang.specs.declared.tree.Section.{Section}
 use Rattle.core_lang.specs.declared.tree.Stmt.{Stmt}
 use Rattle.core_lang.specs.declared.shape.Shape.{Shape}
-use Rattle.core_lang.specs.declared.value.ValueType.{ValueType}
-use Rattle.core_lang.specs.Expansion.{At, Pair, entered, Arguments, Bodies, Writes, WritesAll, WritesBody, HelpersWritten, RenamesResult}
+use Rattle.core_lang.specs.Expansion.{At, entered, Arguments, Bodies, Writes, WritesAll, WritesBody, HelpersWritten, RenamesResult}
 use Rattle.core_lang.specs.WrittenLocals.{LocalData, Brought, local_data, parameter_data, hidden_local, locals_by, locals_in_all, brought_by, brought}
 use Rattle.expansion.specs.declared.body.Body.{Body}
 use Rattle.expansion.specs.declared.scope.Scope.{Scope}

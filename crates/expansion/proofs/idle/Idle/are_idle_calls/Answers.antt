@@ -1,4 +1,4 @@
-use Rattle.std.proofs.Common.{◌≡◌, refl}
+use Rattle.std.proofs.Common.{refl}
 use Rattle.expansion.specs.IdleHelpers.{is_idle}
 use Rattle.expansion.proofs.IdleCalls.{one_more_call}
 use Rattle.expansion.proofs.idle.Idle.are_idle_calls.Goals as goal
