@@ -37,8 +37,8 @@ def fan(helpers, bottom):
 
 
 ONCE = "atomic s() {{ {last} n = n + 1; }}\n"
-LOOP = "atomic s() {{ while n < 1000 {{ {last} n = n + 1; }} }}\n"
-BRANCH = "atomic s() {{ if n == 0 {{ {last} }} n = n + 1; }}\n"
+LOOP = "atomic s() {{ while (n < 1000) {{ {last} n = n + 1; }} }}\n"
+BRANCH = "atomic s() {{ if (n == 0) {{ {last} }} n = n + 1; }}\n"
 
 # A program, the status of each command, and what serial says at its end, if it says anything.
 PROGRAMS = {
