@@ -4,6 +4,7 @@ pub mod Messages
 pub mod Answers
 pub mod Serial
 pub mod Checks
+pub mod Explanations
 pub mod Listings
 pub mod Simulations
 pub mod Replays
@@ -20,6 +21,7 @@ pub use Rattle.compiler.specs.Programs.{Accepts}
 pub use Rattle.driver.specs.Answers.{TextAnswers, Alone, Beside}
 pub use Rattle.driver.specs.Serial.{SerialAnswers}
 pub use Rattle.driver.specs.Checks.{CheckAnswers}
+pub use Rattle.driver.specs.Explanations.{ExplainAnswers}
 pub use Rattle.driver.specs.Listings.{ListingAnswers}
 pub use Rattle.driver.specs.Simulations.{SimulationAnswers}
 pub use Rattle.driver.specs.Replays.{ReplayAnswers}

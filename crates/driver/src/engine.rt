@@ -24,7 +24,7 @@ use std::sync::Wait;
 use std::thread::Threads;
 
 /// How many bytes a program's text may have.
-const MOST_BYTES: u64 = 1_048_576;
+pub(crate) const MOST_BYTES: u64 = 1_048_576;
 
 /// More bytes than there are in any file.
 const ALL_BYTES: u64 = u64::MAX - 1;

@@ -1,0 +1,12 @@
+//! The text that explains a fault to a person: the line that reports it, the line of the source with a caret under the
+//! place, and what can be done about it.
+//!
+//! - [`explain`]: that text, as `specs/Explanation.antt` defines it byte for byte.
+//! - `specs/Shown.antt`: how a line of the source is shown. `specs/Remedies.antt`: what is said of each code.
+#![tactic(auto)]
+
+mod explanation;
+mod remedy;
+mod shown;
+
+pub use explanation::explain;
