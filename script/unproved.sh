@@ -71,7 +71,7 @@ split_cases() {
 tell_run() {
     local end="$room/said/$1.end" err="$room/said/$1.err"
     if grep -q ' run=ended ' "$end" 2>/dev/null; then
-        cat "$room/said/$1.out"
+        if [ "$command" = explain ]; then told_of_files <"$room/said/$1.out"; else cat "$room/said/$1.out"; fi
         told_of_files <"$err" >&2
         return "$(sed 's/.* status=\([0-9]*\).*/\1/' "$end")"
     elif grep -qs 'wrote more than' "$err"; then

@@ -60,7 +60,7 @@ takes_turns() { [ "$command" = serial ] || [ "$command" = replay ]; }
 usage_of() {
     local option=${2-}
     case $1 in
-        check | listing | run) echo "$1 ${option:+$option }<FILE>" ;;
+        check | explain | listing | run) echo "$1 ${option:+$option }<FILE>" ;;
         serial) echo "serial ${option:-[OPTIONS]} <FILE>" ;;
         replay) echo "replay ${option:-[OPTIONS]} <FILE> <HISTORY>" ;;
         simulate) echo "simulate ${option:+$option }<FILE> <STEPS>" ;;
@@ -111,7 +111,7 @@ similar() {
 
 refuse_command() {
     local names tip=
-    mapfile -t names < <(similar "$1" check listing serial simulate run replay help)
+    mapfile -t names < <(similar "$1" check explain listing serial simulate run replay help)
     case ${#names[@]} in
         0) ;;
         1) tip="a similar subcommand exists: '${names[0]}'" ;;
@@ -149,7 +149,7 @@ refuse_long() {
     fi
     for word in "$@"; do
         case $word in
-            check | listing | simulate | run) near=$(similar "$name" help) ;;
+            check | explain | listing | simulate | run) near=$(similar "$name" help) ;;
             serial) near=$(similar "$name" turns help | tail -n 1) ;;
             replay) near=$(similar "$name" turns why help | tail -n 1) ;;
         esac
@@ -163,7 +163,7 @@ judge_help() {
     local name=${1-autolock}
     case $name in
         autolock) [ $# -eq 0 ] || refuse "unrecognized subcommand '$1'" "$(usage_of '')" ;;
-        check | listing | serial | simulate | run | replay | help) ;;
+        check | explain | listing | serial | simulate | run | replay | help) ;;
         *) refuse "unrecognized subcommand '$1'" "$(usage_of '')" ;;
     esac
     [ $# -gt 1 ] || show_help "$name"
@@ -289,7 +289,7 @@ judge_words() {
     local is_last=0
     while [ $# -gt 0 ]; do
         case $is_last$1 in
-            0check | 0listing | 0serial | 0simulate | 0run | 0replay)
+            0check | 0explain | 0listing | 0serial | 0simulate | 0run | 0replay)
                 command=$1
                 shift
                 judge_arguments "$@"
@@ -302,7 +302,7 @@ judge_words() {
             0--) is_last=1 ;;
             0--?*) judge_long "$@" ;;
             0-?*) judge_short "$1" ;;
-            1check | 1listing | 1serial | 1simulate | 1help)
+            1check | 1explain | 1listing | 1serial | 1simulate | 1help)
                 refuse "unexpected argument '$1' found" "$(usage_of '')" \
                     "subcommand '$1' exists; to use it, remove the '--' before it"
                 ;;
@@ -311,5 +311,5 @@ judge_words() {
         shift
     done
     refuse $'\'autolock\' requires a subcommand but one was not provided
-  [subcommands: check, listing, serial, simulate, run, replay, help]' "$(usage_of '')"
+  [subcommands: check, explain, listing, serial, simulate, run, replay, help]' "$(usage_of '')"
 }

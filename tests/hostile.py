@@ -1,12 +1,12 @@
 #!/usr/bin/env python3
-"""Gives hostile sources to `autolock` and looks at how each run ends: of `check`, `listing`, `serial --turns 1000` and,
+"""Gives hostile sources to `autolock` and looks at how each run ends: of `check`, `explain`, `listing`, `serial --turns 1000` and,
 with a steps file drawn for each source, `simulate`.
 
     tests/hostile.py [--program BIN] [--commands NAMES] [--cuts] [--bytes] [--random COUNT] [--every N] [--seed N] [FILE..]
 
 With no choice of kinds: --cuts --bytes --random 2000, each cut and byte at every 7th place, which takes a minute.
 
---commands      which of the four, joined by commas; by default all
+--commands      which of the five, joined by commas; by default all
 --cuts          every beginning of each program
 --bytes         each program with one byte replaced by each of `(`, `}`, `0`, `.`, 0x00 and 0x80
 --random COUNT  so many programs made from the given ones by a few random changes each, and a third of them by a helper and calls
@@ -18,7 +18,7 @@ FILE..          the programs to begin with; by default those of examples/
 
 A run must end within 20 seconds with status 0 or 1, or of `serial` with 7. With 0, standard output is a whole text of
 the command and standard error is empty; with 1, standard error is one line, the same of each command, and standard
-output is empty; with 7, the last line of standard output begins with `unsettled` and standard error is empty. `simulate`
+output is empty, and of explain the other way round: standard output begins with that line, and shows the place of it; with 7, the last line of standard output begins with `unsettled` and standard error is empty. `simulate`
 ends with 6 and the line of the steps file's first fault, as this script finds it, exactly where there is one. A source
 of which that doesn't hold is kept as hostile-NUMBER.al in the current folder, with its steps. The last line is 'N runs,
 M failed'; exit status 1 where M is not 0.
@@ -195,8 +195,9 @@ def steps_fault(steps, threads):
     return None
 
 
-ARGUMENTS = {"check": ["check"], "listing": ["listing"], "serial": ["serial", "--turns", "1000"], "simulate": ["simulate"]}
+ARGUMENTS = {"check": ["check"], "explain": ["explain"], "listing": ["listing"], "serial": ["serial", "--turns", "1000"], "simulate": ["simulate"]}
 TITLES = {"serial": b"history 1\n", "simulate": b"simulation 1\n"}
+EXPLAINED = re.compile(rb"[^\n]*:\d+:\d+: E\d\d [ -~]*\n  [ -~]*\n  ( *)\^\nhelp: [ -~]*\n")
 LINE = re.compile(rb"section \w+|\d+ [a-z][ -~]*")
 
 
@@ -204,6 +205,8 @@ def is_whole(command, out):
     """Whether that is a whole text of the command, as far as its shape goes."""
     if command in TITLES:
         return out.startswith(TITLES[command]) and out.endswith(b"\nend\n")
+    if command == "explain":
+        return out == b"accepted\n"
     if command == "check":
         return out.startswith(b"accepted\n") and out.endswith(b"\n")
     return all(LINE.fullmatch(line) for line in out.splitlines()) and (not out or out.endswith(b"\n"))
@@ -214,6 +217,8 @@ def fault_of(command, ended):
     out, err = ended.stdout, ended.stderr
     if ended.returncode == 0:
         return None if is_whole(command, out) and not err else f"{command}: status 0 without a whole text alone"
+    if ended.returncode == 1 and command == "explain":
+        return None if EXPLAINED.fullmatch(out) and not err else "explain: status 1 without a text alone"
     if ended.returncode == 1:
         one_line = err.count(b"\n") == 1 and err.endswith(b"\n")
         return None if one_line and not out else f"{command}: status 1 without one line alone"
@@ -253,7 +258,7 @@ def try_one(program, commands, path, other):
         if fault:
             return fault
         if ended.returncode != 6:
-            told.add(ended.stderr)
+            told.add(ended.stdout.split(b"\n", 1)[0] + b"\n" if command == "explain" and ended.returncode else ended.stderr)
     # Where `simulate` alone is asked and tells a fault of the steps file, no command tells one of the source.
     return None if len(told) < 2 else "the commands tell different faults"
 

@@ -15,7 +15,7 @@ ghost use Rattle.driver.specs.{Alone, Beside, Serves, Tells, IsMissed, cannot_re
 use clap::Error;
 use clap::error::ErrorKind;
 use driver::{
-    Judging, Sink, SourceText, Status, Streams, check, list, miss_other, replay, run, serial,
+    Judging, Sink, SourceText, Status, Streams, check, explain, list, miss_other, replay, run, serial,
     simulate,
 };
 use std::alloc::{AllocError, Global};
@@ -32,6 +32,7 @@ fn file_name<'a>(line: Line<'a>) -> &'a str
 {
     match line {
         Line::Check { file } => file,
+        Line::Explain { file } => file,
         Line::Listing { file } => file,
         Line::Serial { file, .. } => file,
         Line::Simulate { file, .. } => file,
@@ -68,6 +69,7 @@ fn run_opened<R: Threads + Wait + Sync, S: Read, O: Write, E: Write>(
 {
     match line {
         Line::Check { .. } => check(alloc, source, streams),
+        Line::Explain { .. } => explain(alloc, source, streams),
         Line::Listing { .. } => list(alloc, source, streams),
         Line::Serial { turns, .. } => serial(alloc, turns, source, streams),
         Line::Run { .. } => run(threads, alloc, source, streams),

@@ -8,6 +8,7 @@ use Rattle.driver.specs.declared.request.Request.TheVariants.{Check, Listing, Se
 use Rattle.driver.specs.declared.status.Status.{Status}
 use Rattle.driver.specs.Answering.{RequestAnswers, PairWanted}
 use Rattle.driver.specs.Answers.{TextAnswers, accepted, refused}
+use Rattle.driver.specs.Explanations.{ExplainAnswers, faultless, explained}
 use Rattle.driver.specs.Serial.{all_settled, stopped}
 use Rattle.driver.specs.Replays.{verdict_status, judged, bad_history}
 use Rattle.driver.specs.Simulations.{ran, bad_steps}
@@ -46,6 +47,11 @@ pub threads_are_answered : (file text : List ℕ) (status : Status) (out err : L
 threads_are_answered file text status out err (accepted plan accepts compiled (written is)) = serving.done is.ended
 threads_are_answered file text status out err (accepted plan accepts compiled (was_strange is)) = serving.strange is.ended
 threads_are_answered file text status out err (refused is) = serving.refused is.ended
+
+pub explained_is_answered : (file text : List ℕ) (status : Status) (out err : List ℕ) → ExplainAnswers file text status out err →
+    IsAnswered status
+explained_is_answered file text status out err (faultless is) = serving.done is.ended
+explained_is_answered file text status out err (explained is) = serving.refused is.ended
 
 pub pair_is_answered : (request : PairRequest) (file text other_file other : List ℕ) (status : Status) (out err : List ℕ) →
     TextAnswers (PairWanted request other_file other) file text status out err → IsAnswered status

@@ -2,8 +2,8 @@
 use Rattle.std.specs.Prelude.{◌≡◌, ℕ, List, [], codes}
 use Rattle.code.specs.Listing.{line}
 use Rattle.compiler.specs.Programs.{Accepts, IsOfFirstPass}
-use Rattle.core_lang.specs.declared.typed.Typed.{Typed}
 use Rattle.explanation.specs.Explanation.{explanation_text}
+use Rattle.lowering.specs.Plans.{Plan, IsCompiled}
 use Rattle.source.specs.declared.fault.Fault.{Fault}
 use Rattle.driver.specs.declared.status.Status.{Status}
 use Rattle.driver.specs.declared.status.Status.TheVariants.{Done, Refused}
@@ -18,8 +18,9 @@ pub record IsExplained (file text : List ℕ) (status : Status) (out err : List 
 
 -- the text is accepted: out says that, err is empty
 pub record IsFaultless (text : List ℕ) (status : Status) (out err : List ℕ) : Type 0 where
-  pub program : Typed
-  pub accepts : Accepts text program
+  pub plan : Plan
+  pub accepts : Accepts text plan.accepted
+  pub compiled : IsCompiled plan
   pub ended : status ≡ Done
   pub written : out ≡ line (codes "accepted")
   pub told : err ≡ []

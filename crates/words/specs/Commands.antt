@@ -59,6 +59,10 @@ program = needs_subcommand (with_version (new_app (codes "autolock")))
 abbrev pub with_check : App → App
 with_check app = with_subcommand app (with_file (codes "check")).top
 
+-- autolock explain FILE
+abbrev pub with_explain : App → App
+with_explain app = with_subcommand app (with_file (codes "explain")).top
+
 -- autolock listing FILE
 abbrev pub with_listing : App → App
 with_listing app = with_subcommand app (with_file (codes "listing")).top
@@ -81,7 +85,7 @@ with_replay app = with_subcommand app (with_why (with_turns (with_history (with_
 
 -- the whole command line
 abbrev pub autolock : App
-autolock = with_replay (with_run (with_simulate (with_serial (with_listing (with_check program)))))
+autolock = with_replay (with_run (with_simulate (with_serial (with_listing (with_explain (with_check program))))))
 
 -- the command is that one, and has no global argument
 abbrev pub IsCommand : App → Command → Type 0

@@ -11,6 +11,11 @@ pub enum Line<'a> {
         /// The file of the program's text.
         file: &'a str,
     },
+    /// `explain`: tell the fault of a program, with its place in the source and what can be done about it.
+    Explain {
+        /// The file of the program's text.
+        file: &'a str,
+    },
     /// `listing`: write the instructions of a program's sections.
     Listing {
         /// The file of the program's text.

@@ -40,6 +40,7 @@ fn line<'a>(command: &str, matches: &ArgMatches<'a>) -> Option<Line<'a>>
     let file = name(matches, "FILE");
     match command {
         "check" => Some(Line::Check { file }),
+        "explain" => Some(Line::Explain { file }),
         "listing" => Some(Line::Listing { file }),
         "serial" => Some(Line::Serial {
             file,
