@@ -45,6 +45,7 @@ fn reads_lines(rt: HostRuntime) -> Result<(), Fail> {
         rt.alloc(),
         "
 autolock check F => Check { file: \"F\" }
+autolock explain F => Explain { file: \"F\" }
 autolock serial F => Serial { file: \"F\", turns: 1000000 }
 autolock serial --turns 7 F => Serial { file: \"F\", turns: 7 }
 autolock serial --turns=0 F => Serial { file: \"F\", turns: 0 }
@@ -73,6 +74,8 @@ autolock check => MissingRequiredArgument
 autolock check --help => DisplayHelp
 autolock check --turns 3 F => UnknownArgument
 autolock check F G => UnknownArgument
+autolock explain => MissingRequiredArgument
+autolock explain F G => UnknownArgument
 autolock serial => MissingRequiredArgument
 autolock serial F G => UnknownArgument
 autolock run => MissingRequiredArgument

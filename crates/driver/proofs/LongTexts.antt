@@ -68,7 +68,7 @@ starts_at_0 t fault long (in_order tokens tree program written none has no_fault
     absurd (none _ _ (too_big long))
 
 -- and of two such texts it is told alike
-pub zero_first : (n : ℕ) → min 0 n ≡ 0
+zero_first : (n : ℕ) → min 0 n ≡ 0
 zero_first n = grind arith
 
 pub told_alike : (file t u : List ℕ) (fault : Fault) → fault.start ≡ 0 → fault_text file t fault ≡ fault_text file u fault

@@ -38,7 +38,7 @@ IsFaultAnswer file text fault answer =
 -- to a fault that is explained
 abbrev pub IsExplainedAnswer : List ℕ → List ℕ → Fault → Answer → Type 0
 IsExplainedAnswer file text fault answer =
-    (answer.status ≡ Refused) × (string_bytes answer.out ≡ explanation_text file text fault) × (string_bytes answer.err ≡ [])
+    (answer.status ≡ Refused) × (string_bytes answer.out ≡ explanation_text file text fault []) × (string_bytes answer.err ≡ [])
 
 abbrev pub IsBadStepsAnswer : List ℕ → List ℕ → StepsFault → Answer → Type 0
 IsBadStepsAnswer steps_file items fault answer =

@@ -13,7 +13,7 @@ pub record IsExplained (file text : List ℕ) (status : Status) (out err : List 
   pub fault : Fault
   pub given : IsOfFirstPass text fault
   pub ended : status ≡ Refused
-  pub written : out ≡ explanation_text file text fault
+  pub written : out ≡ explanation_text file text fault []
   pub told : err ≡ []
 
 -- the text is accepted: out says that, err is empty

@@ -13,6 +13,7 @@ use crate::source_text::SourceText;
 use crate::status::Status;
 use crate::streams::Streams;
 use compiler::compile;
+use explanation::{Explanation, laws};
 use source::fault::{Fault, Refusal};
 use source::memory::NoMemory;
 use std::alloc::Global;
@@ -22,9 +23,15 @@ use std::io::{Read, Write};
 fn explained(alloc: Global, file: &str, text: &[u8], fault: &Fault) -> Result<Answer, NoMemory>
     ensures { IfOk result (IsExplainedAnswer file.now text.now fault.now) }
 {
+    let explanation = Explanation {
+        file,
+        text,
+        fault,
+        notes: &[],
+    };
     Ok(Answer {
         status: Status::Refused,
-        out: explanation::explain(alloc, file, text, fault)?,
+        out: explanation.text(alloc)?,
         err: String::new(alloc),
     })
 }
@@ -59,6 +66,7 @@ pub fn explain<S: Read, O: Write, E: Write>(
     ensures { Serves (Alone (ExplainAnswers (name_of source.old))) (reading_of S.remaining source.old source.new) []
         O.contents E.contents streams.old streams.new result }
 {
+    laws::shown_by_first_bytes();
     let text = match streams.read(alloc, source, MOST_BYTES) {
         Ok(text) => text,
         Err(status) => return status,

@@ -28,7 +28,7 @@ returns g c =
     (IsRight (Alone (ExplainAnswers (name_of c.args.source.now)))
     (reading_of g.S.Read.remaining c.args.source.now c.read.new.source) [])
     (λ answer is.
-    let right = explained_of_whole (name_of c.args.source.now) c.deref.result.now had _ _ _ bytes (rw name_is at is) in
+    let right = explained_of_whole c.shown_by_first_bytes.ensures (name_of c.args.source.now) c.deref.result.now had _ _ _ bytes (rw name_is at is) in
     record {
       text = right.0;
       texts = [];
