@@ -15,8 +15,8 @@ ghost use Rattle.driver.specs.{Alone, Beside, Serves, Tells, IsMissed, cannot_re
 use clap::Error;
 use clap::error::ErrorKind;
 use driver::{
-    Judging, Sink, SourceText, Status, Streams, check, explain, list, miss_other, replay, run, serial,
-    simulate,
+    Judging, Sink, SourceText, Status, Streams, check, explain, list, miss_other, replay, run,
+    serial, simulate,
 };
 use std::alloc::{AllocError, Global};
 use std::io::{Read, Write};

@@ -134,7 +134,8 @@ pub fn command<'a>(alloc: Global) -> Result<Command<'a>, AllocError>
         .subcommand_required(true);
     let about = "Say in which order locks are taken, and which ones before each statement";
     let line = with_command(Ok(line), file_command(alloc, "check", about));
-    let about = "Tell the fault of a program, with its place in the source and what can be done about it";
+    let about =
+        "Tell the fault of a program, with its place in the source and what can be done about it";
     let line = with_command(line, file_command(alloc, "explain", about));
     let about = "Write the instructions of each section";
     let line = with_command(line, file_command(alloc, "listing", about));
