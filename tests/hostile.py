@@ -197,7 +197,7 @@ def steps_fault(steps, threads):
 
 ARGUMENTS = {"check": ["check"], "explain": ["explain"], "listing": ["listing"], "serial": ["serial", "--turns", "1000"], "simulate": ["simulate"]}
 TITLES = {"serial": b"history 1\n", "simulate": b"simulation 1\n"}
-EXPLAINED = re.compile(rb"[^\n]*:\d+:\d+: E\d\d [ -~]*\n  [ -~]*\n  ( *)\^\nhelp: [ -~]*\n")
+EXPLAINED = re.compile(rb"[^\n]*:\d+:\d+: E\d\d [ -~]*\n  [ -~]*\n   *\^\n([^\n]*:\d+:\d+: note: [ -~]*\n  [ -~]*\n   *\^\n)*help: [ -~]*\n")
 LINE = re.compile(rb"section \w+|\d+ [a-z][ -~]*")
 
 

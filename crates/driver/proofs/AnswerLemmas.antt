@@ -8,7 +8,7 @@ use Rattle.driver.specs.declared.request.Request.TheVariants.{Check, Listing, Se
 use Rattle.driver.specs.declared.status.Status.{Status}
 use Rattle.driver.specs.Answering.{RequestAnswers, PairWanted}
 use Rattle.driver.specs.Answers.{TextAnswers, accepted, refused}
-use Rattle.driver.specs.Explanations.{ExplainAnswers, faultless, explained}
+use Rattle.driver.specs.Explanations.{ExplainAnswers, faultless, explained, cycle_explained}
 use Rattle.driver.specs.Serial.{all_settled, stopped}
 use Rattle.driver.specs.Replays.{verdict_status, judged, bad_history}
 use Rattle.driver.specs.Simulations.{ran, bad_steps}
@@ -52,6 +52,7 @@ pub explained_is_answered : (file text : List ℕ) (status : Status) (out err : 
     IsAnswered status
 explained_is_answered file text status out err (faultless is) = serving.done is.ended
 explained_is_answered file text status out err (explained is) = serving.refused is.ended
+explained_is_answered file text status out err (cycle_explained is) = serving.refused is.ended
 
 pub pair_is_answered : (request : PairRequest) (file text other_file other : List ℕ) (status : Status) (out err : List ℕ) →
     TextAnswers (PairWanted request other_file other) file text status out err → IsAnswered status

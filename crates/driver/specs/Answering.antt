@@ -4,7 +4,8 @@ use Rattle.code.specs.Listing.{line}
 use Rattle.compiler.specs.Programs.{Accepts}
 use Rattle.lowering.specs.Plans.{Plan, IsCompiled}
 use Rattle.source.specs.declared.fault.Fault.{Fault}
-use Rattle.explanation.specs.Explanation.{explanation_text}
+use Rattle.explanation.specs.declared.explanation.Explanation.{Explanation}
+use Rattle.explanation.specs.Values.{explanation_text_of}
 use Rattle.source.specs.Faults.{fault_text}
 use Rattle.steps.specs.declared.refusal.StepsFault.{StepsFault}
 use Rattle.steps.specs.Steps.{steps_fault_text}
@@ -36,9 +37,9 @@ IsFaultAnswer file text fault answer =
     (answer.status ≡ Refused) × (string_bytes answer.out ≡ []) × (string_bytes answer.err ≡ line (fault_text file text fault))
 
 -- to a fault that is explained
-abbrev pub IsExplainedAnswer : List ℕ → List ℕ → Fault → Answer → Type 0
-IsExplainedAnswer file text fault answer =
-    (answer.status ≡ Refused) × (string_bytes answer.out ≡ explanation_text file text fault []) × (string_bytes answer.err ≡ [])
+abbrev pub IsExplainedAnswer : Explanation → Answer → Type 0
+IsExplainedAnswer explanation answer =
+    (answer.status ≡ Refused) × (string_bytes answer.out ≡ explanation_text_of explanation) × (string_bytes answer.err ≡ [])
 
 abbrev pub IsBadStepsAnswer : List ℕ → List ℕ → StepsFault → Answer → Type 0
 IsBadStepsAnswer steps_file items fault answer =

@@ -1,6 +1,8 @@
 //! The engine of `explain`.
 
-ghost use Rattle.std.specs.Prelude.{◌≡◌, [], false, IfOk};
+ghost use Rattle.std.specs.Prelude.{◌≡◌, [], false, IfOk, string_bytes};
+ghost use Rattle.compiler.specs.Cycles.{IsCyclic};
+ghost use Rattle.compiler.specs.Programs.{IsOfFirstPass};
 ghost use Rattle.driver.specs.Answering.{Meets, IsExplainedAnswer};
 ghost use Rattle.driver.specs.Answers.{Alone};
 ghost use Rattle.driver.specs.Engines.{Serves, reading_of};
@@ -12,7 +14,8 @@ use crate::engine::MOST_BYTES;
 use crate::source_text::SourceText;
 use crate::status::Status;
 use crate::streams::Streams;
-use compiler::compile;
+use compiler::{Cyclic, examine};
+use cycle_notes::cycle_notes;
 use explanation::{Explanation, laws};
 use source::fault::{Fault, Refusal};
 use source::memory::NoMemory;
@@ -20,15 +23,9 @@ use std::alloc::Global;
 use std::io::{Read, Write};
 
 /// What is told of a fault.
-fn explained(alloc: Global, file: &str, text: &[u8], fault: &Fault) -> Result<Answer, NoMemory>
-    ensures { IfOk result (IsExplainedAnswer file.now text.now fault.now) }
+fn explained(alloc: Global, explanation: &Explanation<'_>) -> Result<Answer, NoMemory>
+    ensures { IfOk result (IsExplainedAnswer explanation.now) }
 {
-    let explanation = Explanation {
-        file,
-        text,
-        fault,
-        notes: &[],
-    };
     Ok(Answer {
         status: Status::Refused,
         out: explanation.text(alloc)?,
@@ -36,23 +33,64 @@ fn explained(alloc: Global, file: &str, text: &[u8], fault: &Fault) -> Result<An
     })
 }
 
+/// What is told of a fault with no detail.
+fn fault_explained(
+    alloc: Global,
+    file: &str,
+    text: &[u8],
+    fault: &Fault,
+) -> Result<Answer, NoMemory>
+    requires given { IsOfFirstPass text.now fault.now }
+    requires bare { string_bytes fault.now.detail ≡ [] }
+    ensures { IfOk result (Meets (ExplainAnswers file.now text.now)) }
+{
+    let explanation = Explanation {
+        file,
+        text,
+        fault,
+        notes: &[],
+    };
+    explained(alloc, &explanation)
+}
+
+/// What is told of a cycle.
+fn cycle_explained(
+    alloc: Global,
+    file: &str,
+    text: &[u8],
+    cyclic: &Cyclic,
+) -> Result<Answer, NoMemory>
+    requires { IsCyclic text.now cyclic.now }
+    ensures { IfOk result (Meets (ExplainAnswers file.now text.now)) }
+{
+    let notes = cycle_notes(alloc, &cyclic.written, &cyclic.paths, &cyclic.edges)?;
+    let explanation = Explanation {
+        file,
+        text,
+        fault: &cyclic.fault,
+        notes: &notes,
+    };
+    explained(alloc, &explanation)
+}
+
 /// What is answered for the text of the file of this name.
 fn explain_answer(alloc: Global, file: &str, text: &[u8]) -> Result<Answer, NoMemory>
     ensures { IfOk result (Meets (ExplainAnswers file.now text.now)) }
 {
-    match compile(alloc, text) {
-        Ok(_) => Ok(Answer {
+    match examine(alloc, text) {
+        Ok(Ok(_)) => Ok(Answer {
             status: Status::Done,
             out: String::from_str(alloc, "accepted\n")?,
             err: String::new(alloc),
         }),
-        Err(Refusal::Fault(fault)) => explained(alloc, file, text, &fault),
+        Ok(Err(cyclic)) => cycle_explained(alloc, file, text, &cyclic),
+        Err(Refusal::Fault(fault)) => fault_explained(alloc, file, text, &fault),
         Err(Refusal::NoMemory) => Err(NoMemory),
     }
 }
 
 /// Explains the fault of the program that `source` gives: writes to `out` the line that reports it, the line of the source
-/// that it is in, and what can be done about it. Answers how that ended, as [`check`](crate::check) does, but:
+/// that it is in, where a lock order cycle comes from, and what can be done about it. Answers how that ended, as [`check`](crate::check) does, but:
 ///
 /// - `Refused`: the program has a fault, and that was written to `out`; `err` gets nothing.
 /// - `Done`: the program has none, and the line `accepted` was written to `out`.
