@@ -1,5 +1,6 @@
 pub mod Places
 pub mod Trace
+pub mod Listed
 pub mod Told
 pub mod Tellers
 -- what the public clauses cite

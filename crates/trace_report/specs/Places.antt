@@ -13,7 +13,7 @@ use Rattle.trace_report.specs.declared.places.Position.{Position}
 -- the section's code as it would be if a lock path were taken before each of its points: each point begins with its
 -- `acquire`
 abbrev pub marked_code : Section → List Instr
-marked_code section = section_code (replicate (length (points section)) (0 ∷ [])) section
+marked_code section = section_code {P = ℕ} (replicate (length (points section)) (0 ∷ [])) section
 
 -- the point that an instruction of that code belongs to: the one that it begins, or else the one that began last
 abbrev pub point_then : ℕ → Instr → ℕ

@@ -5,7 +5,8 @@ ghost use Rattle.locks.specs.Texts.{AddsText};
 ghost use Rattle.flow.specs.Points.{points};
 ghost use Rattle.flow.specs.PointList.{point_at};
 ghost use Rattle.emission.specs.NumberLists.{number_lists};
-ghost use Rattle.trace_report.specs.Places.{position_in, positions_in, point_then, points_for, points_along, instruction_points};
+ghost use Rattle.trace_report.specs.Places.{position_in, positions_in, point_then, points_for, points_along};
+ghost use Rattle.trace_report.specs.Listed.{IsListed};
 
 use check_report::places::Cursor;
 use code::instr::Instr;
@@ -65,7 +66,9 @@ fn marks(alloc: Global, count: usize) -> Result<Vec<Vec<u8>>, NoMemory>
 }
 
 /// Whether a lock path is listed before a point.
-fn is_listed(lists: &[Vec<u8>], point: usize) -> bool {
+fn is_listed(lists: &[Vec<u8>], point: usize) -> bool
+    ensures { IsListed (number_lists lists.now) point result }
+{
     match lists.get(point) {
         Some(list) => !list.is_empty(),
         None => false,
