@@ -12,7 +12,6 @@ pub mod PointLaws
 pub mod RunLaws
 pub mod Listing
 pub mod Naming
-pub mod Listers
 -- what the public clauses cite
 pub use Rattle.code.specs.Memory.{HeldCells, opened, overwritten, Agrees, IsCovered, IsConsistent, IsPartOf, Keeps}
 pub use Rattle.code.specs.Laws.{IsOver, InRuns, StaysOver, EndsOnce, HasWritten, KeepsUnwritten, KeepsSize, on_heap}
@@ -23,5 +22,4 @@ pub use Rattle.code.specs.Ahead.{Safe, Goes, Steps, between_points, CanExecute, 
 pub use Rattle.code.specs.PointLaws.{PointsGoOn, SpotsArePoints, PointsHaveSpots, SpotsHaveNumbers, FirstPointIsAtStart}
 pub use Rattle.code.specs.PointLaws.{EmptyHasEnd, SpotsAcquire, OnlySpotsAcquire, SectionsGoOn}
 pub use Rattle.code.specs.RunLaws.{EndsAsSection, EndsOnlyAsSection, SectionsBehave}
-pub use Rattle.code.specs.Listing.{listing_text, instr_text}
-pub use Rattle.code.specs.Listers.{names_shown}
+pub use Rattle.code.specs.Listing.{listing_text}

@@ -154,9 +154,9 @@ fn index_by_cell<'a>(
     Ok(index)
 }
 
-/// What the lines of a listing are made from beside the sections.
+/// What the lines are made from beside the sections.
 #[derive(Drop)]
-pub struct Lister<'a> {
+struct Lister<'a> {
     /// The names of the program.
     names: &'a Names,
     /// For each cell the first global that has it. A line may name any global, so the globals are not gone through.
@@ -165,15 +165,9 @@ pub struct Lister<'a> {
 }
 
 impl<'a> Lister<'a> {
-    ghost use Rattle.code.specs.Listers.{names_shown};
-
-    /// A lister of code with these names.
-    ///
-    /// # Errors
-    ///
-    /// Want of memory.
-    pub fn new(alloc: Global, names: &'a Names) -> Result<Lister<'a>, AllocError>
-        ensures { IfOk result (λ lister. names_shown lister ≡ names.now) }
+    // A lister of code with these names.
+    fn new(alloc: Global, names: &'a Names) -> Result<Lister<'a>, AllocError>
+        ensures { IfOk result (λ lister. lister.names.now ≡ names.now) }
     {
         let globals = index_by_cell(alloc, &names.globals)?;
         Ok(Lister { names, globals })
@@ -261,19 +255,15 @@ impl<'a> Lister<'a> {
         }
     }
 
-    /// An instruction, which stands at this place of a section, put at the end of what is there.
-    ///
-    /// # Errors
-    ///
-    /// Want of memory.
-    pub fn push_instr(
+    // An instruction, which stands at this place of a section.
+    fn push_instr(
         &self,
         out: &mut String,
         section: &SectionCode,
         place: usize,
         instr: Instr,
     ) -> Result<(), AllocError>
-        ensures { OnOk result (AddsText (instr_text (names_shown self.now) section.now place instr) out.old out.new) }
+        ensures { OnOk result (AddsText (instr_text self.now.names.now section.now place instr) out.old out.new) }
     {
         out.push_str(mnemonic(instr))?;
         self.push_operand(out, section, place, instr)

@@ -1,1 +1,3 @@
 pub mod Points
+pub mod Tables
+pub mod Steps

@@ -16,13 +16,7 @@ pub record ArePlacesOf (text : List ℕ) (section : Section) (lists : List (List
   pub points : places.points.items ≡ instruction_points lists section
   pub positions : places.positions.items ≡ positions_in text section
 
--- what they say of a place
-abbrev pub place_told : SectionPlaces → ℕ → List ℕ
-place_told places place =
-    option_map_or (λ (p : Position). position_text p.line p.column ++ codes " ")
-    (option_and_then (λ point. slice_get places.positions.items point) (slice_get places.points.items place)) []
-
--- points and positions of sections
+-- points and positions of a section
 pub record Table : Type 0 where
   pub points : List ℕ
   pub positions : List Position
@@ -35,6 +29,15 @@ table_for text section made = record {
   points = instruction_points (number_lists made.lists.items) section;
   positions = positions_in text section;
 }
+
+-- what they say of a place
+abbrev pub table_text : Table → ℕ → List ℕ
+table_text table place =
+    option_map_or (λ (p : Position). position_text p.line p.column ++ codes " ")
+    (option_and_then (λ point. slice_get table.positions point) (slice_get table.points place)) []
+
+abbrev pub place_told : SectionPlaces → ℕ → List ℕ
+place_told places place = table_text (table_of places) place
 
 -- for each section and its code
 abbrev pub tables_for : List ℕ → List Section → List SectionCode → List Table

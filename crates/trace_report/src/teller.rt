@@ -105,9 +105,10 @@ impl<'a> Teller<'a> {
     ) -> Result<(), AllocError>
         ensures { OnOk result (AddsText (instruction_told self.now section place) out.old out.new) }
     {
-        let (Some(places), Some(made)) =
-            (self.places.get(section), self.code.sections.get(section))
-        else {
+        let Some(made) = self.code.sections.get(section) else {
+            return Ok(());
+        };
+        let Some(places) = self.places.get(section) else {
             return Ok(());
         };
         places.push(out, place)?;
