@@ -195,10 +195,10 @@ impl<'p> World<'p> {
     pub fn coming(&self, thread: u32) -> Coming
         ensures { result ≡ coming_to self.now.world thread }
     {
-        match self.states.get(thread as usize) {
-            None => Coming::Other,
-            Some(state) => coming(state),
-        }
+        let Some(state) = self.states.get(thread as usize) else {
+            return Coming::Other;
+        };
+        coming(state)
     }
 }
 

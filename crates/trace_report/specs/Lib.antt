@@ -1,6 +1,7 @@
 pub mod Places
 pub mod Trace
 pub mod Listed
+pub mod Listers
 pub mod Told
 pub mod Tellers
 -- what the public clauses cite

@@ -6,6 +6,7 @@
 //! text. `Told` only says what the code has done; nobody has to believe it.
 #![tactic(auto)]
 
+mod instructions;
 mod places;
 mod teller;
 mod trace;

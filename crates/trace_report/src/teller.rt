@@ -3,13 +3,13 @@
 ghost use Rattle.std.specs.Prelude.{◌≡◌, [], ◌∷◌, map, replicate, IfOk, OnOk};
 ghost use Rattle.std.proofs.Props.{props};
 ghost use Rattle.locks.specs.Texts.{AddsText};
-ghost use Rattle.code.specs.Listers.{names_shown};
+ghost use Rattle.trace_report.specs.Listers.{names_shown};
 ghost use Rattle.steps.specs.Turns.{steps_of};
 ghost use Rattle.trace_report.specs.Told.{table_of, tables_for};
 
+use crate::instructions::Lister;
 use crate::places::SectionPlaces;
 use check_report::places::Cursor;
-use code::Lister;
 use code::section_code::Code;
 use core_lang::typed::Typed;
 use interleavings::coming::Coming;

@@ -8,8 +8,8 @@ use Rattle.interleavings.specs.Coming.{coming_to}
 use Rattle.interleavings.proofs.ComingTo.{coming_is}
 use Rattle.interleavings.proofs.world.World.coming.Goals as goal
 
-pub returns-in-Some : goal.returns-in-Some
-returns-in-Some c =
+pub returns : goal.returns
+returns c =
     let here : slice_get c.self.inside.states.items c.args.thread ≡ Some c.in-Some.state.now =
     ap (λ (ss : List State). slice_get ss c.args.thread) (sym c.deref.ensures.value)
     ∙ slice_get_read c.deref.result.now (length c.deref.result.now) c.args.thread c.in-Some.state.now refl
