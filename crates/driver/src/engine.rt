@@ -180,13 +180,7 @@ pub fn trace<S: Read, T: Read, O: Write, E: Write>(
         (reading_of S.remaining source.old source.new) (reading_of T.remaining steps.old steps.new ∷ [])
         O.contents E.contents streams.old streams.new result }
 {
-    serve_pair(
-        alloc,
-        PairRequest::Trace { moves },
-        source,
-        steps,
-        streams,
-    )
+    serve_pair(alloc, PairRequest::Trace { moves }, source, steps, streams)
 }
 
 /// Compares the history that `history` gives with what the calls of the program that `source` gives answer, one after

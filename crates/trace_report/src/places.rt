@@ -101,11 +101,7 @@ fn push_point(
 }
 
 /// The points of the instructions of a code with these lists, of which this is the marked one.
-fn along(
-    alloc: Global,
-    lists: &[Vec<u8>],
-    marked: &[Instr],
-) -> Result<Vec<usize>, NoMemory>
+fn along(alloc: Global, lists: &[Vec<u8>], marked: &[Instr]) -> Result<Vec<usize>, NoMemory>
     ensures { IfOk result (λ list. list.items ≡ points_along (number_lists lists.now) 0 marked.now) }
 {
     let mut list = Vec::with_capacity(alloc, marked.len())?;

@@ -52,9 +52,7 @@ pub struct Teller<'a> {
     places: Vec<SectionPlaces>,
     moves: bool,
     ghost names: { names_shown lister ≡ code.now.names } by { Prim.hlevel props },
-    ghost tables: {
-        map table_of places.items ≡ tables_for text.now program.now.program.sections.items code.now.sections.items
-    } by { Prim.hlevel props },
+    ghost tables: { map table_of places.items ≡ tables_for text.now program.now.program.sections.items code.now.sections.items } by { Prim.hlevel props },
 }
 
 impl<'a> Teller<'a> {
@@ -119,12 +117,7 @@ impl<'a> Teller<'a> {
     }
 
     // What a step takes up.
-    fn push_coming(
-        &self,
-        out: &mut String,
-        thread: u32,
-        coming: Coming,
-    ) -> Result<(), AllocError>
+    fn push_coming(&self, out: &mut String, thread: u32, coming: Coming) -> Result<(), AllocError>
         ensures { OnOk result (AddsText (coming_told self.now thread coming) out.old out.new) }
     {
         match coming {

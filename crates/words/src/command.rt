@@ -129,7 +129,8 @@ fn replay_command<'a>(alloc: Global) -> Result<Command<'a>, AllocError>
 fn trace_command<'a>(alloc: Global) -> Result<Command<'a>, AllocError>
     ensures { IfOk result (IsCommand (with_sections (with_steps (with_file (codes "trace"))))) }
 {
-    let about = "Run the steps of a steps file, and write a line for each, then what simulate writes";
+    let about =
+        "Run the steps of a steps file, and write a line for each, then what simulate writes";
     let command = file_command(alloc, "trace", about);
     let command = with_argument(command, steps_argument(alloc));
     with_argument(command, sections_argument(alloc))
