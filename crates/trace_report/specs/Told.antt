@@ -2,7 +2,9 @@
 use Rattle.std.specs.Prelude.{◌≡◌, ℕ, Bool, List, [], ◌∷◌, ◌++◌, map, slice_get, Option, Some, None, option_and_then, codes, string_bytes, String}
 use Rattle.std.specs.Option.{option_map_or}
 use Rattle.core_lang.specs.declared.tree.Section.{Section}
+use Rattle.core_lang.specs.declared.typed.Typed.{Typed}
 use Rattle.code.specs.declared.section_code.SectionCode.{SectionCode}
+use Rattle.code.specs.declared.section_code.Code.{Code}
 use Rattle.emission.specs.NumberLists.{number_lists}
 use Rattle.check_report.specs.Check.{position_text}
 use Rattle.trace_report.specs.declared.places.Position.{Position}
@@ -44,3 +46,7 @@ abbrev pub tables_for : List ℕ → List Section → List SectionCode → List 
 tables_for text [] codes = []
 tables_for text (s ∷ ss) [] = []
 tables_for text (s ∷ ss) (c ∷ cs) = table_for text s c ∷ tables_for text ss cs
+
+-- these are the places of a program's sections
+abbrev pub AreTables : List ℕ → Typed → Code → List SectionPlaces → Type 0
+AreTables text program code places = map table_of places ≡ tables_for text program.sections.items code.sections.items

@@ -1,11 +1,11 @@
 //! The line of a step.
 
-ghost use Rattle.std.specs.Prelude.{◌≡◌, [], ◌∷◌, map, replicate, IfOk, OnOk};
+ghost use Rattle.std.specs.Prelude.{◌≡◌, [], ◌∷◌, replicate, IfOk, OnOk};
 ghost use Rattle.std.proofs.Props.{props};
 ghost use Rattle.locks.specs.Texts.{AddsText};
 ghost use Rattle.trace_report.specs.Listers.{names_shown};
 ghost use Rattle.steps.specs.Turns.{steps_of};
-ghost use Rattle.trace_report.specs.Told.{table_of, tables_for};
+ghost use Rattle.trace_report.specs.Told.{AreTables};
 
 use crate::instructions::Lister;
 use crate::places::SectionPlaces;
@@ -28,7 +28,7 @@ fn all_places(
     typed: &Typed,
     code: &Code,
 ) -> Result<Vec<SectionPlaces>, NoMemory>
-    ensures { IfOk result (λ places. map table_of places.items ≡ tables_for text.now typed.now.sections.items code.now.sections.items) }
+    ensures { IfOk result (λ places. AreTables text.now typed.now code.now places.items) }
 {
     let mut cursor = Cursor::new(text);
     let mut places = Vec::with_capacity(alloc, typed.sections.len())?;
@@ -52,7 +52,7 @@ pub struct Teller<'a> {
     places: Vec<SectionPlaces>,
     moves: bool,
     ghost names: { names_shown lister ≡ code.now.names } by { Prim.hlevel props },
-    ghost tables: { map table_of places.items ≡ tables_for text.now program.now.program.sections.items code.now.sections.items } by { Prim.hlevel props },
+    ghost tables: { AreTables text.now program.now.program code.now places.items } by { Prim.hlevel props },
 }
 
 impl<'a> Teller<'a> {
