@@ -71,12 +71,13 @@ module _ {Z : Type 0} (x : Teller) where
       subst (λ ts. Tells x ts a c o q) (replicate_more n t) (tells_both a b c (replicate n t) (t ∷ []) o p q plan first last)
 
   -- one turn more
-  pub tells_turn : (a b c : ThreadsOf) (turns : List Turn) (i : ℕ) (turn : Turn) (o p q : String Z) → a.plan ≡ x.program.now →
-      i < length turns → turn ≡ get_or turns i turn → Tells x (steps_of (take i turns)) a b o p →
-      Tells x (replicate turn.count turn.thread) b c p q → Tells x (steps_of (take (i + 1) turns)) a c o q
-  tells_turn a b c turns i turn o p q plan within is first last =
+  pub tells_turn : (a b c : ThreadsOf) (turns : List Turn) (i : ℕ) (d : Turn) (o p q : String Z) → a.plan ≡ x.program.now →
+      i < length turns → Tells x (steps_of (take i turns)) a b o p →
+      Tells x (replicate (get_or turns i d).count (get_or turns i d).thread) b c p q → Tells x (steps_of (take (i + 1) turns)) a c o q
+  tells_turn a b c turns i d o p q plan within first last =
+      let turn = get_or turns i d in
       let more : steps_of (take (i + 1) turns) ≡ steps_of (take i turns) ++ replicate turn.count turn.thread =
-      ap steps_of (take_more turns i turn within ∙ ap (λ (y : Turn). take i turns ++ y ∷ []) (sym is)) ∙ push (take i turns) turn in
+      ap steps_of (take_more turns i d within) ∙ push (take i turns) turn in
       subst (λ ts. Tells x ts a c o q) (sym more) (tells_both a b c (steps_of (take i turns)) (replicate turn.count turn.thread) o p q plan first last)
     where
       push : (ts : List Turn) (y : Turn) → steps_of (ts ++ y ∷ []) ≡ steps_of ts ++ replicate y.count y.thread
