@@ -318,7 +318,7 @@ judge_words() {
             0--) is_last=1 ;;
             0--?*) judge_long "$@" ;;
             0-?*) judge_short "$1" ;;
-            1check | 1listing | 1serial | 1simulate | 1trace | 1help)
+            1check | 1listing | 1serial | 1simulate | 1trace | 1run | 1replay | 1help)
                 refuse "unexpected argument '$1' found" "$(usage_of '')" \
                     "subcommand '$1' exists; to use it, remove the '--' before it"
                 ;;

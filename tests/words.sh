@@ -153,6 +153,8 @@ same --sections trace right.al
 same --section trace right.al
 same trace missing.al nothing
 same -- trace right.al
+same -- run right.al
+same -- replay right.al
 same --why replay right.al
 
 # Arguments of `serial`.
