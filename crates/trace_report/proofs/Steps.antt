@@ -2,17 +2,17 @@
 use Rattle.std.proofs.Common.{◌≡◌, ◌∙◌, ◌<◌, ◌+◌, ℕ, List, [], ◌∷◌, ◌++◌, length, take, get_or, replicate, refl, sym, ap, append_assoc, append-nil, subst, Bool, String, string_bytes}
 use Rattle.std.proofs.lemmas.List.{take_more, replicate_more}
 use Rattle.code.specs.declared.section_code.Code.{Code}
+use Rattle.lowering.specs.Lowered.{IsCodeOf}
 use Rattle.lowering.specs.Plans.{Plan}
-use Rattle.worlds.specs.declared.event.Event.{Event}
-use Rattle.worlds.specs.Worlds.{World, happens, world_after}
+use Rattle.worlds.specs.Worlds.{World, happens, world_after, opening_world}
 use Rattle.interleavings.specs.Coming.{coming_to}
-use Rattle.interleavings.specs.declared.coming.Coming.{Coming}
-use Rattle.interleavings.specs.Threads.{ThreadsOf, threads_of, with_steps}
+use Rattle.interleavings.specs.Threads.{ThreadsOf, threads_of, with_steps, at_opening, after_steps}
+use Rattle.report.specs.Simulation.{simulation_of}
 use Rattle.steps.specs.declared.turn.Turn.{Turn}
 use Rattle.steps.specs.Turns.{steps_of}
 use Rattle.trace_report.specs.declared.teller.Teller.{Teller}
-use Rattle.trace_report.specs.Tellers.{Tells}
-use Rattle.trace_report.specs.Trace.{step_text, steps_text}
+use Rattle.trace_report.specs.Tellers.{IsTellerOf, IsOver, Tells}
+use Rattle.trace_report.specs.Trace.{IsTrace, step_text, steps_text}
 
 world_more : (plan : Plan) (w : World) (xs ys : List ℕ) → world_after plan w (xs ++ ys) ≡ world_after plan (world_after plan w xs) ys
 world_more plan w [] ys = refl
@@ -28,25 +28,6 @@ lines_more text plan code moves w (t ∷ xs) ys =
     ∙ sym (append_assoc first (steps_text text plan code moves next xs) (steps_text text plan code moves (world_after plan next xs) ys))
 
 module _ {Z : Type 0} (x : Teller) where
-  -- no step
-  pub tells_none : (a : ThreadsOf) (o : String Z) → Tells x [] a a o o
-  tells_none a o = record { world = refl; lines = sym (append-nil (string_bytes o)) }
-
-  -- one step
-  pub tells_one : (a b : ThreadsOf) (t : ℕ) (coming : Coming) (event : Event) (o p : String Z) → a.plan ≡ x.program.now →
-      coming ≡ coming_to a.world t → happens a.plan a.world t ≡ (event, b.world) → b.plan ≡ a.plan →
-      string_bytes p ≡ string_bytes o ++ step_text x.text.now x.program.now x.code.now x.moves t coming event → Tells x (t ∷ []) a b o p
-  tells_one a b t coming event o p plan comes step same put =
-      let text = λ (c : Coming) (e : Event). step_text x.text.now x.program.now x.code.now x.moves t c e in
-      let world : b.world ≡ (happens a.plan a.world t).1 = sym (ap (λ (r : Event × World). r.1) step) in
-      let is : event ≡ (happens x.program.now a.world t).0 =
-      sym (ap (λ (r : Event × World). r.0) step) ∙ ap (λ (q : Plan). (happens q a.world t).0) plan in
-      record {
-        world = λ j. threads_of (same j) (world j);
-        lines = put ∙ ap (λ c. string_bytes o ++ text c event) comes ∙ ap (λ e. string_bytes o ++ text (coming_to a.world t) e) is
-            ∙ ap (λ l. string_bytes o ++ l) (sym (append-nil (text (coming_to a.world t) (happens x.program.now a.world t).0)));
-      }
-
   -- some steps, and some more
   pub tells_both : (a b c : ThreadsOf) (ts us : List ℕ) (o p q : String Z) → a.plan ≡ x.program.now → Tells x ts a b o p → Tells x us b c p q →
       Tells x (ts ++ us) a c o q
@@ -60,9 +41,6 @@ module _ {Z : Type 0} (x : Teller) where
             ∙ ap (λ w. string_bytes o ++ (text a.world ts ++ text w us)) here
             ∙ ap (λ l. string_bytes o ++ l) (sym (lines_more x.text.now x.program.now x.code.now x.moves a.world ts us));
       }
-
-  pub same_plan : (a b : ThreadsOf) (ts : List ℕ) (o p : String Z) → a.plan ≡ x.program.now → Tells x ts a b o p → b.plan ≡ x.program.now
-  same_plan a b ts o p plan tells = ap (λ (w : ThreadsOf). w.plan) tells.world ∙ plan
 
   -- one step more of a thread
   pub tells_again : (a b c : ThreadsOf) (n t : ℕ) (o p q : String Z) → a.plan ≡ x.program.now → Tells x (replicate n t) a b o p →
@@ -85,3 +63,18 @@ module _ {Z : Type 0} (x : Teller) where
       push (z ∷ ts) y =
           ap (λ l. replicate z.count z.thread ++ l) (push ts y)
           ∙ sym (append_assoc (replicate z.count z.thread) (steps_of ts) (replicate y.count y.thread))
+
+  -- the whole text
+  pub trace_made : (text : List ℕ) (plan : Plan) (moves : Bool) (steps : List ℕ) (a b : ThreadsOf) (o p : String Z) (told : List ℕ) →
+      IsTellerOf text plan moves x → IsOver x → a ≡ at_opening plan → string_bytes o ≡ [] → Tells x steps a b o p →
+      told ≡ string_bytes p ++ simulation_of b.plan b.world → IsTrace text plan moves steps told
+  trace_made text plan moves steps a b o p told is over opening empty tells whole =
+      let lines : string_bytes p ≡ steps_text text plan x.code.now moves (opening_world plan) steps =
+      tells.lines ∙ ap (λ l. l ++ steps_text x.text.now x.program.now x.code.now x.moves a.world steps) empty
+      ∙ (λ j. steps_text (is.text_is j) (is.plan_is j) x.code.now (is.moves_is j) (opening j).world steps) in
+      let last : b ≡ after_steps plan steps = tells.world ∙ ap (λ (w : ThreadsOf). with_steps w steps) opening in
+      record {
+        code = x.code.now;
+        made = subst (λ (q : Plan). IsCodeOf q.program q.lists x.code.now) is.plan_is over;
+        written = whole ∙ (λ j. lines j ++ simulation_of (last j).plan (last j).world);
+      }
