@@ -22,7 +22,7 @@ unproved() {
         : >"$room/cases/$i"
     done
     if [ -n "$other" ]; then
-        printf '%s\n' "$command" ${turns:+--turns "$turns"} ${why:+--why} file0 file1 >"$room/cases/0.args"
+        printf '%s\n' "$command" ${turns:+--turns "$turns"} ${why:+--why} ${sections:+--sections} file0 file1 >"$room/cases/0.args"
         rm "$room"/cases/1*
     fi
     say "nothing is proved of this run; it takes one to two minutes, and can write 1 MiB"

@@ -16,7 +16,7 @@ use clap::Error;
 use clap::error::ErrorKind;
 use driver::{
     Judging, Sink, SourceText, Status, Streams, check, explain, list, miss_other, replay, run,
-    serial, simulate,
+    serial, simulate, trace,
 };
 use std::alloc::{AllocError, Global};
 use std::io::{Read, Write};
@@ -36,6 +36,7 @@ fn file_name<'a>(line: Line<'a>) -> &'a str
         Line::Listing { file } => file,
         Line::Serial { file, .. } => file,
         Line::Simulate { file, .. } => file,
+        Line::Trace { file, .. } => file,
         Line::Run { file } => file,
         Line::Replay { file, .. } => file,
     }
@@ -48,6 +49,7 @@ fn other_name<'a>(line: Line<'a>) -> Option<&'a str>
 {
     match line {
         Line::Simulate { steps, .. } => Some(steps),
+        Line::Trace { steps, .. } => Some(steps),
         Line::Replay { history, .. } => Some(history),
         _ => None,
     }
@@ -74,6 +76,7 @@ fn run_opened<R: Threads + Wait + Sync, S: Read, O: Write, E: Write>(
         Line::Serial { turns, .. } => serial(alloc, turns, source, streams),
         Line::Run { .. } => run(threads, alloc, source, streams),
         Line::Simulate { .. } => unreachable!(),
+        Line::Trace { .. } => unreachable!(),
         Line::Replay { .. } => unreachable!(),
     }
 }
@@ -96,6 +99,7 @@ fn run_both_opened<S: Read, T: Read, O: Write, E: Write>(
 {
     match line {
         Line::Simulate { .. } => simulate(alloc, source, other, streams),
+        Line::Trace { sections, .. } => trace(alloc, !sections, source, other, streams),
         Line::Replay { turns, why, .. } => {
             replay(alloc, Judging { turns, why }, source, other, streams)
         }

@@ -51,6 +51,8 @@ autolock serial --turns 7 F => Serial { file: \"F\", turns: 7 }
 autolock serial --turns=0 F => Serial { file: \"F\", turns: 0 }
 autolock serial --turns 1000000000 F => Serial { file: \"F\", turns: 1000000000 }
 autolock simulate F S => Simulate { file: \"F\", steps: \"S\" }
+autolock trace F S => Trace { file: \"F\", steps: \"S\", sections: false }
+autolock trace F --sections S => Trace { file: \"F\", steps: \"S\", sections: true }
 autolock run F => Run { file: \"F\" }
 autolock replay F H => Replay { file: \"F\", history: \"H\", turns: 1000000, why: false }
 autolock replay F --turns 7 H => Replay { file: \"F\", history: \"H\", turns: 7, why: false }
@@ -80,6 +82,7 @@ autolock serial => MissingRequiredArgument
 autolock serial F G => UnknownArgument
 autolock run => MissingRequiredArgument
 autolock run --turns 3 F => UnknownArgument
+autolock trace F => MissingRequiredArgument
 autolock replay F => MissingRequiredArgument
 autolock replay F G H => UnknownArgument
 autolock serial --turns 1000000001 F => ValueValidation

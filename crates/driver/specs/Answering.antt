@@ -11,7 +11,7 @@ use Rattle.steps.specs.declared.refusal.StepsFault.{StepsFault}
 use Rattle.steps.specs.Steps.{steps_fault_text}
 use Rattle.driver.specs.declared.answer.Answer.{Answer}
 use Rattle.driver.specs.declared.request.PairRequest.{PairRequest}
-use Rattle.driver.specs.declared.request.PairRequest.TheVariants.{Simulate, Replay}
+use Rattle.driver.specs.declared.request.PairRequest.TheVariants.{Simulate, Trace, Replay}
 use Rattle.driver.specs.declared.request.Request.{Request}
 use Rattle.driver.specs.declared.request.Request.TheVariants.{Check, Listing, Serial}
 use Rattle.driver.specs.declared.status.Status.{Status}
@@ -23,6 +23,7 @@ use Rattle.driver.specs.Replays.{IsReplayed, verdict_status, judgement_text}
 use Rattle.driver.specs.Serial.{IsRun}
 use Rattle.driver.specs.Simulations.{IsSimulated}
 use Rattle.driver.specs.ThreadRuns.{IsStrange}
+use Rattle.driver.specs.Traces.{IsTraceAnswer}
 use Rattle.recorded.specs.declared.refusal.HistoryFault.{HistoryFault}
 use Rattle.recorded.specs.Refusals.{history_fault_text}
 use Rattle.replay.specs.declared.verdict.Judgement.{Judgement}
@@ -70,7 +71,8 @@ RequestAnswers Check text plan = IsCheckReport text plan
 RequestAnswers Listing text plan = IsListed plan
 RequestAnswers (Serial turns) text plan = IsRun turns plan.accepted
 
--- to one for a program and the text of another file
-abbrev pub PairWanted : PairRequest → List ℕ → List ℕ → Plan → Status → List ℕ → List ℕ → Type 0
-PairWanted Simulate other_file other = IsSimulated other_file other
-PairWanted (Replay judging) other_file other = IsReplayed judging other_file other
+-- to one for a program with this text, and the text of another file
+abbrev pub PairWanted : PairRequest → List ℕ → List ℕ → List ℕ → Plan → Status → List ℕ → List ℕ → Type 0
+PairWanted Simulate text other_file other = IsSimulated other_file other
+PairWanted (Trace moves) text other_file other = IsTraceAnswer moves other_file text other
+PairWanted (Replay judging) text other_file other = IsReplayed judging other_file other

@@ -7,6 +7,7 @@ pub mod Checks
 pub mod Explanations
 pub mod Listings
 pub mod Simulations
+pub mod Traces
 pub mod Replays
 pub mod ThreadRuns
 pub mod Engines
@@ -24,6 +25,7 @@ pub use Rattle.driver.specs.Checks.{CheckAnswers}
 pub use Rattle.driver.specs.Explanations.{ExplainAnswers}
 pub use Rattle.driver.specs.Listings.{ListingAnswers}
 pub use Rattle.driver.specs.Simulations.{SimulationAnswers}
+pub use Rattle.driver.specs.Traces.{TraceAnswers}
 pub use Rattle.driver.specs.Replays.{ReplayAnswers}
 pub use Rattle.driver.specs.ThreadRuns.{ThreadsAnswers}
 pub use Rattle.driver.specs.Engines.{Serves, Reading, reading_of}

@@ -35,6 +35,15 @@ pub enum Line<'a> {
         /// The steps file.
         steps: &'a str,
     },
+    /// `trace`: the same, with a line for each step before it.
+    Trace {
+        /// The file of the program's text.
+        file: &'a str,
+        /// The steps file.
+        steps: &'a str,
+        /// Whether the instructions of sections are left out.
+        sections: bool,
+    },
     /// `run`: run the calls of each thread of a program in a thread of its own.
     Run {
         /// The file of the program's text.
