@@ -22,7 +22,7 @@ unproved() {
         : >"$room/cases/$i"
     done
     if [ -n "$other" ]; then
-        printf '%s\n' "$command" ${turns:+--turns "$turns"} ${why:+--why} file0 file1 >"$room/cases/0.args"
+        printf '%s\n' "$command" ${turns:+--turns "$turns"} ${why:+--why} ${sections:+--sections} file0 file1 >"$room/cases/0.args"
         rm "$room"/cases/1*
     fi
     say "nothing is proved of this run; it takes one to two minutes, and can write 1 MiB"
@@ -71,7 +71,7 @@ split_cases() {
 tell_run() {
     local end="$room/said/$1.end" err="$room/said/$1.err"
     if grep -q ' run=ended ' "$end" 2>/dev/null; then
-        cat "$room/said/$1.out"
+        if [ "$command" = explain ]; then told_of_files <"$room/said/$1.out"; else cat "$room/said/$1.out"; fi
         told_of_files <"$err" >&2
         return "$(sed 's/.* status=\([0-9]*\).*/\1/' "$end")"
     elif grep -qs 'wrote more than' "$err"; then

@@ -1,8 +1,8 @@
 # What `autolock` says of its words, said without the program: help, the version, and what is wrong with the words.
 # ./autolock uses it where the program isn't built; tests/words.sh compares each answer with the program's.
 #
-#     judge_words WORDS..     answers and exits, or sets `command`, `turns` (the N of --turns, or nothing), `why` (1 or nothing)
-#                             and `files`
+#     judge_words WORDS..     answers and exits, or sets `command`, `turns` (the N of --turns, or nothing), `why` and
+#                             `sections` (1 or nothing), and `files`
 #
 # Where `many` is 1, a command over one FILE takes several. `top` is the folder of the repository.
 # shellcheck disable=SC2154,SC2016
@@ -11,6 +11,7 @@ many=0
 command=
 turns=
 why=
+sections=
 used=
 files=()
 
@@ -43,7 +44,7 @@ refuse() {
 # What a command calls its second file, if it reads one.
 other_of() {
     case $1 in
-        simulate) echo '<STEPS>' ;;
+        simulate | trace) echo '<STEPS>' ;;
         replay) echo '<HISTORY>' ;;
     esac
 }
@@ -54,15 +55,16 @@ names_of() {
     echo "<FILE>${other:+ $other}"
 }
 
-takes_turns() { [ "$command" = serial ] || [ "$command" = replay ]; }
+takes_options() { [ "$command" = serial ] || [ "$command" = replay ] || [ "$command" = trace ]; }
 
 # How the words of a command look; with a second word, where that option is among them.
 usage_of() {
     local option=${2-}
     case $1 in
-        check | listing | run) echo "$1 ${option:+$option }<FILE>" ;;
+        check | explain | listing | run) echo "$1 ${option:+$option }<FILE>" ;;
         serial) echo "serial ${option:-[OPTIONS]} <FILE>" ;;
         replay) echo "replay ${option:-[OPTIONS]} <FILE> <HISTORY>" ;;
+        trace) echo "trace ${option:-[OPTIONS]} <FILE> <STEPS>" ;;
         simulate) echo "simulate ${option:+$option }<FILE> <STEPS>" ;;
         *) echo "${option:+$option }<COMMAND>" ;;
     esac
@@ -111,7 +113,7 @@ similar() {
 
 refuse_command() {
     local names tip=
-    mapfile -t names < <(similar "$1" check listing serial simulate run replay help)
+    mapfile -t names < <(similar "$1" check explain listing serial simulate trace run replay help)
     case ${#names[@]} in
         0) ;;
         1) tip="a similar subcommand exists: '${names[0]}'" ;;
@@ -130,6 +132,7 @@ refuse_long() {
     case $command in
         serial) options=(turns help) ;;
         replay) options=(turns why help) ;;
+        trace) options=(sections help) ;;
         '') options=(help version) ;;
     esac
     near=$(similar "$name" "${options[@]}" | tail -n 1)
@@ -140,7 +143,7 @@ refuse_long() {
     if [ -n "$near" ]; then
         refuse "unexpected argument '--$name' found" "$(usage_of "$command" "$used")" \
             "a similar argument exists: '--$near'"
-    elif takes_turns && [ "$used${#files[@]}" != 0 ]; then
+    elif takes_options && [ "$used${#files[@]}" != 0 ]; then
         refuse "unexpected argument '--$name' found" "$command ${used:+$used }$(names_of "$command")" \
             "to pass '--$name' as a value, use '-- --$name'"
     elif [ -n "$command" ]; then
@@ -149,9 +152,10 @@ refuse_long() {
     fi
     for word in "$@"; do
         case $word in
-            check | listing | simulate | run) near=$(similar "$name" help) ;;
+            check | explain | listing | simulate | run) near=$(similar "$name" help) ;;
             serial) near=$(similar "$name" turns help | tail -n 1) ;;
             replay) near=$(similar "$name" turns why help | tail -n 1) ;;
+            trace) near=$(similar "$name" sections help | tail -n 1) ;;
         esac
         [ -z "$near" ] || refuse "unexpected argument '--$name' found" "$(usage_of '')" "'$word --$near' exists"
     done
@@ -163,7 +167,7 @@ judge_help() {
     local name=${1-autolock}
     case $name in
         autolock) [ $# -eq 0 ] || refuse "unrecognized subcommand '$1'" "$(usage_of '')" ;;
-        check | listing | serial | simulate | run | replay | help) ;;
+        check | explain | listing | serial | simulate | trace | run | replay | help) ;;
         *) refuse "unrecognized subcommand '$1'" "$(usage_of '')" ;;
     esac
     [ $# -gt 1 ] || show_help "$name"
@@ -222,6 +226,11 @@ judge_long() {
             [ "$command" = replay ] || refuse_long "$name" "$@"
             refuse "unexpected value '${word#*=}' for '--why' found; no more were expected" "$(usage_of replay --why)"
             ;;
+        sections)
+            [ "$command" = trace ] || refuse_long "$name" "$@"
+            refuse "unexpected value '${word#*=}' for '--sections' found; no more were expected" \
+                "$(usage_of trace --sections)"
+            ;;
         *) refuse_long "$name" "$@" ;;
     esac
 }
@@ -262,6 +271,13 @@ judge_arguments() {
                 shift
                 continue
                 ;;
+            0trace--sections)
+                [ -z "$sections" ] || refuse "the argument '--sections' cannot be used multiple times" "$(usage_of trace)"
+                sections=1
+                used=$(used_with --sections)
+                shift
+                continue
+                ;;
             0serial--turns=* | 0replay--turns=*)
                 judge_turns "${1#--turns=}"
                 shift
@@ -281,7 +297,7 @@ judge_arguments() {
     [ -z "$other" ] || [ ${#files[@]} -gt 1 ] || missing+=$'\n  '$other
     [ -n "$missing" ] || return 0
     missing="the following required arguments were not provided:$missing"
-    ! takes_turns || [ -n "$used" ] || refuse "$missing" "$command $(names_of "$command")"
+    ! takes_options || [ -n "$used" ] || refuse "$missing" "$command $(names_of "$command")"
     refuse "$missing" "$(usage_of "$command" "$used")"
 }
 
@@ -289,7 +305,7 @@ judge_words() {
     local is_last=0
     while [ $# -gt 0 ]; do
         case $is_last$1 in
-            0check | 0listing | 0serial | 0simulate | 0run | 0replay)
+            0check | 0explain | 0listing | 0serial | 0simulate | 0trace | 0run | 0replay)
                 command=$1
                 shift
                 judge_arguments "$@"
@@ -302,7 +318,7 @@ judge_words() {
             0--) is_last=1 ;;
             0--?*) judge_long "$@" ;;
             0-?*) judge_short "$1" ;;
-            1check | 1listing | 1serial | 1simulate | 1help)
+            1check | 1explain | 1listing | 1serial | 1simulate | 1trace | 1run | 1replay | 1help)
                 refuse "unexpected argument '$1' found" "$(usage_of '')" \
                     "subcommand '$1' exists; to use it, remove the '--' before it"
                 ;;
@@ -311,5 +327,5 @@ judge_words() {
         shift
     done
     refuse $'\'autolock\' requires a subcommand but one was not provided
-  [subcommands: check, listing, serial, simulate, run, replay, help]' "$(usage_of '')"
+  [subcommands: check, explain, listing, serial, simulate, trace, run, replay, help]' "$(usage_of '')"
 }

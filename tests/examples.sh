@@ -1,8 +1,8 @@
 #!/bin/sh
 # Runs each program of examples/ through `serial` and `check`, and through `listing` where NAME.listing
 # stands beside it, and through `simulate` with the steps of NAME.steps where this stands beside it, and
-# compares what they write with the files kept beside it, NAME.out, NAME.check, NAME.listing and
-# NAME.simulation. Where NAME.refused stands beside it, all have to refuse it with that line. Its
+# with these through `trace` where NAME.trace does, and compares what they write with the files kept beside
+# it, NAME.out, NAME.check, NAME.listing, NAME.simulation and NAME.trace. Where NAME.refused stands beside it, all have to refuse it with that line. Its
 # argument is the program to run, by default ./autolock at the top.
 set -u
 
@@ -16,7 +16,7 @@ failed=0
 count=0
 
 # A command, an example's name, the status, the files of what stands on standard output and on standard
-# error, and, of `simulate`, the steps file.
+# error, and, of `simulate` and `trace`, the steps file.
 judge() {
     "$program" "$1" "$2.al" ${6:+"$6"} >"$work/out" 2>"$work/err" </dev/null
     status=$?
@@ -42,7 +42,14 @@ for source in *.al; do
         judge check "$name" 0 "$name.check" /dev/null
         [ ! -e "$name.listing" ] || judge listing "$name" 0 "$name.listing" /dev/null
         [ ! -e "$name.steps" ] || judge simulate "$name" 0 "$name.simulation" /dev/null "$name.steps"
+        [ ! -e "$name.trace" ] || judge trace "$name" 0 "$name.trace" /dev/null "$name.steps"
     fi
 done
+if "$top/tools/msc.py" lost_update.trace 2>&1 | cmp -s - "$top/docs/trace.svg"; then
+    echo "ok the picture of lost_update"
+else
+    echo "FAILED the picture of lost_update: docs/trace.svg is not what tools/msc.py draws of lost_update.trace"
+    failed=1
+fi
 echo "$count runs"
 exit $failed

@@ -5,7 +5,7 @@
     tests/failing.py --cases [--program BIN] [--every N] [FILE..]
     tests/failing.py --unit-tests [--program BIN] [--every N] [--test NAME]
 
---commands      which of check, listing, serial, simulate, run and replay, joined by commas; by default all
+--commands      which of check, explain, listing, serial, simulate, trace, run and replay, joined by commas; by default all
 --turns N       of serial and replay, by default 1000
 --every N       only every N-th growth
 --cases         the program `cases` over each of its files, and of its calls the growths alone
@@ -13,7 +13,7 @@
                 growths alone; of each test of `thread_tests` some 300 growths, spread over all
 --test NAME     only this test, and each of its growths
 FILE..          programs, by default those of examples/; of `cases` files of crates/cases/data, by default all.
-                Where a file of steps lies beside a program, simulate takes it, else some steps of its threads in turn.
+                Where a file of steps lies beside a program, simulate and trace take it, else some steps of its threads in turn.
                 replay takes what serial writes of the program, and with --why that with another value of the first cell;
                 run and replay pass over those that don't end
 
@@ -138,7 +138,7 @@ def of_autolock(a, room):
     for command in a.commands.split(","):
         for number, file in enumerate(a.files or sorted((TOP / "examples").glob("*.al"))):
             steps = file.with_suffix(".steps")
-            names = [str(file)] + [str(steps if steps.exists() else drawn)] * (command == "simulate")
+            names = [str(file)] + [str(steps if steps.exists() else drawn)] * (command in ("simulate", "trace"))
             if command in ("run", "replay"):
                 told = subprocess.run([program, "serial", str(file)], capture_output=True)
                 if told.returncode:
@@ -177,7 +177,7 @@ def of_unit_tests(a):
 def main():
     p = argparse.ArgumentParser(formatter_class=argparse.RawDescriptionHelpFormatter, description=__doc__)
     p.add_argument("--program", type=pathlib.Path)
-    p.add_argument("--commands", default="check,listing,serial,simulate,run,replay")
+    p.add_argument("--commands", default="check,explain,listing,serial,simulate,trace,run,replay")
     p.add_argument("--turns", type=int, default=1000)
     p.add_argument("--every", type=int, default=1)
     p.add_argument("--cases", action="store_true")

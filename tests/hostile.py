@@ -1,12 +1,12 @@
 #!/usr/bin/env python3
-"""Gives hostile sources to `autolock` and looks at how each run ends: of `check`, `listing`, `serial --turns 1000` and,
-with a steps file drawn for each source, `simulate`.
+"""Gives hostile sources to `autolock` and looks at how each run ends: of `check`, `explain`, `listing`, `serial --turns 1000` and,
+with a steps file drawn for each source, `simulate` and `trace`.
 
     tests/hostile.py [--program BIN] [--commands NAMES] [--cuts] [--bytes] [--random COUNT] [--every N] [--seed N] [FILE..]
 
 With no choice of kinds: --cuts --bytes --random 2000, each cut and byte at every 7th place, which takes a minute.
 
---commands      which of the four, joined by commas; by default all
+--commands      which of the six, joined by commas; by default all
 --cuts          every beginning of each program
 --bytes         each program with one byte replaced by each of `(`, `}`, `0`, `.`, 0x00 and 0x80
 --random COUNT  so many programs made from the given ones by a few random changes each, and a third of them by a helper and calls
@@ -18,8 +18,8 @@ FILE..          the programs to begin with; by default those of examples/
 
 A run must end within 20 seconds with status 0 or 1, or of `serial` with 7. With 0, standard output is a whole text of
 the command and standard error is empty; with 1, standard error is one line, the same of each command, and standard
-output is empty; with 7, the last line of standard output begins with `unsettled` and standard error is empty. `simulate`
-ends with 6 and the line of the steps file's first fault, as this script finds it, exactly where there is one. A source
+output is empty, and of explain the other way round: standard output begins with that line, and shows its place; with 7, the last line of standard output begins with `unsettled` and standard error is empty. What
+`trace` writes has a line for each step, and ends with what `simulate` writes. These two end with 6 and the line of the steps file's first fault, as this script finds it, exactly where there is one. A source
 of which that doesn't hold is kept as hostile-NUMBER.al in the current folder, with its steps. The last line is 'N runs,
 M failed'; exit status 1 where M is not 0.
 """
@@ -195,17 +195,35 @@ def steps_fault(steps, threads):
     return None
 
 
-ARGUMENTS = {"check": ["check"], "listing": ["listing"], "serial": ["serial", "--turns", "1000"], "simulate": ["simulate"]}
+ARGUMENTS = {
+    "check": ["check"],
+    "explain": ["explain"],
+    "listing": ["listing"],
+    "serial": ["serial", "--turns", "1000"],
+    "simulate": ["simulate"],
+    "trace": ["trace"],
+}
+WITH_STEPS = ("simulate", "trace")
 TITLES = {"serial": b"history 1\n", "simulate": b"simulation 1\n"}
+EXPLAINED = re.compile(rb"[^\n]*:\d+:\d+: E\d\d [ -~]*\n  [ -~]*\n   *\^\n([^\n]*:\d+:\d+: note: [ -~]*\n  [ -~]*\n   *\^\n)*help: [ -~]*\n")
 LINE = re.compile(rb"section \w+|\d+ [a-z][ -~]*")
+LOCK = rb"[\w.\[\]]+"
+STEP = re.compile(
+    rb"\d+ (idle|began \w+\([\w\[\], -]*\)|got %s|waits %s for \d+|moved (\d+:\d+ )?[a-z][ -~]*|ended at \d+)" % (LOCK, LOCK)
+)
 
 
 def is_whole(command, out):
     """Whether that is a whole text of the command, as far as its shape goes."""
     if command in TITLES:
         return out.startswith(TITLES[command]) and out.endswith(b"\nend\n")
+    if command == "explain":
+        return out == b"accepted\n"
     if command == "check":
         return out.startswith(b"accepted\n") and out.endswith(b"\n")
+    if command == "trace":
+        lines, title, rest = out.partition(TITLES["simulate"])
+        return is_whole("simulate", title + rest) and all(STEP.fullmatch(line) for line in lines.splitlines())
     return all(LINE.fullmatch(line) for line in out.splitlines()) and (not out or out.endswith(b"\n"))
 
 
@@ -214,10 +232,12 @@ def fault_of(command, ended):
     out, err = ended.stdout, ended.stderr
     if ended.returncode == 0:
         return None if is_whole(command, out) and not err else f"{command}: status 0 without a whole text alone"
+    if ended.returncode == 1 and command == "explain":
+        return None if EXPLAINED.fullmatch(out) and not err else "explain: status 1 without a text alone"
     if ended.returncode == 1:
         one_line = err.count(b"\n") == 1 and err.endswith(b"\n")
         return None if one_line and not out else f"{command}: status 1 without one line alone"
-    if ended.returncode == 6 and command == "simulate":
+    if ended.returncode == 6 and command in WITH_STEPS:
         return None if not out else "status 6 with a text"
     if ended.returncode == 7 and command == "serial":
         unsettled = out.rstrip(b"\n").rsplit(b"\n", 1)[-1].startswith(b"unsettled ")
@@ -225,15 +245,32 @@ def fault_of(command, ended):
     return f"{command}: status {ended.returncode}"
 
 
-def wrong_steps(program, path, ended):
-    """What is wrong with what `simulate` says of the steps file of an accepted source, or nothing."""
+def steps_in(steps):
+    """How many steps a steps file without a fault has."""
+    return sum(int((item.split(b"*", 1) + [b"1"])[1]) for item in steps.split())
+
+
+def wrong_trace(program, path, ended):
+    """What is wrong with what `trace` wrote beside what `simulate` writes, or nothing."""
+    world = run([program, "simulate", path, path + ".steps"]).stdout
+    with open(path + ".steps", "rb") as file:
+        count = steps_in(file.read())
+    if not ended.stdout.endswith(world):
+        return "trace: another world than simulate's"
+    return None if ended.stdout[: len(ended.stdout) - len(world)].count(b"\n") == count else "trace: not a line a step"
+
+
+def wrong_steps(program, command, path, ended):
+    """What is wrong with what a command says of the steps file of an accepted source, or nothing."""
     empty = run([program, "simulate", path, "/dev/null"])
     lines = empty.stdout.splitlines()
     threads = len(lines) - 2 - lines.index(b"threads")
     with open(path + ".steps", "rb") as file:
         fault = steps_fault(file.read(), threads)
     wanted = b"" if fault is None else b"%s.steps:%s\n" % (path.encode(), fault)
-    return None if ended.stderr == wanted else f"simulate: {ended.stderr} where it should tell {wanted}"
+    if ended.stderr != wanted:
+        return f"{command}: {ended.stderr} where it should tell {wanted}"
+    return wrong_trace(program, path, ended) if command == "trace" and fault is None else None
 
 
 def try_one(program, commands, path, other):
@@ -241,20 +278,20 @@ def try_one(program, commands, path, other):
     told = set()
     for command in commands:
         try:
-            words = [path] if command != "simulate" else [path, path + ".steps"]
+            words = [path] if command not in WITH_STEPS else [path, path + ".steps"]
             ended = run([program, *ARGUMENTS[command], *words])
             if other and run([other, *ARGUMENTS[command], *words]) != ended:
                 return f"{command}: {other} answers otherwise"
             fault = fault_of(command, ended)
-            if not fault and command == "simulate" and ended.returncode != 1:
-                fault = wrong_steps(program, path, ended)
+            if not fault and command in WITH_STEPS and ended.returncode != 1:
+                fault = wrong_steps(program, command, path, ended)
         except TimeoutError:
             return f"{command}: no end within 20 seconds"
         if fault:
             return fault
         if ended.returncode != 6:
-            told.add(ended.stderr)
-    # Where `simulate` alone is asked and tells a fault of the steps file, no command tells one of the source.
+            told.add(ended.stdout.split(b"\n", 1)[0] + b"\n" if command == "explain" and ended.returncode else ended.stderr)
+    # Where these two alone are asked and tell a fault of the steps file, no command tells one of the source.
     return None if len(told) < 2 else "the commands tell different faults"
 
 

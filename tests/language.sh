@@ -9,6 +9,9 @@
 #   between `serial` and the file;
 # - a block ```text check, which is what `check` writes there;
 # - a block ```text simulate ITEMS, which is what `simulate` writes there after the steps of these items;
+# - a block ```text trace ITEMS, which is what `trace` writes there of these steps;
+# - a block ```text explain, which is what `explain` writes there of a program with a fault; FILE stands for the file's
+#   name;
 # - or one line `FILE:..`, which both write to standard error; FILE stands for the file's name.
 #
 # The other output has to be empty.
@@ -39,7 +42,7 @@ awk '
     block == "al" && /^```$/ { block = ""; answer = 1; next }
     block == "text" && /^```$/ { block = ""; answer = 1; print status >(run ".status"); next }
     block == "al" { print >(name ".al"); next }
-    block == "text" { print >(run ".out"); status = /^unsettled / ? 7 : 0; next }
+    block == "text" { print >(run ".out"); status = of == "explain" ? 1 : /^unsettled / ? 7 : 0; next }
     /^```al$/ {
         block = "al"
         name = (FILENAME ~ /README/ ? "README-" : "") FNR
@@ -48,12 +51,15 @@ awk '
     }
     answer && /^```text/ {
         block = "text"
-        begin(/^```text check$/ ? "check" : /^```text simulate / ? "simulate" : "serial" substr($0, 8))
+        of = substr($0, 9)
+        begin(of == "check" || of == "explain" ? of : /^```text simulate / ? "simulate" : /^```text trace / ? "trace" : "serial" substr($0, 8))
         if (/^```text simulate /) print substr($0, 18) >(run ".steps")
+        if (/^```text trace /) print substr($0, 15) >(run ".steps")
     }
     answer && /^`FILE:.*`$/ {
         refuse("serial", substr($0, 2, length($0) - 2))
         refuse("check", substr($0, 2, length($0) - 2))
+        next
     }
     { answer = 0 }
 ' "$top/docs/LANGUAGE.md" "$top/README.md"
@@ -61,6 +67,7 @@ awk '
 # One run, by its name.
 judge() {
     sed -i "s/FILE/${1%.*}.al/" "$1.err"
+    [ "$(cat "$1.words")" != explain ] || sed -i "s/^FILE:/${1%.*}.al:/" "$1.out"
     # shellcheck disable=SC2046 # the words, one by one
     "$program" $(cat "$1.words") "${1%.*}.al" $(ls "$1.steps" 2>/dev/null) >out 2>err </dev/null
     status=$?

@@ -57,6 +57,8 @@ limit_memory check "$work/large.al"
 limit_memory listing "$work/large.al"
 limit_memory serial "$work/large.al"
 limit_memory simulate "$work/large.al" "$work/large.steps"
+echo '0*900000' >"$work/large.steps"
+limit_memory trace "$work/large.al" "$work/large.steps"
 
 [ "$refusals" -gt 0 ] || fail "no run was refused memory"
 exit $failed

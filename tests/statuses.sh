@@ -27,11 +27,20 @@ printf 'accepted\nrank 0 G\nsection f\nat 3:14 take G\n' >checked
 printf 'section f\n0 acquire G\n1 int 1\n2 store n\n3 end\n' >listed
 printf 'history 1\ncall 0 0 f() ends\ncells\nn 1\nend\n' >history
 for name in missing.al folder; do echo "autolock: cannot read $name" >"no_$name"; done
+echo accepted >accepted
+cat >explained <<'end'
+wrong.al:2:12: E10 neither final nor protected
+  global int n;
+             ^
+help: say which lock protects it: protected_by(LOCK)
+end
 echo 'autolock: cannot write' >unwritten
 printf '0\n\t9*1 x' >bad_steps
 echo 'bad_steps:2:2: S2 no such thread' >steps_fault
 printf 'simulation 1\ncells\nn 0\nthreads\n0 running\nend\n' >simulated
 echo '0*2' >two_steps
+{ printf '0 began f()\n0 moved 3:14 acquire G\n'; cat simulated; } >traced
+{ printf '0 began f()\n'; cat simulated; } >traced_sections
 printf 'history 2\ncall 0 0 0 f() ends\ncells\nn 1\nend\n' >history_2
 printf 'history 1\ncall 0 0 f() ends\ncells\nn 2\nend\n' >other_history
 printf 'history 1\ncall 0 0 f() ends\ncells\nn 01\nend\n' >bad_history
@@ -70,8 +79,11 @@ run() {
 run "done" 0 history none serial right.al
 run "turns" 0 history none serial --turns 0 right.al
 run "check" 0 checked none check right.al
+run "explain" 0 accepted none explain right.al
 run "listing" 0 listed none listing right.al
 run "simulate" 0 simulated none simulate right.al two_steps
+run "trace" 0 traced none trace right.al two_steps
+run "trace, of sections" 0 traced_sections none trace --sections right.al two_steps
 run "run" 0 history_2 none run right.al
 run "replay" 0 same none replay right.al history
 run "replay, of the second format" 0 same none replay right.al history_2
@@ -84,7 +96,10 @@ run "a fault, of replay" 1 none fault replay wrong.al bad_history
 run "a fault" 1 none fault serial wrong.al
 run "a fault, of simulate" 1 none fault simulate wrong.al bad_steps
 run "a fault of the steps" 6 none steps_fault simulate right.al bad_steps
+run "a fault, of trace" 1 none fault trace wrong.al bad_steps
+run "a fault of the steps, of trace" 6 none steps_fault trace right.al bad_steps
 run "a fault, of check" 1 none fault check wrong.al
+run "a fault, of explain" 1 explained none explain wrong.al
 run "a fault, of listing" 1 none fault listing wrong.al
 run "a lock order cycle" 1 none circle serial cycle.al
 run "a lock order cycle, of check" 1 none circle check cycle.al
@@ -93,19 +108,23 @@ run "no words" 2 none some
 run "another command" 2 none some walk right.al
 run "no file" 2 none some serial
 run "no file, of check" 2 none some check
+run "no file, of explain" 2 none some explain
 run "no file, of listing" 2 none some listing
 run "no steps file" 2 none some simulate right.al
+run "no steps file, of trace" 2 none some trace right.al
+run "sections, of simulate" 2 none some simulate --sections right.al two_steps
 run "no history file" 2 none some replay right.al
 run "turns, of run" 2 none some run --turns 3 right.al
 run "three files, of simulate" 2 none some simulate right.al two_steps two_steps
 run "two files" 2 none some serial right.al wrong.al
 run "two files, of check" 2 none some check right.al wrong.al
 run "turns, of check" 2 none some check --turns 3 right.al
+run "turns, of explain" 2 none some explain --turns 3 right.al
 run "turns, of listing" 2 none some listing --turns 3 right.al
 run "too many turns" 2 none some serial --turns 1000000001 right.al
 run "turns that are no number" 2 none some serial --turns many right.al
 run "help" 0 some none --help
-for command in check listing serial simulate run replay; do
+for command in check explain listing serial simulate trace run replay; do
     if grep -q "^  $command  " out; then
         echo "ok help lists $command"
     else
@@ -118,10 +137,13 @@ run "help on a command" 0 some none serial --help
 run "help on check" 0 some none check --help
 run "a file that is not there" 3 none no_missing.al serial missing.al
 run "a file that is not there, of check" 3 none no_missing.al check missing.al
+run "a file that is not there, of explain" 3 none no_missing.al explain missing.al
 run "a file that is not there, of listing" 3 none no_missing.al listing missing.al
 run "a file that is not there, of simulate" 3 none no_missing.al simulate missing.al two_steps
 run "a steps file that is not there" 3 none no_missing.al simulate right.al missing.al
 run "a steps file that is not there, and a fault" 3 none no_missing.al simulate wrong.al missing.al
+run "a steps file that is not there, of trace" 3 none no_missing.al trace right.al missing.al
+run "a folder for a steps file, of trace, and a fault" 3 none no_folder trace wrong.al folder
 run "a folder" 3 none no_folder serial folder
 run "a folder for a steps file" 3 none no_folder simulate right.al folder
 run "a folder for a steps file, and a fault" 3 none no_folder simulate wrong.al folder
@@ -130,6 +152,7 @@ run "a history file that is not there" 3 none no_missing.al replay right.al miss
 run "a file that is not there, of run" 3 none no_missing.al run missing.al
 run "a folder, and no steps file" 3 none no_folder simulate folder missing.al
 run "a folder, of check" 3 none no_folder check folder
+run "a folder, of explain" 3 none no_folder explain folder
 
 # A program's file is read no further than a byte past what a program may have.
 head -c 209715200 /dev/zero >long.al
@@ -140,7 +163,14 @@ for command in check listing serial run; do
     run "a file of 200 MB, of $command" 1 none too_long_long.al $command long.al
     run "a file without an end, of $command" 1 none too_long_zero $command /dev/zero
 done
+{
+    cat too_long_zero
+    printf '  %s..\n' "$(printf '<00>%.0s' $(seq 60))"
+    printf '  ^\nhelp: split what is too large; the limits are fixed\n'
+} >zeros
+run "a file without an end, of explain" 1 zeros none explain /dev/zero
 run "a file without an end, of simulate" 1 none too_long_zero simulate /dev/zero two_steps
+run "a file without an end, of trace" 1 none too_long_zero trace /dev/zero two_steps
 ulimit -S -v "$most"
 rm long.al
 
@@ -149,10 +179,16 @@ rm long.al
 judge "an output that is full" 3 $? none unwritten
 "$program" check right.al >/dev/full 2>err </dev/null
 judge "an output that is full, of check" 3 $? none unwritten
+"$program" explain right.al >/dev/full 2>err </dev/null
+judge "an output that is full, of explain" 3 $? none unwritten
+"$program" explain wrong.al >/dev/full 2>err </dev/null
+judge "an output that is full, of explain, and a fault" 3 $? none unwritten
 "$program" listing right.al >/dev/full 2>err </dev/null
 judge "an output that is full, of listing" 3 $? none unwritten
 "$program" simulate right.al two_steps >/dev/full 2>err </dev/null
 judge "an output that is full, of simulate" 3 $? none unwritten
+"$program" trace right.al two_steps >/dev/full 2>err </dev/null
+judge "an output that is full, of trace" 3 $? none unwritten
 "$program" run right.al >/dev/full 2>err </dev/null
 judge "an output that is full, of run" 3 $? none unwritten
 "$program" replay right.al history >/dev/full 2>err </dev/null

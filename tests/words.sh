@@ -57,7 +57,7 @@ same -V
 same -hV
 same -Vh
 same -hx
-for command in check listing serial simulate run replay; do
+for command in check explain listing serial simulate trace run replay; do
     same help "$command"
     same "$command" --help
     same "$command" -h
@@ -107,7 +107,7 @@ same -- check right.al
 same -- nothing
 same -- chek
 for word in chek Check CHECK checks c lis list listin lsiting seral seriall sim simulat simulation s hlep halp helper \
-    rnu rum replya repla explain foobar größe trace prints seril stimulate; do
+    rnu rum replya repla expl explian foobar größe trcae traces tra prints seril stimulate; do
     same "$word" right.al
 done
 
@@ -136,6 +136,25 @@ same replay --why right.al --foo
 same replay --why --hel
 same replay --why a b c
 same serial --why right.al
+same trace --sections
+same trace --sections right.al
+same trace --sections right.al missing.al
+same trace right.al --sections missing.al
+same trace --sections --sections right.al missing.al
+same trace --sections=x right.al missing.al
+same trace --section right.al missing.al
+same trace --why right.al missing.al
+same trace --turns 3 right.al missing.al
+same trace --sections right.al --foo
+same trace --sections --hel
+same trace --sections a b c
+same simulate --sections right.al missing.al
+same --sections trace right.al
+same --section trace right.al
+same trace missing.al nothing
+same -- trace right.al
+same -- run right.al
+same -- replay right.al
 same --why replay right.al
 
 # Arguments of `serial`.
@@ -173,6 +192,8 @@ same check -
 same check -- -dash.al
 same check -dash.al
 same check right.al/
+same explain missing.al
+same explain folder
 same simulate missing.al nothing
 same simulate right.al missing.al
 same simulate folder missing.al
@@ -182,8 +203,8 @@ same serial --turns 3 missing.al
 # The completions and the manual page name what the help names.
 commands=$(sed -n '/^Commands:/,/^$/s/^  \([a-z]*\) .*/\1/p' "$top/script/help/autolock.txt")
 options=$(sed -n 's/^ *\(-[a-zA-Z], \)\{0,1\}--\([a-z]*\).*/\2/p' "$top"/script/help/*.txt | sort -u)
-[ "$(echo $commands)" = "check listing serial simulate run replay help" ] || fail "the commands of the help: $commands"
-[ "$(echo $options)" = "help turns version why" ] || fail "the options of the help: $options"
+[ "$(echo $commands)" = "check explain listing serial simulate trace run replay help" ] || fail "the commands of the help: $commands"
+[ "$(echo $options)" = "help sections turns version why" ] || fail "the options of the help: $options"
 for file in completions/autolock.bash completions/_autolock completions/autolock.fish docs/autolock.1; do
     for word in $commands $options; do
         sed 's/\\-/-/g' "$top/$file" | grep -qw -- "$word" || fail "$file lacks $word"
@@ -209,10 +230,10 @@ completes() {
 }
 . "$top/completions/autolock.bash"
 : >x.steps
-completes "check help listing replay run serial simulate" ''
+completes "check explain help listing replay run serial simulate trace" ''
 completes "serial simulate" s
 completes "--build --help --unproved --version -V -h" -
-completes "check help listing replay run serial simulate" --unproved ''
+completes "check explain help listing replay run serial simulate trace" --unproved ''
 completes "--turns" serial --t
 completes "--why" replay --w
 completes "folder right.al" check ''

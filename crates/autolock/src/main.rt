@@ -15,8 +15,8 @@ ghost use Rattle.driver.specs.{Alone, Beside, Serves, Tells, IsMissed, cannot_re
 use clap::Error;
 use clap::error::ErrorKind;
 use driver::{
-    Judging, Sink, SourceText, Status, Streams, check, list, miss_other, replay, run, serial,
-    simulate,
+    Judging, Sink, SourceText, Status, Streams, check, explain, list, miss_other, replay, run,
+    serial, simulate, trace,
 };
 use std::alloc::{AllocError, Global};
 use std::io::{Read, Write};
@@ -32,9 +32,11 @@ fn file_name<'a>(line: Line<'a>) -> &'a str
 {
     match line {
         Line::Check { file } => file,
+        Line::Explain { file } => file,
         Line::Listing { file } => file,
         Line::Serial { file, .. } => file,
         Line::Simulate { file, .. } => file,
+        Line::Trace { file, .. } => file,
         Line::Run { file } => file,
         Line::Replay { file, .. } => file,
     }
@@ -47,6 +49,7 @@ fn other_name<'a>(line: Line<'a>) -> Option<&'a str>
 {
     match line {
         Line::Simulate { steps, .. } => Some(steps),
+        Line::Trace { steps, .. } => Some(steps),
         Line::Replay { history, .. } => Some(history),
         _ => None,
     }
@@ -68,10 +71,12 @@ fn run_opened<R: Threads + Wait + Sync, S: Read, O: Write, E: Write>(
 {
     match line {
         Line::Check { .. } => check(alloc, source, streams),
+        Line::Explain { .. } => explain(alloc, source, streams),
         Line::Listing { .. } => list(alloc, source, streams),
         Line::Serial { turns, .. } => serial(alloc, turns, source, streams),
         Line::Run { .. } => run(threads, alloc, source, streams),
         Line::Simulate { .. } => unreachable!(),
+        Line::Trace { .. } => unreachable!(),
         Line::Replay { .. } => unreachable!(),
     }
 }
@@ -94,6 +99,7 @@ fn run_both_opened<S: Read, T: Read, O: Write, E: Write>(
 {
     match line {
         Line::Simulate { .. } => simulate(alloc, source, other, streams),
+        Line::Trace { sections, .. } => trace(alloc, !sections, source, other, streams),
         Line::Replay { turns, why, .. } => {
             replay(alloc, Judging { turns, why }, source, other, streams)
         }

@@ -6,7 +6,7 @@
 #![tactic(auto)]
 
 mod check;
-mod places;
+pub mod places;
 mod section_text;
 
 pub use check::Check;

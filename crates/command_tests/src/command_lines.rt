@@ -45,11 +45,14 @@ fn reads_lines(rt: HostRuntime) -> Result<(), Fail> {
         rt.alloc(),
         "
 autolock check F => Check { file: \"F\" }
+autolock explain F => Explain { file: \"F\" }
 autolock serial F => Serial { file: \"F\", turns: 1000000 }
 autolock serial --turns 7 F => Serial { file: \"F\", turns: 7 }
 autolock serial --turns=0 F => Serial { file: \"F\", turns: 0 }
 autolock serial --turns 1000000000 F => Serial { file: \"F\", turns: 1000000000 }
 autolock simulate F S => Simulate { file: \"F\", steps: \"S\" }
+autolock trace F S => Trace { file: \"F\", steps: \"S\", sections: false }
+autolock trace F --sections S => Trace { file: \"F\", steps: \"S\", sections: true }
 autolock run F => Run { file: \"F\" }
 autolock replay F H => Replay { file: \"F\", history: \"H\", turns: 1000000, why: false }
 autolock replay F --turns 7 H => Replay { file: \"F\", history: \"H\", turns: 7, why: false }
@@ -73,10 +76,13 @@ autolock check => MissingRequiredArgument
 autolock check --help => DisplayHelp
 autolock check --turns 3 F => UnknownArgument
 autolock check F G => UnknownArgument
+autolock explain => MissingRequiredArgument
+autolock explain F G => UnknownArgument
 autolock serial => MissingRequiredArgument
 autolock serial F G => UnknownArgument
 autolock run => MissingRequiredArgument
 autolock run --turns 3 F => UnknownArgument
+autolock trace F => MissingRequiredArgument
 autolock replay F => MissingRequiredArgument
 autolock replay F G H => UnknownArgument
 autolock serial --turns 1000000001 F => ValueValidation

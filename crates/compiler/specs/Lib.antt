@@ -1,5 +1,7 @@
 pub mod Programs
+pub mod Cycles
 -- what the public clauses cite
+pub use Rattle.compiler.specs.Cycles.{IsBare, IsWrittenProgram, IsCyclic}
 pub use Rattle.compiler.specs.Programs.{HasFault, Accepts, IsOfFirstPass, IsRefusal}
 pub use Rattle.core_lang.specs.WellFormed.{IsWellFormed}
 pub use Rattle.lockpaths.specs.Paths.{ArePaths}

@@ -44,7 +44,7 @@ fn ranked(alloc: Global, program: &Typed, paths: &Paths) -> Result<Ranks, Refusa
 }
 
 // The program with its helpers written out.
-fn written_out(alloc: Global, program: &Typed) -> Result<Typed, Refusal>
+pub(crate) fn written_out(alloc: Global, program: &Typed) -> Result<Typed, Refusal>
     requires { IsChecked program.now }
     ensures expanded { IfOk result (IsExpanded program.now) }
     ensures well_formed { IfOk result IsWellFormed }

@@ -2,15 +2,17 @@
 use Rattle.std.proofs.Common.{◌≡◌, ℕ, List}
 use Rattle.lowering.specs.Plans.{Plan}
 use Rattle.driver.specs.declared.request.PairRequest.{PairRequest}
-use Rattle.driver.specs.declared.request.PairRequest.TheVariants.{Simulate, Replay}
+use Rattle.driver.specs.declared.request.PairRequest.TheVariants.{Simulate, Trace, Replay}
 use Rattle.driver.specs.declared.request.Request.{Request}
 use Rattle.driver.specs.declared.request.Request.TheVariants.{Check, Listing, Serial}
 use Rattle.driver.specs.declared.status.Status.{Status}
 use Rattle.driver.specs.Answering.{RequestAnswers, PairWanted}
 use Rattle.driver.specs.Answers.{TextAnswers, accepted, refused}
+use Rattle.driver.specs.Explanations.{ExplainAnswers, faultless, explained, cycle_explained}
 use Rattle.driver.specs.Serial.{all_settled, stopped}
 use Rattle.driver.specs.Replays.{verdict_status, judged, bad_history}
 use Rattle.driver.specs.Simulations.{ran, bad_steps}
+use Rattle.driver.specs.Traces as traces
 use Rattle.driver.specs.ThreadRuns.{ThreadsAnswers, written, was_strange}
 use Rattle.replay.specs.declared.verdict.Verdict.{Verdict}
 use Rattle.replay.specs.declared.verdict.Verdict.TheVariants.{Same, Differs, Unsettled}
@@ -34,12 +36,14 @@ of_verdict Same is = serving.done is
 of_verdict (Differs n) is = serving.differs is
 of_verdict (Unsettled n) is = serving.unsettled is
 
-of_pair : (request : PairRequest) (other_file other : List ℕ) (plan : Plan) (status : Status) (out err : List ℕ) →
-    PairWanted request other_file other plan status out err → IsAnswered status
-of_pair Simulate other_file other plan status out err (ran is) = serving.done is.ended
-of_pair Simulate other_file other plan status out err (bad_steps is) = serving.bad_input is.ended
-of_pair (Replay judging) other_file other plan status out err (judged is) = of_verdict is.verdict is.ended
-of_pair (Replay judging) other_file other plan status out err (bad_history is) = serving.bad_input is.ended
+of_pair : (request : PairRequest) (text other_file other : List ℕ) (plan : Plan) (status : Status) (out err : List ℕ) →
+    PairWanted request text other_file other plan status out err → IsAnswered status
+of_pair Simulate text other_file other plan status out err (ran is) = serving.done is.ended
+of_pair Simulate text other_file other plan status out err (bad_steps is) = serving.bad_input is.ended
+of_pair (Trace moves) text other_file other plan status out err (traces.traced is) = serving.done is.ended
+of_pair (Trace moves) text other_file other plan status out err (traces.bad_steps is) = serving.bad_input is.ended
+of_pair (Replay judging) text other_file other plan status out err (judged is) = of_verdict is.verdict is.ended
+of_pair (Replay judging) text other_file other plan status out err (bad_history is) = serving.bad_input is.ended
 
 pub threads_are_answered : (file text : List ℕ) (status : Status) (out err : List ℕ) → ThreadsAnswers file text status out err →
     IsAnswered status
@@ -47,8 +51,14 @@ threads_are_answered file text status out err (accepted plan accepts compiled (w
 threads_are_answered file text status out err (accepted plan accepts compiled (was_strange is)) = serving.strange is.ended
 threads_are_answered file text status out err (refused is) = serving.refused is.ended
 
-pub pair_is_answered : (request : PairRequest) (file text other_file other : List ℕ) (status : Status) (out err : List ℕ) →
-    TextAnswers (PairWanted request other_file other) file text status out err → IsAnswered status
-pair_is_answered request file text other_file other status out err (accepted plan accepts compiled is) =
-    of_pair request other_file other plan status out err is
-pair_is_answered request file text other_file other status out err (refused is) = serving.refused is.ended
+pub explained_is_answered : (file text : List ℕ) (status : Status) (out err : List ℕ) → ExplainAnswers file text status out err →
+    IsAnswered status
+explained_is_answered file text status out err (faultless is) = serving.done is.ended
+explained_is_answered file text status out err (explained is) = serving.refused is.ended
+explained_is_answered file text status out err (cycle_explained is) = serving.refused is.ended
+
+pub pair_is_answered : (request : PairRequest) (file text of other_file other : List ℕ) (status : Status) (out err : List ℕ) →
+    TextAnswers (PairWanted request of other_file other) file text status out err → IsAnswered status
+pair_is_answered request file text of other_file other status out err (accepted plan accepts compiled is) =
+    of_pair request of other_file other plan status out err is
+pair_is_answered request file text of other_file other status out err (refused is) = serving.refused is.ended

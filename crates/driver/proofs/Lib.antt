@@ -5,5 +5,6 @@ pub mod WritingLemmas
 pub mod ReadingLemmas
 pub mod ValueLemmas
 pub mod LongTexts
+pub mod LongExplanations
 pub mod ServingLemmas
 pub mod AnswerLemmas

@@ -5,6 +5,7 @@ use Rattle.std.proofs.lemmas.Bool.{cases_lt}
 use Rattle.std.specs.Prelude.{IfSome}
 use Rattle.std.specs.Io.KnownBytes.{IsAtEnd}
 use denote.RawPtr.{null_ptr}
+use Rattle.core_lang.specs.declared.typed.Typed.{Typed}
 use Rattle.compiler.specs.Programs.{Accepts, of_text, IsOfFirstPass, in_text, in_tokens, in_tree, in_paths, in_order}
 use Rattle.lowering.specs.Plans.{Plan}
 use Rattle.source.specs.declared.fault.Code.{Code}
@@ -45,10 +46,10 @@ no_bytes = record {
 abbrev fault_of_long : Fault
 fault_of_long = record { code = LimitExceeded; start = 0; detail = record { bytes = no_bytes; ok = ∣ ([], (refl, refl)) ∣₁ } }
 
-none_accepted : (text : List ℕ) (plan : Plan) → IsLong text → Accepts text plan.accepted → ⊥
-none_accepted text plan long accepts = accepts.faultless fault_of_long (of_text (too_big long, refl))
+pub none_accepted : (text : List ℕ) (program : Typed) → IsLong text → Accepts text program → ⊥
+none_accepted text program long accepts = accepts.faultless fault_of_long (of_text (too_big long, refl))
 
-given_of_long : (t u : List ℕ) (fault : Fault) → IsLong t → IsLong u → IsOfFirstPass t fault → IsOfFirstPass u fault
+pub given_of_long : (t u : List ℕ) (fault : Fault) → IsLong t → IsLong u → IsOfFirstPass t fault → IsOfFirstPass u fault
 given_of_long t u fault long longer (in_text is) =
     in_text (rw (code_of_long is.0 long, start_of_long is.0 long) (too_big longer), is.1)
 given_of_long t u fault long longer (in_tokens tokens none has is) = absurd (none _ _ (too_big long))
@@ -58,7 +59,16 @@ given_of_long t u fault long longer (in_paths tokens tree program written none h
 given_of_long t u fault long longer (in_order tokens tree program written none has no_fault has_tree no_names resolves expanded no_paths is) =
     absurd (none _ _ (too_big long))
 
-starts_at_0 : (t : List ℕ) (fault : Fault) → IsLong t → IsOfFirstPass t fault → fault.start ≡ 0
+pub of_limit : (t : List ℕ) (fault : Fault) → IsLong t → IsOfFirstPass t fault → fault.code ≡ LimitExceeded
+of_limit t fault long (in_text is) = code_of_long is.0 long
+of_limit t fault long (in_tokens tokens none has is) = absurd (none _ _ (too_big long))
+of_limit t fault long (in_tree tokens tree none has no_fault has_tree is least) = absurd (none _ _ (too_big long))
+of_limit t fault long (in_paths tokens tree program written none has no_fault has_tree no_names resolves expanded is least) =
+    absurd (none _ _ (too_big long))
+of_limit t fault long (in_order tokens tree program written none has no_fault has_tree no_names resolves expanded no_paths is) =
+    absurd (none _ _ (too_big long))
+
+pub starts_at_0 : (t : List ℕ) (fault : Fault) → IsLong t → IsOfFirstPass t fault → fault.start ≡ 0
 starts_at_0 t fault long (in_text is) = start_of_long is.0 long
 starts_at_0 t fault long (in_tokens tokens none has is) = absurd (none _ _ (too_big long))
 starts_at_0 t fault long (in_tree tokens tree none has no_fault has_tree is least) = absurd (none _ _ (too_big long))
@@ -71,12 +81,12 @@ starts_at_0 t fault long (in_order tokens tree program written none has no_fault
 zero_first : (n : ℕ) → min 0 n ≡ 0
 zero_first n = grind arith
 
-told_alike : (file t u : List ℕ) (fault : Fault) → fault.start ≡ 0 → fault_text file t fault ≡ fault_text file u fault
+pub told_alike : (file t u : List ℕ) (fault : Fault) → fault.start ≡ 0 → fault_text file t fault ≡ fault_text file u fault
 told_alike file t u fault first = rw (first, zero_first (length t), zero_first (length u)) refl
 
 answers_of_long : {Wanted Other : Plan → Status → List ℕ → List ℕ → Type 0} (file t u : List ℕ) (status : Status) (out err : List ℕ) →
     IsLong t → IsLong u → TextAnswers Wanted file t status out err → TextAnswers Other file u status out err
-answers_of_long file t u status out err long longer (accepted plan accepts compiled is) = absurd (none_accepted t plan long accepts)
+answers_of_long file t u status out err long longer (accepted plan accepts compiled is) = absurd (none_accepted t plan.accepted long accepts)
 answers_of_long file t u status out err long longer (refused is) =
     refused (record {
       fault = is.fault;

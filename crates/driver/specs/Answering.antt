@@ -4,12 +4,14 @@ use Rattle.code.specs.Listing.{line}
 use Rattle.compiler.specs.Programs.{Accepts}
 use Rattle.lowering.specs.Plans.{Plan, IsCompiled}
 use Rattle.source.specs.declared.fault.Fault.{Fault}
+use Rattle.explanation.specs.declared.explanation.Explanation.{Explanation}
+use Rattle.explanation.specs.Values.{explanation_text_of}
 use Rattle.source.specs.Faults.{fault_text}
 use Rattle.steps.specs.declared.refusal.StepsFault.{StepsFault}
 use Rattle.steps.specs.Steps.{steps_fault_text}
 use Rattle.driver.specs.declared.answer.Answer.{Answer}
 use Rattle.driver.specs.declared.request.PairRequest.{PairRequest}
-use Rattle.driver.specs.declared.request.PairRequest.TheVariants.{Simulate, Replay}
+use Rattle.driver.specs.declared.request.PairRequest.TheVariants.{Simulate, Trace, Replay}
 use Rattle.driver.specs.declared.request.Request.{Request}
 use Rattle.driver.specs.declared.request.Request.TheVariants.{Check, Listing, Serial}
 use Rattle.driver.specs.declared.status.Status.{Status}
@@ -21,6 +23,7 @@ use Rattle.driver.specs.Replays.{IsReplayed, verdict_status, judgement_text}
 use Rattle.driver.specs.Serial.{IsRun}
 use Rattle.driver.specs.Simulations.{IsSimulated}
 use Rattle.driver.specs.ThreadRuns.{IsStrange}
+use Rattle.driver.specs.Traces.{IsTraceAnswer}
 use Rattle.recorded.specs.declared.refusal.HistoryFault.{HistoryFault}
 use Rattle.recorded.specs.Refusals.{history_fault_text}
 use Rattle.replay.specs.declared.verdict.Judgement.{Judgement}
@@ -33,6 +36,11 @@ Meets Wanted answer = Wanted answer.status (string_bytes answer.out) (string_byt
 abbrev pub IsFaultAnswer : List ℕ → List ℕ → Fault → Answer → Type 0
 IsFaultAnswer file text fault answer =
     (answer.status ≡ Refused) × (string_bytes answer.out ≡ []) × (string_bytes answer.err ≡ line (fault_text file text fault))
+
+-- to a fault that is explained
+abbrev pub IsExplainedAnswer : Explanation → Answer → Type 0
+IsExplainedAnswer explanation answer =
+    (answer.status ≡ Refused) × (string_bytes answer.out ≡ explanation_text_of explanation) × (string_bytes answer.err ≡ [])
 
 abbrev pub IsBadStepsAnswer : List ℕ → List ℕ → StepsFault → Answer → Type 0
 IsBadStepsAnswer steps_file items fault answer =
@@ -63,7 +71,8 @@ RequestAnswers Check text plan = IsCheckReport text plan
 RequestAnswers Listing text plan = IsListed plan
 RequestAnswers (Serial turns) text plan = IsRun turns plan.accepted
 
--- to one for a program and the text of another file
-abbrev pub PairWanted : PairRequest → List ℕ → List ℕ → Plan → Status → List ℕ → List ℕ → Type 0
-PairWanted Simulate other_file other = IsSimulated other_file other
-PairWanted (Replay judging) other_file other = IsReplayed judging other_file other
+-- to one for a program with this text, and the text of another file
+abbrev pub PairWanted : PairRequest → List ℕ → List ℕ → List ℕ → Plan → Status → List ℕ → List ℕ → Type 0
+PairWanted Simulate text other_file other = IsSimulated other_file other
+PairWanted (Trace moves) text other_file other = IsTraceAnswer moves other_file text other
+PairWanted (Replay judging) text other_file other = IsReplayed judging other_file other

@@ -4,8 +4,10 @@ pub mod Messages
 pub mod Answers
 pub mod Serial
 pub mod Checks
+pub mod Explanations
 pub mod Listings
 pub mod Simulations
+pub mod Traces
 pub mod Replays
 pub mod ThreadRuns
 pub mod Engines
@@ -20,8 +22,10 @@ pub use Rattle.compiler.specs.Programs.{Accepts}
 pub use Rattle.driver.specs.Answers.{TextAnswers, Alone, Beside}
 pub use Rattle.driver.specs.Serial.{SerialAnswers}
 pub use Rattle.driver.specs.Checks.{CheckAnswers}
+pub use Rattle.driver.specs.Explanations.{ExplainAnswers}
 pub use Rattle.driver.specs.Listings.{ListingAnswers}
 pub use Rattle.driver.specs.Simulations.{SimulationAnswers}
+pub use Rattle.driver.specs.Traces.{TraceAnswers}
 pub use Rattle.driver.specs.Replays.{ReplayAnswers}
 pub use Rattle.driver.specs.ThreadRuns.{ThreadsAnswers}
 pub use Rattle.driver.specs.Engines.{Serves, Reading, reading_of}

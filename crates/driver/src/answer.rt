@@ -16,6 +16,7 @@ use crate::running::{prepared, run_scripts};
 use crate::simulating::simulated;
 use crate::status::Status;
 use crate::threads_run::run_by_threads;
+use crate::tracing::traced;
 use check_report::Check;
 use code::listing;
 use compiler::compile;
@@ -174,19 +175,21 @@ pub fn answer_to(
     }
 }
 
-/// What is answered to a request for a program and the text of another file.
+/// What is answered to a request for two texts, of which this is the program.
 fn of_pair(
     alloc: Global,
     request: PairRequest,
     program: &Program,
-    other_file: &str,
-    other: &[u8],
+    pair: &Pair<'_>,
 ) -> Result<Answer, NoMemory>
-    ensures { IfOk result (Meets (PairWanted request other_file.now other.now program.now)) }
+    ensures { IfOk result (Meets (PairWanted request pair.now.text.now pair.now.other_file.now pair.now.other.now program.now)) }
 {
     match request {
-        PairRequest::Simulate => simulated(alloc, program, other_file, other),
-        PairRequest::Replay(judging) => replayed(alloc, program, judging, other_file, other),
+        PairRequest::Simulate => simulated(alloc, program, pair.other_file, pair.other),
+        PairRequest::Trace { moves } => traced(alloc, program, moves, pair),
+        PairRequest::Replay(judging) => {
+            replayed(alloc, program, judging, pair.other_file, pair.other)
+        }
     }
 }
 
@@ -196,11 +199,11 @@ pub fn pair_answer_to(
     request: PairRequest,
     pair: &Pair<'_>,
 ) -> Result<Answer, NoMemory>
-    ensures { IfOk result (Meets (TextAnswers (PairWanted request pair.now.other_file.now pair.now.other.now)
+    ensures { IfOk result (Meets (TextAnswers (PairWanted request pair.now.text.now pair.now.other_file.now pair.now.other.now)
         pair.now.file.now pair.now.text.now)) }
 {
     match accepted(alloc, pair.file, pair.text)? {
-        Ok(program) => of_pair(alloc, request, &program, pair.other_file, pair.other),
+        Ok(program) => of_pair(alloc, request, &program, pair),
         Err(answer) => Ok(answer),
     }
 }

@@ -10,6 +10,7 @@ ghost use Rattle.driver.specs.Replays.{ReplayAnswers};
 ghost use Rattle.driver.specs.Serial.{SerialAnswers};
 ghost use Rattle.driver.specs.Simulations.{SimulationAnswers};
 ghost use Rattle.driver.specs.ThreadRuns.{ThreadsAnswers};
+ghost use Rattle.driver.specs.Traces.{TraceAnswers};
 ghost use Rattle.driver.specs.Serving.{IsMissed};
 ghost use Rattle.driver.specs.Streams.{name_of, reading_failed, writing_failed, Tells};
 
@@ -24,7 +25,7 @@ use std::sync::Wait;
 use std::thread::Threads;
 
 /// How many bytes a program's text may have.
-const MOST_BYTES: u64 = 1_048_576;
+pub(crate) const MOST_BYTES: u64 = 1_048_576;
 
 /// More bytes than there are in any file.
 const ALL_BYTES: u64 = u64::MAX - 1;
@@ -61,7 +62,7 @@ fn serve_pair<S: Read, T: Read, O: Write, E: Write>(
     requires readable { reading_failed source.old ≡ false }
     requires other_readable { reading_failed other.old ≡ false }
     requires writable { writing_failed streams.old.out ≡ false }
-    ensures { Serves (Beside (λ text items. TextAnswers (PairWanted request (name_of other.old) items) (name_of source.old) text))
+    ensures { Serves (Beside (λ text items. TextAnswers (PairWanted request text (name_of other.old) items) (name_of source.old) text))
         (reading_of S.remaining source.old source.new) (reading_of T.remaining other.old other.new ∷ [])
         O.contents E.contents streams.old streams.new result }
 {
@@ -160,6 +161,26 @@ pub fn simulate<S: Read, T: Read, O: Write, E: Write>(
         O.contents E.contents streams.old streams.new result }
 {
     serve_pair(alloc, PairRequest::Simulate, source, steps, streams)
+}
+
+/// Makes the steps that `steps` gives over the threads of the program that `source` gives, and writes a line for each of them
+/// to `out`, but for instructions where `moves` is false, and then what [`simulate`] writes. Answers how that ended, as
+/// `simulate` does.
+pub fn trace<S: Read, T: Read, O: Write, E: Write>(
+    alloc: Global,
+    moves: bool,
+    source: &mut SourceText<'_, S>,
+    steps: &mut SourceText<'_, T>,
+    streams: &mut Streams<O, E>,
+) -> Status
+    requires readable { reading_failed source.old ≡ false }
+    requires steps_readable { reading_failed steps.old ≡ false }
+    requires writable { writing_failed streams.old.out ≡ false }
+    ensures { Serves (Beside (TraceAnswers moves (name_of source.old) (name_of steps.old)))
+        (reading_of S.remaining source.old source.new) (reading_of T.remaining steps.old steps.new ∷ [])
+        O.contents E.contents streams.old streams.new result }
+{
+    serve_pair(alloc, PairRequest::Trace { moves }, source, steps, streams)
 }
 
 /// Compares the history that `history` gives with what the calls of the program that `source` gives answer, one after

@@ -6,9 +6,12 @@
 //!
 //! - [`check`]: in which order a program takes its locks, and which ones before each statement. `specs/Checks.antt` says
 //!   what it answers.
+//! - [`explain`]: the fault of a program, with its place in the source. `specs/Explanations.antt` says what it answers.
 //! - [`list`]: the instructions of each section. `specs/Listings.antt` says what it answers.
 //! - [`serial`]: all calls of a program one after another. `specs/Serial.antt` says what it answers.
 //! - [`simulate`]: the world after the steps of a steps file. `specs/Simulations.antt` says what it answers.
+//! - [`trace`]: the steps of a steps file one after another, and the world after them. `specs/Traces.antt` says what it
+//!   answers.
 //! - [`run`]: a history of the program's scripts, each run by a thread of its own. `specs/ThreadRuns.antt` says what it
 //!   answers.
 //! - [`replay`]: the verdict on a recorded history, and why it differs. `specs/Replays.antt` says what it answers.
@@ -19,6 +22,7 @@
 
 mod answer;
 mod engine;
+mod explaining;
 mod replaying;
 mod request;
 mod running;
@@ -29,9 +33,11 @@ mod source_text;
 mod status;
 mod streams;
 mod threads_run;
+mod tracing;
 mod why;
 
-pub use engine::{check, list, miss_other, replay, run, serial, simulate};
+pub use engine::{check, list, miss_other, replay, run, serial, simulate, trace};
+pub use explaining::explain;
 pub use request::Judging;
 pub use sink::Sink;
 pub use source_text::{ReadError, SourceText};

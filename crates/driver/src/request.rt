@@ -19,6 +19,11 @@ pub enum Request {
 pub enum PairRequest {
     /// The world after the steps of a steps file.
     Simulate,
+    /// The steps of a steps file, and the world after them.
+    Trace {
+        /// Whether instructions are told.
+        moves: bool,
+    },
     /// Whether a recorded history is one of the program's.
     Replay(Judging),
 }

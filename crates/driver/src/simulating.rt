@@ -15,7 +15,7 @@ use steps::refusal::{StepsFault, StepsRefusal};
 use steps::{read_steps, steps_fault_line};
 
 /// The line of a fault of the steps file.
-fn bad_steps(
+pub fn bad_steps(
     alloc: Global,
     steps_file: &str,
     items: &[u8],

@@ -7,3 +7,4 @@ pub mod Turning
 pub mod Opening
 pub mod Many
 pub mod Along
+pub mod ComingTo

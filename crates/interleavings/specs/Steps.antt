@@ -19,6 +19,8 @@ use Rattle.interleavings.specs.declared.state.State.TheVariants as state
 use Rattle.worlds.specs.Waiting.{first_if}
 use Rattle.interleavings.specs.declared.status.Status.{Status}
 use Rattle.interleavings.specs.declared.status.Status.TheVariants as status
+use Rattle.interleavings.specs.declared.coming.Coming.{Coming}
+use Rattle.interleavings.specs.declared.coming.Coming.TheVariants as coming
 use Rattle.interleavings.specs.Statuses.{calling, asking}
 use Rattle.interleavings.specs.States.{state_of}
 
@@ -146,3 +148,13 @@ status_at plan m (state.Ready r) = calling (call_at plan r.thread r.step)
 status_at plan m (state.Running o) = status.Running
 status_at plan m (state.Asking o) = asking_at m o
 status_at plan m (state.Ended o) = status.Running
+
+-- ---- what comes
+
+-- what the next step of a thread in this state takes up
+abbrev pub coming_at : State → Coming
+coming_at state.Away = coming.Other
+coming_at (state.Ready r) = coming.Call r.step
+coming_at (state.Running o) = coming.Instruction o.activation.call.section o.activation.machine.place
+coming_at (state.Asking o) = coming.Other
+coming_at (state.Ended o) = coming.Other

@@ -2,10 +2,11 @@
 
 ghost use Rattle.std.specs.Prelude.{◌≡◌, ◌<◌, ◌≤◌, length, MatchOption, IfOk};
 ghost use Rattle.interleavings.specs.States.{state_of, AreReady};
-ghost use Rattle.interleavings.specs.Steps.{Stepped, AskingSteps, EndedSteps, CanBegin, CanStep, HasNoCall, IsCall, status_at, asking_at};
+ghost use Rattle.interleavings.specs.Steps.{Stepped, AskingSteps, EndedSteps, CanBegin, CanStep, HasNoCall, IsCall, status_at, asking_at, coming_at};
 ghost use Rattle.interleavings.specs.declared.state.State.TheVariants as state;
 ghost use Rattle.runner.specs.Opens.{CanBeReleased, IsKnown};
 
+use crate::coming::Coming;
 use crate::state::State;
 use crate::status::Status;
 use core_lang::typed::Call;
@@ -147,6 +148,22 @@ fn wanted(manager: &Manager<'_>, section: &Asking<'_>) -> Status
     match manager.holder(lock) {
         None => Status::Running,
         Some(holder) => Status::Waits(lock, holder),
+    }
+}
+
+/// What the next step of a thread in this state takes up.
+pub fn coming(state: &State<'_>) -> Coming
+    ensures { result ≡ coming_at state.now }
+{
+    match state {
+        State::Away => Coming::Other,
+        State::Ready(ready) => Coming::Call(ready.step()),
+        State::Running(running) => Coming::Instruction {
+            section: running.section(),
+            place: running.place(),
+        },
+        State::Asking(_) => Coming::Other,
+        State::Ended(_) => Coming::Other,
     }
 }
 

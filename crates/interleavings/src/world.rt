@@ -6,11 +6,13 @@ ghost use Rattle.worlds.specs.declared.event.Event.TheVariants.{Began};
 ghost use Rattle.worlds.specs.Claims.{Headline};
 ghost use Rattle.interleavings.specs.Threads.{cell_in, at_opening, after_steps, with_steps, StopsAtBegin};
 ghost use Rattle.interleavings.specs.Statuses.{status_of};
+ghost use Rattle.interleavings.specs.Coming.{coming_to};
 ghost use Rattle.steps.specs.Turns.{steps_of};
 
+use crate::coming::Coming;
 use crate::state::State;
 use crate::status::Status;
-use crate::stepping::{all_ready, put, state_of, status, step};
+use crate::stepping::{all_ready, coming, put, state_of, status, step};
 use core_lang::value::Value;
 use history::entries::History;
 use lock_manager::manager::Manager;
@@ -187,6 +189,16 @@ impl<'p> World<'p> {
             None => Status::Idle,
             Some(state) => status(self.program, &self.manager, state),
         }
+    }
+
+    /// What a thread's next step takes up.
+    pub fn coming(&self, thread: u32) -> Coming
+        ensures { result ≡ coming_to self.now.world thread }
+    {
+        let Some(state) = self.states.get(thread as usize) else {
+            return Coming::Other;
+        };
+        coming(state)
     }
 }
 

@@ -71,7 +71,11 @@ fn push_lock_owner(out: &mut String, program: &Typed, lock: Lock) -> Result<(), 
 }
 
 /// A lock, as `G` or `p[0].l`.
-pub(crate) fn push_lock(out: &mut String, program: &Typed, lock: Lock) -> Result<(), AllocError>
+///
+/// # Errors
+///
+/// Want of memory.
+pub fn push_lock(out: &mut String, program: &Typed, lock: Lock) -> Result<(), AllocError>
     ensures { OnOk result (AddsText (text.lock_text program.now lock) out.old out.new) }
 {
     push_lock_owner(out, program, lock)?;
@@ -94,7 +98,11 @@ fn push_values(out: &mut String, shape: &Shape, values: &[Value]) -> Result<(), 
 }
 
 /// What is called, as `inc(1, p[0])`.
-pub(crate) fn push_invocation(
+///
+/// # Errors
+///
+/// Want of memory.
+pub fn push_invocation(
     out: &mut String,
     typed: &Typed,
     section: usize,

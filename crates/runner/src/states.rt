@@ -431,6 +431,22 @@ impl<'p> Running<'p> {
         self.open.ticket.begun()
     }
 
+    /// The section, an index into the program's sections.
+    #[inline]
+    pub fn section(&self) -> usize
+        ensures { result ≡ self.now.activation.call.section }
+    {
+        self.open.section
+    }
+
+    /// The place of its next instruction in the section's code.
+    #[inline]
+    pub fn place(&self) -> usize
+        ensures { result ≡ self.now.activation.machine.place }
+    {
+        self.open.machine.place()
+    }
+
     /// Does its next instruction, which has its case.
     #[inline]
     pub fn step(self) -> Next<'p>

@@ -23,6 +23,10 @@ turns_rule = record (new_rule (codes "turns")) {
 abbrev pub why_rule : Rule
 why_rule = record (new_rule (codes "why")) { long = Some (codes "why"); action = Some SetTrue }
 
+-- --sections
+abbrev pub sections_rule : Rule
+sections_rule = record (new_rule (codes "sections")) { long = Some (codes "sections"); action = Some SetTrue }
+
 -- a command over one file
 abbrev pub with_file : Text → App
 with_file name = with_rule (new_app name) (file_rule (codes "FILE"))
@@ -43,6 +47,10 @@ with_history app = with_rule app (file_rule (codes "HISTORY"))
 abbrev pub with_why : App → App
 with_why app = with_rule app why_rule
 
+-- a command that takes --sections besides
+abbrev pub with_sections : App → App
+with_sections app = with_rule app sections_rule
+
 -- a command that must have a subcommand
 abbrev pub needs_subcommand : App → App
 needs_subcommand app = record app { top = record app.top { subcommand_required = true } }
@@ -59,6 +67,10 @@ program = needs_subcommand (with_version (new_app (codes "autolock")))
 abbrev pub with_check : App → App
 with_check app = with_subcommand app (with_file (codes "check")).top
 
+-- autolock explain FILE
+abbrev pub with_explain : App → App
+with_explain app = with_subcommand app (with_file (codes "explain")).top
+
 -- autolock listing FILE
 abbrev pub with_listing : App → App
 with_listing app = with_subcommand app (with_file (codes "listing")).top
@@ -71,6 +83,10 @@ with_serial app = with_subcommand app (with_turns (with_file (codes "serial"))).
 abbrev pub with_simulate : App → App
 with_simulate app = with_subcommand app (with_steps (with_file (codes "simulate"))).top
 
+-- autolock trace [--sections] FILE STEPS
+abbrev pub with_trace : App → App
+with_trace app = with_subcommand app (with_sections (with_steps (with_file (codes "trace")))).top
+
 -- autolock run FILE
 abbrev pub with_run : App → App
 with_run app = with_subcommand app (with_file (codes "run")).top
@@ -81,7 +97,7 @@ with_replay app = with_subcommand app (with_why (with_turns (with_history (with_
 
 -- the whole command line
 abbrev pub autolock : App
-autolock = with_replay (with_run (with_simulate (with_serial (with_listing (with_check program)))))
+autolock = with_replay (with_run (with_trace (with_simulate (with_serial (with_listing (with_explain (with_check program)))))))
 
 -- the command is that one, and has no global argument
 abbrev pub IsCommand : App → Command → Type 0

@@ -7,7 +7,7 @@ use Rattle.clap.specs.declared.error.Error.{Error}
 use Rattle.clap.specs.declared.error.kind.ErrorKind.TheVariants.{MissingSubcommand}
 use Rattle.words.specs.Commands.{autolock}
 use Rattle.words.specs.declared.line.Line.{Line}
-use Rattle.words.specs.declared.line.Line.TheVariants.{Check, Listing, Serial, Simulate, Run, Replay}
+use Rattle.words.specs.declared.line.Line.TheVariants.{Check, Explain, Listing, Serial, Simulate, Trace, Run, Replay}
 
 -- the value of a name, or nothing
 abbrev pub name_in : Text → List Row → Text
@@ -19,24 +19,28 @@ pub record IsTurns (rows : List Row) (turns : ℕ) : Type 0 where
       → digits_value 10 (without_leading_plus text) < 2 ^ 64 → turns ≡ digits_value 10 (without_leading_plus text)
   pub default : one_of (codes "turns") rows ≡ None → turns ≡ 1000000
 
--- whether `why` stands among the words, as clap tells it
-pub record IsWhy (rows : List Row) (why : Bool) : Type 0 where
-  pub given : one_of (codes "why") rows ≡ Some (codes "true") → why ≡ true
-  pub withheld : one_of (codes "why") rows ≡ Some (codes "false") → why ≡ false
-  pub default : one_of (codes "why") rows ≡ None → why ≡ false
+-- whether a word that takes no value stands among the words, as clap tells it
+pub record IsFlag (id : Text) (rows : List Row) (is : Bool) : Type 0 where
+  pub given : one_of id rows ≡ Some (codes "true") → is ≡ true
+  pub withheld : one_of id rows ≡ Some (codes "false") → is ≡ false
+  pub default : one_of id rows ≡ None → is ≡ false
 
 -- the line is that command, with the values of its arguments
 abbrev pub IsLine : Text → List Row → Line → Type 0
 IsLine command rows (Check file) = (command ≡ codes "check") × (file.now ≡ name_in (codes "FILE") rows)
+IsLine command rows (Explain file) = (command ≡ codes "explain") × (file.now ≡ name_in (codes "FILE") rows)
 IsLine command rows (Listing file) = (command ≡ codes "listing") × (file.now ≡ name_in (codes "FILE") rows)
 IsLine command rows (Serial file turns) =
     (command ≡ codes "serial") × (file.now ≡ name_in (codes "FILE") rows) × IsTurns rows turns
 IsLine command rows (Simulate file steps) =
     (command ≡ codes "simulate") × (file.now ≡ name_in (codes "FILE") rows) × (steps.now ≡ name_in (codes "STEPS") rows)
+IsLine command rows (Trace file steps sections) =
+    (command ≡ codes "trace") × (file.now ≡ name_in (codes "FILE") rows) × (steps.now ≡ name_in (codes "STEPS") rows)
+    × IsFlag (codes "sections") rows sections
 IsLine command rows (Run file) = (command ≡ codes "run") × (file.now ≡ name_in (codes "FILE") rows)
 IsLine command rows (Replay file history turns why) =
     (command ≡ codes "replay") × (file.now ≡ name_in (codes "FILE") rows) × (history.now ≡ name_in (codes "HISTORY") rows)
-    × IsTurns rows turns × IsWhy rows why
+    × IsTurns rows turns × IsFlag (codes "why") rows why
 
 -- the line is the subcommand that was met
 abbrev pub IsLineOf : Option (Text × List Row) → Line → Type 0
@@ -46,8 +50,8 @@ IsLineOf (Some (command, rows)) line = IsLine command rows line
 -- a name of the program's own subcommands
 abbrev pub IsOwnName : Text → Type 0
 IsOwnName command =
-    (command ≡ codes "check") ⊎ ((command ≡ codes "listing") ⊎ ((command ≡ codes "serial")
-    ⊎ ((command ≡ codes "simulate") ⊎ ((command ≡ codes "run") ⊎ (command ≡ codes "replay")))))
+    (command ≡ codes "check") ⊎ ((command ≡ codes "explain") ⊎ ((command ≡ codes "listing") ⊎ ((command ≡ codes "serial")
+    ⊎ ((command ≡ codes "simulate") ⊎ ((command ≡ codes "trace") ⊎ ((command ≡ codes "run") ⊎ (command ≡ codes "replay")))))))
 
 -- the subcommand that was met is one of the program's own
 abbrev pub IsOwn : Option (Text × List Row) → Type 0

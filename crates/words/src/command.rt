@@ -2,7 +2,7 @@
 
 ghost use Rattle.std.specs.Prelude.{◌≡◌, IfOk, codes, false};
 ghost use Rattle.clap.specs.Words.{rule_of};
-ghost use Rattle.words.specs.Commands.{IsCommand, file_rule, turns_rule, why_rule, with_file, with_turns, with_steps, with_history, with_why, Adds, AddsRule, autolock};
+ghost use Rattle.words.specs.Commands.{IsCommand, file_rule, turns_rule, why_rule, sections_rule, with_file, with_turns, with_steps, with_history, with_why, with_sections, Adds, AddsRule, autolock};
 
 use clap::builder::ValueParser;
 use clap::{Arg, ArgAction, Command};
@@ -41,6 +41,17 @@ fn why_argument<'a>(alloc: Global) -> Arg<'a>
         .long("why")
         .action(ArgAction::SetTrue)
         .help("Say what may stand where the history differs")
+}
+
+/// `--sections`.
+fn sections_argument<'a>(alloc: Global) -> Arg<'a>
+    ensures rule { rule_of result ≡ sections_rule }
+    ensures local { result.global ≡ false }
+{
+    Arg::new(alloc, "sections")
+        .long("sections")
+        .action(ArgAction::SetTrue)
+        .help("Leave the instructions out")
 }
 
 /// A command over one file.
@@ -114,6 +125,17 @@ fn replay_command<'a>(alloc: Global) -> Result<Command<'a>, AllocError>
     with_argument(command, why_argument(alloc))
 }
 
+/// `trace`.
+fn trace_command<'a>(alloc: Global) -> Result<Command<'a>, AllocError>
+    ensures { IfOk result (IsCommand (with_sections (with_steps (with_file (codes "trace"))))) }
+{
+    let about =
+        "Run the steps of a steps file, and write a line for each, then what simulate writes";
+    let command = file_command(alloc, "trace", about);
+    let command = with_argument(command, steps_argument(alloc));
+    with_argument(command, sections_argument(alloc))
+}
+
 /// A command line with one more command, where both could be made.
 fn with_command<'a>(
     line: Result<Command<'a>, AllocError>,
@@ -134,10 +156,14 @@ pub fn command<'a>(alloc: Global) -> Result<Command<'a>, AllocError>
         .subcommand_required(true);
     let about = "Say in which order locks are taken, and which ones before each statement";
     let line = with_command(Ok(line), file_command(alloc, "check", about));
+    let about =
+        "Tell the fault of a program, with its place in the source and what can be done about it";
+    let line = with_command(line, file_command(alloc, "explain", about));
     let about = "Write the instructions of each section";
     let line = with_command(line, file_command(alloc, "listing", about));
     let line = with_command(line, serial_command(alloc));
     let line = with_command(line, simulate_command(alloc));
+    let line = with_command(line, trace_command(alloc));
     let line = with_command(line, run_command(alloc));
     with_command(line, replay_command(alloc))
 }

@@ -11,6 +11,11 @@ pub enum Line<'a> {
         /// The file of the program's text.
         file: &'a str,
     },
+    /// `explain`: tell the fault of a program, with its place in the source and what can be done about it.
+    Explain {
+        /// The file of the program's text.
+        file: &'a str,
+    },
     /// `listing`: write the instructions of a program's sections.
     Listing {
         /// The file of the program's text.
@@ -29,6 +34,15 @@ pub enum Line<'a> {
         file: &'a str,
         /// The steps file.
         steps: &'a str,
+    },
+    /// `trace`: the same, with a line for each step before it.
+    Trace {
+        /// The file of the program's text.
+        file: &'a str,
+        /// The steps file.
+        steps: &'a str,
+        /// Whether the instructions of sections are left out.
+        sections: bool,
     },
     /// `run`: run the calls of each thread of a program in a thread of its own.
     Run {

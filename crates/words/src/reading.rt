@@ -3,7 +3,7 @@
 ghost use Rattle.std.specs.Prelude.{◌≡◌, IfOk, IfErr, IfSome, OnOk, None, [], map};
 ghost use Rattle.clap.specs.Words.{fault_of, found_of, rows_of, subcommand_of};
 ghost use Rattle.words.specs.Commands.{autolock};
-ghost use Rattle.words.specs.Lines.{name_in, IsTurns, IsWhy, IsLine, IsLineOf, IsOwnName, IsRefused};
+ghost use Rattle.words.specs.Lines.{name_in, IsTurns, IsFlag, IsLine, IsLineOf, IsOwnName, IsRefused};
 
 use crate::command::command;
 use crate::line::{DEFAULT_TURNS, Line};
@@ -25,11 +25,11 @@ fn turns(matches: &ArgMatches<'_>) -> u64
     matches.get_one::<u64>("turns").unwrap_or(DEFAULT_TURNS)
 }
 
-/// Whether `--why` is given.
-fn why(matches: &ArgMatches<'_>) -> bool
-    ensures { IsWhy (rows_of (found_of matches.now)) result }
+/// Whether a word that takes no value is given.
+fn flag(matches: &ArgMatches<'_>, id: &str) -> bool
+    ensures { IsFlag id.now (rows_of (found_of matches.now)) result }
 {
-    matches.get_flag("why")
+    matches.get_flag(id)
 }
 
 /// The line of a command, or `None` where there is no such command.
@@ -40,6 +40,7 @@ fn line<'a>(command: &str, matches: &ArgMatches<'a>) -> Option<Line<'a>>
     let file = name(matches, "FILE");
     match command {
         "check" => Some(Line::Check { file }),
+        "explain" => Some(Line::Explain { file }),
         "listing" => Some(Line::Listing { file }),
         "serial" => Some(Line::Serial {
             file,
@@ -49,12 +50,17 @@ fn line<'a>(command: &str, matches: &ArgMatches<'a>) -> Option<Line<'a>>
             file,
             steps: name(matches, "STEPS"),
         }),
+        "trace" => Some(Line::Trace {
+            file,
+            steps: name(matches, "STEPS"),
+            sections: flag(matches, "sections"),
+        }),
         "run" => Some(Line::Run { file }),
         "replay" => Some(Line::Replay {
             file,
             history: name(matches, "HISTORY"),
             turns: turns(matches),
-            why: why(matches),
+            why: flag(matches, "why"),
         }),
         _ => None,
     }

@@ -15,7 +15,7 @@ use Rattle.driver.proofs.engine.serve_pair.Goals as goal
 pub returns-in-Err : goal.returns-in-Err
 returns-in-Err g c =
     program_unread
-    (Beside (λ text items. TextAnswers (PairWanted c.args.request (name_of c.args.other.now) items) (name_of c.args.source.now) text))
+    (Beside (λ text items. TextAnswers (PairWanted c.args.request text (name_of c.args.other.now) items) (name_of c.args.source.now) text))
     (reading_of g.S.Read.remaining c.args.source.now c.read.new.source)
     (reading_of g.T.Read.remaining c.args.other.now c.args.other.now ∷ []) g.O.Write.contents g.E.Write.contents c.args.streams.now
     c.read.new.self c.in-Err.status c.requires.writable c.in-Err.ensures.out (rw c.requires.other_readable refl) c.in-Err.ensures.unread
@@ -23,7 +23,7 @@ returns-in-Err g c =
 pub returns-in-Err-read : goal.returns-in-Err-read
 returns-in-Err-read g c =
     other_unread
-    (Beside (λ text items. TextAnswers (PairWanted c.args.request (name_of c.args.other.now) items) (name_of c.args.source.now) text))
+    (Beside (λ text items. TextAnswers (PairWanted c.args.request text (name_of c.args.other.now) items) (name_of c.args.source.now) text))
     (reading_of g.S.Read.remaining c.args.source.now c.read.new.source)
     (reading_of g.T.Read.remaining c.args.other.now c.read-2.new.source) g.O.Write.contents g.E.Write.contents c.args.streams.now
     c.read-2.new.self c.in-Err-read.status c.in-Ok.ensures.ok c.requires.writable
@@ -45,18 +45,18 @@ returns g c =
     let other_is = c.name-2.ensures ∙ c.read-2.ensures.name in
     let whole = IfOk-weaker c.pair_answer_to-answer.result _
     (IsRight
-    (Beside (λ text items. TextAnswers (PairWanted c.args.request (name_of c.args.other.now) items) (name_of c.args.source.now) text))
+    (Beside (λ text items. TextAnswers (PairWanted c.args.request text (name_of c.args.other.now) items) (name_of c.args.source.now) text))
     (reading_of g.S.Read.remaining c.args.source.now c.read.new.source)
     (reading_of g.T.Read.remaining c.args.other.now c.read-2.new.source ∷ []))
     (λ answer is.
-    let right = answers_of_whole (λ text. PairWanted c.args.request (name_of c.args.other.now) items) (name_of c.args.source.now)
+    let right = answers_of_whole (λ text. PairWanted c.args.request text (name_of c.args.other.now) items) (name_of c.args.source.now)
     c.deref.result.now had _ _ _ bytes (rw (name_is, other_is) at is) in
     record {
       text = right.0;
       texts = items ∷ [];
       gave = (right.1, (other_whole, tt));
       answers = right.2;
-      answered = pair_is_answered _ _ _ _ _ _ _ _ is;
+      answered = pair_is_answered _ _ _ _ _ _ _ _ _ is;
     })
     c.pair_answer_to-answer.ensures in
     given_served _ _ _ _ _ c.args.streams.now c.give.new.self c.give.result c.pair_answer_to-answer.result

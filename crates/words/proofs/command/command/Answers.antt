@@ -1,13 +1,22 @@
 use Rattle.std.proofs.Common.{rules}
-use Rattle.words.specs.Commands.{IsCommand, program, with_check, with_listing, with_serial, with_simulate, with_run}
+use Rattle.words.specs.Commands.{IsCommand, program, with_check, with_explain, with_listing, with_serial, with_simulate, with_trace, with_run}
 use Rattle.words.proofs.command.command.Goals as goal
 
 pub returns : goal.returns
 returns c =
     let top : IsCommand program c.subcommand_required-line.result = search rules in
+    let check = with_check program in
+    let explain = with_explain check in
+    let listing = with_listing explain in
+    let serial = with_serial listing in
+    let simulate = with_simulate serial in
+    let trace = with_trace simulate in
+    let run = with_run trace in
     let first = c.with_command-line.ensures program _ top c.file_command.ensures in
-    let second = c.with_command-line-2.ensures (with_check program) _ first c.file_command-2.ensures in
-    let third = c.with_command-line-3.ensures (with_listing (with_check program)) _ second c.serial_command.ensures in
-    let fourth = c.with_command-line-4.ensures (with_serial (with_listing (with_check program))) _ third c.simulate_command.ensures in
-    let fifth = c.with_command-line-5.ensures (with_simulate (with_serial (with_listing (with_check program)))) _ fourth c.run_command.ensures in
-    c.with_command.ensures (with_run (with_simulate (with_serial (with_listing (with_check program))))) _ fifth c.replay_command.ensures
+    let second = c.with_command-line-2.ensures check _ first c.file_command-2.ensures in
+    let third = c.with_command-line-3.ensures explain _ second c.file_command-3.ensures in
+    let fourth = c.with_command-line-4.ensures listing _ third c.serial_command.ensures in
+    let fifth = c.with_command-line-5.ensures serial _ fourth c.simulate_command.ensures in
+    let sixth = c.with_command-line-6.ensures simulate _ fifth c.trace_command.ensures in
+    let seventh = c.with_command-line-7.ensures trace _ sixth c.run_command.ensures in
+    c.with_command.ensures run _ seventh c.replay_command.ensures

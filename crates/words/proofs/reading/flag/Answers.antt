@@ -1,12 +1,11 @@
 use Rattle.std.proofs.Common.{◌∙◌}
-use Rattle.std.specs.Prelude.{codes}
 use Rattle.clap.proofs.WalkLemmas.{one_text-rows}
 use Rattle.clap.specs.Words.{found_of}
-use Rattle.words.proofs.reading.why.Goals as goal
+use Rattle.words.proofs.reading.flag.Goals as goal
 
 pub returns : goal.returns
 returns c =
-    let rows = one_text-rows (found_of c.args.matches.now) (codes "why") in
+    let rows = one_text-rows (found_of c.args.matches.now) c.args.id.now in
     record {
       given = λ is. c.get_flag.ensures.value (rows ∙ is);
       withheld = λ is. c.get_flag.ensures.other (rows ∙ is);

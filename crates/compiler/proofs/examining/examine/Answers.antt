@@ -1,0 +1,72 @@
+use Rattle.std.proofs.lemmas.Result.{err_from_is_err_and}
+use Rattle.compiler.specs.Programs.{Accepts, in_order}
+use Rattle.compiler.proofs.RefusalLemmas.{no_memory_refused, tokens_refused, tree_refused, paths_refused}
+use Rattle.compiler.proofs.FaultlessLemmas.{faultless, tokens_faultless}
+use Rattle.compiler.proofs.examining.examine.Goals as goal
+
+pub returns-in_err-tree-clause-fault : goal.returns-in_err-tree-clause-fault
+returns-in_err-tree-clause-fault c =
+    let p = err_from_is_err_and c.from_residual-in_err-tree.result c.from_residual-in_err-tree.ensures.1 in
+    rw (p.1, p.2)
+    (tokens_refused _ _ c.in_err-tree.field-0.0 c.in_ok-tokens.ensures.refused c.in_ok-tokens.ensures.found (rw c.deref.ensures.value at c.in_err-tree.ensures.fault))
+
+pub returns-in_err-accepted-clause-fault : goal.returns-in_err-accepted-clause-fault
+returns-in_err-accepted-clause-fault c =
+    let p = err_from_is_err_and c.from_residual-in_err-accepted.result c.from_residual-in_err-accepted.ensures.1 in
+    let right = rw c.deref.ensures.value at c.in_ok-tree.ensures.found in
+    let placed = rw c.deref.ensures.value at c.in_ok-tree.ensures.misplaced in
+    rw (p.1, p.2)
+    (tree_refused _ _ _ c.in_err-accepted.field-0.0 c.in_ok-tokens.ensures.refused c.in_ok-tokens.ensures.found
+    (λ code start. tokens_faultless _ _ _ code start c.in_ok-tokens.ensures.found right placed) right
+    c.in_err-accepted.ensures.fault c.in_err-accepted.ensures.least)
+
+pub returns-in_err-written-clause-fault : goal.returns-in_err-written-clause-fault
+returns-in_err-written-clause-fault c =
+    let p = err_from_is_err_and c.from_residual-in_err-written.result c.from_residual-in_err-written.ensures.1 in
+    rw (p.1, p.2) (no_memory_refused _ c.in_err-written.field-0.0 c.in_err-written.ensures.fault)
+
+pub returns-in_err-found-clause-fault : goal.returns-in_err-found-clause-fault
+returns-in_err-found-clause-fault c =
+    let p = err_from_is_err_and c.from_residual-in_err-found.result c.from_residual-in_err-found.ensures.1 in
+    let right = rw c.deref.ensures.value at c.in_ok-tree.ensures.found in
+    let placed = rw c.deref.ensures.value at c.in_ok-tree.ensures.misplaced in
+    rw (p.1, p.2)
+    (paths_refused _ _ _ _ _ c.in_err-found.field-0.0 c.in_ok-tokens.ensures.refused c.in_ok-tokens.ensures.found
+    (λ code start. tokens_faultless _ _ _ code start c.in_ok-tokens.ensures.found right placed) right c.in_ok-accepted.ensures.faultless
+    c.in_ok-accepted.ensures.resolves c.in_ok-written.ensures.expanded c.in_err-found.ensures.fault c.in_err-found.ensures.least)
+
+pub returns-in-Ok-clause-accepts : goal.returns-in-Ok-clause-accepts
+returns-in-Ok-clause-accepts c =
+    let right = rw c.deref.ensures.value at c.in_ok-tree.ensures.found in
+    record {
+      tokens = _;
+      tree = _;
+      has_tokens = c.in_ok-tokens.ensures.found;
+      has_tree = right;
+      resolves = c.in_ok-accepted.ensures.resolves;
+      faultless = faultless _ _ _ _ _ c.in_ok-tokens.ensures.refused c.in_ok-tokens.ensures.only c.in_ok-tokens.ensures.found right
+          (rw c.deref.ensures.value at c.in_ok-tree.ensures.misplaced) (rw c.deref.ensures.value at c.in_ok-tree.ensures.only)
+          c.in_ok-accepted.ensures.faultless c.in_ok-accepted.ensures.resolves c.in_ok-written.ensures.expanded c.in_ok-found.ensures.faultless c.in-Ok.ensures.faultless;
+    }
+
+pub returns-in-Err-Cycle-clause-cycle : goal.returns-in-Err-Cycle-clause-cycle
+returns-in-Err-Cycle-clause-cycle c =
+    let right = rw c.deref.ensures.value at c.in_ok-tree.ensures.found in
+    let placed = rw c.deref.ensures.value at c.in_ok-tree.ensures.misplaced in
+    record {
+      program = record {
+        tokens = _;
+        tree = _;
+        program = _;
+        has_tokens = c.in_ok-tokens.ensures.found;
+        has_tree = right;
+        resolves = c.in_ok-accepted.ensures.resolves;
+        expanded = c.in_ok-written.ensures.expanded;
+      };
+      paths = c.in_ok-found.ensures.paths;
+      cycle = c.in-Err-Cycle.ensures.cycle;
+      told = c.in_ok-fault.ensures.fault;
+      first = in_order _ _ _ _ c.in_ok-tokens.ensures.refused c.in_ok-tokens.ensures.found
+          (λ code start. tokens_faultless _ _ _ code start c.in_ok-tokens.ensures.found right placed) right c.in_ok-accepted.ensures.faultless
+          c.in_ok-accepted.ensures.resolves c.in_ok-written.ensures.expanded c.in_ok-found.ensures.faultless c.in_ok-fault.ensures.fault;
+    }

@@ -1,0 +1,38 @@
+-- What is known of a text whose lock classes have no order.
+use Rattle.std.specs.Prelude.{◌≡◌, ℕ, List, [], string_bytes}
+use Rattle.core_lang.specs.declared.typed.Typed.{Typed}
+use Rattle.expansion.specs.Data.{IsExpanded}
+use Rattle.lockorder.specs.Faults.{IsCycleOf, IsFaultAtFirst}
+use Rattle.lockpaths.specs.Paths.{ArePaths}
+use Rattle.resolution.specs.Resolved.{Resolves}
+use Rattle.source.specs.declared.fault.Refusal.{Refusal}
+use Rattle.source.specs.declared.fault.Refusal.TheVariants.{Fault, NoMemory}
+use Rattle.source.specs.Texts.{HasTokens}
+use Rattle.source.specs.Tokens.{Tok}
+use Rattle.syntax.specs.Faults.{HasRightTree}
+use Rattle.syntax.specs.Trees.{Decl}
+use Rattle.compiler.specs.declared.examining.Cyclic.{Cyclic}
+use Rattle.compiler.specs.Programs.{IsOfFirstPass}
+
+-- a fault with no detail, as all but that of a cycle have none; or want of memory
+abbrev pub IsBare : Refusal → Type 0
+IsBare NoMemory = Unit {0}
+IsBare (Fault fault) = string_bytes fault.detail ≡ []
+
+-- the program is what the text means, with its helpers written out
+pub record IsWrittenProgram (source : List ℕ) (written : Typed) : Type 0 where
+  pub tokens : List Tok
+  pub tree : List Decl
+  pub program : Typed
+  pub has_tokens : HasTokens source tokens
+  pub has_tree : HasRightTree tokens tree
+  pub resolves : Resolves tree program
+  pub expanded : IsExpanded program written
+
+-- the text's fault is that of a cycle of its program's lock classes, of which these are the edges
+pub record IsCyclic (source : List ℕ) (cyclic : Cyclic) : Type 0 where
+  pub program : IsWrittenProgram source cyclic.written
+  pub paths : ArePaths cyclic.written cyclic.paths
+  pub cycle : IsCycleOf cyclic.written cyclic.edges.items
+  pub told : IsFaultAtFirst cyclic.written cyclic.fault
+  pub first : IsOfFirstPass source cyclic.fault

@@ -1,0 +1,69 @@
+-- What is told of a cycle of lock classes: of each edge where a lock of its class is used, and where the root of a path of the next
+-- class is bound.
+use Rattle.std.specs.Prelude.{◌≡◌, ℕ, List, [], ◌∷◌, ◌++◌, slice_get, Some, codes, string_bytes}
+use Rattle.core_lang.specs.declared.tree.Section.{Section}
+use Rattle.core_lang.specs.declared.typed.Typed.{Typed}
+use Rattle.flow.specs.Points.{Point, points, start_of}
+use Rattle.locks.specs.LockPaths.{LockPath, Uses, BindsRoot}
+use Rattle.locks.specs.Texts.{class_name, path_text}
+use Rattle.lockorder.specs.declared.ranks.Edge.{Edge}
+use Rattle.explanation.specs.Notes.{Note}
+
+-- in SECTION: PATH of class CLASS WORDS
+abbrev pub said : Typed → Section → LockPath → List ℕ → List ℕ
+said program section path words =
+    codes "in " ++ string_bytes section.name ++ codes ": " ++ path_text program section path ++ codes " of class "
+    ++ class_name program path.class ++ codes " " ++ words
+
+abbrev pub used_words : List ℕ
+used_words = codes "is used here"
+
+abbrev pub bound_words : List ℕ
+bound_words = codes "is used later, and its root is bound here"
+
+-- the note stands where the statement of the section's point of this number starts
+abbrev pub StandsAt : Section → ℕ → Note → Type 0
+StandsAt section p note = (point : Point) × (slice_get (points section) p ≡ Some point) × (note.start ≡ start_of point)
+
+-- at the section's point of this number a path of the class is used; and the note says so
+pub record TellsUse (program : Typed) (section : Section) (p class : ℕ) (note : Note) : Type 0 where
+  pub path : LockPath
+  pub uses : Uses program section p path
+  pub of_class : path.class ≡ class
+  pub stands : StandsAt section p note
+  pub words : note.words ≡ said program section path used_words
+
+-- there the root is bound of a path of the class, which some point uses; and the note says so
+pub record TellsBinding (program : Typed) (section : Section) (p class : ℕ) (note : Note) : Type 0 where
+  pub path : LockPath
+  pub user : ℕ
+  pub uses : Uses program section user path
+  pub binds : BindsRoot section p path
+  pub of_class : path.class ≡ class
+  pub stands : StandsAt section p note
+  pub words : note.words ≡ said program section path bound_words
+
+-- both, of an edge that leads to a class, in its section
+pub record TellsEdge (program : Typed) (e : Edge) (next : ℕ) (usage binding : Note) : Type 0 where
+  pub section : Section
+  pub here : slice_get program.sections.items e.section ≡ Some section
+  pub tells_use : TellsUse program section e.used e.class usage
+  pub tells_binding : TellsBinding program section e.bound next binding
+
+-- the class of the next edge, or this one
+abbrev pub class_of_next : ℕ → List Edge → ℕ
+class_of_next first [] = first
+class_of_next first (e ∷ rest) = e.class
+
+-- of each edge, which leads to the next one's class, and of the last to this class, both are told
+abbrev pub TellEdges : Typed → ℕ → List Edge → List Note → Type 0
+TellEdges program first [] [] = Unit {0}
+TellEdges program first (e ∷ rest) (usage ∷ binding ∷ notes) =
+    TellsEdge program e (class_of_next first rest) usage binding × TellEdges program first rest notes
+TellEdges program first (e ∷ rest) _ = ⊥
+TellEdges program first [] (note ∷ notes) = ⊥
+
+-- of a cycle
+abbrev pub AreCycleNotes : Typed → List Edge → List Note → Type 0
+AreCycleNotes program [] notes = ⊥
+AreCycleNotes program (e ∷ rest) notes = TellEdges program e.class (e ∷ rest) notes

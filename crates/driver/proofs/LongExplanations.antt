@@ -1,0 +1,66 @@
+-- A text that is longer than a program may be is explained as its beginning is.
+use Rattle.std.proofs.Common.{◌≡◌, ◌∙◌, ◌<◌, ◌≤◌, ◌+◌, ◌++◌, ℕ, List, [], take, length, Option, Some, None, refl, arith, ⊎_elim}
+use Rattle.std.proofs.lemmas.Bool.{cases_lt}
+use Rattle.std.proofs.lemmas.List.{take_all, length-take}
+use Rattle.std.specs.Prelude.{IfSome}
+use Rattle.code.specs.Listing.{line}
+use Rattle.explanation.specs.Explanation.{explanation_text}
+use Rattle.explanation.specs.Laws.{ShownByFirstBytes}
+use Rattle.explanation.specs.Remedies.{remedy_text}
+use Rattle.explanation.specs.Shown.{shown_place}
+use Rattle.core_lang.specs.declared.typed.Typed.{Typed}
+use Rattle.lockorder.specs.Faults.{IsFaultAtFirst, at_first}
+use Rattle.source.specs.declared.fault.Code.{Code}
+use Rattle.source.specs.declared.fault.Code.TheVariants.{LimitExceeded}
+use Rattle.source.specs.declared.fault.Fault.{Fault}
+use Rattle.source.specs.Faults.{fault_text}
+use Rattle.source.specs.Texts.{SOURCE_LIMIT}
+use Rattle.driver.specs.declared.status.Status.{Status}
+use Rattle.driver.specs.Explanations.{ExplainAnswers, faultless, explained, cycle_explained}
+use Rattle.driver.proofs.LongTexts.{IsLong, none_accepted, given_of_long, of_limit, starts_at_0, told_alike}
+
+place_alike : (t u : List ℕ) (start : ℕ) → start ≡ 0 → shown_place t 0 ≡ shown_place u 0 → shown_place t start ≡ shown_place u start
+place_alike t u start first same = rw first same
+
+joined : (code : Code) (told other shown more : List ℕ) → told ≡ other → shown ≡ more →
+    line told ++ shown ++ [] ++ remedy_text code ≡ line other ++ more ++ [] ++ remedy_text code
+joined code told other shown more e g = rw (e, g) refl
+
+explained_alike : (file t u : List ℕ) (fault : Fault) → fault.start ≡ 0 → shown_place t 0 ≡ shown_place u 0 →
+    explanation_text file t fault [] ≡ explanation_text file u fault []
+explained_alike file t u fault first same =
+    joined fault.code (fault_text file t fault) (fault_text file u fault) (shown_place t fault.start) (shown_place u fault.start)
+    (told_alike file t u fault first) (place_alike t u fault.start first same)
+
+no_cycle : (program : Typed) (fault : Fault) → fault.code ≡ LimitExceeded → IsFaultAtFirst program fault → ⊥
+no_cycle program fault limit (at_first c rest number used bound cycle makes starts code detail) = absurd cc
+
+explained_of_long : (file t u : List ℕ) (status : Status) (out err : List ℕ) → IsLong t → IsLong u → shown_place t 0 ≡ shown_place u 0 →
+    ExplainAnswers file t status out err → ExplainAnswers file u status out err
+explained_of_long file t u status out err long longer same (faultless is) = absurd (none_accepted t is.program long is.accepts)
+explained_of_long file t u status out err long longer same (explained is) =
+    explained (record {
+      fault = is.fault;
+      given = given_of_long t u is.fault long longer is.given;
+      bare = is.bare;
+      ended = is.ended;
+      written = is.written ∙ explained_alike file t u is.fault (starts_at_0 t is.fault long is.given) same;
+      told = is.told;
+    })
+explained_of_long file t u status out err long longer same (cycle_explained is) =
+    absurd (no_cycle is.program is.fault (of_limit t is.fault long is.given) is.of_order)
+
+-- what is answered for the beginning of a text is answered for the text
+pub explained_of_whole : ShownByFirstBytes → (file t : List ℕ) (had : Option (List ℕ)) (status : Status) (out err : List ℕ) →
+    IfSome had (λ bytes. t ≡ take (SOURCE_LIMIT + 1) bytes) → ExplainAnswers file t status out err →
+    (text : List ℕ) × IfSome had (λ bytes. text ≡ bytes) × ExplainAnswers file text status out err
+explained_of_whole law file t None status out err read answers = (t, tt, answers)
+explained_of_whole law file t (Some bytes) status out err read answers =
+    ⊎_elim
+    (λ (many : SOURCE_LIMIT < length bytes).
+    let long : SOURCE_LIMIT < length t = rw read (omega (arith, length-take (SOURCE_LIMIT + 1) bytes)) in
+    let same : shown_place t 0 ≡ shown_place bytes 0 = rw read (law (SOURCE_LIMIT + 1) bytes (omega arith)) in
+    (bytes, refl, explained_of_long file t bytes status out err long many same answers))
+    (λ (few : length bytes ≤ SOURCE_LIMIT).
+    let same : t ≡ bytes = read ∙ take_all (SOURCE_LIMIT + 1) bytes (omega arith) in (t, same, answers))
+    (cases_lt SOURCE_LIMIT (length bytes))

@@ -1,0 +1,31 @@
+-- What `trace` answers.
+use Rattle.std.specs.Prelude.{◌≡◌, ℕ, Bool, List, [], length, Ok}
+use Rattle.lowering.specs.Plans.{Plan}
+use Rattle.steps.specs.declared.turn.Turn.{Turn}
+use Rattle.steps.specs.Turns.{steps_of}
+use Rattle.steps.specs.Steps.{turns_in}
+use Rattle.worlds.specs.Claims.{Headline}
+use Rattle.trace_report.specs.Trace.{IsTrace}
+use Rattle.driver.specs.declared.status.Status.{Status}
+use Rattle.driver.specs.declared.status.Status.TheVariants.{Done}
+use Rattle.driver.specs.Answers.{TextAnswers}
+use Rattle.driver.specs.Simulations.{HasBadSteps}
+
+-- the file says these turns: out is the text of their steps and of the world after them, of which the headline holds;
+-- err is empty
+pub record IsTold (moves : Bool) (text items : List ℕ) (plan : Plan) (status : Status) (out err : List ℕ) : Type 0 where
+  pub turns : List Turn
+  pub said : turns_in (length plan.program.threads.items) items ≡ Ok turns
+  pub headline : Headline plan (steps_of turns)
+  pub ended : status ≡ Done
+  pub written : IsTrace text plan moves (steps_of turns) out
+  pub told : err ≡ []
+
+-- what `trace` answers for a program with this text and a steps file's text, where instructions are told or not
+pub data IsTraceAnswer (moves : Bool) (steps_file text items : List ℕ) (plan : Plan) (status : Status) (out err : List ℕ) : Type 0 where
+  traced : IsTold moves text items plan status out err → IsTraceAnswer moves steps_file text items plan status out err
+  bad_steps : HasBadSteps steps_file items plan status out err → IsTraceAnswer moves steps_file text items plan status out err
+
+-- and for a program's text and a steps file's
+abbrev pub TraceAnswers : Bool → List ℕ → List ℕ → List ℕ → List ℕ → Status → List ℕ → List ℕ → Type 0
+TraceAnswers moves file steps_file text items = TextAnswers (IsTraceAnswer moves steps_file text items) file text

@@ -1,0 +1,5 @@
+use Rattle.std.proofs.Common.{◌≡◌, ◌++◌, replicate, string_bytes}
+use Rattle.explanation.proofs.shown.push_spaces.Given as goal
+
+abbrev pub invariant-loop : goal.invariant-loop
+invariant-loop l = string_bytes l.out ≡ string_bytes l.initial.out ++ replicate l.counter 32

@@ -1,0 +1,14 @@
+-- The text that explains a fault.
+use Rattle.std.specs.Prelude.{ℕ, List, ◌++◌}
+use Rattle.std.specs.List.{flat_map}
+use Rattle.code.specs.Listing.{line}
+use Rattle.source.specs.declared.fault.Fault.{Fault}
+use Rattle.source.specs.Faults.{fault_text}
+use Rattle.explanation.specs.Notes.{Note, note_text}
+use Rattle.explanation.specs.Remedies.{remedy_text}
+use Rattle.explanation.specs.Shown.{shown_place}
+
+-- the line of the fault, its place in the source, notes of further places, and what can be done about it
+abbrev pub explanation_text : List ℕ → List ℕ → Fault → List Note → List ℕ
+explanation_text file text fault notes =
+    line (fault_text file text fault) ++ shown_place text fault.start ++ flat_map (note_text file text) notes ++ remedy_text fault.code

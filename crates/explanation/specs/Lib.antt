@@ -1,0 +1,11 @@
+pub mod Shown
+pub mod Remedies
+pub mod Notes
+pub mod Explanation
+pub mod Laws
+pub mod Values
+-- what the public clauses cite
+pub use Rattle.explanation.specs.Notes.{Note, note_of}
+pub use Rattle.explanation.specs.Explanation.{explanation_text}
+pub use Rattle.explanation.specs.Laws.{ShownByFirstBytes}
+pub use Rattle.explanation.specs.Values.{explanation_text_of}

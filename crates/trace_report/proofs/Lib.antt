@@ -1,0 +1,5 @@
+pub mod Written
+pub mod Indexes
+pub mod Points
+pub mod Tables
+pub mod Steps

@@ -1,0 +1,14 @@
+//! The exact text that `trace` writes: a line for each step of a world's threads, and then the simulation text.
+//!
+//! - [`Trace`]: what is traced.
+//!
+//! `specs/Trace.antt` defines the text byte for byte, and `specs/Places.antt` where an instruction stands in a program's
+//! text. `Told` only says what the code has done; nobody has to believe it.
+#![tactic(auto)]
+
+mod instructions;
+mod places;
+mod teller;
+mod trace;
+
+pub use trace::Trace;
