@@ -14,7 +14,7 @@ use Rattle.runner.proofs.open.Open.instruction.Goals as goal
 pub index-requires-2 : goal.index-requires-2
 index-requires-2 c =
     let x = c.self.inside in
-    let o = open_as x.program.now x.ticket x.step (call_of x.section x.arguments.items) x.machine x.pending.items x.asked in
+    let o = open_as x.program.now x.ticket x.step (call_of x.section x.arguments.items) x.machine.value x.pending.items x.asked in
     let r : RunsInOrder o = record {
       is_open = c.self.invariant.is_open;
       pending = ap (λ (o : OpenOf). o.activation.pending) c.self.view_is ∙ c.requires;
@@ -29,7 +29,7 @@ index-requires-2 c =
 pub returns : goal.returns
 returns c =
     let x = c.self.inside in
-    let o = open_as x.program.now x.ticket x.step (call_of x.section x.arguments.items) x.machine x.pending.items x.asked in
+    let o = open_as x.program.now x.ticket x.step (call_of x.section x.arguments.items) x.machine.value x.pending.items x.asked in
     let r : RunsInOrder o = record {
       is_open = c.self.invariant.is_open;
       pending = ap (λ (o : OpenOf). o.activation.pending) c.self.view_is ∙ c.requires;

@@ -11,7 +11,7 @@ use Rattle.runner.proofs.open.Open.pass_on.Goals as goal
 pub ask_before-requires-clause-room : goal.ask_before-requires-clause-room
 ask_before-requires-clause-room c =
     let x = c.self.inside in
-    let o = open_as x.program.now x.ticket x.step (call_of x.section x.arguments.items) x.machine x.pending.items x.asked in
+    let o = open_as x.program.now x.ticket x.step (call_of x.section x.arguments.items) x.machine.value x.pending.items x.asked in
     let r : RunsInOrder o = record {
       is_open = c.self.invariant.is_open;
       pending = ap (λ (o : OpenOf). o.activation.pending) c.self.view_is ∙ c.requires.pending;
@@ -27,7 +27,7 @@ ask_before-requires-clause-room c =
 pub pass-requires : goal.pass-requires
 pass-requires c =
     let x = c.self.inside in
-    let o = open_as x.program.now x.ticket x.step (call_of x.section x.arguments.items) x.machine x.pending.items x.asked in
+    let o = open_as x.program.now x.ticket x.step (call_of x.section x.arguments.items) x.machine.value x.pending.items x.asked in
     let r : RunsInOrder o = record {
       is_open = c.self.invariant.is_open;
       pending = ap (λ (o : OpenOf). o.activation.pending) c.self.view_is ∙ c.requires.pending;
@@ -40,7 +40,7 @@ pass-requires c =
 pub invariant_of-self : goal.invariant_of-self
 invariant_of-self c =
     let x = c.self.inside in
-    let o = open_as x.program.now x.ticket x.step (call_of x.section x.arguments.items) x.machine x.pending.items x.asked in
+    let o = open_as x.program.now x.ticket x.step (call_of x.section x.arguments.items) x.machine.value x.pending.items x.asked in
     let r : RunsInOrder o = record {
       is_open = c.self.invariant.is_open;
       pending = ap (λ (o : OpenOf). o.activation.pending) c.self.view_is ∙ c.requires.pending;
@@ -48,7 +48,7 @@ invariant_of-self c =
     } in
     let is = ap (λ (o : OpenOf). next_effect o.plan o.activation) c.self.view_is ∙ c.requires.asks in
     let room = vec_capacity c.ask_before.new.pending in
-    let kept = kept_asking o x.ticket x.machine x.held.items (vec_capacity x.held) (vec_capacity x.pending) room c.args.point
+    let kept = kept_asking o x.ticket x.machine.value x.held.items (vec_capacity x.held) (vec_capacity x.pending) room c.args.point
     c.sections_stay_in_order.ensures r c.self.invariant is c.ask_before.ensures.capacity in
     let held : c.deref.result.now ≡ o.activation.held = c.deref.ensures.value ∙ c.self.invariant.held_are in
     let pending : c.ask_before.new.pending.items

@@ -13,13 +13,13 @@ use Rattle.runner.proofs.open.Open.step.Goals as goal
 pub step-requires-clause-small : goal.step-requires-clause-small
 step-requires-clause-small c =
     let x = c.self.inside in
-    let o = open_as x.program.now x.ticket x.step (call_of x.section x.arguments.items) x.machine x.pending.items x.asked in
+    let o = open_as x.program.now x.ticket x.step (call_of x.section x.arguments.items) x.machine.value x.pending.items x.asked in
     cells_small o c.self.invariant.is_open
 
 pub step-requires-clause-fits : goal.step-requires-clause-fits
 step-requires-clause-fits c =
     let x = c.self.inside in
-    let o = open_as x.program.now x.ticket x.step (call_of x.section x.arguments.items) x.machine x.pending.items x.asked in
+    let o = open_as x.program.now x.ticket x.step (call_of x.section x.arguments.items) x.machine.value x.pending.items x.asked in
     let r : RunsInOrder o = record {
       is_open = c.self.invariant.is_open;
       pending = ap (λ (o : OpenOf). o.activation.pending) c.self.view_is ∙ c.requires;
@@ -29,8 +29,8 @@ step-requires-clause-fits c =
     let is : next_effect o.plan o.activation ≡ act load_held store_held o.plan.program.shape (Some i) o.activation.machine =
     subst (λ (o : OpenOf). next_effect o.plan o.activation
     ≡ act load_held store_held o.plan.program.shape (Some i) o.activation.machine) (sym c.self.view_is) c.instruction-instruction.ensures in
-    let effect = is ∙ ap (λ (t : Typed). act load_held store_held t.shape (Some i) x.machine.machine) (sym c.typed.ensures.program) in
-    subst (λ (room : ℕ). FitsRoom room (act load_held store_held c.typed.result.now.shape (Some i) x.machine.machine))
+    let effect = is ∙ ap (λ (t : Typed). act load_held store_held t.shape (Some i) x.machine.value.machine) (sym c.typed.ensures.program) in
+    subst (λ (room : ℕ). FitsRoom room (act load_held store_held c.typed.result.now.shape (Some i) x.machine.value.machine))
     (sym c.self.invariant.operands)
     (subst (λ (e : Effect HeldCells). FitsRoom o.room.operands e) effect
     (next_fits o c.code-code.result.now c.sections_stay_in_order.ensures c.code-code.ensures r))
@@ -38,7 +38,7 @@ step-requires-clause-fits c =
 pub invariant_of-self : goal.invariant_of-self
 invariant_of-self c =
     let x = c.self.inside in
-    let o = open_as x.program.now x.ticket x.step (call_of x.section x.arguments.items) x.machine x.pending.items x.asked in
+    let o = open_as x.program.now x.ticket x.step (call_of x.section x.arguments.items) x.machine.value x.pending.items x.asked in
     let r : RunsInOrder o = record {
       is_open = c.self.invariant.is_open;
       pending = ap (λ (o : OpenOf). o.activation.pending) c.self.view_is ∙ c.requires;
@@ -50,8 +50,8 @@ invariant_of-self c =
     ≡ act load_held store_held o.plan.program.shape (Some i) o.activation.machine) (sym c.self.view_is) c.instruction-instruction.ensures in
     let m = c.step.new.self.machine in
     let moves : next_effect o.plan o.activation ≡ Moves m =
-    is ∙ ap (λ (t : Typed). act load_held store_held t.shape (Some i) x.machine.machine) (sym c.typed.ensures.program) ∙ c.in-Moved.ensures.0 in
-    let kept = kept_moving o x.ticket x.machine x.held.items (vec_capacity x.held) (vec_capacity x.pending) m
+    is ∙ ap (λ (t : Typed). act load_held store_held t.shape (Some i) x.machine.value.machine) (sym c.typed.ensures.program) ∙ c.in-Moved.ensures.0 in
+    let kept = kept_moving o x.ticket x.machine.value x.held.items (vec_capacity x.held) (vec_capacity x.pending) m
     c.steps_go_alike.ensures.keeps c.sections_stay_in_order.ensures r c.self.invariant moves in
     subst (λ (run : RunOf).
     IsKeptOpen (open_as x.program.now x.ticket x.step (call_of x.section x.arguments.items) run x.pending.items x.asked)

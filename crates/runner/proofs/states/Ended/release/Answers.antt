@@ -12,31 +12,31 @@ pub release-receipt-requires-clause-known : goal.release-receipt-requires-clause
 release-receipt-requires-clause-known c =
     let x = c.self.inside in
     let m = c.args.manager.now in
-    let o = ended_as x.program.now x.ticket x.step x.place x.operands.stack x.locals.items x.grants.items x.entry x.asked in
-    (own_release m o x.ticket x.grants.items x.entry c.self.invariant refl (subst (CanGiveBack m) (sym c.self.view_is) c.requires.back)).0
+    let o = ended_as x.program.now x.ticket x.step x.place x.memory.value.operands.stack x.memory.value.locals.items x.grants.items x.memory.value.entry x.asked in
+    (own_release m o x.ticket x.grants.items x.memory.value.entry c.self.invariant refl (subst (CanGiveBack m) (sym c.self.view_is) c.requires.back)).0
 
 pub release-receipt-requires-clause-fits : goal.release-receipt-requires-clause-fits
 release-receipt-requires-clause-fits c =
     let x = c.self.inside in
     let m = c.args.manager.now in
-    let o = ended_as x.program.now x.ticket x.step x.place x.operands.stack x.locals.items x.grants.items x.entry x.asked in
-    (own_release m o x.ticket x.grants.items x.entry c.self.invariant refl (subst (CanGiveBack m) (sym c.self.view_is) c.requires.back)).1
+    let o = ended_as x.program.now x.ticket x.step x.place x.memory.value.operands.stack x.memory.value.locals.items x.grants.items x.memory.value.entry x.asked in
+    (own_release m o x.ticket x.grants.items x.memory.value.entry c.self.invariant refl (subst (CanGiveBack m) (sym c.self.view_is) c.requires.back)).1
 
 pub returns : goal.returns
 returns c =
     let x = c.self.inside in
     let m = c.args.manager.now in
     let m' = c.release-receipt.new.self in
-    let o = ended_as x.program.now x.ticket x.step x.place x.operands.stack x.locals.items x.grants.items x.entry x.asked in
+    let o = ended_as x.program.now x.ticket x.step x.place x.memory.value.operands.stack x.memory.value.locals.items x.grants.items x.memory.value.entry x.asked in
     subst (λ (s : OpenOf). Released m s (record { thread = c.thread-thread.result; step = x.step + 1 }) c.release-receipt.result m') c.self.view_is
     (record {
       grants = x.grants.items;
-      outcome = x.entry.outcome;
+      outcome = x.memory.value.entry.outcome;
       its = c.self.invariant.its;
       over = refl;
       ready_is = λ i. record { thread = c.thread-thread.ensures i; step = x.step + 1 };
       releases =
-          subst (λ (t : TicketOf). Releases m t x.grants.items (entry_of o x.entry.outcome) c.release-receipt.result m') c.self.invariant.ticket_is
+          subst (λ (t : TicketOf). Releases m t x.grants.items (entry_of o x.memory.value.entry.outcome) c.release-receipt.result m') c.self.invariant.ticket_is
           (subst (λ (e : Commit). Releases m x.ticket x.grants.items e c.release-receipt.result m') c.self.invariant.entry_is
           c.release-receipt.ensures);
     })
