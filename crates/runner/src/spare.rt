@@ -193,13 +193,14 @@ impl Spare {
         let held = emptied(held, room.locks)?;
         let pending = emptied(pending, room.locks)?;
         let locals = opening_locals(called, arguments, locals)?;
-        let machine = boxed(alloc, machine.machine(locals, program.layout(), room)?)?;
+        let machine = machine.machine(locals, program.layout(), room)?;
+        let boxed = boxed(alloc, machine)?;
         Ok(Prepared {
             program,
             section,
             arguments: given,
             room,
-            machine,
+            machine: boxed,
             held,
             pending,
             memory: block,
@@ -209,7 +210,7 @@ impl Spare {
 
 // A machine in a block of its own.
 fn boxed<'p>(alloc: Global, machine: Machine<'p>) -> Result<Box<Machine<'p>>, NoMemory>
-    ensures { IfOk result (λ b. b.value ≡ machine) }
+    ensures { IfOk result (λ b. b.value ≡ machine.entry) }
 {
     match Box::new(alloc, machine) {
         Ok(machine) => Ok(machine),

@@ -24,7 +24,7 @@ invariant_of-result c =
     } in
     subst (λ (k : Kept).
     IsKeptEnded (ended_as x.program.now x.ticket x.step p.place k.operands.stack k.locals.items p.parts.grants.items k.entry x.asked)
-    x.ticket p.parts.grants.items k.entry) (sym c.replace-_nothing.ensures.after)
+    x.ticket p.parts.grants.items k.entry) (sym c.replace-nothing.ensures.after)
     (kept_ended x.program.now x.ticket x.step x.section x.arguments.items x.machine.value x.held.items x.pending.items x.asked
     (vec_capacity x.held) (vec_capacity x.pending) c.args.outcome
     p c.thread-thread.result c.begun-begun.result
@@ -47,7 +47,7 @@ returns c =
     } in
     ap (λ (k : Kept).
     ended_as x.program.now x.ticket x.step p.place k.operands.stack k.locals.items p.parts.grants.items k.entry x.asked)
-    c.replace-_nothing.ensures.after
+    c.replace-nothing.ensures.after
     ∙ ended_is x.program.now x.ticket x.step x.section x.arguments.items x.machine.value x.held.items x.pending.items x.asked
     (vec_capacity x.held) (vec_capacity x.pending) c.args.outcome
     p c.thread-thread.result c.begun-begun.result apart

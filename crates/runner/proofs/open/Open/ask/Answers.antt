@@ -3,7 +3,7 @@ use Rattle.std.proofs.Common.{refl, sym, ap, ◌∙◌, subst, arith}
 use Rattle.locks.specs.declared.lock.Lock.{Lock}
 use Rattle.layout.specs.LockCells.{cells_of}
 use Rattle.moved_cells.specs.Grants.{numbered}
-use Rattle.held_cells.specs.Held.{with_grant}
+use Rattle.held_cells.specs.Held.{CanHold, with_grant}
 use Rattle.lock_manager.specs.Sessions.{TicketOf, with_lock, with_ask}
 use Rattle.lock_manager.specs.Calls.{CanAsk, ticket_with}
 use Rattle.worlds.specs.Worlds.{granted}
@@ -44,8 +44,9 @@ grant-requires c =
     let lent = are_lent c.args.manager.now o lock c.in-Granted.grant.values a.is_open c.heaps_have_values.ensures.whole
     c.heaps_have_values.ensures.agree c.slots_are_cells.ensures.cells c.keeps_its_rules.ensures.rules_kept known
     c.in-Granted.ensures.was_free in
-    can_hold o lock rest x.ticket x.machine.value x.held.items (vec_capacity x.held) (vec_capacity x.pending) c.in-Granted.grant
-    c.sections_stay_in_order.ensures c.precedes_is_strict.ensures a c.self.invariant refl c.in-Granted.ensures.lock_is lent
+    subst (λ (r : RunOf). CanHold (holding_of r) c.in-Granted.grant) (sym c.deref_mut.ensures.value)
+    (can_hold o lock rest x.ticket x.machine.value x.held.items (vec_capacity x.held) (vec_capacity x.pending) c.in-Granted.grant
+    c.sections_stay_in_order.ensures c.precedes_is_strict.ensures a c.self.invariant refl c.in-Granted.ensures.lock_is lent)
 
 pub put_last-requires : goal.put_last-requires
 put_last-requires c =
@@ -105,6 +106,7 @@ invariant_of-self c =
     ∙ ap (λ (t : TicketOf). ticket_with t (with_lock t.session lock)) c.self.invariant.ticket_is in
     let run : c.grant.new.self ≡ run' =
     c.grant.ensures
+    ∙ ap (λ (r : RunOf). with_holding r (with_grant (holding_of r) grant)) c.deref_mut.ensures.value
     ∙ (λ i. record (with_holding x.machine.value (with_grant (holding_of x.machine.value) grant)) {
       machine = record m {
         memory = record m.memory {
