@@ -16,7 +16,6 @@ use layout::table::Layout;
 use moved_cells::grant::Grant;
 use moved_cells::laws::slots_are_cells;
 use source::memory::NoMemory;
-use std::alloc::Global;
 use std::marker::Model;
 
 /// The cells of an open section: the grants that it holds, what it read of cells that it hadn't written, and what it
@@ -53,12 +52,7 @@ impl<'p> Holding<'p> {
     /// # Errors
     ///
     /// Want of memory.
-    pub fn none(
-        alloc: Global,
-        layout: &'p Layout,
-        room: Room,
-        spare: Spare,
-    ) -> Result<Holding<'p>, NoMemory>
+    pub fn none(layout: &'p Layout, room: Room, spare: Spare) -> Result<Holding<'p>, NoMemory>
         ensures { IfOk result (λ h. h ≡ no_grants layout.now room.locks room.cells) }
     {
         let Spare {
@@ -66,10 +60,11 @@ impl<'p> Holding<'p> {
             write_marks,
             reads,
             writes,
+            grants,
         } = spare;
         let reads = Notes::blank(room.cells, read_marks, reads)?;
         let writes = Notes::blank(room.cells, write_marks, writes)?;
-        let grants = Vec::with_capacity(alloc, room.locks)?;
+        let grants = grants.into_list(room.locks)?;
         Ok(Holding {
             layout,
             grants,

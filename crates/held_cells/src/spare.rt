@@ -1,9 +1,10 @@
 //! Memory for a holding.
 
 use history::entry::CellValue;
+use moved_cells::grant_room::GrantRoom;
 use std::alloc::Global;
 
-/// Memory for what a holding notes. What stands in it doesn't matter: a holding that is made in it has nothing noted.
+/// Memory for a holding. What stands in it doesn't matter: a holding that is made in it has nothing noted.
 #[derive(Drop)]
 pub struct Spare {
     /// For the marks of the cells that are read.
@@ -14,6 +15,8 @@ pub struct Spare {
     pub reads: Vec<CellValue>,
     /// For what is written.
     pub writes: Vec<CellValue>,
+    /// For the grants.
+    pub grants: GrantRoom,
 }
 
 impl Spare {
@@ -24,6 +27,7 @@ impl Spare {
             write_marks: Vec::new(alloc),
             reads: Vec::new(alloc),
             writes: Vec::new(alloc),
+            grants: GrantRoom::new(alloc),
         }
     }
 }

@@ -23,6 +23,7 @@ use layout::table::Layout;
 use locks::lock::Lock;
 use moved_cells::cells::Cells;
 use moved_cells::grant::Grant;
+use moved_cells::grant_room::GrantRoom;
 use source::memory::NoMemory;
 use std::alloc::Global;
 use std::marker::Model;
@@ -118,8 +119,8 @@ impl<'p> Committed<'p> {
         write_all(&mut self.values, writes);
     }
 
-    /// The cells of these grants are back.
-    pub fn put_back(&self, places: &mut Vec<Place>, mut grants: Vec<Grant>)
+    /// The cells of these grants are back; and the memory of the grants.
+    pub fn put_back(&self, places: &mut Vec<Place>, mut grants: Vec<Grant>) -> GrantRoom
         requires count { length places.old.items ≡ length self.now.layout.locks }
         requires listed { All (λ g. Contains self.now.layout.locks g.lock) grants.items }
         ensures { places.new.items ≡ given_back self.now.layout.locks places.old.items grants.items }
@@ -129,7 +130,7 @@ impl<'p> Committed<'p> {
             let number = self.number_of(lock);
             places[number] = Place::Free(cells);
         }
-        grants.destroy_empty();
+        GrantRoom::of(grants)
     }
 
     /// The cells of these grants are back, with what the entries leave in them.

@@ -14,8 +14,7 @@ use crate::giving::{let_go, take};
 use crate::places::Place;
 use crate::queue::{Queue, Waiter};
 use crate::sections::Sections;
-use crate::session::Session;
-use crate::ticket::{Receipt, Spare, Ticket, waking_room};
+use crate::ticket::{Receipt, Spare, Ticket};
 use core_lang::value::Value;
 use history::entries::History;
 use history::entry::Entry;
@@ -103,17 +102,11 @@ impl<'p> Manager<'p> {
         ensures err { OnErr result (self.new ≡ self.old) }
     {
         let begun = self.history.len();
-        let Spare { held, wake } = spare;
-        let session = Session::new(begun, room, held)?;
+        let pass = spare.pass(alloc, thread, begun, room)?;
         let slot = self.sections.session(alloc, thread, begun, room)?;
-        let wake = waking_room(room.locks, wake)?;
         self.history.promise(room.cells)?;
         self.sections.open(thread, slot);
-        Ok(Ticket {
-            thread,
-            session,
-            wake,
-        })
+        Ok(Ticket { pass })
     }
 
     /// Asks for a lock.
@@ -150,16 +143,16 @@ impl<'p> Manager<'p> {
         history::laws::one_entry_more();
         history::laws::commuting();
         let position = self.history.len();
-        let (thread, wake, held) = ticket.woken(&self.queue);
+        let (thread, pass) = ticket.woken(&self.queue);
         self.committed.overwrite(entry.writes());
         let cells = self.sections.cells(thread);
         let entry = self.history.enter(cells, entry);
-        self.committed.put_back(&mut self.places, grants);
+        let grants = self.committed.put_back(&mut self.places, grants);
         self.sections.close(thread);
         Receipt {
             position,
-            wake,
-            held,
+            pass,
+            grants,
             entry,
         }
     }
@@ -184,8 +177,8 @@ impl<'p> Manager<'p> {
     pub fn knows(&self, ticket: &Ticket) -> bool
         ensures { IsTrue result ↔ Knows self.now ticket.now }
     {
-        match self.sections.of(ticket.thread) {
-            Some(session) => session.says(&ticket.session),
+        match self.sections.of(ticket.thread()) {
+            Some(session) => session.says(ticket.session()),
             None => false,
         }
     }
@@ -194,7 +187,7 @@ impl<'p> Manager<'p> {
     pub fn can_ask(&self, ticket: &Ticket, lock: Lock) -> bool
         ensures { IsTrue result ↔ CanAsk self.now ticket.now lock }
     {
-        let session = &ticket.session;
+        let session = ticket.session();
         if !session.may_take(lock) {
             return false;
         }
@@ -213,14 +206,14 @@ impl<'p> Manager<'p> {
             return false;
         }
         let _places = &self.places;
-        let session = &ticket.session;
+        let session = ticket.session();
         if session.ask().is_some() {
             return false;
         }
         if !self.are_of(session.held(), grants) {
             return false;
         }
-        if entry.thread() != ticket.thread || entry.begun() != session.begun() {
+        if entry.thread() != ticket.thread() || entry.begun() != session.begun() {
             return false;
         }
         if !self.committed.agrees(entry.reads()) {

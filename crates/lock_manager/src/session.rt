@@ -1,6 +1,6 @@
 //! What is known of an open section.
 
-ghost use Rattle.std.specs.Prelude.{◌≡◌, ◌<◌, ◌↔◌, length, IfOk, IsTrue};
+ghost use Rattle.std.specs.Prelude.{◌≡◌, ◌<◌, ◌↔◌, length, IfOk, IsTrue, OnOk};
 ghost use Rattle.lock_manager.specs.Sessions.{fresh, with_lock, with_ask};
 ghost use Rattle.lock_manager.specs.Ties.{MayTake};
 
@@ -43,6 +43,18 @@ impl Session {
             ask: None,
             room,
         })
+    }
+
+    /// The next section begins, in the same memory.
+    pub fn renew(&mut self, begun: usize, room: Room) -> Result<(), NoMemory>
+        ensures { OnOk result (self.new ≡ fresh begun room) }
+    {
+        self.held.clear();
+        self.held.reserve(room.locks)?;
+        self.begun = begun;
+        self.ask = None;
+        self.room = room;
+        Ok(())
     }
 
     /// The memory that it took.

@@ -1,52 +1,119 @@
 //! Tickets and receipts, and the memory that they take.
 
-ghost use Rattle.std.specs.Prelude.{◌≡◌, ◌<◌, ◌≤◌, length, slice_get, IfOk, vec_len, vec_capacity};
-ghost use Rattle.lock_manager.specs.Sessions.{with_lock, with_ask};
+ghost use Rattle.std.specs.Prelude.{◌≡◌, ◌<◌, ◌≤◌, length, slice_get, IfOk, OnOk, vec_len, vec_capacity};
+ghost use Rattle.lock_manager.specs.Sessions.{fresh, with_lock, with_ask};
+ghost use Rattle.lock_manager.specs.Ties.{HasWakingRoom};
 ghost use Rattle.lock_manager.specs.Calls.{ticket_with, first_waiters};
 
 use crate::queue::Queue;
 use crate::session::Session;
 use history::entry::Entry;
+use layout::room::Room;
 use locks::lock::Lock;
+use moved_cells::grant_room::GrantRoom;
 use source::memory::NoMemory;
 use std::alloc::Global;
 use std::marker::Model;
 
+// What a ticket has, in one block that goes from one section to the next. In memory that is kept, what stands in it doesn't
+// matter.
+#[derive(Drop)]
+pub(crate) struct Pass {
+    pub(crate) thread: u32,
+    pub(crate) session: Session,
+    // Room for whom to wake at the end.
+    pub(crate) wake: Vec<u32>,
+}
+
 /// Memory for a ticket. What stands in it doesn't matter.
 #[derive(Drop)]
 pub struct Spare {
-    /// For the locks that are held.
-    pub held: Vec<Lock>,
-    /// For whom to wake.
-    pub wake: Vec<u32>,
+    pass: Option<Box<Pass>>,
 }
 
 impl Spare {
     /// None yet.
-    pub fn none(alloc: Global) -> Spare {
-        Spare {
-            held: Vec::new(alloc),
-            wake: Vec::new(alloc),
+    pub fn none() -> Spare {
+        Spare { pass: None }
+    }
+
+    // What a ticket has for a section that begins, with room for whom to wake.
+    pub(crate) fn pass(
+        self,
+        alloc: Global,
+        thread: u32,
+        begun: usize,
+        room: Room,
+    ) -> Result<Box<Pass>, NoMemory>
+        ensures thread { IfOk result (λ p. p.value.thread ≡ thread) }
+        ensures session { IfOk result (λ p. p.value.session ≡ fresh begun room) }
+        ensures waking { IfOk result (λ p. HasWakingRoom p.value.session (vec_len p.value.wake) (vec_capacity p.value.wake)) }
+    {
+        match self.pass {
+            Some(pass) => renewed(pass, thread, begun, room),
+            None => {
+                let session = Session::new(begun, room, Vec::new(alloc))?;
+                let wake = waking_room(room.locks, Vec::new(alloc))?;
+                Ok(Box::new(
+                    alloc,
+                    Pass {
+                        thread,
+                        session,
+                        wake,
+                    },
+                )?)
+            }
         }
     }
 }
 
+// The same, in the block of the last section.
+fn renewed(
+    mut pass: Box<Pass>,
+    thread: u32,
+    begun: usize,
+    room: Room,
+) -> Result<Box<Pass>, NoMemory>
+    ensures thread { IfOk result (λ p. p.value.thread ≡ thread) }
+    ensures session { IfOk result (λ p. p.value.session ≡ fresh begun room) }
+    ensures waking { IfOk result (λ p. HasWakingRoom p.value.session (vec_len p.value.wake) (vec_capacity p.value.wake)) }
+{
+    renew(&mut pass, thread, begun, room)?;
+    Ok(pass)
+}
+
+fn renew(pass: &mut Pass, thread: u32, begun: usize, room: Room) -> Result<(), NoMemory>
+    ensures thread { pass.new.thread ≡ thread }
+    ensures session { OnOk result (pass.new.session ≡ fresh begun room) }
+    ensures waking { OnOk result (HasWakingRoom pass.new.session (vec_len pass.new.wake) (vec_capacity pass.new.wake)) }
+{
+    pass.thread = thread;
+    pass.session.renew(begun, room)?;
+    empty_for(room.locks, &mut pass.wake)
+}
+
 // Nobody to wake yet, and room for so many, in memory that is made larger where it is too small.
-pub(crate) fn waking_room(locks: usize, mut wake: Vec<u32>) -> Result<Vec<u32>, NoMemory>
-    ensures none { IfOk result (λ woken. vec_len woken ≡ 0) }
-    ensures room { IfOk result (λ woken. locks ≤ vec_capacity woken) }
+fn empty_for(locks: usize, wake: &mut Vec<u32>) -> Result<(), NoMemory>
+    ensures none { vec_len wake.new ≡ 0 }
+    ensures room { OnOk result (locks ≤ vec_capacity wake.new) }
 {
     wake.clear();
     wake.reserve(locks)?;
+    Ok(())
+}
+
+// The same in a list of its own.
+fn waking_room(locks: usize, mut wake: Vec<u32>) -> Result<Vec<u32>, NoMemory>
+    ensures none { IfOk result (λ woken. vec_len woken ≡ 0) }
+    ensures room { IfOk result (λ woken. locks ≤ vec_capacity woken) }
+{
+    empty_for(locks, &mut wake)?;
     Ok(wake)
 }
 
 /// The right to ask for locks for a thread's section, and to end it. It can't be copied, and must be used up.
 pub struct Ticket {
-    pub(crate) thread: u32,
-    pub(crate) session: Session,
-    // Room for whom to wake at the end.
-    pub(crate) wake: Vec<u32>,
+    pub(crate) pass: Box<Pass>,
 }
 
 impl Model for Ticket {
@@ -55,11 +122,12 @@ impl Model for Ticket {
 
     ghost Value = { TicketOf };
 
-    ghost view = { λ t. record { thread = t.thread; session = t.session } };
+    ghost view = { λ t. record { thread = t.pass.value.thread; session = t.pass.value.session } };
 
     ghost use Rattle.lock_manager.specs.Ties.{HasWakingRoom};
 
-    ghost invariant = { λ t. HasWakingRoom t.session (vec_len t.wake) (vec_capacity t.wake) };
+    ghost invariant = { λ t.
+        HasWakingRoom t.pass.value.session (vec_len t.pass.value.wake) (vec_capacity t.pass.value.wake) };
 }
 
 impl Ticket {
@@ -68,7 +136,7 @@ impl Ticket {
     pub fn thread(&self) -> u32
         ensures { result ≡ self.now.thread }
     {
-        self.thread
+        self.pass.thread
     }
 
     /// How long the history was when the section began.
@@ -76,7 +144,7 @@ impl Ticket {
     pub fn begun(&self) -> usize
         ensures { result ≡ self.now.session.begun }
     {
-        self.session.begun()
+        self.pass.session.begun()
     }
 }
 
@@ -85,7 +153,7 @@ impl Ticket {
     pub(crate) fn ask(&self) -> Option<Lock>
         ensures { result ≡ self.now.session.ask }
     {
-        self.session.ask()
+        self.pass.session.ask()
     }
 
     // A lock is granted.
@@ -93,45 +161,54 @@ impl Ticket {
         requires { length self.old.session.held < self.old.session.room.locks }
         ensures { self.new ≡ ticket_with self.old (with_lock self.old.session lock) }
     {
-        self.session.grant(lock);
+        self.pass.session.grant(lock);
     }
 
     // A lock is asked for.
     pub(crate) fn note(&mut self, lock: Lock)
         ensures { self.new ≡ ticket_with self.old (with_ask self.old.session lock) }
     {
-        self.session.note(lock);
+        self.pass.session.note(lock);
+    }
+
+    // What is known of its section.
+    pub(crate) fn session(&self) -> &Session
+        ensures { result.now ≡ self.now.session }
+    {
+        &self.pass.session
     }
 
     // Lets it go: its section is over.
     pub(crate) fn into_thread(self) -> u32
         ensures { result ≡ self.thread }
     {
-        let Ticket {
-            thread,
-            session: _,
-            wake: _,
-        } = self;
-        thread
+        let Ticket { pass } = self;
+        pass.thread
     }
 
-    // Its thread, for each of its locks the first that waits for it, and the memory that the locks took.
-    pub(crate) fn woken(self, queue: &Queue) -> (u32, Vec<u32>, Vec<Lock>)
+    // Its thread and its block, with, for each of its locks, the first that waits for it.
+    pub(crate) fn woken(self, queue: &Queue) -> (u32, Box<Pass>)
         ensures thread { result.0 ≡ self.thread }
-        ensures wake { result.1.items ≡ first_waiters queue.now self.session.held }
+        ensures wake { result.1.value.wake.items ≡ first_waiters queue.now self.session.held }
     {
-        let Ticket {
-            thread,
-            session,
-            mut wake,
-        } = self;
-        let held = session.held();
-        for lock in held {
-            if let Some(first) = queue.nth(*lock, 0) {
-                wake.push(first).unwrap();
-            }
+        let Ticket { mut pass } = self;
+        let block = &mut *pass;
+        let thread = block.thread;
+        wake_first(block.session.held(), queue, &mut block.wake);
+        (thread, pass)
+    }
+}
+
+// Notes for each of these locks the first that waits for it.
+fn wake_first(held: &[Lock], queue: &Queue, wake: &mut Vec<u32>)
+    requires none { vec_len wake.old ≡ 0 }
+    requires room { length held.now ≤ vec_capacity wake.old }
+    ensures { wake.new.items ≡ first_waiters queue.now held.now }
+{
+    for lock in held {
+        if let Some(first) = queue.nth(*lock, 0) {
+            wake.push(first).unwrap();
         }
-        (thread, wake, session.into_memory())
     }
 }
 
@@ -139,9 +216,9 @@ impl Ticket {
 #[derive(Drop)]
 pub struct Receipt {
     pub(crate) position: usize,
-    pub(crate) wake: Vec<u32>,
+    pub(crate) pass: Box<Pass>,
     // The memory of what the section no more needs.
-    pub(crate) held: Vec<Lock>,
+    pub(crate) grants: GrantRoom,
     pub(crate) entry: Option<Entry>,
 }
 
@@ -150,7 +227,18 @@ impl Model for Receipt {
 
     ghost Value = { ReceiptOf };
 
-    ghost view = { λ r. record { position = r.position; wake = r.wake.items } };
+    ghost view = { λ r. record { position = r.position; wake = r.pass.value.wake.items } };
+}
+
+/// The memory that a section had, for the next one of its thread.
+#[derive(Drop)]
+pub struct Memory {
+    /// For the ticket.
+    pub ticket: Spare,
+    /// For the grants.
+    pub grants: GrantRoom,
+    /// The entry, where the history doesn't keep the entry's memory.
+    pub entry: Option<Entry>,
 }
 
 impl Receipt {
@@ -167,17 +255,21 @@ impl Receipt {
     pub fn wake(&self, i: usize) -> Option<u32>
         ensures { result ≡ slice_get self.now.wake i }
     {
-        self.wake.get(i).copied()
+        self.pass.wake.get(i).copied()
     }
 
-    /// The memory that the section's ticket had, and its entry, where the history doesn't keep the entry's memory.
-    pub fn into_memory(self) -> (Spare, Option<Entry>) {
+    /// The memory that the section had.
+    pub fn into_memory(self) -> Memory {
         let Receipt {
             position: _,
-            wake,
-            held,
+            pass,
+            grants,
             entry,
         } = self;
-        (Spare { held, wake }, entry)
+        Memory {
+            ticket: Spare { pass: Some(pass) },
+            grants,
+            entry,
+        }
     }
 }

@@ -100,7 +100,7 @@ impl<'p> Calls<'p> {
         }
         self.sessions.reserve(1)?;
         let grants = Vec::with_capacity(self.alloc, ROOM.locks)?;
-        let spare = Spare::none(self.alloc);
+        let spare = Spare::none();
         match self.manager.begin(self.alloc, thread, ROOM, spare) {
             Ok(ticket) => {
                 self.sessions.push(Session { ticket, grants }).unwrap();

@@ -45,14 +45,14 @@ first_locals plan call x can is =
 
 -- the section as it begins
 pub as_begun : (x : Prepared) (ticket : TicketOf) (step : ℕ) → IsPrepared x → ticket.session ≡ fresh ticket.session.begun x.room →
-    open_as x.program.now ticket step (its_call x) x.machine x.pending.items false
+    open_as x.program.now ticket step (its_call x) x.machine.value x.pending.items false
     ≡ begun_as x.program.now ticket.thread step x.room ticket.session.begun (its_call x)
 as_begun x ticket step p is =
     λ i. open_as x.program.now (record { thread = ticket.thread; session = is i }) step (its_call x) (p.run_is i) (p.none_pending i) false
 
 pub kept_at_first : (x : Prepared) (ticket : TicketOf) (step : ℕ) → SectionsStayInOrder → IsPrepared x →
     ticket.session ≡ fresh ticket.session.begun x.room →
-    IsKeptOpen (open_as x.program.now ticket step (its_call x) x.machine x.pending.items false) ticket x.machine x.held.items
+    IsKeptOpen (open_as x.program.now ticket step (its_call x) x.machine.value x.pending.items false) ticket x.machine.value x.held.items
     (vec_capacity x.held) (vec_capacity x.pending)
 kept_at_first x ticket step laws p is =
     let plan = x.program.now in

@@ -87,7 +87,7 @@ pub record IsPrepared (p : Prepared) : Type 0 where
   pub compiled : IsCompiled p.program.now
   pub fits : CanCall p.program.now.program p.section p.arguments.items
   pub room_is : IsRoomAt p.program.now p.section p.room
-  pub run_is : p.machine ≡ at_first (locals_at p.program.now (its_call p)) p.program.now.layout p.room
+  pub run_is : p.machine.value ≡ at_first (locals_at p.program.now (its_call p)) p.program.now.layout p.room
   pub none_held : p.held.items ≡ []
   pub none_pending : p.pending.items ≡ []
   pub held_fits : p.room.locks ≤ vec_capacity p.held

@@ -8,9 +8,9 @@ ghost use Rattle.runner.specs.Ties.{effect_on, HasMoved};
 
 use crate::asker::Asker;
 use crate::asking::{put_last, take_first};
+use crate::spare::Kept;
 use code::instr::Instr;
 use core_lang::value::{Outcome, Value};
-use held_cells::parts::Parts;
 use layout::room::Room;
 use lock_manager::answer::Answer as Request;
 use lock_manager::manager::Manager;
@@ -19,7 +19,7 @@ use locks::lock::Lock;
 use lowering::compiled::Program;
 use moved_cells::grant::Grant;
 use section_machine::answer::Answer;
-use section_machine::machine::{Left, Machine};
+use section_machine::machine::Machine;
 use std::marker::Model;
 
 // A section that runs, or that is to be granted locks.
@@ -29,11 +29,13 @@ pub(crate) struct Open<'p> {
     pub(crate) step: usize,
     pub(crate) section: usize,
     pub(crate) arguments: Vec<Value>,
-    pub(crate) machine: Machine<'p>,
+    pub(crate) machine: Box<Machine<'p>>,
     // The locks of the ticket.
     pub(crate) held: Vec<Lock>,
     pub(crate) pending: Vec<Lock>,
     pub(crate) asked: bool,
+    // For its end.
+    pub(crate) memory: Box<Kept>,
 }
 
 impl<'p> Model for Open<'p> {
@@ -50,12 +52,12 @@ impl<'p> Model for Open<'p> {
     ghost coded = { Prim.hlevel (codes, action.the_row.coded, expr.the_row.coded, condition.the_row.coded) };
 
     ghost view = { λ o.
-        open_as o.program.now o.ticket o.step (call_of o.section o.arguments.items) o.machine o.pending.items o.asked };
+        open_as o.program.now o.ticket o.step (call_of o.section o.arguments.items) o.machine.value o.pending.items o.asked };
 
     ghost invariant = { λ o.
         IsKeptOpen
-        (open_as o.program.now o.ticket o.step (call_of o.section o.arguments.items) o.machine o.pending.items o.asked)
-        o.ticket o.machine o.held.items (vec_capacity o.held) (vec_capacity o.pending) };
+        (open_as o.program.now o.ticket o.step (call_of o.section o.arguments.items) o.machine.value o.pending.items o.asked)
+        o.ticket o.machine.value o.held.items (vec_capacity o.held) (vec_capacity o.pending) };
 }
 
 impl<'p> Open<'p> {
@@ -202,13 +204,14 @@ impl<'p> Open<'p> {
             held: _,
             pending: _,
             asked: _,
+            memory: _,
         } = self;
-        (ticket, step, machine.into_grants())
+        (ticket, step, Box::into_inner(machine).into_grants())
     }
 }
 
 // Lets grants go.
-fn let_go(mut grants: Vec<Grant>) {
+pub(crate) fn let_go(mut grants: Vec<Grant>) {
     while let Some(grant) = grants.pop() {
         let (_lock, _cells) = grant.into_parts();
     }
@@ -221,9 +224,10 @@ pub(crate) struct Prepared<'p> {
     pub(crate) section: usize,
     pub(crate) arguments: Vec<Value>,
     pub(crate) room: Room,
-    pub(crate) machine: Machine<'p>,
+    pub(crate) machine: Box<Machine<'p>>,
     pub(crate) held: Vec<Lock>,
     pub(crate) pending: Vec<Lock>,
+    pub(crate) memory: Box<Kept>,
 }
 
 impl<'p> Prepared<'p> {
@@ -240,22 +244,9 @@ impl<'p> Prepared<'p> {
             machine,
             held: _,
             pending: _,
+            memory: _,
         } = self;
-        let Left {
-            place: _,
-            operands: _,
-            locals: _,
-            parts,
-            prints: _,
-        } = machine.into_parts();
-        let Parts {
-            grants,
-            reads: _,
-            writes: _,
-            read_marks: _,
-            write_marks: _,
-        } = parts;
-        let_go(grants);
+        let_go(Box::into_inner(machine).into_grants());
     }
 
     // It begins, as this call of its thread.
@@ -273,6 +264,7 @@ impl<'p> Prepared<'p> {
             machine,
             held,
             pending,
+            memory,
         } = self;
         Open {
             program,
@@ -284,6 +276,7 @@ impl<'p> Prepared<'p> {
             held,
             pending,
             asked: false,
+            memory,
         }
     }
 }

@@ -4,107 +4,170 @@ ghost use Rattle.std.specs.Prelude.{◌≡◌, ◌≤◌, [], IfOk, vec_capacity
 ghost use Rattle.core_lang.specs.WellFormed.{CanCall};
 ghost use Rattle.runner.specs.Ties.{IsPrepared, its_call};
 
-use crate::open::Prepared;
+use crate::open::{Prepared, let_go};
 use crate::opening::{copied, opening_locals};
-use core_lang::value::Value;
+use core_lang::value::{Outcome, Value};
 use held_cells::spare::Spare as HeldSpare;
-use history::entry::{CellValue, Entry};
+use history::entry::Entry;
 use locks::lock::Lock;
 use lowering::compiled::Program;
+use moved_cells::grant_room::GrantRoom;
+use section_machine::machine::Machine;
+use section_machine::operands::Operands;
 use section_machine::spare::Spare as MachineSpare;
 use source::memory::NoMemory;
 use std::alloc::Global;
+use std::mem;
 
-// Memory that an ended section needs no more.
+// The memory that a thread keeps from one section to the next, in one block that its state names. While a section is open
+// nothing is in it; at the end it has what is left of the section. What stands in it after that doesn't matter.
 #[derive(Drop)]
-pub(crate) struct LeftOver {
+pub(crate) struct Kept {
+    pub(crate) alloc: Global,
+    pub(crate) operands: Operands,
+    pub(crate) locals: Vec<Value>,
+    pub(crate) entry: Entry,
     pub(crate) held: Vec<Lock>,
     pub(crate) pending: Vec<Lock>,
     pub(crate) read_marks: Vec<usize>,
     pub(crate) write_marks: Vec<usize>,
+    pub(crate) grants: GrantRoom,
 }
 
-// What a section leaves beside its entry and its ticket.
-#[derive(Drop)]
-pub(crate) struct Rest {
-    pub(crate) operands: Vec<Value>,
-    pub(crate) locals: Vec<Value>,
-    pub(crate) left: LeftOver,
-}
-
-impl Rest {
-    fn none(alloc: Global) -> Rest {
-        Rest {
-            operands: Vec::new(alloc),
-            locals: Vec::new(alloc),
-            left: LeftOver {
-                held: Vec::new(alloc),
-                pending: Vec::new(alloc),
-                read_marks: Vec::new(alloc),
-                write_marks: Vec::new(alloc),
-            },
-        }
+// An entry with no lists.
+fn no_entry(alloc: Global) -> Entry {
+    Entry {
+        thread: 0,
+        step: 0,
+        section: 0,
+        arguments: Vec::new(alloc),
+        begun: 0,
+        reads: Vec::new(alloc),
+        writes: Vec::new(alloc),
+        outcome: Outcome::Ends,
+        prints: Vec::new(alloc),
     }
+}
+
+impl Kept {
+    fn none(alloc: Global) -> Result<Kept, NoMemory> {
+        Ok(Kept {
+            alloc,
+            operands: Operands::none(0, Vec::new(alloc))?,
+            locals: Vec::new(alloc),
+            entry: no_entry(alloc),
+            held: Vec::new(alloc),
+            pending: Vec::new(alloc),
+            read_marks: Vec::new(alloc),
+            write_marks: Vec::new(alloc),
+            grants: GrantRoom::new(alloc),
+        })
+    }
+
+    // Takes the entry out.
+    pub(crate) fn take_entry(&mut self) -> Entry
+        ensures { result ≡ self.old.entry }
+    {
+        let none = no_entry(self.alloc);
+        mem::replace(&mut self.entry, none)
+    }
+}
+
+// With what came back with a receipt.
+pub(crate) fn with_receipt(
+    memory: Option<Box<Kept>>,
+    grants: GrantRoom,
+    entry: Option<Entry>,
+) -> Option<Box<Kept>> {
+    let Some(mut block) = memory else {
+        return None;
+    };
+    let _none = mem::replace(&mut block.grants, grants);
+    if let Some(entry) = entry {
+        let _none = mem::replace(&mut block.entry, entry);
+    }
+    Some(block)
+}
+
+// A call of a program, in what a thread keeps. Errors: want of memory.
+pub(crate) fn prepared_in<'p>(
+    alloc: Global,
+    memory: Option<Box<Kept>>,
+    program: &'p Program,
+    section: usize,
+    arguments: &[Value],
+) -> Result<Prepared<'p>, NoMemory>
+    requires { CanCall program.now.program section arguments.now }
+    ensures program { IfOk result (λ p. p.program.now ≡ program.now) }
+    ensures call { IfOk result (λ p. its_call p ≡ record { section = section; arguments = arguments.now }) }
+    ensures prepared { IfOk result IsPrepared }
+{
+    let block = match memory {
+        Some(block) => block,
+        None => Box::new(alloc, Kept::none(alloc)?)?,
+    };
+    Spare::of(alloc, block)?.prepare(alloc, program, section, arguments)
 }
 
 // Memory for a section. What stands in it doesn't matter.
 #[derive(Drop)]
-pub(crate) struct Spare {
+struct Spare {
     arguments: Vec<Value>,
     locals: Vec<Value>,
     held: Vec<Lock>,
     pending: Vec<Lock>,
     machine: MachineSpare,
+    block: Box<Kept>,
 }
 
 impl Spare {
-    // The memory of the last section, where there is some.
-    pub(crate) fn of(alloc: Global, rest: Option<Rest>, entry: Option<Entry>) -> Spare {
-        let rest = match rest {
-            Some(rest) => rest,
-            None => Rest::none(alloc),
-        };
-        let Rest {
+    // What the block has.
+    fn of(alloc: Global, mut block: Box<Kept>) -> Result<Spare, NoMemory> {
+        let none = Kept::none(alloc)?;
+        let Kept {
+            alloc: _,
             operands,
             locals,
-            left,
-        } = rest;
-        let LeftOver {
+            entry,
             held,
             pending,
             read_marks,
             write_marks,
-        } = left;
-        let lists = match entry {
-            Some(entry) => Lists::of(entry),
-            None => Lists::none(alloc),
-        };
-        let Lists {
+            grants,
+        } = Box::replace(&mut block, none);
+        let Entry {
+            thread: _,
+            step: _,
+            section: _,
             arguments,
+            begun: _,
             reads,
             writes,
+            outcome: _,
             prints,
-        } = lists;
-        Spare {
+        } = entry;
+        Ok(Spare {
             arguments,
             locals,
             held,
             pending,
             machine: MachineSpare {
-                operands,
+                operands: operands.into_memory(),
                 prints,
                 held: HeldSpare {
                     read_marks,
                     write_marks,
                     reads,
                     writes,
+                    grants,
                 },
             },
-        }
+            block,
+        })
     }
 
     // For a call of a program. Errors: want of memory.
-    pub(crate) fn prepare<'p>(
+    fn prepare<'p>(
         self,
         alloc: Global,
         program: &'p Program,
@@ -124,60 +187,36 @@ impl Spare {
             held,
             pending,
             machine,
+            block,
         } = self;
         let given = copied(arguments, given)?;
         let held = emptied(held, room.locks)?;
         let pending = emptied(pending, room.locks)?;
         let locals = opening_locals(called, arguments, locals)?;
-        let machine = machine.machine(alloc, locals, program.layout(), room)?;
+        let machine = machine.machine(locals, program.layout(), room)?;
+        let boxed = boxed(alloc, machine)?;
         Ok(Prepared {
             program,
             section,
             arguments: given,
             room,
-            machine,
+            machine: boxed,
             held,
             pending,
+            memory: block,
         })
     }
 }
 
-// The memory of an entry.
-#[derive(Drop)]
-struct Lists {
-    arguments: Vec<Value>,
-    reads: Vec<CellValue>,
-    writes: Vec<CellValue>,
-    prints: Vec<i64>,
-}
-
-impl Lists {
-    fn none(alloc: Global) -> Lists {
-        Lists {
-            arguments: Vec::new(alloc),
-            reads: Vec::new(alloc),
-            writes: Vec::new(alloc),
-            prints: Vec::new(alloc),
-        }
-    }
-
-    fn of(entry: Entry) -> Lists {
-        let Entry {
-            thread: _,
-            step: _,
-            section: _,
-            arguments,
-            begun: _,
-            reads,
-            writes,
-            outcome: _,
-            prints,
-        } = entry;
-        Lists {
-            arguments,
-            reads,
-            writes,
-            prints,
+// A machine in a block of its own.
+fn boxed<'p>(alloc: Global, machine: Machine<'p>) -> Result<Box<Machine<'p>>, NoMemory>
+    ensures { IfOk result (λ b. b.value ≡ machine.entry) }
+{
+    match Box::new(alloc, machine) {
+        Ok(machine) => Ok(machine),
+        Err(failed) => {
+            let_go(failed.value.into_grants());
+            Err(NoMemory)
         }
     }
 }

@@ -9,18 +9,18 @@ ghost use Rattle.runner.specs.Ties.{over_by};
 ghost use Rattle.runner.specs.Answers as answers;
 
 use crate::open::{Open, Prepared};
-use crate::spare::{LeftOver, Rest, Spare as Memory};
+use crate::spare::{Kept, prepared_in, with_receipt};
 use core_lang::typed::Call;
 use core_lang::value::{Outcome, Value};
 use held_cells::parts::Parts;
 use history::entry::Entry;
 use lock_manager::manager::Manager;
-use lock_manager::ticket::{Receipt, Spare, Ticket};
+use lock_manager::ticket::{Memory, Receipt, Spare, Ticket};
 use locks::lock::Lock;
 use lowering::compiled::Program;
 use moved_cells::grant::Grant;
+use moved_cells::grant_room::GrantRoom;
 use section_machine::machine::Left;
-use section_machine::operands::Operands;
 use std::alloc::Global;
 use std::marker::Model;
 
@@ -30,8 +30,7 @@ use std::marker::Model;
 pub struct Ready {
     thread: u32,
     step: usize,
-    rest: Option<Rest>,
-    entry: Option<Entry>,
+    memory: Option<Box<Kept>>,
     ticket: Option<Spare>,
 }
 
@@ -93,13 +92,10 @@ pub struct Ended<'p> {
     ticket: Ticket,
     step: usize,
     place: usize,
-    operands: Operands,
-    locals: Vec<Value>,
     grants: Vec<Grant>,
-    entry: Entry,
     asked: bool,
-    // For its thread's next section.
-    memory: LeftOver,
+    // Its operands, locals and entry, in what its thread keeps.
+    memory: Box<Kept>,
 }
 
 impl<'p> Model for Ended<'p> {
@@ -115,12 +111,12 @@ impl<'p> Model for Ended<'p> {
     ghost coded = { Prim.hlevel (codes, action.the_row.coded, expr.the_row.coded, condition.the_row.coded) };
 
     ghost view = { λ e.
-        ended_as e.program.now e.ticket e.step e.place e.operands.stack e.locals.items e.grants.items e.entry e.asked };
+        ended_as e.program.now e.ticket e.step e.place e.memory.value.operands.stack e.memory.value.locals.items e.grants.items e.memory.value.entry e.asked };
 
     ghost invariant = { λ e.
         IsKeptEnded
-        (ended_as e.program.now e.ticket e.step e.place e.operands.stack e.locals.items e.grants.items e.entry e.asked)
-        e.ticket e.grants.items e.entry };
+        (ended_as e.program.now e.ticket e.step e.place e.memory.value.operands.stack e.memory.value.locals.items e.grants.items e.memory.value.entry e.asked)
+        e.ticket e.grants.items e.memory.value.entry };
 }
 
 /// What a section goes on as.
@@ -186,18 +182,16 @@ impl Ready {
         let Ready {
             thread,
             step,
-            rest,
-            entry,
+            memory,
             ticket,
         } = self;
         let ready = Ready {
             thread,
             step,
-            rest: None,
-            entry: None,
+            memory: None,
             ticket,
         };
-        match Memory::of(alloc, rest, entry).prepare(alloc, program, section, arguments) {
+        match prepared_in(alloc, memory, program, section, arguments) {
             Ok(prepared) => Ok(Poised { ready, prepared }),
             Err(_) => Err(ready),
         }
@@ -232,12 +226,21 @@ impl Ready {
     pub fn keep(self, receipt: Receipt) -> Ready
         ensures { result ≡ self }
     {
-        let (ticket, entry) = receipt.into_memory();
-        Ready {
-            thread: self.thread,
-            step: self.step,
-            rest: self.rest,
+        let Memory {
+            ticket,
+            grants,
             entry,
+        } = receipt.into_memory();
+        let Ready {
+            thread,
+            step,
+            memory,
+            ticket: _,
+        } = self;
+        Ready {
+            thread,
+            step,
+            memory: with_receipt(memory, grants, entry),
             ticket: Some(ticket),
         }
     }
@@ -250,8 +253,7 @@ fn without_memory(thread: u32, step: usize) -> Ready
     Ready {
         thread,
         step,
-        rest: None,
-        entry: None,
+        memory: None,
         ticket: None,
     }
 }
@@ -312,13 +314,12 @@ impl<'p> Poised<'p> {
         let Ready {
             thread,
             step,
-            rest: _,
-            entry: _,
+            memory: _,
             ticket,
         } = ready;
         let spare = match ticket {
             Some(spare) => spare,
-            None => Spare::none(alloc),
+            None => Spare::none(),
         };
         let room = prepared.room;
         match manager.begin(alloc, thread, room, spare) {
@@ -372,6 +373,7 @@ fn end<'p>(opened: Open<'p>, outcome: Outcome) -> Ended<'p>
         held,
         pending,
         asked,
+        mut memory,
     } = opened;
     let thread = ticket.thread();
     let begun = ticket.begun();
@@ -381,7 +383,7 @@ fn end<'p>(opened: Open<'p>, outcome: Outcome) -> Ended<'p>
         locals,
         parts,
         prints,
-    } = machine.into_parts();
+    } = Box::into_inner(machine).into_parts();
     let Parts {
         grants,
         reads,
@@ -389,14 +391,11 @@ fn end<'p>(opened: Open<'p>, outcome: Outcome) -> Ended<'p>
         read_marks,
         write_marks,
     } = parts;
-    Ended {
-        program,
-        ticket,
-        step,
-        place,
+    let alloc = memory.alloc;
+    let kept = Kept {
+        alloc,
         operands,
         locals,
-        grants,
         entry: Entry {
             thread,
             step,
@@ -408,13 +407,21 @@ fn end<'p>(opened: Open<'p>, outcome: Outcome) -> Ended<'p>
             outcome,
             prints,
         },
+        held,
+        pending,
+        read_marks,
+        write_marks,
+        grants: GrantRoom::new(alloc),
+    };
+    let _nothing = Box::replace(&mut memory, kept);
+    Ended {
+        program,
+        ticket,
+        step,
+        place,
+        grants,
         asked,
-        memory: LeftOver {
-            held,
-            pending,
-            read_marks,
-            write_marks,
-        },
+        memory,
     }
 }
 
@@ -577,7 +584,7 @@ impl<'p> Ended<'p> {
     pub fn fits(&self, manager: &Manager<'p>) -> bool
         ensures { IsTrue result ↔ CanBeReleased manager.now self.now }
     {
-        self.step < usize::MAX && manager.fits(&self.ticket, &self.grants, &self.entry)
+        self.step < usize::MAX && manager.fits(&self.ticket, &self.grants, &self.memory.entry)
     }
 
     /// Ends the section.
@@ -590,25 +597,18 @@ impl<'p> Ended<'p> {
             ticket,
             step,
             place: _,
-            operands,
-            locals,
             grants,
-            entry,
             asked: _,
-            memory,
+            mut memory,
         } = self;
         let thread = ticket.thread();
+        let entry = memory.take_entry();
         let receipt = manager.release(ticket, grants, entry);
         (
             Ready {
                 thread,
                 step: step + 1,
-                rest: Some(Rest {
-                    operands: operands.into_memory(),
-                    locals,
-                    left: memory,
-                }),
-                entry: None,
+                memory: Some(memory),
                 ticket: None,
             },
             receipt,
@@ -625,10 +625,7 @@ impl<'p> Ended<'p> {
             ticket,
             step,
             place: _,
-            operands: _,
-            locals: _,
             grants,
-            entry: _,
             asked: _,
             memory: _,
         } = self;
@@ -642,7 +639,7 @@ impl<'p> Ended<'p> {
     pub fn entry(&self) -> &Entry
         ensures { IsItsEntry self.now result.now }
     {
-        &self.entry
+        &self.memory.entry
     }
 
     /// It keeps the rules, whatever the others do, and its entry is true.

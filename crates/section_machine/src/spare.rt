@@ -42,7 +42,6 @@ impl Spare {
     /// Want of memory.
     pub fn machine<'p>(
         self,
-        alloc: Global,
         locals: Vec<Value>,
         layout: &'p Layout,
         room: Room,
@@ -56,7 +55,7 @@ impl Spare {
         } = self;
         let operands = Operands::none(room.operands, operands)?;
         let prints = Prints::none(prints)?;
-        let held = Holding::none(alloc, layout, room, held)?;
+        let held = Holding::none(layout, room, held)?;
         Ok(Machine {
             place: 0,
             operands,

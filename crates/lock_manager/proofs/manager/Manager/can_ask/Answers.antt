@@ -1,6 +1,6 @@
 use Rattle.std.proofs.Common.{List, subst, sym, ap, ◌∙◌}
 use Rattle.locks.specs.declared.lock.Lock.{Lock}
-use Rattle.lock_manager.specs.Sessions.{TicketOf, SessionOf}
+use Rattle.lock_manager.specs.Sessions.{SessionOf}
 use Rattle.lock_manager.specs.Managers.{Managed, ComesAfter}
 use Rattle.lock_manager.proofs.Lists.{both_false, never_both}
 use Rattle.std.specs.List.{Contains}
@@ -10,7 +10,7 @@ use Rattle.lock_manager.proofs.manager.Manager.can_ask.Goals as goal
 pub returns-then-not-comes_after : goal.returns-then-not-comes_after
 returns-then-not-comes_after c =
     let x = c.self.inside in
-    let held = c.held.ensures ∙ ap (λ (t : TicketOf). t.session.held) c.ticket.view_is in
+    let held = c.held.ensures ∙ ap (λ (s : SessionOf). s.held) c.session-session.ensures in
     both_false (λ asks.
     let rises = subst (λ (m : Managed). ComesAfter m.ranks c.args.ticket.now.session.held c.args.lock) (sym c.self.view_is) asks.rises in
     let after = subst (λ (ls : List Lock). ComesAfter x.ranks.now ls c.args.lock) (sym held) rises in
@@ -18,13 +18,13 @@ returns-then-not-comes_after c =
 
 pub returns-then-not-may_take : goal.returns-then-not-may_take
 returns-then-not-may_take c =
-    let session = ap (λ (t : TicketOf). t.session) c.ticket.view_is in
+    let session = c.session-session.ensures in
     both_false (λ asks. never_both
     (c.may_take.ensures.1 (subst (λ (s : SessionOf). MayTake s c.args.lock) (sym session) (record { same = asks.same; room = asks.room }))) c.if-not-may_take.true)
 
 pub returns : goal.returns
 returns c =
-    let session = ap (λ (t : TicketOf). t.session) c.ticket.view_is in
+    let session = c.session-session.ensures in
     let may = subst (λ (s : SessionOf). MayTake s c.args.lock) session (c.may_take.ensures.0 c.if-not-may_take.false) in
     let held = c.held.ensures ∙ ap (λ (s : SessionOf). s.held) session in (
       λ e. record {

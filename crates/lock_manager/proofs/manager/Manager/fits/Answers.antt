@@ -3,11 +3,11 @@ use Rattle.std.specs.Prelude.{is_some}
 use Rattle.std.proofs.lemmas.Bool.{false≢true}
 use Rattle.std.specs.List.{All, Contains}
 use Rattle.locks.specs.declared.lock.Lock.{Lock}
-use Rattle.lock_manager.specs.Sessions.{TicketOf}
+use Rattle.lock_manager.specs.Sessions.{SessionOf}
 use Rattle.lock_manager.specs.Managers.{Managed, managed}
 use Rattle.lock_manager.specs.Calls.{AreOf, Knows, IsOwnWrite}
 use Rattle.lock_manager.proofs.Rules.{listed_held, listed_grants}
-use Rattle.lock_manager.proofs.manager.Manager.fits.Goals.{then-thread-ticket-via-then-thread-ticket, then-thread-ticket-via-else-thread-ticket+then-begun}
+use Rattle.lock_manager.proofs.manager.Manager.fits.Goals.{then-thread-via-then-thread, then-thread-via-else-thread+then-begun}
 use Rattle.core_lang.specs.declared.value.Value.{Value}
 use Rattle.code.specs.Memory.{overwritten, Agrees}
 use Rattle.moved_cells.specs.Grants.{GrantOf, cells_in}
@@ -19,7 +19,7 @@ are_of-requires c =
     let m = managed x.committed x.ranks.now x.places.items x.queue x.sections x.history.commits in
     let ticket = c.args.ticket.now in
     let known = subst (λ (v : Managed). Knows v ticket) (sym c.self.view_is) (c.knows.ensures.0 c.if-not-knows.false) in
-    subst (λ (ls : List Lock). All (Contains c.args.self.now.layout.locks) ls) (sym (c.held.ensures ∙ ap (λ (t : TicketOf). t.session.held) c.ticket.view_is))
+    subst (λ (ls : List Lock). All (Contains c.args.self.now.layout.locks) ls) (sym (c.held.ensures ∙ ap (λ (s : SessionOf). s.held) c.session-session.ensures))
     (subst (λ (v : Managed). All (Contains v.layout.locks) ticket.session.held) c.self.view_is (listed_held m ticket.thread ticket.session c.self.invariant.0 known))
 
 pub are_now-requires-clause-listed : goal.are_now-requires-clause-listed
@@ -28,7 +28,7 @@ are_now-requires-clause-listed c =
     let m = managed x.committed x.ranks.now x.places.items x.queue x.sections x.history.commits in
     let ticket = c.args.ticket.now in
     let known = subst (λ (v : Managed). Knows v ticket) (sym c.self.view_is) (c.knows.ensures.0 c.if-not-knows.false) in
-    let held = c.held.ensures ∙ ap (λ (t : TicketOf). t.session.held) c.ticket.view_is in
+    let held = c.held.ensures ∙ ap (λ (s : SessionOf). s.held) c.session-session.ensures in
     let listed = listed_held m ticket.thread ticket.session c.self.invariant.0 known in
     let own = subst (λ (v : Managed). AreOf v.layout.cell_locks c.held.result.now c.args.grants.now) (sym c.self.view_is) (c.are_of.ensures.0 c.if-not-are_of.false) in
     listed_grants m ticket.session.held c.args.grants.now listed (subst (λ (ls : List Lock). AreOf m.layout.cell_locks ls c.args.grants.now) held own)
@@ -38,11 +38,11 @@ returns-then-not-knows c = (λ t. absurd (false≢true t), λ can. c.if-not-know
 
 pub returns-then-is_some : goal.returns-then-is_some
 returns-then-is_some c =
-    (λ t. absurd (false≢true t), λ can. sym (ap is_some (c.ask.ensures ∙ ap (λ (t : TicketOf). t.session.ask) c.ticket.view_is ∙ can.1.no_ask)) ∙ sym c.if-is_some.ensures)
+    (λ t. absurd (false≢true t), λ can. sym (ap is_some (c.ask.ensures ∙ ap (λ (s : SessionOf). s.ask) c.session-session.ensures ∙ can.1.no_ask)) ∙ sym c.if-is_some.ensures)
 
 pub returns-then-not-are_of : goal.returns-then-not-are_of
 returns-then-not-are_of c =
-    let held = c.held.ensures ∙ ap (λ (t : TicketOf). t.session.held) c.ticket.view_is in
+    let held = c.held.ensures ∙ ap (λ (s : SessionOf). s.held) c.session-session.ensures in
     (λ t. absurd (false≢true t), λ can. c.if-not-are_of.ensures.1 (subst (λ (ls : List Lock). AreOf c.args.self.now.layout.cell_locks ls c.args.grants.now) (sym held) can.1.own))
 
 pub returns-then-not-agrees : goal.returns-then-not-agrees
@@ -52,7 +52,7 @@ returns-then-not-agrees c =
 
 pub returns-then-not-are_own : goal.returns-then-not-are_own
 returns-then-not-are_own c =
-    let held = c.held-2.ensures ∙ ap (λ (t : TicketOf). t.session.held) c.ticket.view_is in
+    let held = c.held-2.ensures ∙ ap (λ (s : SessionOf). s.held) c.session-session.ensures in
     let locks : c.self.inside.committed.layout.cell_locks ≡ c.args.self.now.layout.cell_locks = ap (λ (m : Managed). m.layout.cell_locks) c.self.view_is in
     (λ t. absurd (false≢true t), λ can. c.if-not-are_own.ensures.1 (rw (locks, held, c.writes.ensures) can.1.writes))
 
@@ -60,18 +60,18 @@ pub are_now-requires-clause-whole : goal.are_now-requires-clause-whole
 are_now-requires-clause-whole c =
     (subst (λ (v : Managed). AreOf v.layout.cell_locks c.held.result.now c.args.grants.now) (sym c.self.view_is) (c.are_of.ensures.0 c.if-not-are_of.false)).whole
 
-pub returns-then-thread-ticket : goal.returns-then-thread-ticket
-returns-then-thread-ticket c =
-    elim c.then-thread-ticket.branch [
-      | then-thread-ticket-via-then-thread-ticket w ↦ (
+pub returns-then-thread : goal.returns-then-thread
+returns-then-thread c =
+    elim c.then-thread.branch [
+      | then-thread-via-then-thread w ↦ (
         λ t. absurd (false≢true t),
         λ can.
-            absurd (w.if-thread-ticket.true (c.thread.ensures ∙ can.1.thread ∙ sym (ap (λ (t : TicketOf). t.thread) c.ticket.view_is))),
+            absurd (w.if-thread.true (c.thread.ensures ∙ can.1.thread ∙ sym (c.thread-2.ensures))),
       )
-      | then-thread-ticket-via-else-thread-ticket+then-begun w ↦ (
+      | then-thread-via-else-thread+then-begun w ↦ (
         λ t. absurd (false≢true t),
         λ can.
-            absurd (w.if-begun.true (w.begun.ensures ∙ can.1.begun ∙ sym (w.begun-else-thread-ticket.ensures ∙ ap (λ (t : TicketOf). t.session.begun) c.ticket.view_is))),
+            absurd (w.if-begun.true (w.begun.ensures ∙ can.1.begun ∙ sym (w.begun-else-thread.ensures ∙ ap (λ (s : SessionOf). s.begun) c.session-session.ensures))),
       )
     ]
 
@@ -88,15 +88,15 @@ returns c =
     let x = c.self.inside in
     let values = ap (λ (v : Managed). v.values) c.self.view_is in
     let locks = ap (λ (v : Managed). v.layout.cell_locks) c.self.view_is in
-    let held = c.held.ensures ∙ ap (λ (t : TicketOf). t.session.held) c.ticket.view_is in
-    let held_too = c.held-2.ensures ∙ ap (λ (t : TicketOf). t.session.held) c.ticket.view_is in (
+    let held = c.held.ensures ∙ ap (λ (s : SessionOf). s.held) c.session-session.ensures in
+    let held_too = c.held-2.ensures ∙ ap (λ (s : SessionOf). s.held) c.session-session.ensures in (
       λ e. (
         c.knows.ensures.0 c.if-not-knows.false,
         record {
-          no_ask = sym (c.ask.ensures ∙ ap (λ (t : TicketOf). t.session.ask) c.ticket.view_is) ∙ nothing_asked c.ask.result c.if-is_some.ensures;
+          no_ask = sym (c.ask.ensures ∙ ap (λ (s : SessionOf). s.ask) c.session-session.ensures) ∙ nothing_asked c.ask.result c.if-is_some.ensures;
           own = subst (λ (ls : List Lock). AreOf m.layout.cell_locks ls grants) held (c.are_of.ensures.0 c.if-not-are_of.false);
-          thread = sym c.thread.ensures ∙ c.if-thread-ticket.false ∙ ap (λ (t : TicketOf). t.thread) c.ticket.view_is;
-          begun = sym c.begun.ensures ∙ c.if-begun.false ∙ c.begun-else-thread-ticket.ensures ∙ ap (λ (t : TicketOf). t.session.begun) c.ticket.view_is;
+          thread = sym c.thread.ensures ∙ c.if-thread.false ∙ c.thread-2.ensures;
+          begun = sym c.begun.ensures ∙ c.if-begun.false ∙ c.begun-else-thread.ensures ∙ ap (λ (s : SessionOf). s.begun) c.session-session.ensures;
           reads = subst (λ (h : List Value). Agrees h entry.reads) values (subst (Agrees x.committed.values) c.reads.ensures (c.agrees.ensures.0 c.if-not-agrees.false));
           writes = subst (λ (ls : List Lock). All (IsOwnWrite ls ticket.session.held) entry.writes) locks
               (subst (λ (ls : List Lock). All (IsOwnWrite x.committed.layout.cell_locks ls) entry.writes) held_too

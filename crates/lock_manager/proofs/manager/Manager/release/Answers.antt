@@ -24,8 +24,8 @@ enter-entry-requires c =
     promised_one m x.history.promised c.args.ticket.thread c.cells-cells.result c.args.ticket.session c.self.invariant (subst (λ (v : Managed). Knows v c.args.ticket) (sym c.self.view_is) c.requires.known)
     (c.cells-cells.ensures ∙ ap (λ (t : ℕ). cells_if_open (session_in x.sections t)) c.woken-thread.ensures.thread)
 
-pub put_back-requires-clause-listed : goal.put_back-requires-clause-listed
-put_back-requires-clause-listed c =
+pub put_back-grants-requires-clause-listed : goal.put_back-grants-requires-clause-listed
+put_back-grants-requires-clause-listed c =
     let x = c.self.inside in
     let m = managed x.committed x.ranks.now x.places.items x.queue x.sections x.history.commits in
     let known = subst (λ (v : Managed). Knows v c.args.ticket) (sym c.self.view_is) c.requires.known in
@@ -46,28 +46,28 @@ invariant_of-self c =
     let m = managed x.committed x.ranks.now x.places.items x.queue x.sections x.history.commits in
     let known = subst (λ (v : Managed). Knows v c.args.ticket) (sym c.self.view_is) c.requires.known in
     let fits = subst (λ (v : Managed). Fits v c.args.ticket c.args.grants.items c.args.entry) (sym c.self.view_is) c.requires.fits in
-    subst (λ (v : CommittedOf). Sound (managed v x.ranks.now c.put_back.new.places.items x.queue c.close.new.self c.enter-entry.new.self.commits) c.enter-entry.new.self.promised) (sym c.overwrite.ensures)
-    (sound_release m x.history.promised c.args.ticket c.args.grants.items c.args.entry c.put_back.new.places.items c.close.new.self c.enter-entry.new.self.commits
+    subst (λ (v : CommittedOf). Sound (managed v x.ranks.now c.put_back-grants.new.places.items x.queue c.close.new.self c.enter-entry.new.self.commits) c.enter-entry.new.self.promised) (sym c.overwrite.ensures)
+    (sound_release m x.history.promised c.args.ticket c.args.grants.items c.args.entry c.put_back-grants.new.places.items c.close.new.self c.enter-entry.new.self.commits
     (overwritten x.committed.values c.writes.result.now) c.enter-entry.new.self.promised c.cells-cells.result c.self.invariant known fits
     c.commuting.ensures.writes c.one_entry_more.ensures.heap c.one_entry_more.ensures.legal
-    (c.put_back.ensures ∙ ap (λ (v : CommittedOf). given_back v.layout.locks x.places.items c.args.grants.items) c.overwrite.ensures)
+    (c.put_back-grants.ensures ∙ ap (λ (v : CommittedOf). given_back v.layout.locks x.places.items c.args.grants.items) c.overwrite.ensures)
     (c.close.ensures ∙ ap (λ (t : ℕ). set x.sections t None) c.woken-thread.ensures.thread)
     c.enter-entry.ensures.commits
     (ap (overwritten x.committed.values) c.writes.ensures)
     c.enter-entry.ensures.promised
     (c.cells-cells.ensures ∙ ap (λ (t : ℕ). cells_if_open (session_in x.sections t)) c.woken-thread.ensures.thread))
 
-pub put_back-requires-clause-count : goal.put_back-requires-clause-count
-put_back-requires-clause-count c = c.self.invariant.0.lock_count ∙ sym (ap (λ (v : CommittedOf). length v.layout.locks) c.overwrite.ensures)
+pub put_back-grants-requires-clause-count : goal.put_back-grants-requires-clause-count
+put_back-grants-requires-clause-count c = c.self.invariant.0.lock_count ∙ sym (ap (λ (v : CommittedOf). length v.layout.locks) c.overwrite.ensures)
 
 pub returns : goal.returns
 returns c =
     let x = c.self.inside in
     let m = managed x.committed x.ranks.now x.places.items x.queue x.sections x.history.commits in
     let committed = c.overwrite.ensures ∙ ap (with_writes x.committed) c.writes.ensures in
-    let places = c.put_back.ensures ∙ ap (λ (v : CommittedOf). given_back v.layout.locks x.places.items c.args.grants.items) c.overwrite.ensures in
+    let places = c.put_back-grants.ensures ∙ ap (λ (v : CommittedOf). given_back v.layout.locks x.places.items c.args.grants.items) c.overwrite.ensures in
     let slots = c.close.ensures ∙ ap (λ (t : ℕ). set x.sections t None) c.woken-thread.ensures.thread in
-    let same : managed c.overwrite.new.self x.ranks.now c.put_back.new.places.items x.queue c.close.new.self c.enter-entry.new.self.commits ≡ after_release m c.args.ticket c.args.grants.items c.args.entry =
+    let same : managed c.overwrite.new.self x.ranks.now c.put_back-grants.new.places.items x.queue c.close.new.self c.enter-entry.new.self.commits ≡ after_release m c.args.ticket c.args.grants.items c.args.entry =
     λ i. managed (committed i) x.ranks.now (places i) x.queue (slots i) (c.enter-entry.ensures.commits i) in
     record {
       position = c.len-position.ensures ∙ ap (λ (v : Managed). length v.history) c.self.view_is;

@@ -1,6 +1,8 @@
-use Rattle.std.proofs.Common.{◌<◌, ◌≤◌, ◌++◌, ◌∷◌, [], ℕ, List, length, length-append, sym, subst, arith, vec_capacity}
+use Rattle.std.proofs.Common.{◌≡◌, ◌∙◌, ◌<◌, ◌≤◌, ◌++◌, ◌∷◌, [], ℕ, List, length, length-append, sym, ap, subst, arith, vec_len, vec_capacity}
 use Rattle.locks.specs.declared.lock.Lock.{Lock}
-use Rattle.lock_manager.specs.Sessions.{SessionOf, TicketOf}
+use Rattle.lock_manager.specs.Sessions.{SessionOf, TicketOf, with_lock}
+use Rattle.lock_manager.specs.Ties.{HasWakingRoom}
+use Rattle.lock_manager.specs.declared.ticket.Pass.{Pass}
 use Rattle.lock_manager.proofs.ticket.Ticket.grant.Goals as goal
 
 one_more_held : (held : List Lock) (lock : Lock) (room capacity : ℕ) → length held < room → room ≤ capacity → length (held ++ lock ∷ []) ≤ capacity
@@ -8,11 +10,16 @@ one_more_held held lock room capacity lt le = omega (arith, lt, le, length-appen
 
 pub invariant_of-self : goal.invariant_of-self
 invariant_of-self c =
-    let s = c.self.inside.session in
-    let capacity = vec_capacity c.self.inside.wake in
+    let p = c.self.inside.pass.value in
+    let same : c.deref_mut.result.now ≡ p = c.deref_mut.ensures.value in
+    let s = p.session in
+    let capacity = vec_capacity p.wake in
     let lt = subst (λ (t : TicketOf). length t.session.held < t.session.room.locks) (sym c.self.view_is) c.requires in
-    record {
+    let granted : c.grant.new.self ≡ with_lock s c.args.lock = c.grant.ensures ∙ ap (λ (p : Pass). with_lock p.session c.args.lock) same in
+    let kept : HasWakingRoom (with_lock s c.args.lock) (vec_len p.wake) capacity = record {
       none_yet = c.self.invariant.none_yet;
-      held = subst (λ (x : SessionOf). length x.held ≤ capacity) (sym c.grant.ensures) (one_more_held s.held c.args.lock s.room.locks capacity lt c.self.invariant.locks);
-      locks = subst (λ (x : SessionOf). x.room.locks ≤ capacity) (sym c.grant.ensures) c.self.invariant.locks;
-    }
+      held = one_more_held s.held c.args.lock s.room.locks capacity lt c.self.invariant.locks;
+      locks = c.self.invariant.locks;
+    } in
+    subst (λ (p : Pass). HasWakingRoom c.grant.new.self (vec_len p.wake) (vec_capacity p.wake)) (sym same)
+    (subst (λ (s : SessionOf). HasWakingRoom s (vec_len p.wake) capacity) (sym granted) kept)

@@ -3,7 +3,7 @@ use Rattle.std.proofs.Common.{refl, sym, ap, ◌∙◌, subst, arith}
 use Rattle.locks.specs.declared.lock.Lock.{Lock}
 use Rattle.layout.specs.LockCells.{cells_of}
 use Rattle.moved_cells.specs.Grants.{numbered}
-use Rattle.held_cells.specs.Held.{with_grant}
+use Rattle.held_cells.specs.Held.{CanHold, with_grant}
 use Rattle.lock_manager.specs.Sessions.{TicketOf, with_lock, with_ask}
 use Rattle.lock_manager.specs.Calls.{CanAsk, ticket_with}
 use Rattle.worlds.specs.Worlds.{granted}
@@ -17,7 +17,7 @@ use Rattle.runner.proofs.open.Open.ask.Goals as goal
 pub request-requires-clause-asks : goal.request-requires-clause-asks
 request-requires-clause-asks c =
     let x = c.self.inside in
-    let o = open_as x.program.now x.ticket x.step (call_of x.section x.arguments.items) x.machine x.pending.items x.asked in
+    let o = open_as x.program.now x.ticket x.step (call_of x.section x.arguments.items) x.machine.value x.pending.items x.asked in
     let lock = c.index-lock.result.now in
     let rest = drop 1 x.pending.items in
     let a : IsAsking o lock rest = record {
@@ -32,7 +32,7 @@ request-requires-clause-asks c =
 pub grant-requires : goal.grant-requires
 grant-requires c =
     let x = c.self.inside in
-    let o = open_as x.program.now x.ticket x.step (call_of x.section x.arguments.items) x.machine x.pending.items x.asked in
+    let o = open_as x.program.now x.ticket x.step (call_of x.section x.arguments.items) x.machine.value x.pending.items x.asked in
     let lock = c.index-lock.result.now in
     let rest = drop 1 x.pending.items in
     let a : IsAsking o lock rest = record {
@@ -44,13 +44,14 @@ grant-requires c =
     let lent = are_lent c.args.manager.now o lock c.in-Granted.grant.values a.is_open c.heaps_have_values.ensures.whole
     c.heaps_have_values.ensures.agree c.slots_are_cells.ensures.cells c.keeps_its_rules.ensures.rules_kept known
     c.in-Granted.ensures.was_free in
-    can_hold o lock rest x.ticket x.machine x.held.items (vec_capacity x.held) (vec_capacity x.pending) c.in-Granted.grant
-    c.sections_stay_in_order.ensures c.precedes_is_strict.ensures a c.self.invariant refl c.in-Granted.ensures.lock_is lent
+    subst (λ (r : RunOf). CanHold (holding_of r) c.in-Granted.grant) (sym c.deref_mut.ensures.value)
+    (can_hold o lock rest x.ticket x.machine.value x.held.items (vec_capacity x.held) (vec_capacity x.pending) c.in-Granted.grant
+    c.sections_stay_in_order.ensures c.precedes_is_strict.ensures a c.self.invariant refl c.in-Granted.ensures.lock_is lent)
 
 pub put_last-requires : goal.put_last-requires
 put_last-requires c =
     let x = c.self.inside in
-    let o = open_as x.program.now x.ticket x.step (call_of x.section x.arguments.items) x.machine x.pending.items x.asked in
+    let o = open_as x.program.now x.ticket x.step (call_of x.section x.arguments.items) x.machine.value x.pending.items x.asked in
     let lock = c.index-lock.result.now in
     let rest = drop 1 x.pending.items in
     let a : IsAsking o lock rest = record {
@@ -65,7 +66,7 @@ put_last-requires c =
 pub take_first-requires : goal.take_first-requires
 take_first-requires c =
     let x = c.self.inside in
-    let o = open_as x.program.now x.ticket x.step (call_of x.section x.arguments.items) x.machine x.pending.items x.asked in
+    let o = open_as x.program.now x.ticket x.step (call_of x.section x.arguments.items) x.machine.value x.pending.items x.asked in
     let lock = c.index-lock.result.now in
     let rest = drop 1 x.pending.items in
     let a : IsAsking o lock rest = record {
@@ -79,7 +80,7 @@ take_first-requires c =
 pub invariant_of-self : goal.invariant_of-self
 invariant_of-self c =
     let x = c.self.inside in
-    let o = open_as x.program.now x.ticket x.step (call_of x.section x.arguments.items) x.machine x.pending.items x.asked in
+    let o = open_as x.program.now x.ticket x.step (call_of x.section x.arguments.items) x.machine.value x.pending.items x.asked in
     let lock = c.index-lock.result.now in
     let rest = drop 1 x.pending.items in
     let a : IsAsking o lock rest = record {
@@ -93,11 +94,11 @@ invariant_of-self c =
     c.in-Granted.ensures.was_free in
     let grant = c.in-Granted.grant in
     let o' = further o (granted o.activation lock rest (numbered (cells_of o.plan.layout.cell_locks lock) grant.values)) in
-    let m = x.machine.machine in
-    let run' : RunOf = record (with_holding x.machine (with_grant (holding_of x.machine) grant)) { machine = o'.activation.machine } in
+    let m = x.machine.value.machine in
+    let run' : RunOf = record (with_holding x.machine.value (with_grant (holding_of x.machine.value) grant)) { machine = o'.activation.machine } in
     let held_room = vec_capacity c.put_last.new.locks in
     let room = vec_capacity c.take_first.new.locks in
-    let kept = kept_granted o lock rest x.ticket x.machine x.held.items (vec_capacity x.held) (vec_capacity x.pending) held_room room grant
+    let kept = kept_granted o lock rest x.ticket x.machine.value x.held.items (vec_capacity x.held) (vec_capacity x.pending) held_room room grant
     c.sections_stay_in_order.ensures a c.self.invariant refl c.in-Granted.ensures.lock_is lent
     c.put_last.ensures.capacity c.take_first.ensures.capacity in
     let ticket : c.request.new.ticket ≡ ticket_of o' =
@@ -105,7 +106,8 @@ invariant_of-self c =
     ∙ ap (λ (t : TicketOf). ticket_with t (with_lock t.session lock)) c.self.invariant.ticket_is in
     let run : c.grant.new.self ≡ run' =
     c.grant.ensures
-    ∙ (λ i. record (with_holding x.machine (with_grant (holding_of x.machine) grant)) {
+    ∙ ap (λ (r : RunOf). with_holding r (with_grant (holding_of r) grant)) c.deref_mut.ensures.value
+    ∙ (λ i. record (with_holding x.machine.value (with_grant (holding_of x.machine.value) grant)) {
       machine = record m {
         memory = record m.memory {
           cells = m.memory.cells ++ numbered (cells_of (c.self.invariant.layout i).cell_locks (c.in-Granted.ensures.lock_is i)) grant.values;
@@ -124,7 +126,7 @@ invariant_of-self c =
 pub invariant_of-self-in-Held : goal.invariant_of-self-in-Held
 invariant_of-self-in-Held c =
     let x = c.self.inside in
-    let o = open_as x.program.now x.ticket x.step (call_of x.section x.arguments.items) x.machine x.pending.items x.asked in
+    let o = open_as x.program.now x.ticket x.step (call_of x.section x.arguments.items) x.machine.value x.pending.items x.asked in
     let lock = c.index-lock.result.now in
     let rest = drop 1 x.pending.items in
     let a : IsAsking o lock rest = record {
@@ -133,12 +135,12 @@ invariant_of-self-in-Held c =
           (λ e. c.requires.pending (sym (ap (λ (s : OpenOf). s.activation.pending) c.self.view_is) ∙ e)) c.index-lock.ensures;
     } in
     let known : IsKnown c.args.manager.now o = subst (IsKnown c.args.manager.now) (sym c.self.view_is) c.requires.known in
-    let kept = kept_waiting o lock rest x.ticket x.machine x.held.items (vec_capacity x.held) (vec_capacity x.pending)
+    let kept = kept_waiting o lock rest x.ticket x.machine.value x.held.items (vec_capacity x.held) (vec_capacity x.pending)
     c.sections_stay_in_order.ensures a c.self.invariant in
     let o' = further o (record o.activation { asked = true }) in
     let ticket : c.request.new.ticket ≡ ticket_of o' =
     c.in-Held.ensures.ticket_is
     ∙ ap (λ (t : TicketOf). ticket_with t (with_ask t.session lock)) c.self.invariant.ticket_is
     ∙ ap (λ (ps : List Lock). ticket_with (ticket_of o) (record (ticket_of o).session { ask = first_if true ps })) (sym a.pending) in
-    subst (λ (t : TicketOf). IsKeptOpen (open_as x.program.now t x.step (call_of x.section x.arguments.items) x.machine x.pending.items true) t
-    x.machine x.held.items (vec_capacity x.held) (vec_capacity x.pending)) (sym ticket) kept
+    subst (λ (t : TicketOf). IsKeptOpen (open_as x.program.now t x.step (call_of x.section x.arguments.items) x.machine.value x.pending.items true) t
+    x.machine.value x.held.items (vec_capacity x.held) (vec_capacity x.pending)) (sym ticket) kept

@@ -6,6 +6,7 @@ use Rattle.code.specs.declared.section_code.SectionCode.{SectionCode}
 use Rattle.code.specs.Machine.{act}
 use Rattle.code.specs.Memory.{load_held, store_held}
 use Rattle.worlds.specs.Worlds.{code_at, next_effect}
+use Rattle.section_machine.specs.Machines.{RunOf}
 use Rattle.runner.specs.Opens.{OpenOf}
 use Rattle.runner.specs.Ties.{open_as, call_of}
 use Rattle.runner.proofs.Opened.{RunsInOrder, has_code, code_read, place_there}
@@ -14,27 +15,31 @@ use Rattle.runner.proofs.open.Open.instruction.Goals as goal
 pub index-requires-2 : goal.index-requires-2
 index-requires-2 c =
     let x = c.self.inside in
-    let o = open_as x.program.now x.ticket x.step (call_of x.section x.arguments.items) x.machine x.pending.items x.asked in
+    let o = open_as x.program.now x.ticket x.step (call_of x.section x.arguments.items) x.machine.value x.pending.items x.asked in
     let r : RunsInOrder o = record {
       is_open = c.self.invariant.is_open;
       pending = ap (λ (o : OpenOf). o.activation.pending) c.self.view_is ∙ c.requires;
       outcome = refl;
     } in
+    let place : c.place.result ≡ x.machine.value.machine.place =
+    c.place.ensures ∙ ap (λ (r : RunOf). r.machine.place) c.deref.ensures in
     let code = c.code-code.result.now in
     let h = has_code o code r.is_open c.code-code.ensures in
     let within = place_there o code h c.sections_stay_in_order.ensures r in
     subst (λ (m : SectionCode). c.place.result < vec_len m.instructions) (sym (code_read o code h c.index.result.now c.index.ensures))
-    (omega (arith, c.place.ensures, within, h.made.instructions.ok.0))
+    (omega (arith, place, within, h.made.instructions.ok.0))
 
 pub returns : goal.returns
 returns c =
     let x = c.self.inside in
-    let o = open_as x.program.now x.ticket x.step (call_of x.section x.arguments.items) x.machine x.pending.items x.asked in
+    let o = open_as x.program.now x.ticket x.step (call_of x.section x.arguments.items) x.machine.value x.pending.items x.asked in
     let r : RunsInOrder o = record {
       is_open = c.self.invariant.is_open;
       pending = ap (λ (o : OpenOf). o.activation.pending) c.self.view_is ∙ c.requires;
       outcome = refl;
     } in
+    let place : c.place.result ≡ x.machine.value.machine.place =
+    c.place.ensures ∙ ap (λ (r : RunOf). r.machine.place) c.deref.ensures in
     let code = c.code-code.result.now in
     let h = has_code o code r.is_open c.code-code.ensures in
     let within = place_there o code h c.sections_stay_in_order.ensures r in
@@ -43,12 +48,12 @@ returns c =
     let read = c.index.result.now in
     let short : c.place.result < vec_len read.instructions =
     subst (λ (m : SectionCode). c.place.result < vec_len m.instructions) (sym found)
-    (omega (arith, c.place.ensures, within, h.made.instructions.ok.0)) in
+    (omega (arith, place, within, h.made.instructions.ok.0)) in
     let here : slice_get read.instructions.items c.place.result ≡ Some i =
     slice_get_read read.instructions.items (vec_len read.instructions) c.place.result i read.instructions.ok.0 short c.index-2.ensures in
     let at : slice_get (code_at o.plan o.activation.call.section) o.activation.machine.place ≡ Some i =
     ap (λ (is : List Instr). slice_get is o.activation.machine.place) (h.is ∙ ap (λ (m : SectionCode). m.instructions.items) (sym found))
-    ∙ ap (slice_get read.instructions.items) (sym c.place.ensures)
+    ∙ ap (slice_get read.instructions.items) (sym place)
     ∙ here in
     subst (λ (o : OpenOf). next_effect o.plan o.activation ≡ act load_held store_held o.plan.program.shape (Some i) o.activation.machine)
     c.self.view_is
