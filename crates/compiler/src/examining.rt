@@ -36,6 +36,7 @@ pub struct Cyclic {
 fn cycle_fault(alloc: Global, program: &Typed, cycle: &Cycle) -> Result<Fault, Refusal>
     requires { IsCycleOf program.now cycle.now.edges.items }
     ensures fault { IfOk result (IsFaultAtFirst program.now) }
+    ensures cycle { IfOk result (λ _. IsCycleOf program.now cycle.now.edges.items) }
     ensures memory { IfErr result IsForMemory }
 {
     match cycle.fault(alloc, program) {

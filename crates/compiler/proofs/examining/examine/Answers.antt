@@ -64,7 +64,7 @@ returns-in-Err-Cycle-clause-cycle c =
         expanded = c.in_ok-written.ensures.expanded;
       };
       paths = c.in_ok-found.ensures.paths;
-      cycle = rw c.in-Err-Cycle.is at c.in-Err-Cycle.ensures.cycle;
+      cycle = c.in_ok-fault-in-Err-Cycle.ensures.cycle;
       told = c.in_ok-fault-in-Err-Cycle.ensures.fault;
       first = in_order _ _ _ _ c.in_ok-tokens.ensures.refused c.in_ok-tokens.ensures.found
           (λ code start. tokens_faultless _ _ _ code start c.in_ok-tokens.ensures.found right placed) right c.in_ok-accepted.ensures.faultless
