@@ -1,0 +1,4 @@
+use Rattle.autolock.proofs.run_opened.Goals as goal
+
+pub returns-in-Explain : goal.returns-in-Explain
+returns-in-Explain g c = rw c.in-Explain.is c.explain.ensures
