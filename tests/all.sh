@@ -18,6 +18,8 @@ for script in examples language statuses words limited_memory; do
     echo "== tests/$script.sh"
     "tests/$script.sh" "$program" || failed+=("$script.sh")
 done
+echo "== tests/fans.py"
+tests/fans.py "$program" || failed+=("fans.py")
 echo "== tests/editors.py"
 tests/editors.py || failed+=(editors.py)
 echo "== ${#failed[@]} failed: ${failed[*]}"
