@@ -1,5 +1,5 @@
 -- What values of the code say, in the words of the resolution.
-use Rattle.std.specs.Prelude.{ℕ, List, map, Option, option_map}
+use Rattle.std.specs.Prelude.{◌≡◌, ℕ, List, map, Option, Some, None, option_map, Bool, true, false}
 use Rattle.std.specs.Borrow.{Bor}
 use Rattle.std.proofs.Common.{Vec, Global}
 use Rattle.source.specs.declared.mistake.Mistake.{Mistake}
@@ -13,6 +13,7 @@ use Rattle.core_lang.specs.declared.typed.Call as the_call
 use Rattle.resolution.specs.Core as core
 use Rattle.resolution.specs.CoreViews.{core_call}
 use Rattle.resolution.specs.Constants.{typed_arguments}
+use Rattle.resolution.specs.Resolution.{joined}
 use Rattle.resolution.specs.FaultLists.{argument_faults}
 use Rattle.symbols.specs.declared.table.SymbolTable.{SymbolTable}
 use Rattle.symbols.specs.Views.{decls_of}
@@ -32,3 +33,16 @@ member_found found = option_map (λ f. (f.0, member_of f.1.now)) found
 -- calls, if none is missing
 abbrev pub calls_in : Option (Vec the_call.Call Global) → Option (List core.Call)
 calls_in calls = option_map (λ cs. map core_call cs.items) calls
+
+-- calls as data
+abbrev pub cores : List the_call.Call → List core.Call
+cores calls = map core_call calls
+
+-- calls, if all that was added is right
+abbrev pub if_right : Bool → List the_call.Call → Option (List core.Call)
+if_right true calls = Some (cores calls)
+if_right false calls = None
+
+-- further calls stand after those that there were, if they are right
+abbrev pub Adds : Bool → List the_call.Call → List the_call.Call → Option (List core.Call) → Type 0
+Adds right before after more = if_right right after ≡ joined (Some (cores before)) more

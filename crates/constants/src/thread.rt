@@ -1,14 +1,14 @@
 //! Threads and their calls.
 
-ghost use Rattle.std.specs.Prelude.{◌≡◌, ◌++◌, OnOk, IfOk, option_map, map, is_some};
+ghost use Rattle.std.specs.Prelude.{◌≡◌, ◌≤◌, ◌+◌, ◌++◌, OnOk, IfOk, option_map, is_some, length, take, drop};
 ghost use Rattle.syntax.specs.Views.{call_of as call_view, item_of, items_of};
 ghost use Rattle.syntax.specs.Trees.{call};
 ghost use Rattle.resolution.specs.CoreViews.{core_call};
-ghost use Rattle.resolution.specs.Resolution.{one_call, copies, joined, typed_item, typed_items, typed_calls};
+ghost use Rattle.resolution.specs.Resolution.{copies, typed_item, typed_items, typed_calls};
 ghost use Rattle.source.specs.Mistakes.{least_of};
 ghost use Rattle.resolution.specs.FaultLists.{item_faults, items_faults};
-ghost use Rattle.constants.specs.Calls.{resolved_call, repeated_calls};
-ghost use Rattle.constants.specs.Values.{calls_in};
+ghost use Rattle.constants.specs.Calls.{resolved_call, resolved_calls};
+ghost use Rattle.constants.specs.Values.{calls_in, cores, Adds};
 ghost use Rattle.symbols.specs.{decls_of};
 
 use crate::constant::{are_typed, note_arguments, typed_arguments};
@@ -119,17 +119,21 @@ fn typed_call(
     }
 }
 
-/// A single call, if it is right.
-fn one_call(alloc: Global, c: Option<Call>) -> Result<Option<Vec<Call>>, AllocError>
-    ensures { IfOk result (λ r. calls_in r ≡ one_call (option_map core_call c)) }
+/// Adds a call, resolved, if it is right. Whether it is.
+fn add_call(
+    alloc: Global,
+    symbols: &SymbolTable,
+    c: &tree::Call,
+    calls: &mut Vec<Call>,
+) -> Result<bool, AllocError>
+    ensures { IfOk result (λ right. Adds right calls.old.items calls.new.items (resolved_calls (decls_of symbols.now) (call_view c.now))) }
 {
-    match c {
-        Some(c) => {
-            let mut calls = Vec::new(alloc);
-            calls.push(c)?;
-            Ok(Some(calls))
+    match typed_call(alloc, symbols, c)? {
+        Some(call) => {
+            calls.push(call)?;
+            Ok(true)
         }
-        None => Ok(None),
+        None => Ok(false),
     }
 }
 
@@ -143,102 +147,76 @@ fn copy(c: &Call) -> Result<Call, AllocError>
     })
 }
 
-/// Adds calls once more.
-fn append(calls: &mut Vec<Call>, more: &[Call]) -> Result<(), AllocError>
-    ensures { OnOk result (map core_call calls.new.items ≡ map core_call calls.old.items ++ map core_call more.now) }
+/// Adds so many of the calls, from one on, once more.
+fn add_again(calls: &mut Vec<Call>, from: usize, count: usize) -> Result<(), AllocError>
+    requires { from + count ≤ length calls.old.items }
+    ensures { OnOk result (cores calls.new.items ≡ cores calls.old.items ++ take count (drop from (cores calls.old.items))) }
 {
-    for c in more {
-        calls.push(copy(c)?)?;
+    for at in 0..count {
+        let call = copy(&calls[from + at])?;
+        calls.push(call)?;
     }
     Ok(())
 }
 
-/// Calls so many times over.
-fn copies(alloc: Global, n: u64, calls: &[Call]) -> Result<Vec<Call>, AllocError>
-    ensures { IfOk result (λ r. map core_call r.items ≡ copies n (map core_call calls.now)) }
+/// Adds the calls from one on so many times more.
+fn add_copies(calls: &mut Vec<Call>, from: usize, times: u64) -> Result<(), AllocError>
+    requires { from ≤ length calls.old.items }
+    ensures { OnOk result (cores calls.new.items ≡ cores calls.old.items ++ copies times (drop from (cores calls.old.items))) }
 {
-    let mut made = Vec::new(alloc);
-    if calls.is_empty() {
-        return Ok(made);
+    let count = calls.len() - from;
+    if count == 0 {
+        return Ok(());
     }
-    for turn in 0..n {
-        append(&mut made, calls)?;
+    for turn in 0..times {
+        add_again(calls, from, count)?;
     }
-    Ok(made)
+    Ok(())
 }
 
-/// Calls so many times over, if there are any.
-fn repeated(
-    alloc: Global,
-    n: u64,
-    calls: Option<Vec<Call>>,
-) -> Result<Option<Vec<Call>>, AllocError>
-    ensures { IfOk result (λ r. calls_in r ≡ repeated_calls n (calls_in calls)) }
-{
-    match calls {
-        Some(calls) => Ok(Some(copies(alloc, n, &calls)?)),
-        None => Ok(None),
-    }
-}
-
-/// The calls and further ones, if none is missing.
-fn with_calls(
-    calls: Option<Vec<Call>>,
-    more: Option<Vec<Call>>,
-) -> Result<Option<Vec<Call>>, AllocError>
-    ensures { IfOk result (λ r. calls_in r ≡ joined (calls_in calls) (calls_in more)) }
-{
-    match (calls, more) {
-        (Some(mut calls), Some(more)) => {
-            append(&mut calls, &more)?;
-            Ok(Some(calls))
-        }
-        _ => Ok(None),
-    }
-}
-
-/// The calls of a thing that a thread does. Where it is repeated no times, nothing of it is built.
+/// Adds the calls of a thing that a thread does, if it is right. Where it is repeated no times, nothing of it is built.
+/// Whether it is right.
 #[cycle(typed)]
-fn typed_item(
+fn add_item(
     alloc: Global,
     symbols: &SymbolTable,
     item: &Item,
-) -> Result<Option<Vec<Call>>, AllocError>
-    ensures { IfOk result (λ r. calls_in r ≡ typed_item (decls_of symbols.now) (item_of item.now)) }
+    calls: &mut Vec<Call>,
+) -> Result<bool, AllocError>
+    ensures { IfOk result (λ right. Adds right calls.old.items calls.new.items (typed_item (decls_of symbols.now) (item_of item.now))) }
 {
     match item {
-        Item::Call(c) => {
-            let call = typed_call(alloc, symbols, c)?;
-            one_call(alloc, call)
-        }
+        Item::Call(c) => add_call(alloc, symbols, c, calls),
         Item::Repeat(n, items) => {
             if n.value == 0 {
-                if all_typed(symbols, items) {
-                    return Ok(Some(Vec::new(alloc)));
-                }
-                return Ok(None);
+                return Ok(all_typed(symbols, items));
             }
-            let calls = typed_items(alloc, symbols, items)?;
-            repeated(alloc, n.value, calls)
+            let from = calls.len();
+            if !add_items(alloc, symbols, items, calls)? {
+                return Ok(false);
+            }
+            add_copies(calls, from, n.value - 1)?;
+            Ok(true)
         }
     }
 }
 
-/// The calls of what a thread does.
+/// Adds the calls of what a thread does, if it is right. Whether it is.
 #[cycle(typed)]
-fn typed_items(
+fn add_items(
     alloc: Global,
     symbols: &SymbolTable,
     items: &[Item],
-) -> Result<Option<Vec<Call>>, AllocError>
-    ensures { IfOk result (λ r. calls_in r ≡ typed_items (decls_of symbols.now) (items_of items.now)) }
+    calls: &mut Vec<Call>,
+) -> Result<bool, AllocError>
+    ensures { IfOk result (λ right. Adds right calls.old.items calls.new.items (typed_items (decls_of symbols.now) (items_of items.now))) }
 {
-    let mut calls = Some(Vec::new(alloc));
     for item in items {
-        let more = typed_item(alloc, symbols, item)?;
-        calls = with_calls(calls, more)?;
+        if !add_item(alloc, symbols, item, calls)? {
+            return Ok(false);
+        }
     }
-    Ok(calls)
+    Ok(true)
 }
 
 /// A thread's calls, if there are not too many in all threads.
@@ -249,8 +227,12 @@ pub fn typed_calls(
 ) -> Result<Option<Vec<Call>>, AllocError>
     ensures { IfOk result (λ r. calls_in r ≡ typed_calls (decls_of symbols.now) (items_of items.now)) }
 {
-    if symbols.has_few_calls() {
-        typed_items(alloc, symbols, items)
+    if !symbols.has_few_calls() {
+        return Ok(None);
+    }
+    let mut calls = Vec::new(alloc);
+    if add_items(alloc, symbols, items, &mut calls)? {
+        Ok(Some(calls))
     } else {
         Ok(None)
     }

@@ -4,15 +4,17 @@ ghost use Rattle.std.specs.Prelude.{◌≡◌, ℕ, List, IfOk, OnOk, None, is_s
 ghost use Rattle.std.specs.Rc.{rc_str_bytes};
 ghost use Rattle.symbols.specs.Found.{found, IsTableWithName};
 
-use indexmap::IndexMap;
 use std::alloc::{AllocError, Global};
+use std::collections::BTreeMap;
 use std::rc::RcStr;
 
 /// A table of names: for each name the place of the first thing that bears it, in the list that the table is of.
+///
+/// It is a tree, since whoever writes a program picks its names: a table by hashes can be made slow by names of one hash.
 #[derive(Drop)]
 pub struct Names {
     /// The place of each name that there is, counted from 0.
-    pub places: IndexMap<String, usize>,
+    pub places: BTreeMap<String, usize>,
 }
 
 impl Names {
@@ -21,7 +23,7 @@ impl Names {
         ensures { (q : List ℕ) → found result q ≡ None }
     {
         Names {
-            places: IndexMap::new(alloc),
+            places: BTreeMap::new(alloc),
         }
     }
 

@@ -1,0 +1,68 @@
+#!/usr/bin/env bash
+# Times `check` of texts of shapes that were dear once, each beside a plain text of its size, and prints for each the
+# least of several runs, process and all, and the most memory that one held.
+#
+#     bench/shapes/run.sh BIN [ROUNDS]
+set -euo pipefail
+here=$(cd "$(dirname "$0")" && pwd)
+program=${1:?"usage: run.sh BIN [ROUNDS]"}
+rounds=${2:-5}
+texts=$(mktemp -d)
+trap 'rm -rf "$texts"' EXIT
+"${CC:-cc}" -O2 -o "$texts/collisions" "$here/collisions.c"
+"$texts/collisions" 3641 > "$texts/alike.names"
+python3 - "$texts" <<'PYTHON'
+import pathlib, sys
+top = pathlib.Path(sys.argv[1])
+SIZE = 1048000
+
+
+def write(name, text):
+    assert len(text) <= 1048576, (name, len(text))
+    (top / f"{name}.al").write_text(text)
+
+
+def names_used(names):
+    head = "lock G;\n" + "".join(f"global int {n} protected_by(G);\n" for n in names) + "atomic f() {\n"
+    lines, size, i = [], len(head) + 2, 0
+    while True:
+        line = f"print {'+'.join(names[(i * 40 + k) * 7919 % len(names)] for k in range(40))};\n"
+        if size + len(line) > SIZE:
+            return head + "".join(lines) + "}\n"
+        lines.append(line)
+        size += len(line)
+        i += 1
+
+
+def nested(word, end, line, depth=60):
+    head = "lock G;\nglobal int n protected_by(G);\natomic f() {\n" + word * depth
+    tail = end * depth + "}\n"
+    return head + line * ((SIZE - len(head) - len(tail)) // len(line)) + tail
+
+
+def along(length, size):
+    head = (
+        "struct S { lock l; int x protected_by(l); final ref S n; }\npool S p[1];\ninit p[0].n = p[0];\n"
+        f"atomic f(ref S a) {{\nlet m: ref S = a{'.n' * length};\n"
+    )
+    line = "m.x = m.x + 1;\n"
+    return head + line * ((size - len(head) - 2) // len(line)) + "}\n"
+
+
+alike = (top / "alike.names").read_text().split()
+write("names_alike", names_used(alike))
+write("names_plain", names_used([f"aaaa{i:04}" for i in range(len(alike))]))
+repeat = "repeat 1 {" * 60 + "repeat 100000 { f(7); }" + "}" * 60
+write("repeat_1_60_deep", f"atomic f(int k) {{ }}\nthread t {{ {repeat} }}\n")
+write("repeat_once", "atomic f(int k) { }\nthread t { repeat 100000 { f(7); } }\n")
+write("ifs_60_deep", nested("if (n > 0) {", "}", "n=1;"))
+write("ifs_beside", nested("if (n > 0) { n = 1; }", "", "n=1;"))
+for size in (262144, 524288, 1048000):
+    write(f"chain_of_finals_{size // 1024}K", along(size // 8, size))
+PYTHON
+for text in $(ls -v "$texts"/*.al); do
+  printf '%-24s ' "$(basename "$text" .al)"
+  for _ in $(seq "$rounds"); do
+    /usr/bin/time -f '%e %M' "$program" check "$text" 2>&1 > /dev/null | tail -n 1
+  done | sort -n | head -n 1 | awk '{printf "%6.2f s %6.0f MiB\n", $1, $2 / 1024}'
+done
