@@ -1,3 +1,4 @@
 pub mod Added
+pub mod Alone
 pub mod Calls
 pub mod Owners

@@ -19,6 +19,13 @@ use Rattle.core_lang.specs.Whole.{run_of}
 use Rattle.core_lang.specs.Serial.{Invocation, Ended, Serial}
 use Rattle.core_lang.specs.Expansion.{HasSamePlaces, IsExpansion, one}
 use Rattle.core_lang.specs.Laws.{CallsFill}
+use Rattle.core_lang.specs.WellFormed.{IsWellFormed}
+use Rattle.expansion.specs.Data.{IsExpanded}
+
+-- ---- programs without helpers
+
+abbrev pub AProgramWithoutHelpersIsItsOwnExpansion : Type 0
+AProgramWithoutHelpersIsItsOwnExpansion = (program : Typed) → IsWellFormed program → IsExpanded program program
 
 -- ---- helpers that none calls
 

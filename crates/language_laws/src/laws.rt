@@ -1,6 +1,11 @@
 //! The laws: functions that do nothing, and whose contracts are what holds.
 
-ghost use Rattle.language_laws.specs.Laws.{UncalledHelpersChangeNoExpansion, UncalledHelpersChangeNoRun, ACallDoesWhatTheHelperDoes, ACallGivesWhatTheHelperGives, AWhereThatHoldsChangesNothing, AWhereThatFailsEndsTheSection};
+ghost use Rattle.language_laws.specs.Laws.{AProgramWithoutHelpersIsItsOwnExpansion, UncalledHelpersChangeNoExpansion, UncalledHelpersChangeNoRun, ACallDoesWhatTheHelperDoes, ACallGivesWhatTheHelperGives, AWhereThatHoldsChangesNothing, AWhereThatFailsEndsTheSection};
+
+/// A program without helpers is its own expansion: nothing of it is written anew.
+pub fn a_program_without_helpers_is_its_own_expansion()
+    ensures { AProgramWithoutHelpersIsItsOwnExpansion }
+{}
 
 /// Further helpers, which no section calls, change no expansion, and no answer, print or cell of calls that are run whole,
 /// one after another.
