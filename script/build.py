@@ -32,8 +32,31 @@ def load(folder):
         rt.read_files(self)
 
     rt.rtlib.Crate.__init__ = make
-    rt.share_work(True)
+    if hasattr(rt, "share_work"):
+        rt.share_work(True)
+    else:
+        sum_once(rt.rtlib.Crate)
     return rt
+
+
+def sum_once(crate_type):
+    """Has a crate's sum of all files that it is made from ask each crate below it once. Some versions of the toolchain ask
+    once for each way down to it, of which there are thousands: that took half a minute a crate."""
+    made, asked = crate_type.stamp, threading.local()
+
+    def stamp(crate):
+        known = getattr(asked, "known", None)
+        if known is not None:
+            if crate.folder not in known:
+                known[crate.folder] = made(crate)
+            return known[crate.folder]
+        asked.known = {}
+        try:
+            return made(crate)
+        finally:
+            asked.known = None
+
+    crate_type.stamp = stamp
 
 
 def main(folder):
