@@ -12,9 +12,8 @@ use Rattle.core_lang.specs.declared.typed.Typed.{Typed}
 use Rattle.history.specs.Commits.{Commit, committed, IsLegal, IsTrueCommit, AreTrue}
 use Rattle.history.specs.Laws.{CommittedOfOneMore, LegalOfOneMore, TrueOfOneMore}
 use Rattle.lowering.specs.Plans.{Plan}
-use Rattle.workers.specs.Seats.{SeatOf, new_seat, new_seats}
 use Rattle.workers.specs.Seen.{Begins}
-use Rattle.workers.specs.Rows.{KnownOf, GrowsTo, AreAlike, AreAt, IsSeen, SeenOf, SeesNext, SeesOthers, SeesOwn, name_at, chunk_of, offset_of}
+use Rattle.workers.specs.Rows.{KnownOf, GrowsTo, AreAlike, AreAt, IsSeen, SeesNext, SeesOthers, SeesOwn, name_at, chunk_of, offset_of}
 
 -- ---- beginnings
 
@@ -370,16 +369,3 @@ agreed_forth xs ys a b k one other least same is = agreed_at xs ys a b k one oth
 pub agreed_back : (xs ys : List Commit) (a b : ℕ) → a ≡ length xs → b ≡ length ys → Begins xs ys → leb a b ≡ true
 agreed_back xs ys a b one other s =
     let le : a ≤ b = omega (arith, ap length s.is, length-append xs s.rest) in grind (arith, nat_tests)
-
--- ---- seats
-
-suc_is : (n : ℕ) → n + 1 ≡ suc n
-suc_is n = omega arith
-
-pub one_seat_more : (row : List ℕ) (n : ℕ) (seats seats' : List SeatOf) (seen : SeenOf) (seat : SeatOf) →
-    seen ≡ record { known = record { row = row; chunks = [] }; log = [] } → seat ≡ new_seat seen.known.row n → seats ≡ new_seats row n →
-    seats' ≡ seats ++ seat ∷ [] → seats' ≡ new_seats row (n + 1)
-one_seat_more row n seats seats' seen seat none is before items =
-    items ∙ ap (λ (xs : List SeatOf). xs ++ seat ∷ []) before
-    ∙ ap (λ (s : SeatOf). new_seats row n ++ s ∷ []) (is ∙ ap (λ (s : SeenOf). new_seat s.known.row n) none)
-    ∙ sym (ap (new_seats row) (suc_is n))

@@ -28,6 +28,7 @@ pub mod naming;
 mod parking;
 pub mod row;
 pub mod seat;
+mod seating;
 pub mod seen;
 pub mod shared;
 pub mod threads;

@@ -20,6 +20,7 @@ use crate::naming::Naming;
 use crate::parking::{Parking, Wakings};
 use crate::row::Row;
 use crate::seat::{CallRefusal, Done, Reply, Seat};
+use crate::seating::Seating;
 use crate::seen::Seen;
 use core_lang::value::Value;
 use history::entry::Entry;
@@ -67,14 +68,7 @@ impl<'p, J: Naming> Shared<'p, J> {
         ensures { IfOk result (λ r. r.1.items ≡ new_seats row.entry.now count) }
     {
         let guarded = Guarded::open(alloc, program)?;
-        let mut wakings = Vec::new(alloc);
-        let mut seats = Vec::new(alloc);
-        for thread in 0..count {
-            let parking = Parking::new(alloc)?;
-            wakings.push(parking.waking()?)?;
-            let seen = Seen::none(alloc, row, program)?;
-            seats.push(Seat::new(alloc, thread, parking, seen))?;
-        }
+        let Seating { seats, wakings, .. } = Seating::of(row, alloc, program, count)?;
         let shared = Shared {
             alloc,
             program,
