@@ -1,0 +1,196 @@
+-- Where all calls are done.
+use Rattle.std.proofs.Common.{◌≡◌, ◌∙◌, ℕ, ◌+◌, ◌<◌, ◌≤◌, zero, suc, List, [], ◌∷◌, length, replicate, get_or, get_or-set_same, get_or-set_other, slice_get, slice_set, Some, ap, sym, subst, refl, arith, ◌⊎◌, inl, inr}
+use Rattle.std.specs.Prelude.{option_map}
+use Rattle.std.specs.List.{Contains}
+use Rattle.std.proofs.lemmas.Bool.{cases_eq}
+use Rattle.std.proofs.lemmas.List.{length-replicate}
+use Rattle.core_lang.specs.declared.value.Value.{Value}
+use Rattle.core_lang.specs.declared.typed.Call.{Call}
+use Rattle.core_lang.specs.declared.typed.Thread.{Thread}
+use Rattle.core_lang.specs.declared.typed.Typed.{Typed}
+use Rattle.core_lang.specs.Serial.{Invocation, invocation}
+use Rattle.core_lang.specs.Typing.{lookup}
+use Rattle.core_lang.specs.WellFormed.{calls_together}
+use Rattle.std.proofs.Math.ListN.{length-set}
+use Rattle.outcomes.specs.Orders.{next_call, one_more, none_done, orders_of}
+use Rattle.outcomes.specs.Ends.{done_after}
+use Rattle.outcomes.specs.Searching.{Leads}
+use Rattle.outcomes.proofs.Leading.{next_within, among_begun}
+
+sums : List ℕ → ℕ
+sums [] = 0
+sums (x ∷ xs) = x + sums xs
+
+-- how many calls each thread has
+pub lengths : List Thread → List ℕ
+lengths [] = []
+lengths (t ∷ ts) = length t.calls.items ∷ lengths ts
+
+sums-lengths : (ts : List Thread) → sums (lengths ts) ≡ calls_together ts
+unfolding sums lengths
+sums-lengths [] = refl
+sums-lengths (t ∷ ts) = ap (λ n. length t.calls.items + n) (sums-lengths ts)
+
+length-lengths : (ts : List Thread) → length (lengths ts) ≡ length ts
+unfolding lengths
+length-lengths [] = refl
+length-lengths (t ∷ ts) = ap (λ n. suc n) (length-lengths ts)
+
+-- one more of one of them
+sums_set : (xs : List ℕ) (k : ℕ) → k < length xs → sums (slice_set xs k (get_or xs k 0 + 1)) ≡ suc (sums xs)
+unfolding sums
+sums_set [] k within = absurd (omega arith)
+sums_set (x ∷ xs) zero within = omega arith
+sums_set (x ∷ xs) (suc k) within = ap (λ n. x + n) (sums_set xs k (omega arith)) ∙ omega arith
+
+sums_zero : (n : ℕ) → sums (replicate n 0) ≡ 0
+unfolding sums
+sums_zero zero = refl
+sums_zero (suc n) = ap (λ k. 0 + k) (sums_zero n)
+
+-- none is more than the other at its place
+Within : List ℕ → List ℕ → Type 0
+Within xs ys = (k : ℕ) → get_or xs k 0 ≤ get_or ys k 0
+
+sums_within : (xs ys : List ℕ) → length xs ≡ length ys → Within xs ys → sums xs ≤ sums ys
+unfolding sums Within
+sums_within [] [] long few = omega arith
+sums_within [] (y ∷ ys) long few = cc
+sums_within (x ∷ xs) [] long few = cc
+sums_within (x ∷ xs) (y ∷ ys) long few =
+    let rest = sums_within xs ys (omega arith) (λ k. few (suc k)) in let first = few 0 in omega arith
+
+-- with the same sum they are the same
+same_sums : (xs ys : List ℕ) → length xs ≡ length ys → Within xs ys → sums xs ≡ sums ys → xs ≡ ys
+unfolding sums Within
+same_sums [] [] long few sum = refl
+same_sums [] (y ∷ ys) long few sum = cc
+same_sums (x ∷ xs) [] long few sum = cc
+same_sums (x ∷ xs) (y ∷ ys) long few sum =
+    let rest : sums xs ≤ sums ys = sums_within xs ys (omega arith) (λ k. few (suc k)) in
+    let first : x ≤ y = few 0 in
+    let head : x ≡ y = omega arith in
+    let tail : xs ≡ ys = same_sums xs ys (omega arith) (λ k. few (suc k)) (omega arith) in
+    ap (λ z. z ∷ xs) head ∙ ap (λ zs. y ∷ zs) tail
+
+call_within : (calls : List Call) (k : ℕ) (call : Invocation) → option_map invocation (slice_get calls k) ≡ Some call → k < length calls
+call_within [] k call is = cc
+call_within (c ∷ calls) zero call is = omega arith
+call_within (c ∷ calls) (suc k) call is = let rest = call_within calls k call is in omega arith
+
+-- a thread that has a call left has more than are done
+some_call : (ts : List Thread) (done : List ℕ) (k : ℕ) (call : Invocation) →
+    lookup (slice_get ts k) (λ (thread : Thread). option_map invocation (slice_get thread.calls.items (get_or done k 0))) ≡ Some call →
+    get_or done k 0 < get_or (lengths ts) k 0
+unfolding lengths
+some_call [] done k call is = cc
+some_call (t ∷ ts) done zero call is = call_within t.calls.items (get_or done 0 0) call is
+some_call (t ∷ ts) [] (suc k) call is = some_call ts [] k call is
+some_call (t ∷ ts) (d ∷ done) (suc k) call is = some_call ts done k call is
+
+one_more_within : (program : Typed) (done : List ℕ) (t : ℕ) (call : Invocation) → length done ≡ length program.threads.items → next_call program done t ≡ Some call →
+    Within done (lengths program.threads.items) → Within (one_more done t) (lengths program.threads.items)
+unfolding Within
+one_more_within program done t call long next few k =
+    let inside : t < length done = (let w = next_within program done t call next in omega arith) in
+    let less : get_or done t 0 < get_or (lengths program.threads.items) t 0 = some_call program.threads.items done t call next in
+    elim (cases_eq k t) [
+      | inl same ↦ (let at : get_or (slice_set done t (get_or done t 0 + 1)) k 0 ≡ get_or done t 0 + 1 =
+          ap (λ j. get_or (slice_set done t (get_or done t 0 + 1)) j 0) same ∙ get_or-set_same done t (get_or done t 0 + 1) 0 inside in
+          let there : get_or (lengths program.threads.items) k 0 ≡ get_or (lengths program.threads.items) t 0 = ap (λ j. get_or (lengths program.threads.items) j 0) same in
+          omega (arith, at, there, less))
+      | inr other ↦ (let at = get_or-set_other done t k (get_or done t 0 + 1) 0 other in let f = few k in omega (arith, at, f))
+    ]
+
+-- what is done grows with each call, and to no more than there are
+leads_fully : (program : Typed) (n : ℕ) (done : List ℕ) (heap : List Value) (order done' : List ℕ) (heap' : List Value) →
+    Leads program n done heap order done' heap' → length done ≡ length program.threads.items → Within done (lengths program.threads.items) →
+    (length done' ≡ length program.threads.items) × Within done' (lengths program.threads.items) × (sums done' ≡ sums done + length order)
+leads_fully program n done heap [] done' heap' there long few =
+    subst (λ d. (length d ≡ length program.threads.items) × Within d (lengths program.threads.items) × (sums d ≡ sums done + 0)) there.0 (long, few, omega arith)
+leads_fully program n done heap (t ∷ order) done' heap' there long few =
+    let inside : t < length done = (let w = next_within program done t there.0 there.2 in omega arith) in
+    let rest = leads_fully program n (one_more done t) there.1.heap order done' heap' there.4 (length-set done t (get_or done t 0 + 1) ∙ long)
+    (one_more_within program done t there.0 long there.2 few) in
+    let more : sums (one_more done t) ≡ suc (sums done) = sums_set done t inside in
+    (rest.0, rest.1, omega (arith, rest.2, more))
+
+zero_at : (n k : ℕ) → (let zeros : List ℕ = replicate n 0 in get_or zeros k 0 ≡ 0)
+zero_at zero k = refl
+zero_at (suc n) zero = refl
+zero_at (suc n) (suc k) = zero_at n k
+
+-- where all calls are done, each thread's are
+pub full : (program : Typed) (n : ℕ) (heap : List Value) (order done' : List ℕ) (heap' : List Value) → Leads program n (none_done program) heap order done' heap' →
+    length order ≡ calls_together program.threads.items → done' ≡ lengths program.threads.items
+unfolding Within
+full program n heap order done' heap' there long =
+    let none : length (none_done program) ≡ length program.threads.items = length-replicate (length program.threads.items) 0 in
+    let all = leads_fully program n (none_done program) heap order done' heap' there none (λ k. let z = zero_at (length program.threads.items) k in omega (arith, z)) in
+    let zero_sum : sums (none_done program) ≡ 0 = sums_zero (length program.threads.items) in
+    let sum : sums (lengths program.threads.items) ≡ calls_together program.threads.items = sums-lengths program.threads.items in
+    let same : length (lengths program.threads.items) ≡ length program.threads.items = length-lengths program.threads.items in
+    same_sums done' (lengths program.threads.items) (all.0 ∙ sym same) all.1 (omega (arith, all.2, zero_sum, sum, long))
+
+-- ---- where an order leads
+
+pub leads_done : (program : Typed) (n : ℕ) (done : List ℕ) (heap : List Value) (order done' : List ℕ) (heap' : List Value) →
+    Leads program n done heap order done' heap' → done_after done order ≡ done'
+leads_done program n done heap [] done' heap' there = there.0
+leads_done program n done heap (t ∷ order) done' heap' there = leads_done program n (one_more done t) there.1.heap order done' heap' there.4
+
+-- ---- there is an order
+
+less_or_same : (x y : ℕ) → x ≤ y → (x < y) ⊎ (x ≡ y)
+less_or_same x y few = elim (cases_eq x y) [ inl same ↦ inr same | inr apart ↦ inl (omega arith) ]
+
+-- where some calls are left, some thread has one
+some_left : (xs ys : List ℕ) → length xs ≡ length ys → Within xs ys → sums xs < sums ys → (k : ℕ) × (k < length xs) × (get_or xs k 0 < get_or ys k 0)
+unfolding sums Within
+some_left [] [] long few less = absurd (omega arith)
+some_left [] (y ∷ ys) long few less = cc
+some_left (x ∷ xs) [] long few less = cc
+some_left (x ∷ xs) (y ∷ ys) long few less =
+    elim (less_or_same x y (few 0)) [
+      | inl first ↦ (0, omega arith, first)
+      | inr same ↦ (let rest = some_left xs ys (omega arith) (λ k. few (suc k)) (omega arith) in (suc rest.0, (let w = rest.1 in omega arith), rest.2))
+    ]
+
+call_there : (calls : List Call) (k : ℕ) → k < length calls → (call : Invocation) × (option_map invocation (slice_get calls k) ≡ Some call)
+call_there [] k within = absurd (omega arith)
+call_there (c ∷ calls) zero within = (invocation c, refl)
+call_there (c ∷ calls) (suc k) within = call_there calls k (omega arith)
+
+call_left : (ts : List Thread) (done : List ℕ) (k : ℕ) → get_or done k 0 < get_or (lengths ts) k 0 →
+    (call : Invocation) × (lookup (slice_get ts k) (λ (thread : Thread). option_map invocation (slice_get thread.calls.items (get_or done k 0))) ≡ Some call)
+unfolding lengths
+call_left [] done k less = absurd (omega arith)
+call_left (t ∷ ts) done zero less = call_there t.calls.items (get_or done 0 0) less
+call_left (t ∷ ts) [] (suc k) less = call_left ts [] k less
+call_left (t ∷ ts) (d ∷ done) (suc k) less = call_left ts done k less
+
+some_order : (program : Typed) (left : ℕ) (done : List ℕ) → length done ≡ length program.threads.items → Within done (lengths program.threads.items) →
+    sums done + left ≡ calls_together program.threads.items → (order : List ℕ) × Contains (orders_of program left done) order
+some_order program zero done long few sum = ([], (0, omega arith, refl))
+some_order program (suc left) done long few sum =
+    let all : sums (lengths program.threads.items) ≡ calls_together program.threads.items = sums-lengths program.threads.items in
+    let same : length (lengths program.threads.items) ≡ length program.threads.items = length-lengths program.threads.items in
+    let there = some_left done (lengths program.threads.items) (long ∙ sym same) few (omega arith) in
+    let call = call_left program.threads.items done there.0 there.2 in
+    let more : sums (one_more done there.0) ≡ suc (sums done) = sums_set done there.0 there.1 in
+    let rest = some_order program left (one_more done there.0) (length-set done there.0 (get_or done there.0 0 + 1) ∙ long)
+    (one_more_within program done there.0 call.0 long call.1 few) (omega arith) in (
+      there.0 ∷ rest.0,
+      among_begun program (orders_of program left) done (length program.threads.items) there.0 call.0 rest.0
+          (next_within program done there.0 call.0 call.1) call.1 rest.1,
+    )
+
+-- so each state has one
+pub has_order : (program : Typed) (n left : ℕ) (heap : List Value) (order done' : List ℕ) (heap' : List Value) → Leads program n (none_done program) heap order done' heap' →
+    length order + left ≡ calls_together program.threads.items → (o : List ℕ) × Contains (orders_of program left done') o
+unfolding Within
+has_order program n left heap order done' heap' there long =
+    let none : length (none_done program) ≡ length program.threads.items = length-replicate (length program.threads.items) 0 in
+    let all = leads_fully program n (none_done program) heap order done' heap' there none (λ k. let z = zero_at (length program.threads.items) k in omega (arith, z)) in
+    let zero_sum : sums (none_done program) ≡ 0 = sums_zero (length program.threads.items) in
+    some_order program left done' all.0 all.1 (omega (arith, all.2, zero_sum, long))

@@ -1,0 +1,206 @@
+-- The work goes on.
+use Rattle.std.proofs.Common.{◌≡◌, ◌∙◌, ℕ, ◌+◌, ◌-◌, ◌*◌, ◌<◌, ◌≤◌, zero, suc, List, [], ◌∷◌, ◌++◌, length, take, Option, Some, None, inl, inr, sum_by, ap, sym, subst, refl, arith, append-nil, add-one}
+use Rattle.std.proofs.lemmas.List.Sums.{sum_by_more, sum_by-cons, sum_by-take-le, get_or-le-sum_by}
+use Rattle.core_lang.specs.declared.value.Value.{Value}
+use Rattle.core_lang.specs.declared.typed.Typed.{Typed}
+use Rattle.core_lang.specs.Serial.{Invocation, opening_heap}
+use Rattle.core_lang.specs.Typing.{HasCells, IsHeap}
+use Rattle.core_lang.specs.WellFormed.{calls_together}
+use Rattle.outcomes.specs.declared.search.Search.{Search}
+use Rattle.outcomes.specs.declared.search.Stop.{Stop}
+use Rattle.outcomes.specs.declared.search.Stop.TheVariants.{TooMany, Beyond}
+use Rattle.outcomes.specs.declared.search.Work.{Work}
+use Rattle.outcomes.specs.declared.state.State.{State}
+use Rattle.outcomes.specs.Orders.{next_call, one_more, orders_of}
+use Rattle.outcomes.specs.States.{Reached, at, nowhere, reached_of, orders_to}
+use Rattle.outcomes.specs.Trails.{longer}
+use Rattle.outcomes.specs.Searching.{order_at, IsGood, AreGood, weight, total}
+use Rattle.outcomes.specs.Steps.{IsOver, Puts, IsAtWork, IsReached, Growth, made_by, made_below, made_from, made_from_all, GoesOn, IsStop, HasTooMany, one}
+use Rattle.outcomes.proofs.Sums.{sum_with, sum_without, sum_more, total_found, total_added}
+use Rattle.outcomes.proofs.Full.{has_order}
+use Rattle.outcomes.proofs.Leading.{good_longer, longer_again, good_child, good_found, good_added}
+
+in_all : (a b c g h s : ℕ) → b ≡ a + g → c ≡ b + h → s ≡ g + h → c ≡ a + s
+in_all a b c g h s first second sum = omega arith
+
+with_none : (a g : ℕ) → g ≡ 0 → a ≡ a + g
+with_none a g none = omega arith
+
+times_none : (k x : ℕ) → x ≡ 0 → k * x ≡ 0
+times_none k x none = ap (λ (y : ℕ). k * y) none ∙ omega arith
+
+times_both : (k a b c : ℕ) → a ≡ b + c → k * a ≡ k * b + k * c
+times_both k a b c is = ap (λ (y : ℕ). k * y) is ∙ omega arith
+
+-- one piece of work and then another
+pub goes_again : (search : Search) (a b c : Work) (g h both : Growth) → GoesOn search a b g → GoesOn search b c h →
+    ((f : Option (List Value) → ℕ) (left : ℕ) → both f left ≡ g f left + h f left) → GoesOn search a c both
+goes_again search a b c g h both first second sum =
+    record {
+      depth = second.depth ∙ first.depth;
+      work = second.work;
+      longer = longer_again a.trail b.trail c.trail first.longer second.longer;
+      grows = λ f left. in_all _ _ _ _ _ _ (first.grows f left) (second.grows f left) (sum f left);
+    }
+
+-- no work
+pub goes_nowhere : (search : Search) (a : Work) (g : Growth) → IsAtWork search a → ((f : Option (List Value) → ℕ) (left : ℕ) → g f left ≡ 0) → GoesOn search a a g
+goes_nowhere search a g work none =
+    record {
+      depth = refl;
+      work = work;
+      longer = ([], sym (append-nil a.trail));
+      grows = λ f left. with_none _ _ (none f left);
+    }
+
+-- a state of the layer before stays one
+pub reached_still : (search : Search) (a b : Work) (g : Growth) (from : State) → GoesOn search a b g → IsReached search a from → IsReached search b from
+reached_still search a b g from goes reached =
+    subst (λ (d : ℕ). IsGood search.program.now search.turns d b.trail (reached_of from)) (sym goes.depth)
+    (good_longer search.program.now search.turns a.depth a.trail b.trail (reached_of from) goes.longer reached)
+
+-- where a call is over, and where it leads is put among the states
+pub goes_step : (search : Search) (old new : Work) (heap : List Value) (from : State) (t : ℕ) (call : Invocation) →
+    IsAtWork search old → IsReached search old from → next_call search.program.now from.done.items t ≡ Some call →
+    IsOver search.program.now search.turns call from.cells.items heap →
+    Puts (record { heap = heap; next = old.next; trail = old.trail; depth = old.depth }) new from t → GoesOn search old new (made_by search from t)
+goes_step search old new heap from t call work reached next over puts =
+    let program = search.program.now in
+    let n = search.turns in
+    let made : Reached = record { done = one_more from.done.items t; cells = heap; orders = from.orders; first = length old.trail } in
+    let child : (trail' : List (List ℕ)) → trail' ≡ old.trail ++ longer old.trail from.first t ∷ [] → IsGood program n (suc old.depth) trail' made =
+    λ trail' is. subst (λ (h : List Value). IsGood program n (suc old.depth) trail' (record { done = one_more from.done.items t; cells = h; orders = from.orders; first = length old.trail })) (sym over.heap_is)
+    (good_child program n old.depth old.trail trail' (reached_of from) t call over.finished from.orders reached next over.over
+    (subst (HasCells program) over.heap_is over.there) (subst (IsHeap program) over.heap_is over.typed) is) in
+    let leads : (f : Option (List Value) → ℕ) (left : ℕ) →
+    from.orders * weight program n f left (one_more from.done.items t) heap ≡ made_by search from t f left =
+    λ f left. ap (λ (x : ℕ). from.orders * x)
+    (ap (weight program n f left (one_more from.done.items t)) over.heap_is
+    ∙ sym (sum_with program n left f from.done.items from.cells.items t call over.finished next over.over)) in
+    record {
+      depth = puts.1;
+      work = record {
+        heap = subst (HasCells program) (sym puts.0) over.there;
+        states = subst (λ (d : ℕ). AreGood program n (suc d) new.trail new.next) (sym puts.1) (elim puts.2 [
+          | inl found ↦ good_found program n (suc old.depth) old.trail new.trail old.next new.next (one_more from.done.items t) heap from.orders found work.states
+          | inr added ↦ good_added program n (suc old.depth) old.trail new.trail old.next new.next (one_more from.done.items t) heap from.orders from.first t added
+              (child new.trail added.trail_is) work.states
+        ]);
+      };
+      longer = elim puts.2 [
+        | inl found ↦ ([], found.trail_is ∙ sym (append-nil old.trail))
+        | inr added ↦ (longer old.trail from.first t ∷ [], added.trail_is)
+      ];
+      grows = λ f left. elim puts.2 [
+        | inl found ↦ total_found (weight program n f left) old.next new.next old.trail new.trail (one_more from.done.items t) heap from.orders found
+            ∙ ap (λ (x : ℕ). total program n f left old.next + x) (leads f left)
+        | inr added ↦ total_added (weight program n f left) old.next new.next old.trail new.trail (one_more from.done.items t) heap from.orders from.first t added
+            ∙ ap (λ (x : ℕ). total program n f left old.next + x) (leads f left)
+      ];
+    }
+
+-- where a thread has no call left
+pub goes_past : (search : Search) (work : Work) (from : State) (t : ℕ) → IsAtWork search work → next_call search.program.now from.done.items t ≡ None →
+    GoesOn search work work (made_by search from t)
+goes_past search work from t at_work none =
+    goes_nowhere search work (made_by search from t) at_work
+    (λ f left. times_none from.orders _ (sum_without search.program.now search.turns left f from.done.items from.cells.items t none))
+
+-- one thread further
+pub below_more : (search : Search) (from : State) (t : ℕ) (f : Option (List Value) → ℕ) (left : ℕ) →
+    made_below search from (t + 1) f left ≡ made_below search from t f left + made_by search from t f left
+below_more search from t f left =
+    ap (λ (c : ℕ). made_below search from c f left) (add-one t)
+    ∙ times_both from.orders _ _ _ (sum_more search.program.now search.turns left f from.done.items from.cells.items t)
+
+-- one state further
+pub all_more : (search : Search) (states : List Reached) (k : ℕ) (from : State) → k < length states → at states k ≡ reached_of from →
+    (f : Option (List Value) → ℕ) (left : ℕ) →
+    made_from_all search (take (k + 1) states) f left ≡ made_from_all search (take k states) f left + made_from search from f left
+all_more search states k from within is f left =
+    let g : Reached → ℕ = λ s. s.orders * weight search.program.now search.turns f (suc left) s.done s.cells in
+    sum_by_more g states k nowhere within ∙ ap (λ (s : Reached). sum_by g (take k states) + g s) is
+
+-- ---- more orders than are looked at
+
+times_least : (a w : ℕ) → 1 ≤ w → a ≤ a * w
+times_least a zero some = absurd (omega arith)
+times_least a (suc w) some = omega arith
+
+-- of a good state there is an order
+weighs : (program : Typed) (n depth left : ℕ) (trail : List (List ℕ)) (s : Reached) → IsGood program n depth trail s → depth + left ≡ calls_together program.threads.items →
+    1 ≤ weight program n one left s.done s.cells
+weighs program n depth left trail s good all =
+    let there = has_order program n left (opening_heap program) (order_at trail s.first) s.done s.cells good.leads (ap (λ (k : ℕ). k + left) good.long ∙ all) in
+    get_or-le-sum_by (λ (o : List ℕ). 1) (orders_of program left s.done) there.1.0 there.0 there.1.1
+
+both_least : (a b c d : ℕ) → a ≤ b → c ≤ d → a + c ≤ b + d
+both_least a b c d first second = omega arith
+
+sum_least : (w : Reached → ℕ) (states : List Reached) → ((k : ℕ) → k < length states → 1 ≤ w (at states k)) → orders_to states ≤ sum_by (λ (s : Reached). s.orders * w s) states
+sum_least w [] each = omega arith
+sum_least w (s ∷ states) each =
+    rw (sum_by-cons (λ (s : Reached). s.orders) s states, sum_by-cons (λ (s : Reached). s.orders * w s) s states)
+    (both_least _ _ _ _ (times_least s.orders (w s) (each 0 (omega arith))) (sum_least w states (λ k within. each (suc k) (omega arith))))
+
+in_parts : (m a b x y z : ℕ) → m < a + b → a ≤ x → b ≤ y → z ≡ y → m < x + z
+in_parts m a b x y z many first second same = omega arith
+
+pub many_at_step : (search : Search) (old : Work) (heap : List Value) (from : State) (t : ℕ) (call : Invocation) →
+    IsAtWork search old → IsReached search old from → next_call search.program.now from.done.items t ≡ Some call →
+    IsOver search.program.now search.turns call from.cells.items heap → search.most < orders_to old.next + from.orders → HasTooMany search old (made_by search from t)
+many_at_step search old heap from t call work reached next over many left all =
+    let program = search.program.now in
+    let n = search.turns in
+    let trail' = old.trail ++ longer old.trail from.first t ∷ [] in
+    let child = good_child program n old.depth old.trail trail' (reached_of from) t call over.finished from.orders reached next over.over
+    (subst (HasCells program) over.heap_is over.there) (subst (IsHeap program) over.heap_is over.typed) refl in
+    let here : 1 ≤ weight program n one left (one_more from.done.items t) over.finished.heap = weighs program n (suc old.depth) left trail' _ child all in
+    let leads : made_by search from t one left ≡ from.orders * weight program n one left (one_more from.done.items t) over.finished.heap =
+    ap (λ (x : ℕ). from.orders * x) (sum_with program n left one from.done.items from.cells.items t call over.finished next over.over) in
+    let own : from.orders ≤ from.orders * weight program n one left (one_more from.done.items t) over.finished.heap = times_least from.orders _ here in
+    let others : orders_to old.next ≤ total program n one left old.next =
+    sum_least (λ (s : Reached). weight program n one left s.done s.cells) old.next
+    (λ k within. weighs program n (suc old.depth) left old.trail (at old.next k) (work.states.each k within) all) in
+    in_parts _ _ _ _ _ _ many others own leads
+
+in_whole : (m a b c g w : ℕ) → m < a + g → a ≡ b + c → c + g ≤ w → m < b + w
+in_whole m a b c g w many is few = omega arith
+
+-- a stop after some work
+pub stop_further : (search : Search) (old mid new : Work) (before g whole : Growth) (stop : Stop) → GoesOn search old mid before →
+    ((left : ℕ) → before one left + g one left ≤ whole one left) → IsStop search mid new g stop → IsStop search old new whole stop
+stop_further search old mid new before g whole TooMany goes most is =
+    λ left all. (let d : mid.depth ≡ old.depth = goes.depth in
+    in_whole _ _ _ _ _ _ (is left (omega arith)) (goes.grows one left) (most left))
+stop_further search old mid new before g whole (Beyond first thread) goes most is = is
+
+zero_plus : (t : ℕ) → 0 + t ≡ t
+zero_plus t = omega arith
+
+-- the first threads have no more orders than all
+below_least : (search : Search) (from : State) (t : ℕ) (left more : ℕ) → made_below search from t one left ≤ made_below search from (more + t) one left
+below_least search from t left zero = rw zero_plus (omega arith)
+below_least search from t left (suc more) =
+    let rest = below_least search from t left more in
+    let next = below_more search from (more + t) one left in
+    let place : (more + t) + 1 ≡ suc more + t = omega arith in
+    let grown = ap (λ (c : ℕ). made_below search from c one left) place in
+    omega (arith, rest, next, grown)
+
+pub below_all : (search : Search) (from : State) (t : ℕ) (left : ℕ) → t < length search.program.now.threads.items →
+    made_below search from t one left + made_by search from t one left ≤ made_from search from one left
+below_all search from t left within =
+    let count = length search.program.now.threads.items in
+    let least = below_least search from (t + 1) left (count - (t + 1)) in
+    let place : (count - (t + 1)) + (t + 1) ≡ count = omega arith in
+    let whole = ap (λ (c : ℕ). made_below search from c one left) place in
+    let next = below_more search from t one left in
+    omega (arith, least, whole, next)
+
+pub states_all : (search : Search) (states : List Reached) (k : ℕ) (from : State) (left : ℕ) → k < length states → at states k ≡ reached_of from →
+    made_from_all search (take k states) one left + made_from search from one left ≤ made_from_all search states one left
+states_all search states k from left within is =
+    let next = all_more search states k from within is one left in
+    let few = sum_by-take-le (λ (s : Reached). s.orders * weight search.program.now search.turns one (suc left) s.done s.cells) states (k + 1) in
+    omega (arith, next, few)

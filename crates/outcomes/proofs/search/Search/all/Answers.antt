@@ -1,0 +1,54 @@
+use Rattle.std.proofs.Common.{◌≡◌, ◌∙◌, ℕ, ◌-◌, ap, sym, subst, refl, arith}
+use Rattle.outcomes.specs.declared.search.Work.{Work}
+use Rattle.outcomes.specs.Searching.{AreGood, order_at, total}
+use Rattle.outcomes.proofs.Whole.{good_at_first, sums_at_first, sums_of_more, good_of_more, stops_after, too_many, are_all_ends}
+use Rattle.outcomes.proofs.search.Search.all.Goals as goal
+
+pub loop-depth-init : goal.loop-depth-init
+loop-depth-init c =
+    record {
+      heap = c.in_ok-heap.ensures.cells;
+      empty = c.new.ensures;
+      layer = good_at_first c.args.self.now.program.now c.args.self.now.turns c.new-2.result c.in_ok-layer.layer c.requires.checked c.new-2.ensures c.in_ok-layer.ensures;
+      sums = sums_at_first c.args.self.now.program.now c.args.self.now.turns c.calls-calls.result c.in_ok-layer.layer c.in_ok-layer.ensures;
+    }
+
+pub returns-in-Some-Beyond : goal.returns-in-Some-Beyond
+returns-in-Some-Beyond c =
+    let there = rw (c.in-Some-Beyond.is, c.in-Some-Beyond.field-0-is) at c.in_ok-expand_all.ensures in
+    rw c.in_ok-order-in-Some-Beyond.ensures
+    (stops_after c.whole_within_some_turns.ensures.over c.args.self.now.program.now c.args.self.now.turns
+    (order_at c.expand_all.new.work.trail c.in-Some-Beyond.first) c.in-Some-Beyond.thread there.1)
+
+pub returns-in-Some-TooMany : goal.returns-in-Some-TooMany
+returns-in-Some-TooMany c =
+    let many = rw (c.in-Some-TooMany.is, c.in-Some-TooMany.field-0-is) at c.in_ok-expand_all.ensures in
+    let old : Work = record { heap = c.loop-depth.work.heap; next = c.loop-depth.work.next; trail = c.loop-depth.work.trail; depth = c.loop-depth.depth } in
+    too_many c.args.self.now old c.loop-depth.layer c.calls-calls.result c.loop-depth.depth many c.loop-depth.invariant.empty refl c.loop-depth-test.true
+    c.calls-calls.ensures c.loop-depth.invariant.sums
+
+pub loop-depth-preserved : goal.loop-depth-preserved
+loop-depth-preserved c =
+    let goes = rw c.in-None.is at c.in_ok-expand_all.ensures in
+    let old : Work = record { heap = c.loop-depth.work.heap; next = c.loop-depth.work.next; trail = c.loop-depth.work.trail; depth = c.loop-depth.depth } in
+    record {
+      heap = goes.work.heap;
+      empty = c.replace-layer.ensures.after ∙ c.new-in-loop-depth.ensures;
+      layer = rw c.replace-layer.ensures.value
+          (good_of_more c.args.self.now old c.expand_all.new.work c.loop-depth.layer c.loop-depth.depth goes refl);
+      sums = λ f. rw c.replace-layer.ensures.value
+          (sums_of_more c.args.self.now old c.expand_all.new.work c.loop-depth.layer c.calls-calls.result c.loop-depth.depth _ f goes
+          c.loop-depth.invariant.empty c.loop-depth-test.true (c.loop-depth.invariant.sums f));
+    }
+
+pub returns : goal.returns
+returns c =
+    let program = c.args.self.now.program.now in
+    let n = c.args.self.now.turns in
+    let at_end : c.loop-depth.depth ≡ c.calls-calls.result = omega arith in
+    let none_left : c.calls-calls.result - c.loop-depth.depth ≡ 0 = omega arith in
+    are_all_ends c.whole_within_some_turns.ensures.over c.settled_are_serial.ensures c.at_most_one_serial.ensures program n c.calls-calls.result
+    c.loop-depth.work.trail c.loop-depth.layer _ c.calls-calls.ensures
+    (subst (λ (k : ℕ). AreGood program n k c.loop-depth.work.trail c.loop-depth.layer) at_end c.loop-depth.invariant.layer)
+    (λ f. ap (λ (k : ℕ). total program n f k c.loop-depth.layer) (sym none_left) ∙ c.loop-depth.invariant.sums f)
+    c.in_ok-told.ensures

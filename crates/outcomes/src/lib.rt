@@ -1,0 +1,18 @@
+//! What can come out of a program at all: how its cells can end, over all orders in which its calls can be made one after
+//! another, each thread's in the order of its script.
+//!
+//! - [`search::Search`]: what is searched; [`search::Search::all`] finds each end once, with how many orders have it and one
+//!   of them, if there are at most as many orders as are looked at.
+//! - [`outcome`]: what is found.
+//! - [`layer`], [`state`], [`trail`]: where so many calls are done, each such place once, and an order that leads there.
+//!
+//! `specs/Orders.antt` says what an order is, and `specs/Ends.antt` what is found. The others only say how the search goes;
+//! nobody has to believe them.
+#![tactic(auto)]
+
+mod hash;
+pub mod layer;
+pub mod outcome;
+pub mod search;
+pub mod state;
+pub mod trail;

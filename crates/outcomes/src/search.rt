@@ -1,0 +1,303 @@
+//! The search for all ends, over states by how many calls are done.
+
+ghost use Rattle.std.specs.Prelude.{◌≡◌, ◌<◌, ◌≤◌, ◌+◌, ◌^◌, [], ◌∷◌, length, IsTrue, MatchBool, map, slice_index, true, None, OnOk, IfOk, MatchOption};
+ghost use Rattle.core_lang.specs.Serial.{invocation, opening_heap};
+ghost use Rattle.core_lang.specs.Typing.{IsHeap, HasCells};
+ghost use Rattle.core_lang.specs.WellFormed.{CanCall, calls_together};
+ghost use Rattle.outcomes.specs.States.{orders_to};
+ghost use Rattle.outcomes.specs.Orders.{next_call};
+ghost use Rattle.outcomes.specs.Steps.{CanSearch, Leaves, Puts, IsNext, IsAtWork, IsReached, AreReached, Steps, made_by, made_from, made_from_all, opening_state, FirstsAre};
+ghost use Rattle.outcomes.specs.Ends.{Finds, told_of};
+ghost use Rattle.outcomes.specs.Searching.{as_told};
+
+use crate::layer::Layer;
+use crate::outcome::{Found, Outcome};
+use crate::state::State;
+use crate::trail::Trail;
+use core_lang::laws;
+use core_lang::typed::{Call, Typed};
+use core_lang::value::Value;
+use register_machine::prepared::Prepared;
+use source::memory::NoMemory;
+use std::alloc::{AllocError, Global};
+use std::mem;
+use tree_walk::draft::Draft;
+use tree_walk::heap::Heap;
+
+/// What is searched.
+pub struct Search<'a> {
+    /// The program.
+    pub program: &'a Typed,
+    /// The same, prepared for its calls.
+    pub prepared: &'a Prepared<'a>,
+    /// The most turns that each execution of a loop may make.
+    pub turns: u64,
+    /// The most orders of which all are looked at.
+    pub most: u64,
+}
+
+/// What a search works on: a heap to run calls on, the states of the layer that is made, and the orders that lead to
+/// states.
+#[derive(Drop)]
+pub(crate) struct Work {
+    pub(crate) heap: Heap,
+    pub(crate) next: Layer,
+    pub(crate) trail: Trail,
+    // How many calls lead to a state of the layer before.
+    pub(crate) depth: usize,
+}
+
+/// Why a search ends early.
+#[derive(Clone, Copy)]
+pub(crate) enum Stop {
+    /// There are more orders than are looked at.
+    TooMany,
+    /// After the order of this number, the turns don't settle the next call of a thread.
+    Beyond { first: usize, thread: usize },
+}
+
+fn same_value(a: Value, b: Value) -> bool
+    ensures { result ≡ true → a ≡ b }
+{
+    a == b
+}
+
+/// Makes a heap hold these values.
+pub(crate) fn set_cells(alloc: Global, heap: &mut Heap, cells: &[Value]) -> Result<(), AllocError>
+    requires { length heap.old ≡ length cells.now }
+    ensures { OnOk result (heap.new ≡ cells.now) }
+{
+    let mut draft = Draft::new(alloc, mem::replace(heap, Heap::empty(alloc)));
+    for (cell, value) in cells.iter().enumerate() {
+        if !same_value(draft.cells()[cell], *value) {
+            draft.write(cell, *value)?;
+        }
+    }
+    *heap = draft.keep();
+    Ok(())
+}
+
+impl Search<'_> {
+    /// Makes a call where the cells hold these values. Answers whether the turns settle it; if so, the heap is what it
+    /// leaves.
+    fn make(
+        &self,
+        alloc: Global,
+        heap: &mut Heap,
+        call: &Call,
+        cells: &[Value],
+    ) -> Result<bool, NoMemory>
+        requires search { CanSearch self.now }
+        requires heap { HasCells self.now.program.now heap.old }
+        requires cells { HasCells self.now.program.now cells.now }
+        requires typed { IsHeap self.now.program.now cells.now }
+        requires call { CanCall self.now.program.now call.now.section call.now.arguments.items }
+        ensures { IfOk result (Leaves self.now.program.now self.now.turns (invocation call.now) cells.now heap.new) }
+    {
+        set_cells(alloc, heap, cells)?;
+        let run = self
+            .prepared
+            .run_whole(alloc, call.section, &call.arguments, heap, self.turns)?;
+        Ok(run.is_some())
+    }
+}
+
+impl Work {
+    /// Puts where a call of a thread leads among the states.
+    fn put(&mut self, alloc: Global, from: &State, thread: usize) -> Result<(), NoMemory>
+        requires thread { thread < length from.now.done.items }
+        requires short { slice_index from.now.done.items thread + 1 < 2 ^ 64 }
+        requires first { from.now.first < length self.old.trail }
+        requires fit { orders_to self.old.next + from.now.orders < 2 ^ 64 }
+        ensures { OnOk result (Puts self.old self.new from.now thread) }
+    {
+        let mut done = from.done.clone()?;
+        done[thread] += 1;
+        match self.next.find(&done, self.heap.cells()) {
+            Some(number) => self.next.add_orders(number, from.orders),
+            None => {
+                let first = self.trail.extend(from.first, thread)?;
+                let cells = Vec::from_slice(alloc, self.heap.cells())?;
+                self.next.push(State {
+                    done,
+                    cells,
+                    orders: from.orders,
+                    first,
+                })?;
+            }
+        }
+        Ok(())
+    }
+}
+
+impl Search<'_> {
+    /// The call that a thread makes next, where so many calls of each thread are done.
+    fn next(&self, done: &[usize], thread: usize) -> Option<&Call>
+        requires search { CanSearch self.now }
+        requires thread { thread < length self.now.program.now.threads.items }
+        requires threads { length done.now ≡ length self.now.program.now.threads.items }
+        ensures { MatchOption result (next_call self.now.program.now done.now thread ≡ None)
+            (λ call. IsNext self.now.program.now done.now thread call.now) }
+    {
+        self.program.threads[thread].calls.get(done[thread])
+    }
+
+    /// Whether so many orders and so many more are looked at.
+    fn has_room(&self, orders: u64, more: u64) -> bool
+        ensures few { MatchBool result (orders + more ≤ self.now.most) (self.now.most < orders + more) }
+        ensures fit { IsTrue result → orders + more < 2 ^ 64 }
+    {
+        let most = self.most;
+        match orders.checked_add(more) {
+            Some(all) => all <= most,
+            None => false,
+        }
+    }
+
+    /// Makes the next call of a thread, if it has one left, and puts where it leads among the states.
+    fn step(
+        &self,
+        alloc: Global,
+        work: &mut Work,
+        from: &State,
+        thread: usize,
+    ) -> Result<Option<Stop>, NoMemory>
+        requires search { CanSearch self.now }
+        requires work { IsAtWork self.now work.old }
+        requires from { IsReached self.now work.old from.now }
+        requires thread { thread < length self.now.program.now.threads.items }
+        ensures { IfOk result (Steps self.now work.old work.new (made_by self.now from.now thread)) }
+    {
+        let Some(call) = self.next(&from.done, thread) else {
+            return Ok(None);
+        };
+        if !self.make(alloc, &mut work.heap, call, &from.cells)? {
+            return Ok(Some(Stop::Beyond {
+                first: from.first,
+                thread,
+            }));
+        }
+        if !self.has_room(work.next.orders(), from.orders) {
+            return Ok(Some(Stop::TooMany));
+        }
+        work.put(alloc, from, thread)?;
+        Ok(None)
+    }
+
+    /// Makes the next call of each thread that has one left.
+    fn expand(&self, alloc: Global, work: &mut Work, from: &State) -> Result<Option<Stop>, NoMemory>
+        requires search { CanSearch self.now }
+        requires work { IsAtWork self.now work.old }
+        requires from { IsReached self.now work.old from.now }
+        ensures { IfOk result (Steps self.now work.old work.new (made_from self.now from.now)) }
+    {
+        for thread in 0..self.program.threads.len() {
+            if let Some(stop) = self.step(alloc, work, from, thread)? {
+                return Ok(Some(stop));
+            }
+        }
+        Ok(None)
+    }
+
+    /// Makes the next call of each thread that has one left, from each of these states.
+    fn expand_all(
+        &self,
+        alloc: Global,
+        work: &mut Work,
+        layer: &Layer,
+    ) -> Result<Option<Stop>, NoMemory>
+        requires search { CanSearch self.now }
+        requires work { IsAtWork self.now work.old }
+        requires layer { AreReached self.now work.old layer.now }
+        ensures { IfOk result (Steps self.now work.old work.new (made_from_all self.now layer.now)) }
+    {
+        for number in 0..layer.len() {
+            if let Some(stop) = self.expand(alloc, work, layer.get(number))? {
+                return Ok(Some(stop));
+            }
+        }
+        Ok(None)
+    }
+}
+
+/// The states as they are told.
+fn told(alloc: Global, layer: &Layer, trail: &Trail) -> Result<Vec<Outcome>, NoMemory>
+    requires { FirstsAre trail.now layer.now }
+    ensures { IfOk result (λ ends. map told_of ends.items ≡ map (as_told trail.now) layer.now) }
+{
+    let mut ends = Vec::new(alloc);
+    for number in 0..layer.len() {
+        let state = layer.get(number);
+        ends.push(Outcome {
+            cells: Vec::from_slice(alloc, &state.cells)?,
+            count: state.orders,
+            order: trail.order(alloc, state.first)?,
+        })?;
+    }
+    Ok(ends)
+}
+
+impl Search<'_> {
+    /// How many calls there are.
+    fn calls(&self) -> usize
+        requires { CanSearch self.now }
+        ensures { result ≡ calls_together self.now.program.now.threads.items }
+    {
+        let mut count = 0;
+        for thread in &self.program.threads {
+            count += thread.calls.len();
+        }
+        count
+    }
+
+    /// The state where no call is done.
+    fn opening(&self, alloc: Global, heap: &Heap) -> Result<Layer, NoMemory>
+        requires { heap.now ≡ opening_heap self.now.program.now }
+        ensures { IfOk result (λ layer. layer ≡ opening_state self.now.program.now ∷ []) }
+    {
+        let mut layer = Layer::new(alloc);
+        layer.push(State {
+            done: vec![in alloc; 0; self.program.threads.len()]?,
+            cells: Vec::from_slice(alloc, heap.cells())?,
+            orders: 1,
+            first: 0,
+        })?;
+        Ok(layer)
+    }
+
+    /// How the cells can end, over all orders, if there are at most as many as are looked at.
+    ///
+    /// # Errors
+    ///
+    /// Want of memory.
+    pub fn all(&self, alloc: Global) -> Result<Found, NoMemory>
+        requires { CanSearch self.now }
+        ensures { IfOk result (Finds self.now.program.now self.now.turns self.now.most) }
+    {
+        laws::whole_within_some_turns();
+        laws::settled_are_serial();
+        laws::at_most_one_serial();
+        let heap = Heap::open(alloc, self.program)?;
+        let mut layer = self.opening(alloc, &heap)?;
+        let mut work = Work {
+            heap,
+            next: Layer::new(alloc),
+            trail: Trail::new(alloc),
+            depth: 0,
+        };
+        let calls = self.calls();
+        for depth in 0..calls {
+            work.depth = depth;
+            match self.expand_all(alloc, &mut work, &layer)? {
+                None => {}
+                Some(Stop::TooMany) => return Ok(Found::TooMany),
+                Some(Stop::Beyond { first, thread }) => {
+                    let order = work.trail.order(alloc, first)?;
+                    return Ok(Found::Unsettled { order, thread });
+                }
+            }
+            layer = mem::replace(&mut work.next, Layer::new(alloc));
+        }
+        Ok(Found::All(told(alloc, &layer, &work.trail)?))
+    }
+}

@@ -1,0 +1,83 @@
+//! Orders that share their beginnings.
+
+ghost use Rattle.std.specs.Prelude.{◌≡◌, ◌<◌, [], ◌∷◌, ◌++◌, length, slice_index_or, IfOk, OnErr};
+ghost use Rattle.outcomes.specs.Trails.{longer};
+
+use std::alloc::{AllocError, Global};
+use std::marker::Model;
+
+/// An order that is another one with a thread behind it.
+#[derive(Drop)]
+pub(crate) struct Step {
+    /// The number of the other one.
+    pub(crate) before: usize,
+    /// The thread.
+    pub(crate) thread: usize,
+}
+
+/// Orders, by their numbers. Each but the first, which is empty, is one of those before it with a thread behind it. As a
+/// value it is the list of them.
+#[derive(Drop)]
+pub struct Trail {
+    steps: Vec<Step>,
+}
+
+impl Model for Trail {
+    ghost use Rattle.std.specs.Prelude.{ℕ, List};
+    ghost use Rattle.outcomes.specs.Trails.{orders_of, AreBackward};
+
+    ghost Value = { List (List ℕ) };
+
+    ghost view = { λ t. orders_of t.steps.items };
+
+    ghost invariant = { λ t. AreBackward t.steps.items };
+}
+
+impl Trail {
+    /// The empty order alone.
+    pub fn new(alloc: Global) -> Trail
+        ensures { result ≡ [] ∷ [] }
+    {
+        Trail {
+            steps: Vec::new(alloc),
+        }
+    }
+
+    /// Adds the order of this number with a thread behind it, and answers its number.
+    ///
+    /// # Errors
+    ///
+    /// Want of memory; nothing is added.
+    pub fn extend(&mut self, order: usize, thread: usize) -> Result<usize, AllocError>
+        requires { order < length self.old }
+        ensures ok { IfOk result (λ _. self.new ≡ self.old ++ longer self.old order thread ∷ []) }
+        ensures number { IfOk result (λ number. number ≡ length self.old) }
+        ensures err { OnErr result (self.new ≡ self.old) }
+    {
+        self.steps.push(Step {
+            before: order,
+            thread,
+        })?;
+        Ok(self.steps.len())
+    }
+
+    /// The order of this number.
+    ///
+    /// # Errors
+    ///
+    /// Want of memory.
+    pub fn order(&self, alloc: Global, number: usize) -> Result<Vec<usize>, AllocError>
+        requires { number < length self.now }
+        ensures { IfOk result (λ order. order.items ≡ slice_index_or self.now number []) }
+    {
+        let mut order = Vec::new(alloc);
+        let mut at = number;
+        while at > 0 {
+            let step = &self.steps[at - 1];
+            order.push(step.thread)?;
+            at = step.before;
+        }
+        order.reverse();
+        Ok(order)
+    }
+}
