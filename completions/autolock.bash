@@ -12,7 +12,7 @@ _autolock_files() {
 
 _autolock() {
     local word=${COMP_WORDS[COMP_CWORD]} before=${COMP_WORDS[COMP_CWORD - 1]} command= i at=0
-    local commands="check explain listing serial simulate trace run replay help"
+    local commands="check explain order listing serial simulate trace run replay help"
     for ((i = 1; i < COMP_CWORD; i++)); do
         if [ -z "$command" ]; then
             case ${COMP_WORDS[i]} in
@@ -35,12 +35,12 @@ _autolock() {
         serial/-*) mapfile -t COMPREPLY < <(compgen -W "--turns -h --help" -- "$word") ;;
         replay/-*) mapfile -t COMPREPLY < <(compgen -W "--turns --why -h --help" -- "$word") ;;
         trace/-*) mapfile -t COMPREPLY < <(compgen -W "--sections -h --help" -- "$word") ;;
-        check/-* | explain/-* | listing/-* | simulate/-* | run/-*) mapfile -t COMPREPLY < <(compgen -W "-h --help" -- "$word") ;;
+        check/-* | explain/-* | order/-* | listing/-* | simulate/-* | run/-*) mapfile -t COMPREPLY < <(compgen -W "-h --help" -- "$word") ;;
         simulate/* | trace/*) if [ $at -gt 0 ]; then _autolock_files "$word" .steps; else _autolock_files "$word" .al; fi ;;
         replay/*)
             if [ "$before" = --turns ]; then :; elif [ $at -gt 0 ]; then _autolock_files "$word" ''; else _autolock_files "$word" .al; fi
             ;;
-        check/* | explain/* | listing/* | serial/* | run/*) [ "$before" = --turns ] || _autolock_files "$word" .al ;;
+        check/* | explain/* | order/* | listing/* | serial/* | run/*) [ "$before" = --turns ] || _autolock_files "$word" .al ;;
     esac
 }
 

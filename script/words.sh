@@ -61,7 +61,7 @@ takes_options() { [ "$command" = serial ] || [ "$command" = replay ] || [ "$comm
 usage_of() {
     local option=${2-}
     case $1 in
-        check | explain | listing | run) echo "$1 ${option:+$option }<FILE>" ;;
+        check | explain | order | listing | run) echo "$1 ${option:+$option }<FILE>" ;;
         serial) echo "serial ${option:-[OPTIONS]} <FILE>" ;;
         replay) echo "replay ${option:-[OPTIONS]} <FILE> <HISTORY>" ;;
         trace) echo "trace ${option:-[OPTIONS]} <FILE> <STEPS>" ;;
@@ -113,7 +113,7 @@ similar() {
 
 refuse_command() {
     local names tip=
-    mapfile -t names < <(similar "$1" check explain listing serial simulate trace run replay help)
+    mapfile -t names < <(similar "$1" check explain order listing serial simulate trace run replay help)
     case ${#names[@]} in
         0) ;;
         1) tip="a similar subcommand exists: '${names[0]}'" ;;
@@ -152,7 +152,7 @@ refuse_long() {
     fi
     for word in "$@"; do
         case $word in
-            check | explain | listing | simulate | run) near=$(similar "$name" help) ;;
+            check | explain | order | listing | simulate | run) near=$(similar "$name" help) ;;
             serial) near=$(similar "$name" turns help | tail -n 1) ;;
             replay) near=$(similar "$name" turns why help | tail -n 1) ;;
             trace) near=$(similar "$name" sections help | tail -n 1) ;;
@@ -167,7 +167,7 @@ judge_help() {
     local name=${1-autolock}
     case $name in
         autolock) [ $# -eq 0 ] || refuse "unrecognized subcommand '$1'" "$(usage_of '')" ;;
-        check | explain | listing | serial | simulate | trace | run | replay | help) ;;
+        check | explain | order | listing | serial | simulate | trace | run | replay | help) ;;
         *) refuse "unrecognized subcommand '$1'" "$(usage_of '')" ;;
     esac
     [ $# -gt 1 ] || show_help "$name"
@@ -305,7 +305,7 @@ judge_words() {
     local is_last=0
     while [ $# -gt 0 ]; do
         case $is_last$1 in
-            0check | 0explain | 0listing | 0serial | 0simulate | 0trace | 0run | 0replay)
+            0check | 0explain | 0order | 0listing | 0serial | 0simulate | 0trace | 0run | 0replay)
                 command=$1
                 shift
                 judge_arguments "$@"
@@ -318,7 +318,7 @@ judge_words() {
             0--) is_last=1 ;;
             0--?*) judge_long "$@" ;;
             0-?*) judge_short "$1" ;;
-            1check | 1explain | 1listing | 1serial | 1simulate | 1trace | 1run | 1replay | 1help)
+            1check | 1explain | 1order | 1listing | 1serial | 1simulate | 1trace | 1run | 1replay | 1help)
                 refuse "unexpected argument '$1' found" "$(usage_of '')" \
                     "subcommand '$1' exists; to use it, remove the '--' before it"
                 ;;
@@ -327,5 +327,5 @@ judge_words() {
         shift
     done
     refuse $'\'autolock\' requires a subcommand but one was not provided
-  [subcommands: check, explain, listing, serial, simulate, trace, run, replay, help]' "$(usage_of '')"
+  [subcommands: check, explain, order, listing, serial, simulate, trace, run, replay, help]' "$(usage_of '')"
 }

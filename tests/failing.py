@@ -5,7 +5,7 @@
     tests/failing.py --cases [--program BIN] [--every N] [FILE..]
     tests/failing.py --unit-tests [--program BIN] [--every N] [--test NAME]
 
---commands      which of check, explain, listing, serial, simulate, trace, run and replay, joined by commas; by default all
+--commands      which of check, explain, order, listing, serial, simulate, trace, run and replay, joined by commas; by default all
 --turns N       of serial and replay, by default 1000
 --every N       only every N-th growth
 --cases         the program `cases` over each of its files, and of its calls the growths alone
@@ -177,7 +177,7 @@ def of_unit_tests(a):
 def main():
     p = argparse.ArgumentParser(formatter_class=argparse.RawDescriptionHelpFormatter, description=__doc__)
     p.add_argument("--program", type=pathlib.Path)
-    p.add_argument("--commands", default="check,explain,listing,serial,simulate,trace,run,replay")
+    p.add_argument("--commands", default="check,explain,order,listing,serial,simulate,trace,run,replay")
     p.add_argument("--turns", type=int, default=1000)
     p.add_argument("--every", type=int, default=1)
     p.add_argument("--cases", action="store_true")

@@ -1,12 +1,12 @@
 #!/usr/bin/env python3
-"""Gives hostile sources to `autolock` and looks at how each run ends: of `check`, `explain`, `listing`, `serial --turns 1000` and,
-with a steps file drawn for each source, `simulate` and `trace`.
+"""Gives hostile sources to `autolock` and looks at how each run ends: of `check`, `explain`, `order`, `listing`,
+`serial --turns 1000` and, with a steps file drawn for each source, `simulate` and `trace`.
 
     tests/hostile.py [--program BIN] [--commands NAMES] [--cuts] [--bytes] [--random COUNT] [--every N] [--seed N] [FILE..]
 
 With no choice of kinds: --cuts --bytes --random 2000, each cut and byte at every 7th place, which takes a minute.
 
---commands      which of the six, joined by commas; by default all
+--commands      which of the seven, joined by commas; by default all
 --cuts          every beginning of each program
 --bytes         each program with one byte replaced by each of `(`, `}`, `0`, `.`, 0x00 and 0x80
 --random COUNT  so many programs made from the given ones by a few random changes each, and a third of them by a helper and calls
@@ -198,6 +198,7 @@ def steps_fault(steps, threads):
 ARGUMENTS = {
     "check": ["check"],
     "explain": ["explain"],
+    "order": ["order"],
     "listing": ["listing"],
     "serial": ["serial", "--turns", "1000"],
     "simulate": ["simulate"],
@@ -206,6 +207,10 @@ ARGUMENTS = {
 WITH_STEPS = ("simulate", "trace")
 TITLES = {"serial": b"history 1\n", "simulate": b"simulation 1\n"}
 EXPLAINED = re.compile(rb"[^\n]*:\d+:\d+: E\d\d [ -~]*\n  [ -~]*\n   *\^\n([^\n]*:\d+:\d+: note: [ -~]*\n  [ -~]*\n   *\^\n)*help: [ -~]*\n")
+GRAPH = re.compile(
+    rb'digraph lock_order \{\n(  "[\w.]+" \[label="rank \d+ [\w.]+"\];\n)*'
+    rb'(  "[\w.]+" -> "[\w.]+" \[label="\w+:\d+:\d+"\];\n)*\}\n'
+)
 LINE = re.compile(rb"section \w+|\d+ [a-z][ -~]*")
 LOCK = rb"[\w.\[\]]+"
 STEP = re.compile(
@@ -219,6 +224,8 @@ def is_whole(command, out):
         return out.startswith(TITLES[command]) and out.endswith(b"\nend\n")
     if command == "explain":
         return out == b"accepted\n"
+    if command == "order":
+        return bool(GRAPH.fullmatch(out))
     if command == "check":
         return out.startswith(b"accepted\n") and out.endswith(b"\n")
     if command == "trace":

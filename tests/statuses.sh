@@ -24,6 +24,7 @@ mkdir folder
 echo 'wrong.al:2:12: E10 neither final nor protected' >fault
 echo 'cycle.al:3:3: E14 lock order cycle: Node.l -> Node.l' >circle
 printf 'accepted\nrank 0 G\nsection f\nat 3:14 take G\n' >checked
+printf 'digraph lock_order {\n  "G" [label="rank 0 G"];\n}\n' >ordered
 printf 'section f\n0 acquire G\n1 int 1\n2 store n\n3 end\n' >listed
 printf 'history 1\ncall 0 0 f() ends\ncells\nn 1\nend\n' >history
 for name in missing.al folder; do echo "autolock: cannot read $name" >"no_$name"; done
@@ -80,6 +81,7 @@ run "done" 0 history none serial right.al
 run "turns" 0 history none serial --turns 0 right.al
 run "check" 0 checked none check right.al
 run "explain" 0 accepted none explain right.al
+run "order" 0 ordered none order right.al
 run "listing" 0 listed none listing right.al
 run "simulate" 0 simulated none simulate right.al two_steps
 run "trace" 0 traced none trace right.al two_steps
@@ -100,15 +102,18 @@ run "a fault, of trace" 1 none fault trace wrong.al bad_steps
 run "a fault of the steps, of trace" 6 none steps_fault trace right.al bad_steps
 run "a fault, of check" 1 none fault check wrong.al
 run "a fault, of explain" 1 explained none explain wrong.al
+run "a fault, of order" 1 none fault order wrong.al
 run "a fault, of listing" 1 none fault listing wrong.al
 run "a lock order cycle" 1 none circle serial cycle.al
 run "a lock order cycle, of check" 1 none circle check cycle.al
+run "a lock order cycle, of order" 1 none circle order cycle.al
 run "a lock order cycle, of listing" 1 none circle listing cycle.al
 run "no words" 2 none some
 run "another command" 2 none some walk right.al
 run "no file" 2 none some serial
 run "no file, of check" 2 none some check
 run "no file, of explain" 2 none some explain
+run "no file, of order" 2 none some order
 run "no file, of listing" 2 none some listing
 run "no steps file" 2 none some simulate right.al
 run "no steps file, of trace" 2 none some trace right.al
@@ -120,11 +125,12 @@ run "two files" 2 none some serial right.al wrong.al
 run "two files, of check" 2 none some check right.al wrong.al
 run "turns, of check" 2 none some check --turns 3 right.al
 run "turns, of explain" 2 none some explain --turns 3 right.al
+run "turns, of order" 2 none some order --turns 3 right.al
 run "turns, of listing" 2 none some listing --turns 3 right.al
 run "too many turns" 2 none some serial --turns 1000000001 right.al
 run "turns that are no number" 2 none some serial --turns many right.al
 run "help" 0 some none --help
-for command in check explain listing serial simulate trace run replay; do
+for command in check explain order listing serial simulate trace run replay; do
     if grep -q "^  $command  " out; then
         echo "ok help lists $command"
     else
@@ -138,6 +144,7 @@ run "help on check" 0 some none check --help
 run "a file that is not there" 3 none no_missing.al serial missing.al
 run "a file that is not there, of check" 3 none no_missing.al check missing.al
 run "a file that is not there, of explain" 3 none no_missing.al explain missing.al
+run "a file that is not there, of order" 3 none no_missing.al order missing.al
 run "a file that is not there, of listing" 3 none no_missing.al listing missing.al
 run "a file that is not there, of simulate" 3 none no_missing.al simulate missing.al two_steps
 run "a steps file that is not there" 3 none no_missing.al simulate right.al missing.al
@@ -152,6 +159,7 @@ run "a history file that is not there" 3 none no_missing.al replay right.al miss
 run "a file that is not there, of run" 3 none no_missing.al run missing.al
 run "a folder, and no steps file" 3 none no_folder simulate folder missing.al
 run "a folder, of check" 3 none no_folder check folder
+run "a folder, of order" 3 none no_folder order folder
 run "a folder, of explain" 3 none no_folder explain folder
 
 # A program's file is read no further than a byte past what a program may have.
@@ -159,7 +167,7 @@ head -c 209715200 /dev/zero >long.al
 for name in long.al /dev/zero; do echo "$name:1:1: E15 limit exceeded" >"too_long_${name##*/}"; done
 most=$(ulimit -S -v)
 ulimit -S -v 65536
-for command in check listing serial run; do
+for command in check order listing serial run; do
     run "a file of 200 MB, of $command" 1 none too_long_long.al $command long.al
     run "a file without an end, of $command" 1 none too_long_zero $command /dev/zero
 done
@@ -183,6 +191,8 @@ judge "an output that is full, of check" 3 $? none unwritten
 judge "an output that is full, of explain" 3 $? none unwritten
 "$program" explain wrong.al >/dev/full 2>err </dev/null
 judge "an output that is full, of explain, and a fault" 3 $? none unwritten
+"$program" order right.al >/dev/full 2>err </dev/null
+judge "an output that is full, of order" 3 $? none unwritten
 "$program" listing right.al >/dev/full 2>err </dev/null
 judge "an output that is full, of listing" 3 $? none unwritten
 "$program" simulate right.al two_steps >/dev/full 2>err </dev/null

@@ -57,7 +57,7 @@ same -V
 same -hV
 same -Vh
 same -hx
-for command in check explain listing serial simulate trace run replay; do
+for command in check explain order listing serial simulate trace run replay; do
     same help "$command"
     same "$command" --help
     same "$command" -h
@@ -107,7 +107,7 @@ same -- check right.al
 same -- nothing
 same -- chek
 for word in chek Check CHECK checks c lis list listin lsiting seral seriall sim simulat simulation s hlep halp helper \
-    rnu rum replya repla expl explian foobar größe trcae traces tra prints seril stimulate; do
+    rnu rum ordr oder orders replya repla expl explian foobar größe trcae traces tra prints seril stimulate; do
     same "$word" right.al
 done
 
@@ -193,6 +193,7 @@ same check -- -dash.al
 same check -dash.al
 same check right.al/
 same explain missing.al
+same order missing.al
 same explain folder
 same simulate missing.al nothing
 same simulate right.al missing.al
@@ -203,7 +204,7 @@ same serial --turns 3 missing.al
 # The completions and the manual page name what the help names.
 commands=$(sed -n '/^Commands:/,/^$/s/^  \([a-z]*\) .*/\1/p' "$top/script/help/autolock.txt")
 options=$(sed -n 's/^ *\(-[a-zA-Z], \)\{0,1\}--\([a-z]*\).*/\2/p' "$top"/script/help/*.txt | sort -u)
-[ "$(echo $commands)" = "check explain listing serial simulate trace run replay help" ] || fail "the commands of the help: $commands"
+[ "$(echo $commands)" = "check explain order listing serial simulate trace run replay help" ] || fail "the commands of the help: $commands"
 [ "$(echo $options)" = "help sections turns version why" ] || fail "the options of the help: $options"
 for file in completions/autolock.bash completions/_autolock completions/autolock.fish docs/autolock.1; do
     for word in $commands $options; do
@@ -230,10 +231,11 @@ completes() {
 }
 . "$top/completions/autolock.bash"
 : >x.steps
-completes "check explain help listing replay run serial simulate trace" ''
+completes "check explain help listing order replay run serial simulate trace" ''
 completes "serial simulate" s
+completes "right.al" order r
 completes "--build --help --unproved --version -V -h" -
-completes "check explain help listing replay run serial simulate trace" --unproved ''
+completes "check explain help listing order replay run serial simulate trace" --unproved ''
 completes "--turns" serial --t
 completes "--why" replay --w
 completes "folder right.al" check ''

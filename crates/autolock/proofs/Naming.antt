@@ -8,7 +8,7 @@ use Rattle.driver.specs.declared.streams.Streams.{Streams}
 use Rattle.driver.specs.declared.status.Status.{Status}
 use Rattle.driver.specs.declared.status.Status.TheVariants.{Failed}
 use Rattle.words.specs.declared.line.Line.{Line}
-use Rattle.words.specs.declared.line.Line.TheVariants.{Check, Explain, Listing, Serial, Simulate, Trace, Run, Replay}
+use Rattle.words.specs.declared.line.Line.TheVariants.{Check, Explain, Order, Listing, Serial, Simulate, Trace, Run, Replay}
 use Rattle.autolock.specs.Asked.{file_of, other_of, files_of, NamesOneOf, IsOverOne, IsOverTwo}
 
 abbrev pub names_of : List Reading → List (List ℕ)
@@ -47,6 +47,7 @@ module _ {O E : Type 0} {Answers : List ℕ → List (List ℕ) → Status → L
 pub one_file : (line : Line) → IsOverOne line → files_of line ≡ file_of line ∷ []
 one_file (Check file) over = refl
 one_file (Explain file) over = refl
+one_file (Order file) over = refl
 one_file (Listing file) over = refl
 one_file (Serial file turns) over = refl
 one_file (Run file) over = refl
@@ -57,6 +58,7 @@ one_file (Replay file history turns why) over = absurd over
 pub two_files : (line : Line) → IsOverTwo line → files_of line ≡ file_of line ∷ other_of line ∷ []
 two_files (Check file) over = absurd over
 two_files (Explain file) over = absurd over
+two_files (Order file) over = absurd over
 two_files (Listing file) over = absurd over
 two_files (Serial file turns) over = absurd over
 two_files (Run file) over = absurd over
@@ -68,6 +70,7 @@ two_files (Replay file history turns why) over = refl
 pub first_named : (line : Line) (Told : List ℕ → Type 0) → Told (cannot_read (file_of line)) → NamesOneOf Told (files_of line)
 first_named (Check file) Told told = inl told
 first_named (Explain file) Told told = inl told
+first_named (Order file) Told told = inl told
 first_named (Listing file) Told told = inl told
 first_named (Serial file turns) Told told = inl told
 first_named (Run file) Told told = inl told

@@ -3,14 +3,15 @@ use Rattle.std.specs.Prelude.{◌≡◌, ◌⊎◌, ℕ, List, [], ◌∷◌, �
 use Rattle.clap.specs.declared.error.kind.ErrorKind.{ErrorKind}
 use Rattle.clap.specs.declared.error.kind.ErrorKind.TheVariants.{DisplayHelp, DisplayVersion}
 use Rattle.driver.specs.declared.status.Status.{Status}
-use Rattle.driver.specs.{cannot_read, CheckAnswers, ExplainAnswers, ListingAnswers, SerialAnswers, SimulationAnswers, TraceAnswers, ReplayAnswers, ThreadsAnswers}
+use Rattle.driver.specs.{cannot_read, CheckAnswers, ExplainAnswers, OrderGraphAnswers, ListingAnswers, SerialAnswers, SimulationAnswers, TraceAnswers, ReplayAnswers, ThreadsAnswers}
 use Rattle.words.specs.declared.line.Line.{Line}
-use Rattle.words.specs.declared.line.Line.TheVariants.{Check, Explain, Listing, Serial, Simulate, Trace, Run, Replay}
+use Rattle.words.specs.declared.line.Line.TheVariants.{Check, Explain, Order, Listing, Serial, Simulate, Trace, Run, Replay}
 
 -- the name of the file whose program is asked for
 abbrev pub file_of : Line → List ℕ
 file_of (Check file) = file.now
 file_of (Explain file) = file.now
+file_of (Order file) = file.now
 file_of (Listing file) = file.now
 file_of (Serial file turns) = file.now
 file_of (Simulate file steps) = file.now
@@ -55,6 +56,7 @@ IsOverTwo line = ⊥
 abbrev pub LineAnswers : Line → List ℕ → List ℕ → Status → List ℕ → List ℕ → Type 0
 LineAnswers (Check file) = CheckAnswers
 LineAnswers (Explain file) = ExplainAnswers
+LineAnswers (Order file) = OrderGraphAnswers
 LineAnswers (Listing file) = ListingAnswers
 LineAnswers (Serial file turns) = SerialAnswers turns
 LineAnswers (Run file) = ThreadsAnswers

@@ -15,8 +15,8 @@ ghost use Rattle.driver.specs.{Alone, Beside, Serves, Tells, IsMissed, cannot_re
 use clap::Error;
 use clap::error::ErrorKind;
 use driver::{
-    Judging, Sink, SourceText, Status, Streams, check, explain, list, miss_other, replay, run,
-    serial, simulate, trace,
+    Judging, Sink, SourceText, Status, Streams, check, explain, list, miss_other, order_graph,
+    replay, run, serial, simulate, trace,
 };
 use std::alloc::{AllocError, Global};
 use std::io::{Read, Write};
@@ -33,6 +33,7 @@ fn file_name<'a>(line: Line<'a>) -> &'a str
     match line {
         Line::Check { file } => file,
         Line::Explain { file } => file,
+        Line::Order { file } => file,
         Line::Listing { file } => file,
         Line::Serial { file, .. } => file,
         Line::Simulate { file, .. } => file,
@@ -72,6 +73,7 @@ fn run_opened<R: Threads + Wait + Sync, S: Read, O: Write, E: Write>(
     match line {
         Line::Check { .. } => check(alloc, source, streams),
         Line::Explain { .. } => explain(alloc, source, streams),
+        Line::Order { .. } => order_graph(alloc, source, streams),
         Line::Listing { .. } => list(alloc, source, streams),
         Line::Serial { turns, .. } => serial(alloc, turns, source, streams),
         Line::Run { .. } => run(threads, alloc, source, streams),

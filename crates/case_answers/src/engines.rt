@@ -1,7 +1,7 @@
 //! What the engines of the crate `driver` answer for a text.
 
 use case_files::asked::Engine;
-use driver::{Sink, SourceText, Status, Streams, check, list, serial, simulate};
+use driver::{Sink, SourceText, Status, Streams, check, list, order_graph, serial, simulate};
 use source::memory::NoMemory;
 use std::alloc::Global;
 
@@ -24,6 +24,7 @@ fn answer(alloc: Global, engine: Engine<'_>, text: &str) -> Result<Outcome, NoMe
     };
     let status = match engine {
         Engine::Check | Engine::Lists => check(alloc, &mut source, &mut streams),
+        Engine::Graph => order_graph(alloc, &mut source, &mut streams),
         Engine::Listing => list(alloc, &mut source, &mut streams),
         Engine::Serial(turns) => serial(alloc, turns, &mut source, &mut streams),
         Engine::Simulate(steps) => {

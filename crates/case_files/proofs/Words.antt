@@ -10,13 +10,14 @@ use Rattle.case_files.specs.declared.asked.Asked.{Asked}
 use Rattle.case_files.specs.declared.asked.Asked.TheVariants.{Engine, Tokens, Tree, Print, Again, Paths, Points, Order}
 use Rattle.case_files.specs.declared.paragraph.Paragraph.{Paragraph}
 use Rattle.case_files.specs.declared.paragraph.Paragraph.TheVariants.{Note, Ask, Head, Case, Unreadable}
-use Rattle.case_files.specs.declared.asked.Engine.TheVariants.{Check, Lists, Listing, Serial, Simulate}
+use Rattle.case_files.specs.declared.asked.Engine.TheVariants.{Check, Lists, Graph, Listing, Serial, Simulate}
 
 -- what `Asked::named` promises of a word and its answer
 abbrev pub Named : List ℕ → Option Asked → Type 0
 Named word result = record {
   check : (result ≡ Some (Engine Check)) ↔ (word ≡ codes "check");
   lists : (result ≡ Some (Engine Lists)) ↔ (word ≡ codes "lists");
+  graph : (result ≡ Some (Engine Graph)) ↔ (word ≡ codes "graph");
   listing : (result ≡ Some (Engine Listing)) ↔ (word ≡ codes "listing");
   serial : (turns : ℕ) → (result ≡ Some (Engine (Serial turns))) ↔ IsSerial word turns;
   simulate : (steps : Bor (List ℕ)) → result ≡ Some (Engine (Simulate steps)) → IsSimulate word steps.now;
@@ -35,6 +36,9 @@ named_check = search rules
 
 pub named_lists : Named (codes "lists") (Some (Engine Lists))
 named_lists = search rules
+
+pub named_graph : Named (codes "graph") (Some (Engine Graph))
+named_graph = search rules
 
 pub named_listing : Named (codes "listing") (Some (Engine Listing))
 named_listing = search rules

@@ -11,6 +11,8 @@ pub enum Engine<'a> {
     Check,
     /// `check`: all that it writes, which is the lock paths that are listed before each point.
     Lists,
+    /// `order_graph`: the order of its lock classes as a graph.
+    Graph,
     /// `list`: the instructions of each section.
     Listing,
     /// `serial`: the history within so many turns of each loop.
@@ -45,6 +47,7 @@ impl Asked<'_> {
     pub fn named(word: &str) -> Option<Asked<'_>>
         ensures check { (result ≡ Some (Asked.Engine Engine.Check)) ↔ (word.now ≡ codes "check") }
         ensures lists { (result ≡ Some (Asked.Engine Engine.Lists)) ↔ (word.now ≡ codes "lists") }
+        ensures graph { (result ≡ Some (Asked.Engine Engine.Graph)) ↔ (word.now ≡ codes "graph") }
         ensures listing { (result ≡ Some (Asked.Engine Engine.Listing)) ↔ (word.now ≡ codes "listing") }
         ensures serial { (turns : ℕ) → (result ≡ Some (Asked.Engine (Engine.Serial turns))) ↔ IsSerial word.now turns }
         ensures simulate { (steps : Bor (List ℕ)) → result ≡ Some (Asked.Engine (Engine.Simulate steps)) → IsSimulate word.now steps.now }
@@ -69,6 +72,7 @@ impl Asked<'_> {
         match word {
             "check" => Some(Asked::Engine(Engine::Check)),
             "lists" => Some(Asked::Engine(Engine::Lists)),
+            "graph" => Some(Asked::Engine(Engine::Graph)),
             "listing" => Some(Asked::Engine(Engine::Listing)),
             "tokens" => Some(Asked::Tokens),
             "tree" => Some(Asked::Tree),

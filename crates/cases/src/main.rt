@@ -8,6 +8,7 @@
 //! - `@ask WORD` says what is asked of the texts below it:
 //!   - `check`, as at the head of a file: the first line of what the engine `check` writes, `accepted`;
 //!   - `lists`: what `check` writes;
+//!   - `graph`: what `order_graph` writes;
 //!   - `listing`: what `list` writes;
 //!   - `serial N`: what `serial` writes within N turns of each loop;
 //!   - `simulate STEPS`: what `simulate` writes after these steps, in a file called `T`; they may be none behind the blank;

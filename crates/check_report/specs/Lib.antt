@@ -1,5 +1,5 @@
 pub mod Check
 pub mod Values
 -- what the public clauses cite
-pub use Rattle.check_report.specs.Check.{check_text}
+pub use Rattle.check_report.specs.Check.{ranked_class, check_text}
 pub use Rattle.check_report.specs.Values.{check_text_of}

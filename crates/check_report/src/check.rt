@@ -21,8 +21,8 @@ fn class_with(ranks: &[u32], rank: usize) -> Option<usize>
     ranks.iter().position(|r| *r as usize == rank)
 }
 
-/// The name of the first class that has this rank.
-fn push_ranked(
+/// The name of the first class that has this rank. The one error is a refused growth.
+pub fn push_ranked(
     out: &mut String,
     program: &Typed,
     ranks: &[u32],

@@ -46,6 +46,7 @@ fn reads_lines(rt: HostRuntime) -> Result<(), Fail> {
         "
 autolock check F => Check { file: \"F\" }
 autolock explain F => Explain { file: \"F\" }
+autolock order F => Order { file: \"F\" }
 autolock serial F => Serial { file: \"F\", turns: 1000000 }
 autolock serial --turns 7 F => Serial { file: \"F\", turns: 7 }
 autolock serial --turns=0 F => Serial { file: \"F\", turns: 0 }
@@ -78,6 +79,8 @@ autolock check --turns 3 F => UnknownArgument
 autolock check F G => UnknownArgument
 autolock explain => MissingRequiredArgument
 autolock explain F G => UnknownArgument
+autolock order => MissingRequiredArgument
+autolock order F G => UnknownArgument
 autolock serial => MissingRequiredArgument
 autolock serial F G => UnknownArgument
 autolock run => MissingRequiredArgument

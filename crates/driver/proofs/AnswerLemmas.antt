@@ -4,7 +4,7 @@ use Rattle.lowering.specs.Plans.{Plan}
 use Rattle.driver.specs.declared.request.PairRequest.{PairRequest}
 use Rattle.driver.specs.declared.request.PairRequest.TheVariants.{Simulate, Trace, Replay}
 use Rattle.driver.specs.declared.request.Request.{Request}
-use Rattle.driver.specs.declared.request.Request.TheVariants.{Check, Listing, Serial}
+use Rattle.driver.specs.declared.request.Request.TheVariants.{Check, OrderGraph, Listing, Serial}
 use Rattle.driver.specs.declared.status.Status.{Status}
 use Rattle.driver.specs.Answering.{RequestAnswers, PairWanted}
 use Rattle.driver.specs.Answers.{TextAnswers, accepted, refused}
@@ -22,6 +22,7 @@ use Rattle.driver.proofs.ServingLemmas.{IsAnswered}
 of_program : (request : Request) (text : List ℕ) (plan : Plan) (status : Status) (out err : List ℕ) →
     RequestAnswers request text plan status out err → IsAnswered status
 of_program Check text plan status out err is = serving.done is.ended
+of_program OrderGraph text plan status out err is = serving.done is.ended
 of_program Listing text plan status out err is = serving.done is.ended
 of_program (Serial turns) text plan status out err (all_settled is) = serving.done is.ended
 of_program (Serial turns) text plan status out err (stopped is) = serving.unsettled is.ended

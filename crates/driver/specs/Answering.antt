@@ -13,12 +13,13 @@ use Rattle.driver.specs.declared.answer.Answer.{Answer}
 use Rattle.driver.specs.declared.request.PairRequest.{PairRequest}
 use Rattle.driver.specs.declared.request.PairRequest.TheVariants.{Simulate, Trace, Replay}
 use Rattle.driver.specs.declared.request.Request.{Request}
-use Rattle.driver.specs.declared.request.Request.TheVariants.{Check, Listing, Serial}
+use Rattle.driver.specs.declared.request.Request.TheVariants.{Check, OrderGraph, Listing, Serial}
 use Rattle.driver.specs.declared.status.Status.{Status}
 use Rattle.driver.specs.declared.status.Status.TheVariants.{Refused, BadInput}
 use Rattle.driver.specs.Answers.{IsRefused}
 use Rattle.driver.specs.Checks.{IsCheckReport}
 use Rattle.driver.specs.Listings.{IsListed}
+use Rattle.driver.specs.OrderGraphs.{IsOrderGraph}
 use Rattle.driver.specs.Replays.{IsReplayed, verdict_status, judgement_text}
 use Rattle.driver.specs.Serial.{IsRun}
 use Rattle.driver.specs.Simulations.{IsSimulated}
@@ -68,6 +69,7 @@ IsAccepted file text (Err answer) = Meets (IsRefused file text) answer
 -- what is answered to a request for a program
 abbrev pub RequestAnswers : Request → List ℕ → Plan → Status → List ℕ → List ℕ → Type 0
 RequestAnswers Check text plan = IsCheckReport text plan
+RequestAnswers OrderGraph text plan = IsOrderGraph text plan
 RequestAnswers Listing text plan = IsListed plan
 RequestAnswers (Serial turns) text plan = IsRun turns plan.accepted
 

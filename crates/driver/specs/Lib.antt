@@ -6,6 +6,7 @@ pub mod Serial
 pub mod Checks
 pub mod Explanations
 pub mod Listings
+pub mod OrderGraphs
 pub mod Simulations
 pub mod Traces
 pub mod Replays
@@ -24,6 +25,7 @@ pub use Rattle.driver.specs.Serial.{SerialAnswers}
 pub use Rattle.driver.specs.Checks.{CheckAnswers}
 pub use Rattle.driver.specs.Explanations.{ExplainAnswers}
 pub use Rattle.driver.specs.Listings.{ListingAnswers}
+pub use Rattle.driver.specs.OrderGraphs.{OrderGraphAnswers}
 pub use Rattle.driver.specs.Simulations.{SimulationAnswers}
 pub use Rattle.driver.specs.Traces.{TraceAnswers}
 pub use Rattle.driver.specs.Replays.{ReplayAnswers}

@@ -10,6 +10,7 @@ ghost use Rattle.driver.specs.Listings.{IsListed};
 ghost use Rattle.driver.specs.Serial.{IsRun};
 ghost use Rattle.driver.specs.ThreadRuns.{ThreadsAnswers};
 
+use crate::ordering::ordered;
 use crate::replaying::replayed;
 use crate::request::{Pair, PairRequest, Request};
 use crate::running::{prepared, run_scripts};
@@ -137,6 +138,7 @@ fn of_program(
 {
     match request {
         Request::Check => checked(alloc, text, program),
+        Request::OrderGraph => ordered(alloc, text, program),
         Request::Listing => listed(alloc, program),
         Request::Serial { turns } => {
             let prepared = prepared(alloc, program)?;

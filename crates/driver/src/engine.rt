@@ -6,6 +6,7 @@ ghost use Rattle.driver.specs.Answers.{Alone, Beside, TextAnswers};
 ghost use Rattle.driver.specs.Checks.{CheckAnswers};
 ghost use Rattle.driver.specs.Engines.{Serves, reading_of};
 ghost use Rattle.driver.specs.Listings.{ListingAnswers};
+ghost use Rattle.driver.specs.OrderGraphs.{OrderGraphAnswers};
 ghost use Rattle.driver.specs.Replays.{ReplayAnswers};
 ghost use Rattle.driver.specs.Serial.{SerialAnswers};
 ghost use Rattle.driver.specs.Simulations.{SimulationAnswers};
@@ -105,6 +106,22 @@ pub fn check<S: Read, O: Write, E: Write>(
         O.contents E.contents streams.old streams.new result }
 {
     serve(alloc, Request::Check, source, streams)
+}
+
+/// Writes the order of the lock classes of the program that `source` gives, as a graph in the language DOT: each class with
+/// its rank, and for each pair of which the first has to come before the second a place that makes it so. Answers how that
+/// ended, as [`check`] does: where it is `Done`, the graph was written to `out`.
+pub fn order_graph<S: Read, O: Write, E: Write>(
+    alloc: Global,
+    source: &mut SourceText<'_, S>,
+    streams: &mut Streams<O, E>,
+) -> Status
+    requires readable { reading_failed source.old ≡ false }
+    requires writable { writing_failed streams.old.out ≡ false }
+    ensures { Serves (Alone (OrderGraphAnswers (name_of source.old))) (reading_of S.remaining source.old source.new) []
+        O.contents E.contents streams.old streams.new result }
+{
+    serve(alloc, Request::OrderGraph, source, streams)
 }
 
 /// Writes the instructions of each section of the program that `source` gives. Answers how that ended, as [`check`] does:

@@ -7,6 +7,7 @@
 //! - [`check`]: in which order a program takes its locks, and which ones before each statement. `specs/Checks.antt` says
 //!   what it answers.
 //! - [`explain`]: the fault of a program, with its place in the source. `specs/Explanations.antt` says what it answers.
+//! - [`order_graph`]: the order of a program's lock classes, as a graph. `specs/OrderGraphs.antt` says what it answers.
 //! - [`list`]: the instructions of each section. `specs/Listings.antt` says what it answers.
 //! - [`serial`]: all calls of a program one after another. `specs/Serial.antt` says what it answers.
 //! - [`simulate`]: the world after the steps of a steps file. `specs/Simulations.antt` says what it answers.
@@ -23,6 +24,7 @@
 mod answer;
 mod engine;
 mod explaining;
+mod ordering;
 mod replaying;
 mod request;
 mod running;
@@ -36,7 +38,9 @@ mod threads_run;
 mod tracing;
 mod why;
 
-pub use engine::{check, list, miss_other, replay, run, serial, simulate, trace};
+pub use engine::{
+    check, list, miss_other, order_graph, replay, run, serial, simulate, trace,
+};
 pub use explaining::explain;
 pub use request::Judging;
 pub use sink::Sink;

@@ -5,6 +5,8 @@
 pub enum Request {
     /// In which order it takes its locks, and which ones before each statement.
     Check,
+    /// The order of its lock classes, as a graph.
+    OrderGraph,
     /// The instructions of its sections.
     Listing,
     /// The history of all its calls, run one after another.

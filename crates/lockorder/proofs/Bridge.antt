@@ -1,5 +1,5 @@
 -- What the sets of a section's points say of the edges that the section makes.
-use Rattle.std.proofs.Common.{◌≡◌, ℕ, ◌<◌, List, length, Option, Some, None, ◌⊎◌, inl, inr, refl, sym, ap, ◌∙◌, subst, arith}
+use Rattle.std.proofs.Common.{◌≡◌, ℕ, ◌<◌, List, length, get_or, Option, Some, None, ◌⊎◌, inl, inr, refl, sym, ap, ◌∙◌, subst, arith}
 use Rattle.std.specs.Prelude.{slice_get}
 use Rattle.std.specs.Option.{option_map}
 use Rattle.std.specs.List.{All, Contains}
@@ -21,6 +21,7 @@ use Rattle.points.specs.Points.{ArePoints}
 use Rattle.points.specs.Used.{IsUsedBefore}
 use Rattle.lockorder.specs.Edges.{Makes, Edge}
 use Rattle.lockorder.specs.Sections.{set_at, no_paths, IsOfClass, HasClass, BindsAt, UsesAt, MakesSomewhere, MakesAt, LeadBetween}
+use Rattle.lockorder.specs.Tellings.{AreBetween, AreEdges}
 use Rattle.lockorder.proofs.Lists.{contains_there, there_contains}
 use Rattle.lockorder.proofs.InSection.{set_within}
 
@@ -184,3 +185,6 @@ edge_within program well classes c d (k, used, bound, m) =
       subst (λ n. n < length program.classes.items) m.uses.2 (slice_get_within program.classes.items m.uses.0.class u.0 u.1),
       subst (λ n. n < length program.classes.items) m.binds.4 (slice_get_within program.classes.items m.binds.0.class b.0 b.1),
     )
+
+pub edges_between : (program : Typed) → IsWellFormed program → PathsHaveClasses → (pairs : List (ℕ × ℕ)) → AreEdges program pairs → AreBetween (length program.classes.items) pairs
+edges_between program well classes pairs h k d lt = let pair = get_or pairs k d in edge_within program well classes pair.0 pair.1 (h k d lt)

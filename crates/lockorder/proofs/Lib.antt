@@ -5,6 +5,7 @@ pub mod Ranked
 pub mod Blame
 pub mod Bridge
 pub mod Tells
+pub mod Listed
 pub mod Making
 pub mod InSection
 pub mod Added

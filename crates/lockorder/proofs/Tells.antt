@@ -1,19 +1,23 @@
--- What is told of a cycle's edges, section after section.
+-- What is told of edges between pairs of classes, section after section.
 use Rattle.std.proofs.Common.{◌≡◌, ℕ, zero, suc, ◌+◌, ◌≤◌, ◌<◌, true, false, List, [], ◌∷◌, map, length, get_or, set, replicate, Option, Some, None, inl, inr, refl, sym, ap, ◌∙◌, subst, arith}
-use Rattle.std.specs.Prelude.{◌≢◌, slice_get, slice_index, IsSome}
+use Rattle.std.specs.Prelude.{◌≢◌, slice_index, IsSome}
+use Rattle.std.specs.List.{All}
 use Rattle.std.specs.Option.{is_some}
 use Rattle.std.proofs.Math.ListN.{length-set}
+use Rattle.std.proofs.lemmas.List.Elements.{All-cons, All-tail}
 use Rattle.std.proofs.lemmas.Bool.{cases_lt, cases_eq}
-use Rattle.std.proofs.lemmas.Option.{none-some, same_Some, slice_get_within}
-use Rattle.std.proofs.lemmas.List.{get_or-set_same, get_or-set_other, get_or_read, length-map}
+use Rattle.std.proofs.lemmas.Option.{none-some, same_Some}
+use Rattle.std.proofs.lemmas.List.{get_or-set_same, get_or-set_other, get_or_read}
 use Rattle.core_lang.specs.declared.typed.Typed.{Typed}
 use Rattle.points.specs.declared.table.Points.{Points}
 use Rattle.lockorder.specs.declared.ranks.Edge as written
+use Rattle.lockorder.specs.declared.ranks.ClassPair.{ClassPair}
 use Rattle.lockorder.specs.Edges.{Makes, MakesFirst, Edge}
 use Rattle.lockorder.specs.Ranks.{AreDistinct, LeadTo, IsCycle}
-use Rattle.lockorder.specs.Faults.{classes_of, AllMakeFirst, IsCycleOf}
+use Rattle.lockorder.specs.Faults.{classes_of, second, AllMakeFirst, IsCycleOf}
 use Rattle.lockorder.specs.Sections.{MakesSomewhere, MakesAt, MakesFirstAt}
-use Rattle.lockorder.specs.Tellings.{follower, told_at, IsNotMade, IsToldMore, IsTold, AreTold}
+use Rattle.lockorder.specs.ClassPairs.{classes_of_pair, IsMadeFirst}
+use Rattle.lockorder.specs.Tellings.{pair_at, told_at, around, AreClosed, AreEdges, IsNotMade, IsToldMore, IsTold, AreTold}
 
 -- ---- one section
 
@@ -29,19 +33,19 @@ is_told None h = absurd cc
 is_told (Some e) h = (e, refl)
 
 -- the edges before a place are told of, the others as they were
-pub record AreToldBelow (x : Points) (section : ℕ) (cycle : List ℕ) (old new : List (Option written.Edge)) (place : ℕ) : Type 0 where
+pub record AreToldBelow (x : Points) (section : ℕ) (pairs : List (ℕ × ℕ)) (old new : List (Option written.Edge)) (place : ℕ) : Type 0 where
   pub long : length new ≡ length old
-  pub told : (i : ℕ) → i < place → IsToldMore x section (slice_index cycle i) (follower cycle i) (told_at old i) (told_at new i)
+  pub told : (i : ℕ) → i < place → IsToldMore x section (pair_at pairs i).0 (pair_at pairs i).1 (told_at old i) (told_at new i)
   pub rest : (i : ℕ) → place ≤ i → told_at new i ≡ told_at old i
 
-module _ (x : Points) (section : ℕ) (cycle : List ℕ) (old now : List (Option written.Edge)) (p : ℕ) (b : AreToldBelow x section cycle old now p) where
+module _ (x : Points) (section : ℕ) (pairs : List (ℕ × ℕ)) (old now : List (Option written.Edge)) (p : ℕ) (b : AreToldBelow x section pairs old now p) where
   next_told : (new : List (Option written.Edge)) → length new ≡ length now → ((i : ℕ) → i ≢ p → told_at new i ≡ told_at now i) →
-      IsToldMore x section (slice_index cycle p) (follower cycle p) (told_at old p) (told_at new p) → AreToldBelow x section cycle old new (p + 1)
+      IsToldMore x section (pair_at pairs p).0 (pair_at pairs p).1 (told_at old p) (told_at new p) → AreToldBelow x section pairs old new (p + 1)
   next_told new long others here = record {
     long = long ∙ b.long;
     told = λ i lt. elim (cases_eq i p) [
-      | inl e ↦ subst (λ j. IsToldMore x section (slice_index cycle j) (follower cycle j) (told_at old j) (told_at new j)) (sym e) here
-      | inr ne ↦ subst (IsToldMore x section (slice_index cycle i) (follower cycle i) (told_at old i)) (sym (others i ne)) (b.told i (below i ne lt))
+      | inl e ↦ subst (λ j. IsToldMore x section (pair_at pairs j).0 (pair_at pairs j).1 (told_at old j) (told_at new j)) (sym e) here
+      | inr ne ↦ subst (IsToldMore x section (pair_at pairs i).0 (pair_at pairs i).1 (told_at old i)) (sym (others i ne)) (b.told i (below i ne lt))
     ];
     rest = λ i le. others i (λ e. omega (arith, le, e)) ∙ b.rest i (omega arith);
   }
@@ -49,28 +53,28 @@ module _ (x : Points) (section : ℕ) (cycle : List ℕ) (old now : List (Option
       below : (i : ℕ) → i ≢ p → i < p + 1 → i < p
       below i ne lt = elim (cases_lt i p) [ inl less ↦ less | inr ge ↦ let e : i ≡ p = omega arith in absurd (ne e) ]
 
-  pub tell_here : (new : List (Option written.Edge)) (used bound : ℕ) → p < length now → told_at now p ≡ None → MakesFirstAt x (slice_index cycle p) (follower cycle p) used bound →
-      new ≡ set now p (Some (record { class = slice_index cycle p; section = section; used = used; bound = bound })) → AreToldBelow x section cycle old new (p + 1)
+  pub tell_here : (new : List (Option written.Edge)) (used bound : ℕ) → p < length now → told_at now p ≡ None → MakesFirstAt x (pair_at pairs p).0 (pair_at pairs p).1 used bound →
+      new ≡ set now p (Some (record { class = (pair_at pairs p).0; section = section; used = used; bound = bound })) → AreToldBelow x section pairs old new (p + 1)
   tell_here new used bound lt none m e =
-      let edge : written.Edge = record { class = slice_index cycle p; section = section; used = used; bound = bound } in
+      let edge : written.Edge = record { class = (pair_at pairs p).0; section = section; used = used; bound = bound } in
       let there : told_at new p ≡ Some edge = ap (λ l. told_at l p) e ∙ get_or-set_same now p (Some edge) None lt in
       next_told new (ap length e ∙ length-set now p (Some edge)) (λ i ne. ap (λ l. told_at l i) e ∙ get_or-set_other now p i (Some edge) None ne)
-      (subst (λ o. IsToldMore x section (slice_index cycle p) (follower cycle p) o (told_at new p)) (sym (sym (b.rest p (omega arith)) ∙ none)) (inl (used, bound, there, m)))
+      (subst (λ o. IsToldMore x section (pair_at pairs p).0 (pair_at pairs p).1 o (told_at new p)) (sym (sym (b.rest p (omega arith)) ∙ none)) (inl (used, bound, there, m)))
 
-  pub tell_none : (new : List (Option written.Edge)) → new ≡ now → told_at now p ≡ None → (MakesSomewhere x (slice_index cycle p) (follower cycle p) → ⊥) →
-      AreToldBelow x section cycle old new (p + 1)
+  pub tell_none : (new : List (Option written.Edge)) → new ≡ now → told_at now p ≡ None → (MakesSomewhere x (pair_at pairs p).0 (pair_at pairs p).1 → ⊥) →
+      AreToldBelow x section pairs old new (p + 1)
   tell_none new e none not_made =
       next_told new (ap length e) (λ i ne. ap (λ l. told_at l i) e)
-      (subst (λ o. IsToldMore x section (slice_index cycle p) (follower cycle p) o (told_at new p)) (sym (sym (b.rest p (omega arith)) ∙ none))
+      (subst (λ o. IsToldMore x section (pair_at pairs p).0 (pair_at pairs p).1 o (told_at new p)) (sym (sym (b.rest p (omega arith)) ∙ none))
       (inr (ap (λ l. told_at l p) e ∙ none, not_made)))
 
-  pub tell_kept : (new : List (Option written.Edge)) (edge : written.Edge) → new ≡ now → told_at now p ≡ Some edge → AreToldBelow x section cycle old new (p + 1)
+  pub tell_kept : (new : List (Option written.Edge)) (edge : written.Edge) → new ≡ now → told_at now p ≡ Some edge → AreToldBelow x section pairs old new (p + 1)
   tell_kept new edge e some =
       next_told new (ap length e) (λ i ne. ap (λ l. told_at l i) e)
-      (subst (λ o. IsToldMore x section (slice_index cycle p) (follower cycle p) o (told_at new p)) (sym (sym (b.rest p (omega arith)) ∙ some)) (ap (λ l. told_at l p) e ∙ some))
+      (subst (λ o. IsToldMore x section (pair_at pairs p).0 (pair_at pairs p).1 o (told_at new p)) (sym (sym (b.rest p (omega arith)) ∙ some)) (ap (λ l. told_at l p) e ∙ some))
 
-pub tell_starts : (x : Points) (section : ℕ) (cycle : List ℕ) (old : List (Option written.Edge)) → AreToldBelow x section cycle old old 0
-tell_starts x section cycle old = record { long = refl; told = λ i lt. absurd (omega arith); rest = λ i le. refl }
+pub tell_starts : (x : Points) (section : ℕ) (pairs : List (ℕ × ℕ)) (old : List (Option written.Edge)) → AreToldBelow x section pairs old old 0
+tell_starts x section pairs old = record { long = refl; told = λ i lt. absurd (omega arith); rest = λ i le. refl }
 
 -- ---- one section more
 
@@ -94,11 +98,11 @@ module _ (program : Typed) (k : ℕ) (x : Points) (makes : (c d used bound : ℕ
     | inr ge ↦ let at : j ≡ k = omega arith in none (made c d used bound (subst (λ n. Makes program n used bound c d) at m))
   ])
 
-  pub are_told_more : (cycle : List ℕ) (old new : List (Option written.Edge)) → AreTold program k cycle old → length new ≡ length old →
-      ((i : ℕ) → i < length cycle → IsToldMore x k (slice_index cycle i) (follower cycle i) (told_at old i) (told_at new i)) → AreTold program (k + 1) cycle new
-  are_told_more cycle old new t long m = record {
+  pub are_told_more : (pairs : List (ℕ × ℕ)) (old new : List (Option written.Edge)) → AreTold program k pairs old → length new ≡ length old →
+      ((i : ℕ) → i < length pairs → IsToldMore x k (pair_at pairs i).0 (pair_at pairs i).1 (told_at old i) (told_at new i)) → AreTold program (k + 1) pairs new
+  are_told_more pairs old new t long m = record {
     long = long ∙ t.long;
-    each = λ i lt. told_more (slice_index cycle i) (follower cycle i) (told_at old i) (told_at new i) (t.each i lt) (m i lt);
+    each = λ i lt. told_more (pair_at pairs i).0 (pair_at pairs i).1 (told_at old i) (told_at new i) (t.each i lt) (m i lt);
   }
 
 pub none_told : (n i : ℕ) → told_at (replicate n None) i ≡ None
@@ -106,87 +110,102 @@ none_told zero i = refl
 none_told (suc n) zero = refl
 none_told (suc n) (suc i) = none_told n i
 
-pub none_are_told : (program : Typed) (cycle : List ℕ) (told : List (Option written.Edge)) → length told ≡ length cycle → ((i : ℕ) → told_at told i ≡ None) → AreTold program 0 cycle told
-none_are_told program cycle told long none = record {
+pub none_are_told : (program : Typed) (pairs : List (ℕ × ℕ)) (told : List (Option written.Edge)) → length told ≡ length pairs → ((i : ℕ) → told_at told i ≡ None) → AreTold program 0 pairs told
+none_are_told program pairs told long none = record {
   long = long;
-  each = λ i lt. subst (IsTold program 0 (slice_index cycle i) (follower cycle i)) (sym (none i)) (λ k used bound less m. absurd (omega arith));
+  each = λ i lt. subst (IsTold program 0 (pair_at pairs i).0 (pair_at pairs i).1) (sym (none i)) (λ k used bound less m. absurd (omega arith));
 }
 
 -- ---- all sections
 
 module _ (program : Typed) where
-  -- by place, an edge leads on from each of these classes
-  edge_at : (first : ℕ) (list : List ℕ) (i : ℕ) → LeadTo (Edge program) first list → i < length list → Edge program (slice_index list i) (get_or list (suc i) first)
-  edge_at first [] i l lt = absurd (omega arith)
-  edge_at first (c ∷ []) zero l lt = l
-  edge_at first (c ∷ []) (suc i) l lt = absurd (omega arith)
-  edge_at first (c ∷ d ∷ rest) zero l lt = l.0
-  edge_at first (c ∷ d ∷ rest) (suc i) l lt = edge_at first (d ∷ rest) i l.1 (omega arith)
-
-  cycle_edge : (cycle : List ℕ) (i : ℕ) → IsCycle (Edge program) cycle → i < length cycle → Edge program (slice_index cycle i) (follower cycle i)
-  cycle_edge [] i h lt = absurd (omega arith)
-  cycle_edge (c ∷ rest) i h lt =
-      let next : suc i ≡ i + 1 = omega arith in
-      subst (λ n. Edge program (slice_index (c ∷ rest) i) (get_or (c ∷ rest) n c)) next (edge_at c (c ∷ rest) i h.1 lt)
-
   is_some_told : (c d sections : ℕ) (o : Option written.Edge) → IsTold program sections c d o → ((k used bound : ℕ) × (k < sections) × Makes program k used bound c d) → IsSome o
   is_some_told c d sections None t m = absurd (t m.0 m.1 m.2 m.3 m.4)
   is_some_told c d sections (Some e) t m = refl
 
-  pub all_told : (cycle : List ℕ) (told : List (Option written.Edge)) (sections : ℕ) → IsCycle (Edge program) cycle → AreTold program sections cycle told →
+  pub all_told : (pairs : List (ℕ × ℕ)) (told : List (Option written.Edge)) (sections : ℕ) → AreEdges program pairs → AreTold program sections pairs told →
       ((k used bound c d : ℕ) → Makes program k used bound c d → k < sections) → (i : ℕ) → i < length told → IsSome (told_at told i)
-  all_told cycle told sections h t within i lt =
-      let inside : i < length cycle = omega (arith, lt, t.long) in
-      let e = cycle_edge cycle i h inside in
-      is_some_told (slice_index cycle i) (follower cycle i) sections (told_at told i) (t.each i inside) (e.0, e.1, e.2, within e.0 e.1 e.2 _ _ e.3, e.3)
-
-  -- the edges, place by place
-  abbrev AreMade : ℕ → List ℕ → List written.Edge → Type 0
-  AreMade first cycle edges =
-      (i : ℕ) (e : written.Edge) → slice_get edges i ≡ Some e → (e.class ≡ slice_index cycle i) × MakesFirst program e.section e.used e.bound (slice_index cycle i) (get_or cycle (suc i) first)
+  all_told pairs told sections h t within i lt =
+      let inside : i < length pairs = omega (arith, lt, t.long) in
+      let e = h i (0, 0) inside in
+      is_some_told (pair_at pairs i).0 (pair_at pairs i).1 sections (told_at told i) (t.each i inside) (e.0, e.1, e.2, within e.0 e.1 e.2 _ _ e.3, e.3)
 
   made_of : (c d sections : ℕ) (o : Option written.Edge) (e : written.Edge) → IsTold program sections c d o → o ≡ Some e → (e.class ≡ c) × MakesFirst program e.section e.used e.bound c d
   made_of c d sections None e t is = absurd (none-some e is)
   made_of c d sections (Some f) e t is =
       let same : f ≡ e = same_Some f e is in subst (λ (y : written.Edge). (y.class ≡ c) × MakesFirst program y.section y.used y.bound c d) same t
 
-  told_of : (edges : List written.Edge) (i : ℕ) (e : written.Edge) → slice_get edges i ≡ Some e → told_at (map Some edges) i ≡ Some e
-  told_of [] i e is = absurd (none-some e is)
-  told_of (f ∷ edges) zero e is = is
-  told_of (f ∷ edges) (suc i) e is = told_of edges i e is
-
-  classes_are : (cycle : List ℕ) (edges : List written.Edge) (first : ℕ) → length edges ≡ length cycle → AreMade first cycle edges → classes_of edges ≡ cycle
-  classes_are [] [] first long m = refl
-  classes_are [] (e ∷ edges) first long m = absurd (omega arith)
-  classes_are (c ∷ cycle) [] first long m = absurd (omega arith)
-  classes_are (c ∷ cycle) (e ∷ edges) first long m =
-      ap (λ n. n ∷ classes_of edges) (m 0 e refl).0 ∙ ap (λ l. c ∷ l) (classes_are cycle edges first (omega arith) (λ i f is. m (suc i) f is))
-
-  all_make : (cycle : List ℕ) (edges : List written.Edge) (first : ℕ) → length edges ≡ length cycle → AreMade first cycle edges → AllMakeFirst program first edges
-  all_make cycle [] first long m = tt
-  all_make [] (e ∷ edges) first long m = absurd (omega arith)
-  all_make (c ∷ []) (e ∷ []) first long m =
-      let h = m 0 e refl in subst (λ n. MakesFirst program e.section e.used e.bound n first) (sym h.0) h.1
-  all_make (c ∷ d ∷ cycle) (e ∷ []) first long m = absurd (omega arith)
-  all_make (c ∷ []) (e ∷ f ∷ edges) first long m = absurd (omega arith)
-  all_make (c ∷ d ∷ cycle) (e ∷ f ∷ edges) first long m =
-      let h = m 0 e refl in
-      let g = m 1 f refl in (
-        subst (λ n. MakesFirst program e.section e.used e.bound n f.class) (sym h.0) (subst (λ n. MakesFirst program e.section e.used e.bound c n) (sym g.0) h.1),
-        all_make (d ∷ cycle) (f ∷ edges) first (omega arith) (λ i y is. m (suc i) y is),
+  -- the pairs with their edges, and what is known of those pairs
+  closed_pair : (sections c d : ℕ) (o : Option written.Edge) (x : ClassPair) → IsTold program sections c d o → Some x.edge ≡ o → x.next ≡ d → (classes_of_pair x ≡ (c, d)) × IsMadeFirst program x
+  closed_pair sections c d o x t is next =
+      let m = made_of c d sections o x.edge t (sym is) in (
+        ap (λ n. (n, x.next)) m.0 ∙ ap (λ n. (c, n)) next,
+        subst (λ n. MakesFirst program x.edge.section x.edge.used x.edge.bound n x.next) (sym m.0)
+            (subst (λ n. MakesFirst program x.edge.section x.edge.used x.edge.bound c n) (sym next) m.1),
       )
 
-  pub told_cycle : (cycle : List ℕ) (told : List (Option written.Edge)) (edges : List written.Edge) (sections : ℕ) → IsCycle (Edge program) cycle → AreTold program sections cycle told →
-      map Some edges ≡ told → IsCycleOf program edges
-  told_cycle [] told edges sections h t same = absurd h
-  told_cycle (c ∷ cycle) told [] sections h t same = absurd (omega (arith, t.long, ap length same))
-  told_cycle (c ∷ cycle) told (e ∷ edges) sections h t same =
-      let long : length (e ∷ edges) ≡ length (c ∷ cycle) = sym (length-map (e ∷ edges) Some) ∙ ap length same ∙ t.long in
-      let made : AreMade c (c ∷ cycle) (e ∷ edges) = λ i f is.
-      let inside : i < length (c ∷ cycle) = omega (arith, long, slice_get_within (e ∷ edges) i f is) in
-      let m = made_of (slice_index (c ∷ cycle) i) (follower (c ∷ cycle) i) sections (told_at told i) f (t.each i inside) (ap (λ l. told_at l i) (sym same) ∙ told_of (e ∷ edges) i f is) in
-      let next : i + 1 ≡ suc i = omega arith in
-      (m.0, subst (λ n. MakesFirst program f.section f.used f.bound (slice_index (c ∷ cycle) i) (get_or (c ∷ cycle) n c)) next m.1) in
-      let classes = classes_are (c ∷ cycle) (e ∷ edges) c long made in
-      let first : e.class ≡ c = (made 0 e refl).0 in
-      (subst AreDistinct (sym classes) h.0, subst (λ n. AllMakeFirst program n (e ∷ edges)) (sym first) (all_make (c ∷ cycle) (e ∷ edges) c long made))
+  pub closed_pairs : (sections : ℕ) (pairs : List (ℕ × ℕ)) (told : List (Option written.Edge)) (closed : List ClassPair) → AreTold program sections pairs told → AreClosed pairs told closed →
+      (map classes_of_pair closed ≡ pairs) × All (IsMadeFirst program) closed
+  closed_pairs sections [] told [] t a = (refl, λ k d lt. absurd (omega arith))
+  closed_pairs sections [] told (x ∷ closed) t a = absurd (omega (arith, ap length a.nexts))
+  closed_pairs sections (pair ∷ pairs) told [] t a = absurd (omega (arith, ap length a.nexts))
+  closed_pairs sections (pair ∷ pairs) [] (x ∷ closed) t a = absurd (omega (arith, ap length a.edges))
+  closed_pairs sections (pair ∷ pairs) (o ∷ told) (x ∷ closed) t a =
+      let edge : Some x.edge ≡ o = let e = a.edges in cc in
+      let next : x.next ≡ pair.1 = let e = a.nexts in cc in
+      let edges : map (λ (y : ClassPair). Some y.edge) closed ≡ told = let e = a.edges in cc in
+      let nexts : map (λ (y : ClassPair). y.next) closed ≡ map (λ (y : ℕ × ℕ). y.1) pairs = let e = a.nexts in cc in
+      let one = closed_pair sections pair.0 pair.1 o x (t.each 0 (omega arith)) edge next in
+      let others = closed_pairs sections pairs told closed (record { long = omega (arith, t.long); each = λ i lt. t.each (suc i) (omega (arith, lt)) }) (record { edges = edges; nexts = nexts }) in (
+        ap (λ y. y ∷ map classes_of_pair closed) one.0 ∙ ap (λ l. pair ∷ l) others.0,
+        All-cons (IsMadeFirst program) x closed one.1 others.1,
+      )
+
+  -- ---- a cycle
+
+  pub lead_around : (first : ℕ) (list : List ℕ) → LeadTo (Edge program) first list → AreEdges program (around first list)
+  lead_around first [] l = λ k d lt. absurd (omega arith)
+  lead_around first (c ∷ []) l = All-cons (λ (pair : ℕ × ℕ). Edge program pair.0 pair.1) (c, first) [] l (λ k d lt. absurd (omega arith))
+  lead_around first (c ∷ d ∷ rest) l = All-cons (λ (pair : ℕ × ℕ). Edge program pair.0 pair.1) (c, d) (around first (d ∷ rest)) l.0 (lead_around first (d ∷ rest) l.1)
+
+  pub cycle_leads : (cycle : List ℕ) → IsCycle (Edge program) cycle → AreEdges program (around (slice_index cycle 0) cycle)
+  cycle_leads [] h = absurd h
+  cycle_leads (c ∷ rest) h = lead_around c (c ∷ rest) h.1
+
+  classes_around : (first : ℕ) (list : List ℕ) (told : List ClassPair) → map classes_of_pair told ≡ around first list → classes_of (map (λ (z : ClassPair). z.edge) told) ≡ list
+  classes_around first [] [] e = refl
+  classes_around first [] (x ∷ told) e = absurd cc
+  classes_around first (c ∷ list) [] e = absurd cc
+  classes_around first (c ∷ list) (x ∷ told) e =
+      let here : classes_of_pair x ≡ (c, second first list) = cc in
+      let rest : map classes_of_pair told ≡ around first list = cc in
+      ap (λ n. n ∷ classes_of (map (λ (z : ClassPair). z.edge) told)) (ap (λ (y : ℕ × ℕ). y.0) here) ∙ ap (λ l. c ∷ l) (classes_around first list told rest)
+
+  make_around : (first : ℕ) (list : List ℕ) (told : List ClassPair) → map classes_of_pair told ≡ around first list → All (IsMadeFirst program) told →
+      AllMakeFirst program first (map (λ (z : ClassPair). z.edge) told)
+  make_around first list [] e m = tt
+  make_around first [] (x ∷ told) e m = absurd cc
+  make_around first (c ∷ []) (x ∷ []) e m =
+      let next : x.next ≡ first = ap (λ (y : ℕ × ℕ). y.1) (let h : classes_of_pair x ≡ (c, first) = cc in h) in
+      subst (MakesFirst program x.edge.section x.edge.used x.edge.bound x.edge.class) next (m 0 x (omega arith))
+  make_around first (c ∷ d ∷ list) (x ∷ []) e m = absurd (omega (arith, ap length e))
+  make_around first (c ∷ []) (x ∷ y ∷ told) e m = absurd (omega (arith, ap length e))
+  make_around first (c ∷ d ∷ list) (x ∷ y ∷ told) e m =
+      let here : classes_of_pair x ≡ (c, d) = cc in
+      let rest : map classes_of_pair (y ∷ told) ≡ around first (d ∷ list) = cc in
+      let there : classes_of_pair y ≡ (d, second first list) = cc in
+      let next : x.next ≡ y.edge.class = ap (λ (z : ℕ × ℕ). z.1) here ∙ sym (ap (λ (z : ℕ × ℕ). z.0) there) in (
+        subst (MakesFirst program x.edge.section x.edge.used x.edge.bound x.edge.class) next (m 0 x (omega arith)),
+        make_around first (d ∷ list) (y ∷ told) rest (All-tail (IsMadeFirst program) x (y ∷ told) m),
+      )
+
+  pub told_cycle : (cycle : List ℕ) (told : List ClassPair) → IsCycle (Edge program) cycle → map classes_of_pair told ≡ around (slice_index cycle 0) cycle → All (IsMadeFirst program) told →
+      IsCycleOf program (map (λ (z : ClassPair). z.edge) told)
+  told_cycle [] told h e m = absurd h
+  told_cycle (c ∷ cycle) [] h e m = absurd cc
+  told_cycle (c ∷ cycle) (x ∷ told) h e m =
+      let classes = classes_around c (c ∷ cycle) (x ∷ told) e in
+      let first : x.edge.class ≡ c = ap (λ (z : ℕ × ℕ). z.0) (let h : classes_of_pair x ≡ (c, second c cycle) = cc in h) in (
+        subst AreDistinct (sym classes) h.0,
+        subst (λ n. AllMakeFirst program n (map (λ (z : ClassPair). z.edge) (x ∷ told))) (sym first) (make_around c (c ∷ cycle) (x ∷ told) e m),
+      )

@@ -1,15 +1,19 @@
 //! The order of lock classes.
 
-ghost use Rattle.std.specs.Prelude.{◌≡◌, length, IfOk, IfErr, OnOk};
+ghost use Rattle.std.specs.Prelude.{◌≡◌, length, map, IfOk, IfErr, OnOk};
+ghost use Rattle.std.specs.List.{All};
 ghost use Rattle.core_lang.specs.WellFormed.{IsWellFormed};
 ghost use Rattle.lockpaths.specs.Paths.{ArePaths};
+ghost use Rattle.lockorder.specs.ClassPairs.{classes_of_pair, IsMadeFirst, AreClassPairs};
 ghost use Rattle.lockorder.specs.Edges as program_edges;
 ghost use Rattle.lockorder.specs.Edges.{AreRanksOf, RiseIn};
 ghost use Rattle.lockorder.specs.Ranks.{IsCycle};
 ghost use Rattle.lockorder.specs.Faults.{HasNoFault, IsRefusal, IsCycleOf};
 ghost use Rattle.lockorder.specs.Tables.{HasEdgesOf};
+ghost use Rattle.lockorder.specs.Tellings.{AreEdges};
 
-use crate::ranks::{Cycle, Edge, OrderRefusal, Ranks};
+use crate::pairs::{around, edges_of};
+use crate::ranks::{ClassPair, Cycle, Edge, OrderRefusal, Ranks};
 use crate::section_edges::SectionEdges;
 use crate::table::Table;
 use crate::telling::Telling;
@@ -39,8 +43,35 @@ fn table(alloc: Global, program: &Typed, paths: &Paths) -> Result<Table, NoMemor
     Ok(table)
 }
 
-// The edges of a cycle, with what makes each first.
+// Edges between pairs of classes, with what makes each first.
 fn told(
+    alloc: Global,
+    program: &Typed,
+    paths: &Paths,
+    pairs: &[(usize, usize)],
+) -> Result<Vec<ClassPair>, NoMemory>
+    requires program { IsWellFormed program.now }
+    requires paths { ArePaths program.now paths.now }
+    requires pairs { AreEdges program.now pairs.now }
+    ensures pairs { IfOk result (λ told. map classes_of_pair told.items ≡ pairs.now) }
+    ensures made { IfOk result (λ told. All (IsMadeFirst program.now) told.items) }
+{
+    locks::laws::each_path_once();
+    locks::laws::paths_have_classes();
+    flow::laws::pairs_lead_between_points();
+    let mut telling = Telling::open(alloc, pairs)?;
+    for section in 0..program.sections.len() {
+        let points = points(alloc, program, section, paths)?;
+        let edges = SectionEdges { points: &points };
+        let table = edges.table(alloc, program.classes.len())?;
+        telling.tell(alloc, section, &points, &table)?;
+    }
+    let told = telling.close(alloc)?;
+    Ok(told)
+}
+
+// The edges of a cycle, with what makes each first.
+fn told_cycle(
     alloc: Global,
     program: &Typed,
     paths: &Paths,
@@ -51,16 +82,31 @@ fn told(
     requires cycle { IsCycle (program_edges.Edge program.now) cycle.now }
     ensures { IfOk result (λ edges. IsCycleOf program.now edges.items) }
 {
-    locks::laws::each_path_once();
-    locks::laws::paths_have_classes();
-    flow::laws::pairs_lead_between_points();
-    let mut telling = Telling::open(alloc, cycle)?;
-    for section in 0..program.sections.len() {
-        let points = points(alloc, program, section, paths)?;
-        telling.tell(alloc, section, &points)?;
-    }
-    let edges = telling.edges(alloc)?;
+    let pairs = around(alloc, cycle)?;
+    let told = told(alloc, program, paths, &pairs)?;
+    let edges = edges_of(alloc, &told)?;
     Ok(edges)
+}
+
+/// Each pair of lock classes of which the first has to come before the second, once, in rising order; and for each what
+/// makes it so, of the lowest section, there by the lowest use point, and for that by the lowest binding point.
+///
+/// # Errors
+///
+/// Want of memory.
+pub fn class_pairs(
+    alloc: Global,
+    program: &Typed,
+    paths: &Paths,
+) -> Result<Vec<ClassPair>, NoMemory>
+    requires program { IsWellFormed program.now }
+    requires paths { ArePaths program.now paths.now }
+    ensures { IfOk result (λ pairs. AreClassPairs program.now pairs.items) }
+{
+    let table = table(alloc, program, paths)?;
+    let pairs = table.pairs(alloc)?;
+    let told = told(alloc, program, paths, &pairs)?;
+    Ok(told)
 }
 
 /// The rank of each lock class; or a cycle of classes of which each has to come before the next.
@@ -87,7 +133,7 @@ pub fn order(alloc: Global, program: &Typed, paths: &Paths) -> Result<Ranks, Ord
         Some(ranks) => Ok(ranks),
         None => {
             let cycle = table.cycle(alloc)?;
-            let edges = told(alloc, program, paths, &cycle)?;
+            let edges = told_cycle(alloc, program, paths, &cycle)?;
             Err(OrderRefusal::Cycle(Cycle { edges }))
         }
     }

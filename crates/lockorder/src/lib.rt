@@ -1,12 +1,14 @@
 //! The order in which sections take locks.
 //!
 //! - [`order`]: the ranks of the lock classes, or a cycle of classes of which each has to come before the next.
+//! - [`class_pairs`]: each pair of classes of which the first has to come before the second, and what makes it so.
 //! - [`ranks::OrderRefusal`]: why there are no ranks.
 //! - [`ranks::Cycle::fault`]: the fault of a cycle.
 //! - [`text`]: how classes and cycles are written.
 //!
-//! `specs/` defines which class has to come before which (`Edges`), the rank list, ranks and cycles (`Ranks`), and the
-//! fault of a cycle (`Faults`). Its other files only say what the code has done; nobody has to believe them.
+//! `specs/` defines which class has to come before which (`Edges`), the rank list, ranks and cycles (`Ranks`), the
+//! fault of a cycle (`Faults`), and the pairs of classes as data (`ClassPairs`). Its other files only say what the code
+//! has done; nobody has to believe them.
 #![tactic(auto)]
 
 mod before;
@@ -14,6 +16,7 @@ mod class_order;
 mod class_set;
 mod cycles;
 mod fault;
+mod pairs;
 mod path_sets;
 mod ranking;
 pub mod ranks;
@@ -22,4 +25,4 @@ mod table;
 mod telling;
 pub mod text;
 
-pub use class_order::order;
+pub use class_order::{class_pairs, order};

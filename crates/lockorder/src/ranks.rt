@@ -5,7 +5,8 @@ use source::memory::NoMemory;
 /// For each lock class, by number, its rank: its place in the order in which sections take locks.
 pub type Ranks = Vec<u32>;
 
-/// An edge of a cycle: from a class to that of the next edge, or from the last to the first; and what makes it.
+/// An edge of the order of classes: from a class to another, and what makes it. In a cycle it leads to the class of the
+/// next edge, or from the last to the first.
 #[derive(Clone, Copy)]
 pub struct Edge {
     /// The class, an index into [`core_lang::typed::Typed::classes`].
@@ -14,8 +15,17 @@ pub struct Edge {
     pub section: usize,
     /// The point at which a lock of the class is used.
     pub used: usize,
-    /// The point that binds the root of a path of the next class.
+    /// The point that binds the root of a path of the class to which it leads.
     pub bound: usize,
+}
+
+/// Two classes of which the first has to come before the second.
+#[derive(Clone, Copy)]
+pub struct ClassPair {
+    /// The edge, from the first class.
+    pub edge: Edge,
+    /// The second class, to which it leads.
+    pub next: usize,
 }
 
 /// Lock classes of which each has to come before the next, and the last before the first.

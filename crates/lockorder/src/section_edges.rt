@@ -1,10 +1,10 @@
 //! The edges that one section makes.
 
-ghost use Rattle.std.specs.Prelude.{◌≡◌, ◌<◌, ℕ, length, IfOk};
+ghost use Rattle.std.specs.Prelude.{◌≡◌, ◌<◌, ◌≤◌, ℕ, length, IfOk};
 ghost use Rattle.std.specs.Bool.{Decides};
 ghost use Rattle.std.specs.List.{All};
 ghost use Rattle.locks.specs.Sets.{has};
-ghost use Rattle.lockorder.specs.Tables.{InSet, has_class, AddsEdges};
+ghost use Rattle.lockorder.specs.Tables.{InSet, has_class, AddsEdges, HasEdgesOf};
 ghost use Rattle.lockorder.specs.Sections.{AreUsedSoFar, HasClass, IsOfClass, IsUseOrNone, KeepsLower, LeadBetween, LeadsToRoots, MakesAt, MakesFirstAt, MakesSomewhere};
 
 use crate::before::{leads_on, points_before};
@@ -97,18 +97,16 @@ impl<'a> SectionEdges<'a> {
         }
     }
 
-    /// Whether the section makes an edge.
-    pub fn makes(&self, from: usize, to: usize) -> bool
-        ensures { Decides result (MakesSomewhere self.now.points.now from to) }
+    /// The edges that the section makes, between so many classes.
+    pub fn table(&self, alloc: Global, classes: usize) -> Result<Table, NoMemory>
+        requires classes { classes ≤ 128 }
+        requires within { All (λ c. c < classes) self.now.points.now.classes.items }
+        ensures classes { IfOk result (λ table. length table.before.items ≡ classes) }
+        ensures edges { IfOk result (λ table. HasEdgesOf table.before.items (MakesSomewhere self.now.points.now)) }
     {
-        let users = self.paths_of(from);
-        let roots = self.paths_of(to);
-        for point in 0..self.points.bound.len() {
-            if share(self.points.bound[point], roots) && share(self.used_so_far(point), users) {
-                return true;
-            }
-        }
-        false
+        let mut table = Table::empty(alloc, classes)?;
+        self.add_to(&mut table);
+        Ok(table)
     }
 
     // The lowest point that uses one of some paths, and is the binding one or comes before it.

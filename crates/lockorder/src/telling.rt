@@ -1,61 +1,58 @@
-//! What makes the edges of a cycle.
+//! What makes the edges between pairs of classes.
 
-ghost use Rattle.std.specs.Prelude.{◌≡◌, ◌<◌, ℕ, length, Some, None, IsSome, IfOk, OnOk, map};
-ghost use Rattle.lockorder.specs.Sections.{LeadBetween};
-ghost use Rattle.lockorder.specs.Tellings.{follower, told_at, AreToldMore, MakesBySome};
+ghost use Rattle.std.specs.Prelude.{◌≡◌, ◌<◌, ℕ, length, None, IsSome, IfOk, OnOk};
+ghost use Rattle.lockorder.specs.Sections.{LeadBetween, MakesSomewhere};
+ghost use Rattle.lockorder.specs.Tables.{HasEdgesOf};
+ghost use Rattle.lockorder.specs.Tellings.{told_at, AreBetween, AreClosed, AreToldMore, MakesBySome};
 
-use crate::ranks::Edge;
+use crate::ranks::{ClassPair, Edge};
 use crate::section_edges::SectionEdges;
+use crate::table::Table;
 use points::table::Points;
 use source::memory::NoMemory;
 use std::alloc::Global;
 
-/// A cycle, and what makes its edges, as far as it is known.
+/// Pairs of classes, and what makes the edges between them, as far as it is known.
 #[derive(Drop)]
 pub struct Telling<'a> {
-    /// The classes.
-    pub cycle: &'a [usize],
-    /// For each class the edge from it to the next one, or from the last to the first.
+    /// The pairs.
+    pub pairs: &'a [(usize, usize)],
+    /// For each the edge from the first class to the second.
     pub told: Vec<Option<Edge>>,
 }
 
 impl<'a> Telling<'a> {
     /// Nothing is known.
-    pub fn open(alloc: Global, cycle: &'a [usize]) -> Result<Telling<'a>, NoMemory>
-        ensures cycle { IfOk result (λ t. t.cycle.now ≡ cycle.now) }
-        ensures long { IfOk result (λ t. length t.told.items ≡ length cycle.now) }
+    pub fn open(alloc: Global, pairs: &'a [(usize, usize)]) -> Result<Telling<'a>, NoMemory>
+        ensures pairs { IfOk result (λ t. t.pairs.now ≡ pairs.now) }
+        ensures long { IfOk result (λ t. length t.told.items ≡ length pairs.now) }
         ensures none { IfOk result (λ t. (i : ℕ) → told_at t.told.items i ≡ None) }
     {
-        let told = vec![in alloc; None; cycle.len()]?;
-        Ok(Telling { cycle, told })
+        let told = vec![in alloc; None; pairs.len()]?;
+        Ok(Telling { pairs, told })
     }
 
-    // The class to which the edge from that at a place leads.
-    fn follower(&self, place: usize) -> usize
-        requires { place < length self.now.cycle.now }
-        ensures { result ≡ follower self.now.cycle.now place }
-    {
-        if place + 1 < self.cycle.len() {
-            self.cycle[place + 1]
-        } else {
-            self.cycle[0]
-        }
-    }
-
-    /// Tells what makes the edges that a section makes, and no earlier one.
-    pub fn tell(&mut self, alloc: Global, section: usize, points: &Points) -> Result<(), NoMemory>
-        requires long { length self.old.told.items ≡ length self.old.cycle.now }
+    /// Tells what makes the edges that a section makes, and no earlier one; the table has the section's edges.
+    pub fn tell(
+        &mut self,
+        alloc: Global,
+        section: usize,
+        points: &Points,
+        table: &Table,
+    ) -> Result<(), NoMemory>
+        requires long { length self.old.told.items ≡ length self.old.pairs.now }
+        requires between { AreBetween (length table.now.before.items) self.old.pairs.now }
+        requires edges { HasEdgesOf table.now.before.items (MakesSomewhere points.now) }
         requires pairs { LeadBetween (length points.now.used.items) points.now.pairs.items }
         requires made { MakesBySome points.now }
-        ensures cycle { self.new.cycle.now ≡ self.old.cycle.now }
+        ensures pairs { self.new.pairs.now ≡ self.old.pairs.now }
         ensures long { length self.new.told.items ≡ length self.old.told.items }
-        ensures told { OnOk result (AreToldMore points.now section self.old.cycle.now self.old.told.items self.new.told.items) }
+        ensures told { OnOk result (AreToldMore points.now section self.old.pairs.now self.old.told.items self.new.told.items) }
     {
         let edges = SectionEdges { points };
-        for place in 0..self.cycle.len() {
-            let class = self.cycle[place];
-            let next = self.follower(place);
-            if self.told[place].is_none() && edges.makes(class, next) {
+        for place in 0..self.pairs.len() {
+            let (class, next) = self.pairs[place];
+            if self.told[place].is_none() && table.has_edge(class, next) {
                 let made = edges.first_made(alloc, class, next)?;
                 self.told[place] = Some(Edge {
                     class,
@@ -68,18 +65,22 @@ impl<'a> Telling<'a> {
         Ok(())
     }
 
-    /// The edges, where all are known.
-    pub fn edges(&self, alloc: Global) -> Result<Vec<Edge>, NoMemory>
-        requires { (i : ℕ) → i < length self.now.told.items → IsSome (told_at self.now.told.items i) }
-        ensures { IfOk result (λ edges. map Some edges.items ≡ self.now.told.items) }
+    /// The pairs with their edges, where all are known.
+    pub fn close(&self, alloc: Global) -> Result<Vec<ClassPair>, NoMemory>
+        requires long { length self.now.told.items ≡ length self.now.pairs.now }
+        requires all { (i : ℕ) → i < length self.now.told.items → IsSome (told_at self.now.told.items i) }
+        ensures { IfOk result (λ closed. AreClosed self.now.pairs.now self.now.told.items closed.items) }
     {
-        let mut edges = Vec::with_capacity(alloc, self.told.len())?;
-        for told in &self.told {
+        let mut closed = Vec::with_capacity(alloc, self.told.len())?;
+        for (i, told) in self.told.iter().enumerate() {
             match told {
-                Some(edge) => edges.push(*edge)?,
+                Some(edge) => closed.push(ClassPair {
+                    edge: *edge,
+                    next: self.pairs[i].1,
+                })?,
                 None => unreachable!(),
             }
         }
-        Ok(edges)
+        Ok(closed)
     }
 }

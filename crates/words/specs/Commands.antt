@@ -71,6 +71,10 @@ with_check app = with_subcommand app (with_file (codes "check")).top
 abbrev pub with_explain : App → App
 with_explain app = with_subcommand app (with_file (codes "explain")).top
 
+-- autolock order FILE
+abbrev pub with_order : App → App
+with_order app = with_subcommand app (with_file (codes "order")).top
+
 -- autolock listing FILE
 abbrev pub with_listing : App → App
 with_listing app = with_subcommand app (with_file (codes "listing")).top
@@ -97,7 +101,7 @@ with_replay app = with_subcommand app (with_why (with_turns (with_history (with_
 
 -- the whole command line
 abbrev pub autolock : App
-autolock = with_replay (with_run (with_trace (with_simulate (with_serial (with_listing (with_explain (with_check program)))))))
+autolock = with_replay (with_run (with_trace (with_simulate (with_serial (with_listing (with_order (with_explain (with_check program))))))))
 
 -- the command is that one, and has no global argument
 abbrev pub IsCommand : App → Command → Type 0

@@ -7,7 +7,7 @@ use Rattle.clap.specs.declared.error.Error.{Error}
 use Rattle.clap.specs.declared.error.kind.ErrorKind.TheVariants.{MissingSubcommand}
 use Rattle.words.specs.Commands.{autolock}
 use Rattle.words.specs.declared.line.Line.{Line}
-use Rattle.words.specs.declared.line.Line.TheVariants.{Check, Explain, Listing, Serial, Simulate, Trace, Run, Replay}
+use Rattle.words.specs.declared.line.Line.TheVariants.{Check, Explain, Order, Listing, Serial, Simulate, Trace, Run, Replay}
 
 -- the value of a name, or nothing
 abbrev pub name_in : Text → List Row → Text
@@ -29,6 +29,7 @@ pub record IsFlag (id : Text) (rows : List Row) (is : Bool) : Type 0 where
 abbrev pub IsLine : Text → List Row → Line → Type 0
 IsLine command rows (Check file) = (command ≡ codes "check") × (file.now ≡ name_in (codes "FILE") rows)
 IsLine command rows (Explain file) = (command ≡ codes "explain") × (file.now ≡ name_in (codes "FILE") rows)
+IsLine command rows (Order file) = (command ≡ codes "order") × (file.now ≡ name_in (codes "FILE") rows)
 IsLine command rows (Listing file) = (command ≡ codes "listing") × (file.now ≡ name_in (codes "FILE") rows)
 IsLine command rows (Serial file turns) =
     (command ≡ codes "serial") × (file.now ≡ name_in (codes "FILE") rows) × IsTurns rows turns
@@ -50,8 +51,8 @@ IsLineOf (Some (command, rows)) line = IsLine command rows line
 -- a name of the program's own subcommands
 abbrev pub IsOwnName : Text → Type 0
 IsOwnName command =
-    (command ≡ codes "check") ⊎ ((command ≡ codes "explain") ⊎ ((command ≡ codes "listing") ⊎ ((command ≡ codes "serial")
-    ⊎ ((command ≡ codes "simulate") ⊎ ((command ≡ codes "trace") ⊎ ((command ≡ codes "run") ⊎ (command ≡ codes "replay")))))))
+    (command ≡ codes "check") ⊎ ((command ≡ codes "explain") ⊎ ((command ≡ codes "order") ⊎ ((command ≡ codes "listing") ⊎ ((command ≡ codes "serial")
+    ⊎ ((command ≡ codes "simulate") ⊎ ((command ≡ codes "trace") ⊎ ((command ≡ codes "run") ⊎ (command ≡ codes "replay"))))))))
 
 -- the subcommand that was met is one of the program's own
 abbrev pub IsOwn : Option (Text × List Row) → Type 0

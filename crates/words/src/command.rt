@@ -159,6 +159,9 @@ pub fn command<'a>(alloc: Global) -> Result<Command<'a>, AllocError>
     let about =
         "Tell the fault of a program, with its place in the source and what can be done about it";
     let line = with_command(line, file_command(alloc, "explain", about));
+    let about =
+        "Write the order of the lock classes as a graph in DOT: which has to come before which, and why";
+    let line = with_command(line, file_command(alloc, "order", about));
     let about = "Write the instructions of each section";
     let line = with_command(line, file_command(alloc, "listing", about));
     let line = with_command(line, serial_command(alloc));

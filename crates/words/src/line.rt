@@ -16,6 +16,11 @@ pub enum Line<'a> {
         /// The file of the program's text.
         file: &'a str,
     },
+    /// `order`: write the order of a program's lock classes as a graph.
+    Order {
+        /// The file of the program's text.
+        file: &'a str,
+    },
     /// `listing`: write the instructions of a program's sections.
     Listing {
         /// The file of the program's text.

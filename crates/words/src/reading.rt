@@ -41,6 +41,7 @@ fn line<'a>(command: &str, matches: &ArgMatches<'a>) -> Option<Line<'a>>
     match command {
         "check" => Some(Line::Check { file }),
         "explain" => Some(Line::Explain { file }),
+        "order" => Some(Line::Order { file }),
         "listing" => Some(Line::Listing { file }),
         "serial" => Some(Line::Serial {
             file,

@@ -25,8 +25,8 @@ returns-in-Some-clause-rise c = ranks_rise (Edge c.args.program.now) (length c.a
 pub returns-in-Some-clause-faultless : goal.returns-in-Some-clause-faultless
 returns-in-Some-clause-faultless c = no_fault c.args.program.now c.in-Some.ranks.items c.requires.program c.paths_have_classes.ensures (are c)
 
-pub told-requires-clause-cycle : goal.told-requires-clause-cycle
-told-requires-clause-cycle c =
+pub told_cycle-requires-clause-cycle : goal.told_cycle-requires-clause-cycle
+told_cycle-requires-clause-cycle c =
     let before = c.in_ok-table.table.before.items in
     subst (IsCycle (Edge c.args.program.now)) (sym c.deref.ensures.value)
     (cycle_by (InTable before) (Edge c.args.program.now) (λ b d. (c.in_ok-table.ensures.edges b d).0) c.in_ok-cycle-in-None.cycle.items c.in_ok-cycle-in-None.ensures)

@@ -4,6 +4,6 @@ use Rattle.lockorder.proofs.telling.Telling.tell.Given as goal
 
 abbrev pub invariant-loop-place : goal.invariant-loop-place
 invariant-loop-place l = record {
-  cycle : l.self.cycle.now ≡ l.initial.self.cycle.now;
-  told : AreToldBelow l.points l.section l.initial.self.cycle.now l.initial.self.told.items l.self.told.items l.place;
+  pairs : l.self.pairs.now ≡ l.initial.self.pairs.now;
+  told : AreToldBelow l.points l.section l.initial.self.pairs.now l.initial.self.told.items l.self.told.items l.place;
 }

@@ -1,0 +1,31 @@
+//! The answer of `order`.
+
+ghost use Rattle.std.specs.Prelude.{IfOk};
+ghost use Rattle.driver.specs.Answering.{Meets};
+ghost use Rattle.driver.specs.OrderGraphs.{IsOrderGraph};
+
+use crate::answer::Answer;
+use crate::status::Status;
+use lockorder::class_pairs;
+use lowering::compiled::Program;
+use order_report::Order;
+use source::memory::NoMemory;
+use std::alloc::Global;
+
+/// The order of a program's lock classes.
+pub fn ordered(alloc: Global, text: &[u8], program: &Program) -> Result<Answer, NoMemory>
+    ensures { IfOk result (Meets (IsOrderGraph text.now program.now)) }
+{
+    let pairs = class_pairs(alloc, program.typed(), program.paths())?;
+    let order = Order {
+        text,
+        program: program.typed(),
+        ranks: program.ranks(),
+        pairs: &pairs,
+    };
+    Ok(Answer {
+        status: Status::Done,
+        out: order.text(alloc)?,
+        err: String::new(alloc),
+    })
+}
