@@ -23,7 +23,7 @@ bound_words = codes "is used later, and its root is bound here"
 
 -- the note stands where the statement of the section's point of this number starts
 abbrev pub StandsAt : Section → ℕ → Note → Type 0
-StandsAt section p note = (point : Point) × (slice_get (points section) p ≡ Some point) × (note.start ≡ start_of point)
+StandsAt section p note = (point : Point) × (slice_get (points section) p ≡ Some point) × (note.start ≡ Some (start_of point))
 
 -- at the section's point of this number a path of the class is used; and the note says so
 pub record TellsUse (program : Typed) (section : Section) (p class : ℕ) (note : Note) : Type 0 where

@@ -148,7 +148,7 @@ impl Teller<'_> {
         let used = self.used_path(point, class);
         let words = self.said(alloc, &self.found.paths[used], "is used here")?;
         Ok(Note {
-            start: points[point].start(),
+            start: Some(points[point].start()),
             words,
         })
     }
@@ -171,7 +171,7 @@ impl Teller<'_> {
         let path = &self.found.paths[bound];
         let words = self.said(alloc, path, "is used later, and its root is bound here")?;
         Ok(Note {
-            start: points[point].start(),
+            start: Some(points[point].start()),
             words,
         })
     }

@@ -1,5 +1,5 @@
 -- A text that is longer than a program may be is explained as its beginning is.
-use Rattle.std.proofs.Common.{◌≡◌, ◌∙◌, ◌<◌, ◌≤◌, ◌+◌, ◌++◌, ℕ, List, [], take, length, Option, Some, None, refl, arith, ⊎_elim}
+use Rattle.std.proofs.Common.{◌≡◌, ◌∙◌, ◌<◌, ◌≤◌, ◌+◌, ◌++◌, ℕ, List, [], ◌∷◌, take, length, Option, Some, None, refl, ap, arith, ⊎_elim}
 use Rattle.std.proofs.lemmas.Bool.{cases_lt}
 use Rattle.std.proofs.lemmas.List.{take_all, length-take}
 use Rattle.std.specs.Prelude.{IfSome}
@@ -8,6 +8,9 @@ use Rattle.explanation.specs.Explanation.{explanation_text}
 use Rattle.explanation.specs.Laws.{ShownByFirstBytes}
 use Rattle.explanation.specs.Remedies.{remedy_text}
 use Rattle.explanation.specs.Shown.{shown_place}
+use Rattle.explanation.specs.Notes.{Note}
+use Rattle.fault_notes.specs.FaultNotes.{IsTrueNote, declared, given, missing, misplaced}
+use Rattle.fault_notes.specs.TextNotes.{IsTrueTextNote, of_tree, AreTextNotes}
 use Rattle.core_lang.specs.declared.typed.Typed.{Typed}
 use Rattle.lockorder.specs.Faults.{IsFaultAtFirst, at_first}
 use Rattle.source.specs.declared.fault.Code.{Code}
@@ -32,6 +35,26 @@ explained_alike file t u fault first same =
     joined fault.code (fault_text file t fault) (fault_text file u fault) (shown_place t fault.start) (shown_place u fault.start)
     (told_alike file t u fault first) (place_alike t u fault.start first same)
 
+-- such a fault has no notes
+limit_untold : {decls : _} {code : Code} {at : ℕ} {note : Note} → IsTrueNote decls code at note → code ≡ LimitExceeded → ⊥
+limit_untold (declared is h) e = absurd cc
+limit_untold (given is h) e = absurd cc
+limit_untold (missing is h) e = absurd cc
+limit_untold (misplaced is h) e = absurd cc
+
+text_untold : {text : List ℕ} {code : Code} {at : ℕ} {note : Note} → IsTrueTextNote text code at note → code ≡ LimitExceeded → ⊥
+text_untold (of_tree has is) e = limit_untold is e
+
+no_notes : (text : List ℕ) (code : Code) (at : ℕ) (notes : List Note) → code ≡ LimitExceeded → AreTextNotes text code at notes → notes ≡ []
+no_notes text code at [] limit are = refl
+no_notes text code at (note ∷ notes) limit are = absurd (text_untold (are.are_true 0 note (omega arith)) limit)
+
+none_of_long : (text : List ℕ) (code : Code) (at : ℕ) → IsLong text → AreTextNotes text code at []
+none_of_long text code at long = record {
+  are_true = λ k d lt. absurd (omega arith);
+  told = λ decls few has told. absurd (omega arith);
+}
+
 no_cycle : (program : Typed) (fault : Fault) → fault.code ≡ LimitExceeded → IsFaultAtFirst program fault → ⊥
 no_cycle program fault limit (at_first c rest number used bound cycle makes starts code detail) = absurd cc
 
@@ -43,8 +66,12 @@ explained_of_long file t u status out err long longer same (explained is) =
       fault = is.fault;
       given = given_of_long t u is.fault long longer is.given;
       bare = is.bare;
+      notes = [];
+      tell = none_of_long u is.fault.code is.fault.start longer;
       ended = is.ended;
-      written = is.written ∙ explained_alike file t u is.fault (starts_at_0 t is.fault long is.given) same;
+      written = is.written
+          ∙ ap (explanation_text file t is.fault) (no_notes t is.fault.code is.fault.start is.notes (of_limit t is.fault long is.given) is.tell)
+          ∙ explained_alike file t u is.fault (starts_at_0 t is.fault long is.given) same;
       told = is.told;
     })
 explained_of_long file t u status out err long longer same (cycle_explained is) =

@@ -7,19 +7,22 @@ use Rattle.core_lang.specs.declared.typed.Typed.{Typed}
 use Rattle.cycle_notes.specs.CycleNotes.{AreCycleNotes}
 use Rattle.explanation.specs.Explanation.{explanation_text}
 use Rattle.explanation.specs.Notes.{Note}
+use Rattle.fault_notes.specs.TextNotes.{AreTextNotes}
 use Rattle.lockorder.specs.declared.ranks.Edge.{Edge}
 use Rattle.lockorder.specs.Faults.{IsCycleOf, IsFaultAtFirst}
 use Rattle.source.specs.declared.fault.Fault.{Fault}
 use Rattle.driver.specs.declared.status.Status.{Status}
 use Rattle.driver.specs.declared.status.Status.TheVariants.{Done, Refused}
 
--- a true fault of the first pass that has one, with no detail: out explains it, err is empty
+-- a true fault of the first pass that has one, with no detail: out explains it, with true notes on it; err is empty
 pub record IsExplained (file text : List ℕ) (status : Status) (out err : List ℕ) : Type 0 where
   pub fault : Fault
   pub given : IsOfFirstPass text fault
   pub bare : string_bytes fault.detail ≡ []
+  pub notes : List Note
+  pub tell : AreTextNotes text fault.code fault.start notes
   pub ended : status ≡ Refused
-  pub written : out ≡ explanation_text file text fault []
+  pub written : out ≡ explanation_text file text fault notes
   pub told : err ≡ []
 
 -- a fault of the order of locks: out explains it, with notes on each edge of a cycle of the program that the text means; err is empty

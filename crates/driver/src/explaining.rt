@@ -17,6 +17,7 @@ use crate::streams::Streams;
 use compiler::{Cyclic, examine};
 use cycle_notes::cycle_notes;
 use explanation::{Explanation, laws};
+use fault_notes::fault_notes;
 use source::fault::{Fault, Refusal};
 use source::memory::NoMemory;
 use std::alloc::Global;
@@ -44,11 +45,12 @@ fn fault_explained(
     requires bare { string_bytes fault.now.detail ≡ [] }
     ensures { IfOk result (Meets (ExplainAnswers file.now text.now)) }
 {
+    let notes = fault_notes(alloc, text, fault)?;
     let explanation = Explanation {
         file,
         text,
         fault,
-        notes: &[],
+        notes: &notes,
     };
     explained(alloc, &explanation)
 }

@@ -8,7 +8,7 @@ use Rattle.explanation.specs.Notes.{Note, note_text}
 use Rattle.explanation.specs.Remedies.{remedy_text}
 use Rattle.explanation.specs.Shown.{shown_place}
 
--- the line of the fault, its place in the source, notes of further places, and what can be done about it
+-- the line of the fault, its place in the source, what is told beyond that, and what can be done about it
 abbrev pub explanation_text : List ℕ → List ℕ → Fault → List Note → List ℕ
 explanation_text file text fault notes =
     line (fault_text file text fault) ++ shown_place text fault.start ++ flat_map (note_text file text) notes ++ remedy_text fault.code

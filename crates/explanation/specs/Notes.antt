@@ -1,13 +1,13 @@
--- What is told of further places of a source text.
-use Rattle.std.specs.Prelude.{ℕ, List, ◌++◌, codes, string_bytes}
+-- What is told of a fault beyond its line.
+use Rattle.std.specs.Prelude.{ℕ, List, ◌++◌, Option, Some, None, codes, string_bytes}
 use Rattle.code.specs.Listing.{line}
 use Rattle.source.specs.Faults.{place_text}
 use Rattle.explanation.specs.declared.note.Note as written
 use Rattle.explanation.specs.Shown.{shown_place}
 
--- a place, and what is said of it
+-- what is said of a place of the source text, or of the fault as a whole
 pub record Note : Type 0 where
-  pub start : ℕ
+  pub start : Option ℕ
   pub words : List ℕ
 
 -- the same of a value of the code
@@ -15,5 +15,16 @@ abbrev pub note_of : written.Note → Note
 note_of note = record { start = note.start; words = string_bytes note.words }
 
 -- FILE:LINE:COL: note: WORDS, and the place
+abbrev pub placed_text : List ℕ → List ℕ → ℕ → List ℕ → List ℕ
+placed_text file text start words = line (place_text file text start (codes "note:") words) ++ shown_place text start
+
+-- note: WORDS
+abbrev pub said_text : List ℕ → List ℕ
+said_text words = line (codes "note: " ++ words)
+
+abbrev pub told_text : List ℕ → List ℕ → Option ℕ → List ℕ → List ℕ
+told_text file text (Some start) words = placed_text file text start words
+told_text file text None words = said_text words
+
 abbrev pub note_text : List ℕ → List ℕ → Note → List ℕ
-note_text file text note = line (place_text file text note.start (codes "note:") note.words) ++ shown_place text note.start
+note_text file text note = told_text file text note.start note.words

@@ -3,7 +3,10 @@ use Rattle.std.specs.Prelude.{ℕ, List, map}
 use Rattle.std.specs.List.{flat_map}
 use Rattle.explanation.specs.declared.explanation.Explanation.{Explanation}
 use Rattle.explanation.specs.Explanation.{explanation_text}
-use Rattle.explanation.specs.Notes.{Note, note_of, note_text}
+use Rattle.explanation.specs.Notes.{Note, note_of, note_text, placed_text}
+
+abbrev pub placed_text_of : Explanation → ℕ → List ℕ → List ℕ
+placed_text_of x start words = placed_text x.file.now x.text.now start words
 
 abbrev pub note_text_of : Explanation → Note → List ℕ
 note_text_of x note = note_text x.file.now x.text.now note

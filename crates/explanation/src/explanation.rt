@@ -2,7 +2,7 @@
 
 ghost use Rattle.std.specs.Prelude.{◌≡◌, IfOk, OnOk, map, string_bytes};
 ghost use Rattle.locks.specs.Texts.{AddsText};
-ghost use Rattle.explanation.specs.Notes.{note_of};
+ghost use Rattle.explanation.specs.Notes.{note_of, said_text};
 
 use crate::note::Note;
 use crate::remedy::push_remedy;
@@ -10,7 +10,16 @@ use crate::shown::push_place;
 use source::fault::Fault;
 use source::line::{Place, fault_line};
 use source::memory::NoMemory;
-use std::alloc::Global;
+use std::alloc::{AllocError, Global};
+
+/// The line of a note on no place.
+fn push_said(out: &mut String, words: &str) -> Result<(), AllocError>
+    ensures { OnOk result (AddsText (said_text words.now) out.old out.new) }
+{
+    out.push_str("note: ")?;
+    out.push_str(words)?;
+    out.push_str("\n")
+}
 
 /// What is told of a fault.
 #[derive(Drop)]
@@ -21,26 +30,43 @@ pub struct Explanation<'a> {
     pub text: &'a [u8],
     /// The fault.
     pub fault: &'a Fault,
-    /// What is told of further places.
+    /// What is told beyond its line.
     pub notes: &'a [Note],
 }
 
 impl Explanation<'_> {
-    ghost use Rattle.explanation.specs.Values.{explanation_text_of, note_text_of, note_texts_of};
+    ghost use Rattle.explanation.specs.Values.{explanation_text_of, note_text_of, note_texts_of, placed_text_of};
 
-    // The line of a note, and its place.
-    fn push_note(&self, alloc: Global, out: &mut String, note: &Note) -> Result<(), NoMemory>
-        ensures { OnOk result (AddsText (note_text_of self.now (note_of note.now)) out.old out.new) }
+    // A note on this place, and the place.
+    fn push_placed(
+        &self,
+        alloc: Global,
+        out: &mut String,
+        start: usize,
+        words: &str,
+    ) -> Result<(), NoMemory>
+        ensures { OnOk result (AddsText (placed_text_of self.now start words.now) out.old out.new) }
     {
         let place = Place {
             file: self.file,
             text: self.text,
-            start: note.start,
+            start,
         };
-        let line = place.line(alloc, "note:", note.words.as_str())?;
+        let line = place.line(alloc, "note:", words)?;
         out.push_str(line.as_str())?;
         out.push_str("\n")?;
-        push_place(out, self.text, note.start)?;
+        push_place(out, self.text, start)?;
+        Ok(())
+    }
+
+    // The line of a note, and its place, if it has one.
+    fn push_note(&self, alloc: Global, out: &mut String, note: &Note) -> Result<(), NoMemory>
+        ensures { OnOk result (AddsText (note_text_of self.now (note_of note.now)) out.old out.new) }
+    {
+        if let Some(start) = note.start {
+            return self.push_placed(alloc, out, start, note.words.as_str());
+        }
+        push_said(out, note.words.as_str())?;
         Ok(())
     }
 
@@ -55,7 +81,7 @@ impl Explanation<'_> {
     }
 
     /// The line that reports the fault, as [`fault_line`] gives it; the line of the source that it is in, and below it a
-    /// caret under the place; a line for each note, and its place in the same form; and what can be done. Of a line of the
+    /// caret under the place; a line for each note, and its place in the same form, if it has one; and what can be done. Of a line of the
     /// source at most 60 bytes before the place and 60 from it on are shown.
     ///
     /// # Errors

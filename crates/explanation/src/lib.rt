@@ -3,7 +3,7 @@
 //!
 //! - [`Explanation`]: that text, as `specs/Explanation.antt` defines it byte for byte.
 //! - [`laws`]: what holds of every shown place.
-//! - [`Note`]: what is told of a further place.
+//! - [`Note`]: what is told of a further place, or of the fault as a whole.
 //! - `specs/Shown.antt`: how a line of the source is shown. `specs/Remedies.antt`: what is said of each code.
 #![tactic(auto)]
 

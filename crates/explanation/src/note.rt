@@ -1,10 +1,10 @@
-//! What is told of further places of a source text.
+//! What is told of a fault beyond its line.
 
-/// A place of a source text, and what is said of it.
+/// What is said of a place of a source text, or of the fault as a whole.
 #[derive(Debug, Drop)]
 pub struct Note {
-    /// The byte of the text, counted from 0.
-    pub start: usize,
-    /// What is said of it.
+    /// The byte of the text, counted from 0, if it is said of one.
+    pub start: Option<usize>,
+    /// What is said.
     pub words: String,
 }

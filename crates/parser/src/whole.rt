@@ -5,10 +5,12 @@ ghost use Rattle.source.specs.declared.fault.Code.TheVariants.{MisplacedReturn};
 ghost use Rattle.source.specs.{Tok, seen, IsFaultAt, IsGiven};
 ghost use Rattle.syntax.specs.{Decl, tree_of, HasTree, HasRightTree, IsMisplaced, IsRefusal, IsTooDeep, IsUnexpected};
 ghost use Rattle.parser.specs.Declarations.{first_start};
+ghost use Rattle.parser.specs.TreesFound.{IsTreeOf};
 
 use crate::decl::program;
 use crate::returns::return_fault;
 use source::fault::{Code, Fault, Refusal};
+use source::memory::NoMemory;
 use source::token::Token;
 use std::alloc::Global;
 use syntax::tree::Tree;
@@ -64,6 +66,19 @@ pub fn parse(alloc: Global, tokens: &[Token]) -> Result<Tree, Refusal>
             start_of(tokens, left),
         ))),
         Err(Stop::NoMemory) => Err(Refusal::NoMemory),
+    }
+}
+
+/// The tree that the tokens spell by the grammar, wherever its returns stand; `None` where they spell none with at most 64
+/// signs open at a time. The one error is a refused growth.
+pub fn find_tree(alloc: Global, tokens: &[Token]) -> Result<Option<Tree>, NoMemory>
+    ensures { IfOk result (IsTreeOf (seen tokens.now)) }
+{
+    match program(alloc, tokens, MOST_OPEN) {
+        Ok(tree) => Ok(Some(tree)),
+        Err(Stop::NoMemory) => Err(NoMemory),
+        Err(Stop::Unexpected(_)) => Ok(None),
+        Err(Stop::TooDeep(_)) => Ok(None),
     }
 }
 

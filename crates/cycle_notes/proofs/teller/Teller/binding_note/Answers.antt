@@ -1,4 +1,4 @@
-use Rattle.std.proofs.Common.{◌∙◌, refl, sym, ap, subst, length}
+use Rattle.std.proofs.Common.{◌∙◌, refl, sym, ap, subst, length, Some}
 use Rattle.std.proofs.lemmas.Option.{slice_get_read, slice_get_within}
 use Rattle.flow.specs.PointList.{point_at}
 use Rattle.flow.specs.Points.{points}
@@ -36,6 +36,6 @@ returns c =
       uses = subst (Uses program section user.0) same user.1;
       binds = subst (BindsRoot section c.args.point) same b.binds;
       of_class = ap (λ (p : LockPath). p.class) (sym same) ∙ b.of_class;
-      stands = (point_at q, point_there section c.args.points.now c.args.point q c.requires.listed within c.index-points-point-2.is, c.start.ensures);
+      stands = (point_at q, point_there section c.args.points.now c.args.point q c.requires.listed within c.index-points-point-2.is, ap Some c.start.ensures);
       words = c.in_ok-words.ensures;
     }

@@ -1,0 +1,11 @@
+pub mod Grown
+pub mod Firsts
+pub mod Places
+pub mod Declared
+pub mod Scopes
+pub mod Twice
+pub mod Ends
+pub mod FirstInits
+pub mod Given
+pub mod Telling
+pub mod TextTrees

@@ -1,0 +1,102 @@
+-- Elements of lists by their places, and the first of those that pass a test.
+use Rattle.std.proofs.Common.{◌≡◌, ◌∙◌, ◌+◌, ℕ, zero, suc, Bool, true, false, List, [], ◌∷◌, ◌++◌, length, take, map, get_or, Option, Some, None, refl, sym, ap, ◌<◌, arith}
+use Rattle.std.specs.Prelude.{slice_get, ◌||◌, if◌then◌else◌}
+use Rattle.std.specs.Option.{option_map}
+use Rattle.std.proofs.lemmas.List.{length-map}
+use Rattle.std.proofs.lemmas.Option.{same_Some, slice_get_read, slice_get_within, slice_get-map}
+use Rattle.resolution.specs.Scopes.{◌>>=◌, named, place_from, place_of}
+use Rattle.resolution.specs.Where.{Has, first, further}
+
+pub has_at : {A : Type 0} (xs : List A) (x : A) → Has xs x → (k : ℕ) × (slice_get xs k ≡ Some x)
+has_at {A = A} [] x h = elim h [ ]
+has_at (y ∷ xs) x first = (zero, refl)
+has_at (y ∷ xs) x (further h) = let k = has_at xs x h in (suc k.0, k.1)
+
+pub at_has : {A : Type 0} (xs : List A) (k : ℕ) (x : A) → slice_get xs k ≡ Some x → Has xs x
+at_has [] k x e = absurd cc
+at_has (y ∷ xs) zero x e = rw (same_Some y x e) first
+at_has (y ∷ xs) (suc k) x e = further (at_has xs k x e)
+
+-- an element of what is seen by a view
+pub viewed_at : {A B : Type 0} (view : A → B) (xs ys : List A) (k : ℕ) (x : A) → ys ≡ xs → x ≡ get_or ys k x → k < length ys →
+    slice_get (map view xs) k ≡ Some (view x)
+viewed_at view xs ys k x same is lt =
+    ap (λ l. slice_get (map view l) k) (sym same) ∙ slice_get-map view ys k ∙ ap (option_map view) (slice_get_read ys (length ys) k x refl lt is)
+
+pub within_view : {A B : Type 0} (view : A → B) (xs ys : List A) (k : ℕ) (y : B) → ys ≡ xs → slice_get (map view xs) k ≡ Some y → k < length ys
+within_view view xs ys k y same at = omega (arith, slice_get_within (map view xs) k y at, length-map xs view, ap length same)
+
+-- the element behind some others
+pub at_front : {A : Type 0} (before behind : List A) (x : A) → slice_get (before ++ x ∷ behind) (length before) ≡ Some x
+at_front [] behind x = refl
+at_front (y ∷ before) behind x = at_front before behind x
+
+pub take_front : {A : Type 0} (before behind : List A) → take (length before) (before ++ behind) ≡ before
+take_front [] behind = refl
+take_front (y ∷ before) behind = ap (λ l. y ∷ l) (take_front before behind)
+
+pub get_front : {A : Type 0} (before behind : List A) (k : ℕ) (x : A) → slice_get before k ≡ Some x → slice_get (before ++ behind) k ≡ Some x
+get_front [] behind k x e = absurd cc
+get_front (y ∷ before) behind zero x e = e
+get_front (y ∷ before) behind (suc k) x e = get_front before behind k x e
+
+-- ---- whether some passes
+
+abbrev pub some_pass : {A : Type 0} → (A → Bool) → List A → Bool
+some_pass p [] = false
+some_pass p (x ∷ xs) = p x || some_pass p xs
+
+pub or_right : (a b : Bool) → b ≡ true → a || b ≡ true
+or_right true b e = refl
+or_right false b e = e
+
+pub or_cases : (a b : Bool) (n : ℕ) (o : Option ℕ) (k : ℕ) → (if a then Some n else o) ≡ Some k → (o ≡ Some k → b ≡ true) → a || b ≡ true
+or_cases true b n o k e rest = refl
+or_cases false b n o k e rest = rest e
+
+pub found_passes : {A : Type 0} (p : A → Bool) (n : ℕ) (xs : List A) (k : ℕ) → place_from p n xs ≡ Some k → some_pass p xs ≡ true
+found_passes p n [] k e = absurd cc
+found_passes p n (x ∷ xs) k e = or_cases (p x) (some_pass p xs) n (place_from p (suc n) xs) k e (λ f. found_passes p (suc n) xs k f)
+
+-- the first that passes: its place, and it
+pub record Passing {A : Type 0} (p : A → Bool) (n : ℕ) (xs : List A) : Type 0 where
+  pub offset : ℕ
+  pub element : A
+  pub found : place_from p n xs ≡ Some (n + offset)
+  pub is : slice_get xs offset ≡ Some element
+  pub passes : p element ≡ true
+
+passing_cons : {A : Type 0} (p : A → Bool) (n : ℕ) (x : A) (xs : List A) (b : Bool) → p x ≡ b → b || some_pass p xs ≡ true →
+    (some_pass p xs ≡ true → Passing p (suc n) xs) → Passing p n (x ∷ xs)
+passing_cons p n x xs true is some rest = record {
+  offset = 0;
+  element = x;
+  found = rw is (ap Some (omega arith));
+  is = refl;
+  passes = is;
+}
+passing_cons p n x xs false is some rest =
+    let r = rest some in
+    record {
+      offset = suc r.offset;
+      element = r.element;
+      found = rw is (r.found ∙ ap Some (omega arith));
+      is = r.is;
+      passes = r.passes;
+    }
+
+pub passing : {A : Type 0} (p : A → Bool) (n : ℕ) (xs : List A) → some_pass p xs ≡ true → Passing p n xs
+passing p n [] some = absurd cc
+passing p n (x ∷ xs) some = passing_cons p n x xs (p x) refl some (passing p (suc n) xs)
+
+-- of a whole list
+pub passing_at : {A : Type 0} (p : A → Bool) (xs : List A) (r : Passing p 0 xs) → place_from p 0 xs ≡ Some r.offset
+passing_at p xs r = r.found ∙ ap Some (omega arith)
+
+-- of a name that some bears
+pub named_passes : {A Q : Type 0} (is : A → Q → Bool) (xs : List A) (q : Q) (f : ℕ × A) → named is xs q ≡ Some f → some_pass (λ x. is x q) xs ≡ true
+named_passes is xs q f e = of_place (place_of is xs q) refl e
+  where
+    of_place : (o : Option ℕ) → place_of is xs q ≡ o → (o >>= λ i. slice_get xs i >>= λ x. Some (i, x)) ≡ Some f → some_pass (λ x. is x q) xs ≡ true
+    of_place None at e = absurd cc
+    of_place (Some i) at e = found_passes (λ x. is x q) 0 xs i at
