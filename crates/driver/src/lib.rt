@@ -38,9 +38,7 @@ mod threads_run;
 mod tracing;
 mod why;
 
-pub use engine::{
-    check, list, miss_other, order_graph, replay, run, serial, simulate, trace,
-};
+pub use engine::{check, list, miss_other, order_graph, replay, run, serial, simulate, trace};
 pub use explaining::explain;
 pub use request::Judging;
 pub use sink::Sink;
