@@ -214,7 +214,8 @@ done
 for command in $commands; do
     about=$(sed -n "s/^  $command  *\(.*\)/\1/p" "$top/script/help/autolock.txt")
     for file in completions/_autolock completions/autolock.fish; do
-        grep -qF -- "$about" "$top/$file" || fail "$file says something else of $command"
+        # (zsh wants a colon in a description as \:)
+        sed 's/\\:/:/g' "$top/$file" | grep -qF -- "$about" || fail "$file says something else of $command"
     done
 done
 
