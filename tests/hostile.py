@@ -206,7 +206,10 @@ ARGUMENTS = {
 }
 WITH_STEPS = ("simulate", "trace")
 TITLES = {"serial": b"history 1\n", "simulate": b"simulation 1\n"}
-EXPLAINED = re.compile(rb"[^\n]*:\d+:\d+: E\d\d [ -~]*\n  [ -~]*\n   *\^\n([^\n]*:\d+:\d+: note: [ -~]*\n  [ -~]*\n   *\^\n)*help: [ -~]*\n")
+EXPLAINED = re.compile(
+    rb"[^\n]*:\d+:\d+: E\d\d [ -~]*\n  [ -~]*\n   *\^\n"
+    rb"([^\n]*:\d+:\d+: note: [ -~]*\n  [ -~]*\n   *\^\n|note: [ -~]*\n)*help: [ -~]*\n"
+)
 GRAPH = re.compile(
     rb'digraph lock_order \{\n(  "[\w.]+" \[label="rank \d+ [\w.]+"\];\n)*'
     rb'(  "[\w.]+" -> "[\w.]+" \[label="\w+:\d+:\d+"\];\n)*\}\n'
