@@ -21,10 +21,18 @@ NO_SUCH_FUNCTIONS = 5
 
 
 def load(folder):
+    """The toolchain's `rt`, whose folder this is, as a module."""
+    sys.dont_write_bytecode = True
     sys.path.insert(0, folder)
     loader = importlib.machinery.SourceFileLoader("rt", f"{folder}/rt")
     rt = importlib.util.module_from_spec(importlib.util.spec_from_loader("rt", loader))
     loader.exec_module(rt)
+    return rt
+
+
+def load_to_build(folder):
+    """The same, as it is when it builds."""
+    rt = load(folder)
     made = rt.rtlib.Crate.__init__
 
     def make(self, *given, **named):
@@ -61,7 +69,7 @@ def sum_once(crate_type):
 
 def main(folder):
     try:
-        rt = load(folder)
+        rt = load_to_build(folder)
         rtlib, need, in_lanes = rt.rtlib, rt.need, rt.in_lanes
     except (ImportError, OSError, AttributeError, SyntaxError):
         return NO_SUCH_FUNCTIONS

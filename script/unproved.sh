@@ -18,7 +18,7 @@ unproved() {
         data+=(--data "file$i=$room/file$i")
     done
     for i in "${!files[@]}"; do
-        printf '%s\n' "$command" ${turns:+--turns "$turns"} "file$i" >"$room/cases/$i.args"
+        printf '%s\n' "$command" ${turns:+--turns "$turns"} ${json:+--json} "file$i" >"$room/cases/$i.args"
         : >"$room/cases/$i"
     done
     if [ -n "$other" ]; then
@@ -87,13 +87,19 @@ tell_run() {
 
 # The lines, with the files' own names at their start.
 told_of_files() {
-    local line i
+    local line i name
     while IFS= read -r line; do
         case $line in
             file[0-9]*:[0-9]*:*)
                 i=${line%%:*}
                 i=${i#file}
                 line=${files[i]}:${line#*:}
+                ;;
+            '{"accepted":'*',"file":"file'[0-9]*)
+                i=${line#*,\"file\":\"file}
+                i=${i%%\"*}
+                name=${files[i]//\\/\\\\}
+                line=${line%%,\"file\":\"file*},\"file\":\"${name//\"/\\\"}\"${line#*,\"file\":\"file"$i"\"}
                 ;;
         esac
         printf '%s\n' "$line"

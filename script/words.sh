@@ -1,8 +1,8 @@
 # What `autolock` says of its words, said without the program: help, the version, and what is wrong with the words.
 # ./autolock uses it where the program isn't built; tests/words.sh compares each answer with the program's.
 #
-#     judge_words WORDS..     answers and exits, or sets `command`, `turns` (the N of --turns, or nothing), `why` and
-#                             `sections` (1 or nothing), and `files`
+#     judge_words WORDS..     answers and exits, or sets `command`, `turns` (the N of --turns, or nothing), `why`,
+#                             `sections`, `json` (each 1 or nothing), and `files`
 #
 # Where `many` is 1, a command over one FILE takes several. `top` is the folder of the repository.
 # shellcheck disable=SC2154,SC2016
@@ -12,6 +12,7 @@ command=
 turns=
 why=
 sections=
+json=
 used=
 files=()
 
@@ -55,14 +56,14 @@ names_of() {
     echo "<FILE>${other:+ $other}"
 }
 
-takes_options() { [ "$command" = serial ] || [ "$command" = replay ] || [ "$command" = trace ]; }
+takes_options() { [ "$command" = serial ] || [ "$command" = replay ] || [ "$command" = trace ] || [ "$command" = explain ]; }
 
 # How the words of a command look; with a second word, where that option is among them.
 usage_of() {
     local option=${2-}
     case $1 in
-        check | explain | order | listing | run) echo "$1 ${option:+$option }<FILE>" ;;
-        serial) echo "serial ${option:-[OPTIONS]} <FILE>" ;;
+        check | order | listing | run) echo "$1 ${option:+$option }<FILE>" ;;
+        serial | explain) echo "$1 ${option:-[OPTIONS]} <FILE>" ;;
         replay) echo "replay ${option:-[OPTIONS]} <FILE> <HISTORY>" ;;
         trace) echo "trace ${option:-[OPTIONS]} <FILE> <STEPS>" ;;
         simulate) echo "simulate ${option:+$option }<FILE> <STEPS>" ;;
@@ -133,6 +134,7 @@ refuse_long() {
         serial) options=(turns help) ;;
         replay) options=(turns why help) ;;
         trace) options=(sections help) ;;
+        explain) options=(json help) ;;
         '') options=(help version) ;;
     esac
     near=$(similar "$name" "${options[@]}" | tail -n 1)
@@ -152,10 +154,11 @@ refuse_long() {
     fi
     for word in "$@"; do
         case $word in
-            check | explain | order | listing | simulate | run) near=$(similar "$name" help) ;;
+            check | order | listing | simulate | run) near=$(similar "$name" help) ;;
             serial) near=$(similar "$name" turns help | tail -n 1) ;;
             replay) near=$(similar "$name" turns why help | tail -n 1) ;;
             trace) near=$(similar "$name" sections help | tail -n 1) ;;
+            explain) near=$(similar "$name" json help | tail -n 1) ;;
         esac
         [ -z "$near" ] || refuse "unexpected argument '--$name' found" "$(usage_of '')" "'$word --$near' exists"
     done
@@ -231,6 +234,10 @@ judge_long() {
             refuse "unexpected value '${word#*=}' for '--sections' found; no more were expected" \
                 "$(usage_of trace --sections)"
             ;;
+        json)
+            [ "$command" = explain ] || refuse_long "$name" "$@"
+            refuse "unexpected value '${word#*=}' for '--json' found; no more were expected" "$(usage_of explain --json)"
+            ;;
         *) refuse_long "$name" "$@" ;;
     esac
 }
@@ -275,6 +282,13 @@ judge_arguments() {
                 [ -z "$sections" ] || refuse "the argument '--sections' cannot be used multiple times" "$(usage_of trace)"
                 sections=1
                 used=$(used_with --sections)
+                shift
+                continue
+                ;;
+            0explain--json)
+                [ -z "$json" ] || refuse "the argument '--json' cannot be used multiple times" "$(usage_of explain)"
+                json=1
+                used=$(used_with --json)
                 shift
                 continue
                 ;;

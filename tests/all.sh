@@ -20,6 +20,10 @@ for script in examples language statuses words limited_memory; do
 done
 echo "== tests/fans.py"
 tests/fans.py "$program" || failed+=("fans.py")
+echo "== tests/believed.py"
+tests/believed.py || failed+=(believed.py)
+echo "== tests/promises.py"
+tests/promises.py || failed+=(promises.py)
 echo "== tests/editors.py"
 tests/editors.py || failed+=(editors.py)
 echo "== ${#failed[@]} failed: ${failed[*]}"

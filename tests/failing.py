@@ -149,6 +149,8 @@ def of_autolock(a, room):
             turns = ["--turns", str(a.turns)] * (command in ("serial", "replay"))
             judged = {**judges, "growth": wrong_growth_of_run} if command == "run" else judges
             yield Subject([program, command, *turns, *names], names, judged, a.every)
+            if command == "explain":
+                yield Subject([program, command, "--json", *names], names, judged, a.every)
             if command == "replay":
                 other = pathlib.Path(room, f"other-{number}")
                 other.write_bytes(with_other_cell(told.stdout))

@@ -1,12 +1,12 @@
 #!/usr/bin/env python3
-"""Gives hostile sources to `autolock` and looks at how each run ends: of `check`, `explain`, `order`, `listing`,
-`serial --turns 1000` and, with a steps file drawn for each source, `simulate` and `trace`.
+"""Gives hostile sources to `autolock` and looks at how each run ends: of `check`, `explain`,
+`explain --json`, `order`, `listing`, `serial --turns 1000` and, with a steps file drawn for each source, `simulate` and `trace`.
 
     tests/hostile.py [--program BIN] [--commands NAMES] [--cuts] [--bytes] [--random COUNT] [--every N] [--seed N] [FILE..]
 
 With no choice of kinds: --cuts --bytes --random 2000, each cut and byte at every 7th place, which takes a minute.
 
---commands      which of the seven, joined by commas; by default all
+--commands      which of the eight, joined by commas (`json` is `explain --json`); by default all
 --cuts          every beginning of each program
 --bytes         each program with one byte replaced by each of `(`, `}`, `0`, `.`, 0x00 and 0x80
 --random COUNT  so many programs made from the given ones by a few random changes each, and a third of them by a helper and calls
@@ -18,12 +18,13 @@ FILE..          the programs to begin with; by default those of examples/
 
 A run must end within 20 seconds with status 0 or 1, or of `serial` with 7. With 0, standard output is a whole text of
 the command and standard error is empty; with 1, standard error is one line, the same of each command, and standard
-output is empty, and of explain the other way round: standard output begins with that line, and shows its place; with 7, the last line of standard output begins with `unsettled` and standard error is empty. What
+output is empty, and of explain the other way round: standard output begins with that line, and shows its place, or with --json is an object that tells it; with 7, the last line of standard output begins with `unsettled` and standard error is empty. What
 `trace` writes has a line for each step, and ends with what `simulate` writes. These two end with 6 and the line of the steps file's first fault, as this script finds it, exactly where there is one. A source
 of which that doesn't hold is kept as hostile-NUMBER.al in the current folder, with its steps. The last line is 'N runs,
 M failed'; exit status 1 where M is not 0.
 """
 import argparse
+import json
 import multiprocessing
 import os
 import pathlib
@@ -198,6 +199,7 @@ def steps_fault(steps, threads):
 ARGUMENTS = {
     "check": ["check"],
     "explain": ["explain"],
+    "json": ["explain", "--json"],
     "order": ["order"],
     "listing": ["listing"],
     "serial": ["serial", "--turns", "1000"],
@@ -206,10 +208,11 @@ ARGUMENTS = {
 }
 WITH_STEPS = ("simulate", "trace")
 TITLES = {"serial": b"history 1\n", "simulate": b"simulation 1\n"}
+PLACED = rb"[^\n]*:\d+:\d+: note: [ -~]*\n  [ -~]*\n   *\^\n"
 EXPLAINED = re.compile(
-    rb"[^\n]*:\d+:\d+: E\d\d [ -~]*\n  [ -~]*\n   *\^\n"
-    rb"([^\n]*:\d+:\d+: note: [ -~]*\n  [ -~]*\n   *\^\n|note: [ -~]*\n)*help: [ -~]*\n"
+    rb"[^\n]*:\d+:\d+: E\d\d [ -~]*\n  [ -~]*\n   *\^\n" rb"(%s|note: [ -~]*\n)*help: [ -~]*\n" % PLACED
 )
+ACCEPTED = re.compile(rb"accepted\n(note: rank \d+ [\w.]+\n)*(note: [\w.]+ comes before [\w.]+\n(%s){2})*" % PLACED)
 GRAPH = re.compile(
     rb'digraph lock_order \{\n(  "[\w.]+" \[label="rank \d+ [\w.]+"\];\n)*'
     rb'(  "[\w.]+" -> "[\w.]+" \[label="\w+:\d+:\d+"\];\n)*\}\n'
@@ -221,12 +224,32 @@ STEP = re.compile(
 )
 
 
+def object_in(out):
+    """The JSON object that is the whole of an output, or nothing."""
+    try:
+        return json.loads(out) if out.count(b"\n") == 1 and out.endswith(b"\n") else {}
+    except ValueError:
+        return {}
+
+
+def fault_line(command, ended):
+    """The line of the fault that a run with status 1 tells."""
+    if command == "explain":
+        return ended.stdout.split(b"\n", 1)[0] + b"\n"
+    if command == "json":
+        told = object_in(ended.stdout)
+        return "{file}:{start[line]}:{start[column]}: {code} {text}\n".format(**told).encode()
+    return ended.stderr
+
+
 def is_whole(command, out):
     """Whether that is a whole text of the command, as far as its shape goes."""
     if command in TITLES:
         return out.startswith(TITLES[command]) and out.endswith(b"\nend\n")
     if command == "explain":
-        return out == b"accepted\n"
+        return bool(ACCEPTED.fullmatch(out))
+    if command == "json":
+        return object_in(out).get("accepted") is True
     if command == "order":
         return bool(GRAPH.fullmatch(out))
     if command == "check":
@@ -244,6 +267,8 @@ def fault_of(command, ended):
         return None if is_whole(command, out) and not err else f"{command}: status 0 without a whole text alone"
     if ended.returncode == 1 and command == "explain":
         return None if EXPLAINED.fullmatch(out) and not err else "explain: status 1 without a text alone"
+    if ended.returncode == 1 and command == "json":
+        return None if object_in(out).get("accepted") is False and not err else "explain --json: status 1 without an object alone"
     if ended.returncode == 1:
         one_line = err.count(b"\n") == 1 and err.endswith(b"\n")
         return None if one_line and not out else f"{command}: status 1 without one line alone"
@@ -300,7 +325,7 @@ def try_one(program, commands, path, other):
         if fault:
             return fault
         if ended.returncode != 6:
-            told.add(ended.stdout.split(b"\n", 1)[0] + b"\n" if command == "explain" and ended.returncode else ended.stderr)
+            told.add(fault_line(command, ended) if ended.returncode == 1 else ended.stderr)
     # Where these two alone are asked and tell a fault of the steps file, no command tells one of the source.
     return None if len(told) < 2 else "the commands tell different faults"
 

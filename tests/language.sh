@@ -10,8 +10,7 @@
 # - a block ```text check, which is what `check` writes there;
 # - a block ```text simulate ITEMS, which is what `simulate` writes there after the steps of these items;
 # - a block ```text trace ITEMS, which is what `trace` writes there of these steps;
-# - a block ```text explain, which is what `explain` writes there of a program with a fault; FILE stands for the file's
-#   name;
+# - a block ```text explain, which is what `explain` writes there; FILE stands for the file's name;
 # - or one line `FILE:..`, which both write to standard error; FILE stands for the file's name.
 #
 # The other output has to be empty.
@@ -42,7 +41,12 @@ awk '
     block == "al" && /^```$/ { block = ""; answer = 1; next }
     block == "text" && /^```$/ { block = ""; answer = 1; print status >(run ".status"); next }
     block == "al" { print >(name ".al"); next }
-    block == "text" { print >(run ".out"); status = of == "explain" ? 1 : /^unsettled / ? 7 : 0; next }
+    block == "text" {
+        print >(run ".out")
+        if (/^accepted$/) accepted = 1
+        status = of == "explain" ? !accepted : /^unsettled / ? 7 : 0
+        next
+    }
     /^```al$/ {
         block = "al"
         name = (FILENAME ~ /README/ ? "README-" : "") FNR
@@ -51,6 +55,7 @@ awk '
     }
     answer && /^```text/ {
         block = "text"
+        accepted = 0
         of = substr($0, 9)
         begin(of == "check" || of == "explain" ? of : /^```text simulate / ? "simulate" : /^```text trace / ? "trace" : "serial" substr($0, 8))
         if (/^```text simulate /) print substr($0, 18) >(run ".steps")

@@ -28,13 +28,19 @@ printf 'digraph lock_order {\n  "G" [label="rank 0 G"];\n}\n' >ordered
 printf 'section f\n0 acquire G\n1 int 1\n2 store n\n3 end\n' >listed
 printf 'history 1\ncall 0 0 f() ends\ncells\nn 1\nend\n' >history
 for name in missing.al folder; do echo "autolock: cannot read $name" >"no_$name"; done
-echo accepted >accepted
+printf 'accepted\nnote: rank 0 G\n' >accepted
+echo '{"accepted":true,"file":"right.al","notes":[{"text":"rank 0 G"}]}' >accepted_json
 cat >explained <<'end'
 wrong.al:2:12: E10 neither final nor protected
   global int n;
              ^
+wrong.al:1:6: note: G could protect it: protected_by(G)
+  lock G;
+       ^
 help: say which lock protects it: protected_by(LOCK)
 end
+printf '%s' '{"accepted":false,"code":"E10","end":{"column":13,"line":2},"file":"wrong.al","notes":[],' >explained_json
+printf '%s\n' '"remedy":"say which lock protects it: protected_by(LOCK)","start":{"column":12,"line":2},"text":"neither final nor protected"}' >>explained_json
 echo 'autolock: cannot write' >unwritten
 printf '0\n\t9*1 x' >bad_steps
 echo 'bad_steps:2:2: S2 no such thread' >steps_fault
@@ -81,6 +87,7 @@ run "done" 0 history none serial right.al
 run "turns" 0 history none serial --turns 0 right.al
 run "check" 0 checked none check right.al
 run "explain" 0 accepted none explain right.al
+run "explain, as JSON" 0 accepted_json none explain --json right.al
 run "order" 0 ordered none order right.al
 run "listing" 0 listed none listing right.al
 run "simulate" 0 simulated none simulate right.al two_steps
@@ -102,6 +109,7 @@ run "a fault, of trace" 1 none fault trace wrong.al bad_steps
 run "a fault of the steps, of trace" 6 none steps_fault trace right.al bad_steps
 run "a fault, of check" 1 none fault check wrong.al
 run "a fault, of explain" 1 explained none explain wrong.al
+run "a fault, of explain, as JSON" 1 explained_json none explain --json wrong.al
 run "a fault, of order" 1 none fault order wrong.al
 run "a fault, of listing" 1 none fault listing wrong.al
 run "a lock order cycle" 1 none circle serial cycle.al

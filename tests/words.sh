@@ -136,6 +136,20 @@ same replay --why right.al --foo
 same replay --why --hel
 same replay --why a b c
 same serial --why right.al
+same explain --json
+same explain --json right.al --foo
+same explain --json --json right.al
+same explain right.al --json missing.al
+same explain --json=x right.al
+same explain --jsn right.al
+same explain --js right.al
+same explain --json --hel
+same explain --json a b
+same explain --why right.al
+same check --json right.al
+same --json explain right.al
+same --jso explain right.al
+same explain --json missing.al
 same trace --sections
 same trace --sections right.al
 same trace --sections right.al missing.al
@@ -205,7 +219,7 @@ same serial --turns 3 missing.al
 commands=$(sed -n '/^Commands:/,/^$/s/^  \([a-z]*\) .*/\1/p' "$top/script/help/autolock.txt")
 options=$(sed -n 's/^ *\(-[a-zA-Z], \)\{0,1\}--\([a-z]*\).*/\2/p' "$top"/script/help/*.txt | sort -u)
 [ "$(echo $commands)" = "check explain order listing serial simulate trace run replay help" ] || fail "the commands of the help: $commands"
-[ "$(echo $options)" = "help sections turns version why" ] || fail "the options of the help: $options"
+[ "$(echo $options)" = "help json sections turns version why" ] || fail "the options of the help: $options"
 for file in completions/autolock.bash completions/_autolock completions/autolock.fish docs/autolock.1; do
     for word in $commands $options; do
         sed 's/\\-/-/g' "$top/$file" | grep -qw -- "$word" || fail "$file lacks $word"
@@ -239,6 +253,7 @@ completes "--build --help --unproved --version -V -h" -
 completes "check explain help listing order replay run serial simulate trace" --unproved ''
 completes "--turns" serial --t
 completes "--why" replay --w
+completes "--json" explain --j
 completes "folder right.al" check ''
 completes "right.al" check r
 completes "folder x.steps" simulate right.al ''

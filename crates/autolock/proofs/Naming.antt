@@ -46,7 +46,7 @@ module _ {O E : Type 0} {Answers : List ℕ → List (List ℕ) → Status → L
 
 pub one_file : (line : Line) → IsOverOne line → files_of line ≡ file_of line ∷ []
 one_file (Check file) over = refl
-one_file (Explain file) over = refl
+one_file (Explain file json) over = refl
 one_file (Order file) over = refl
 one_file (Listing file) over = refl
 one_file (Serial file turns) over = refl
@@ -57,7 +57,7 @@ one_file (Replay file history turns why) over = absurd over
 
 pub two_files : (line : Line) → IsOverTwo line → files_of line ≡ file_of line ∷ other_of line ∷ []
 two_files (Check file) over = absurd over
-two_files (Explain file) over = absurd over
+two_files (Explain file json) over = absurd over
 two_files (Order file) over = absurd over
 two_files (Listing file) over = absurd over
 two_files (Serial file turns) over = absurd over
@@ -69,7 +69,7 @@ two_files (Replay file history turns why) over = refl
 -- the program's file is named first
 pub first_named : (line : Line) (Told : List ℕ → Type 0) → Told (cannot_read (file_of line)) → NamesOneOf Told (files_of line)
 first_named (Check file) Told told = inl told
-first_named (Explain file) Told told = inl told
+first_named (Explain file json) Told told = inl told
 first_named (Order file) Told told = inl told
 first_named (Listing file) Told told = inl told
 first_named (Serial file turns) Told told = inl told

@@ -10,7 +10,7 @@ use Rattle.words.specs.declared.line.Line.TheVariants.{Check, Explain, Order, Li
 -- the name of the file whose program is asked for
 abbrev pub file_of : Line → List ℕ
 file_of (Check file) = file.now
-file_of (Explain file) = file.now
+file_of (Explain file json) = file.now
 file_of (Order file) = file.now
 file_of (Listing file) = file.now
 file_of (Serial file turns) = file.now
@@ -55,7 +55,7 @@ IsOverTwo line = ⊥
 -- written and told
 abbrev pub LineAnswers : Line → List ℕ → List ℕ → Status → List ℕ → List ℕ → Type 0
 LineAnswers (Check file) = CheckAnswers
-LineAnswers (Explain file) = ExplainAnswers
+LineAnswers (Explain file json) = ExplainAnswers json
 LineAnswers (Order file) = OrderGraphAnswers
 LineAnswers (Listing file) = ListingAnswers
 LineAnswers (Serial file turns) = SerialAnswers turns

@@ -32,7 +32,7 @@ fn file_name<'a>(line: Line<'a>) -> &'a str
 {
     match line {
         Line::Check { file } => file,
-        Line::Explain { file } => file,
+        Line::Explain { file, .. } => file,
         Line::Order { file } => file,
         Line::Listing { file } => file,
         Line::Serial { file, .. } => file,
@@ -72,7 +72,7 @@ fn run_opened<R: Threads + Wait + Sync, S: Read, O: Write, E: Write>(
 {
     match line {
         Line::Check { .. } => check(alloc, source, streams),
-        Line::Explain { .. } => explain(alloc, source, streams),
+        Line::Explain { json, .. } => explain(alloc, json, source, streams),
         Line::Order { .. } => order_graph(alloc, source, streams),
         Line::Listing { .. } => list(alloc, source, streams),
         Line::Serial { turns, .. } => serial(alloc, turns, source, streams),

@@ -4,7 +4,7 @@ ghost use Rattle.std.specs.Prelude.{◌≡◌, ◌+◌, ◌≤◌, length};
 ghost use Rattle.source.specs.Faults.{line_of, column_of};
 
 /// A byte of a text, or its end, with its line and column, both from 1.
-#[derive(Drop)]
+#[derive(Clone, Copy)]
 pub struct Cursor<'a> {
     text: &'a [u8],
     at: usize,

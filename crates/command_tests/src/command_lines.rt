@@ -45,7 +45,8 @@ fn reads_lines(rt: HostRuntime) -> Result<(), Fail> {
         rt.alloc(),
         "
 autolock check F => Check { file: \"F\" }
-autolock explain F => Explain { file: \"F\" }
+autolock explain F => Explain { file: \"F\", json: false }
+autolock explain F --json => Explain { file: \"F\", json: true }
 autolock order F => Order { file: \"F\" }
 autolock serial F => Serial { file: \"F\", turns: 1000000 }
 autolock serial --turns 7 F => Serial { file: \"F\", turns: 7 }

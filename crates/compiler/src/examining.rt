@@ -3,14 +3,15 @@
 ghost use Rattle.std.specs.Prelude.{IfOk, IfErr};
 ghost use Rattle.core_lang.specs.WellFormed.{IsWellFormed};
 ghost use Rattle.lockorder.specs.Faults.{IsCycleOf, IsFaultAtFirst};
-ghost use Rattle.compiler.specs.Programs.{Accepts, IsForMemory, IsRefusal};
+ghost use Rattle.compiler.specs.Programs.{IsForMemory, IsRefusal};
 ghost use Rattle.compiler.specs.Cycles.{IsBare, IsCyclic};
+ghost use Rattle.compiler.specs.Orders.{IsOrdered};
 
 use crate::passes::written_out;
 use core_lang::typed::Typed;
 use lexer::lex;
 use lockorder::order;
-use lockorder::ranks::{Cycle, Edge, OrderRefusal};
+use lockorder::ranks::{Cycle, Edge, OrderRefusal, Ranks};
 use lockpaths::paths;
 use lockpaths::table::Paths;
 use parser::parse;
@@ -18,6 +19,19 @@ use source::fault::{Fault, Refusal};
 use source::memory::NoMemory;
 use std::alloc::Global;
 use types::program::check;
+
+/// The order of the lock classes of a text's program.
+#[derive(Drop)]
+pub struct Ordered {
+    /// The program.
+    pub accepted: Typed,
+    /// The program, with its helpers written out.
+    pub written: Typed,
+    /// Its lock paths.
+    pub paths: Paths,
+    /// For each lock class its rank.
+    pub ranks: Ranks,
+}
 
 /// A cycle of the lock classes of a text's program.
 #[derive(Drop)]
@@ -45,13 +59,13 @@ fn cycle_fault(alloc: Global, program: &Typed, cycle: &Cycle) -> Result<Fault, R
     }
 }
 
-/// Whether a text is accepted: its program, or a cycle of the classes of its locks.
+/// Whether a text is accepted: its program, with the order of the classes of its locks; or a cycle of them.
 ///
 /// # Errors
 ///
 /// The fault of the first pass that has one, where that is none of the order of locks; or want of memory.
-pub fn examine(alloc: Global, text: &[u8]) -> Result<Result<Typed, Cyclic>, Refusal>
-    ensures accepts { IfOk result (λ found. IfOk found (Accepts text.now)) }
+pub fn examine(alloc: Global, text: &[u8]) -> Result<Result<Ordered, Cyclic>, Refusal>
+    ensures order { IfOk result (λ found. IfOk found (IsOrdered text.now)) }
     ensures cycle { IfOk result (λ found. IfErr found (IsCyclic text.now)) }
     ensures fault { IfErr result (IsRefusal text.now) }
     ensures bare { IfErr result IsBare }
@@ -64,7 +78,12 @@ pub fn examine(alloc: Global, text: &[u8]) -> Result<Result<Typed, Cyclic>, Refu
     let written = written_out(alloc, &accepted)?;
     let found = paths(alloc, &written)?;
     match order(alloc, &written, &found) {
-        Ok(_) => Ok(Ok(accepted)),
+        Ok(ranks) => Ok(Ok(Ordered {
+            accepted,
+            written,
+            paths: found,
+            ranks,
+        })),
         Err(OrderRefusal::Cycle(cycle)) => {
             let fault = cycle_fault(alloc, &written, &cycle)?;
             Ok(Err(Cyclic {

@@ -7,8 +7,14 @@ use Rattle.core_lang.specs.declared.typed.Typed.{Typed}
 use Rattle.explanation.specs.Notes.{Note}
 use Rattle.lockorder.specs.declared.ranks.Edge.{Edge}
 use Rattle.lockorder.specs.Faults.{AllMakeFirst, IsCycleOf}
-use Rattle.cycle_notes.specs.CycleNotes.{class_of_next, TellsEdge, TellEdges, AreCycleNotes}
+use Rattle.cycle_notes.specs.CycleNotes.{class_of_next, TellsEdge, TellsWayOut, TellEdges, AreCycleNotes}
 use Rattle.cycle_notes.specs.Tellers.{IsMade}
+
+-- one more element behind two
+pub map_behind : {A B : Type 0} (f : A → B) (old : List B) (between new : List A) (one two : B) (a : A) → map f between ≡ old ++ one ∷ two ∷ [] →
+    new ≡ between ++ a ∷ [] → map f new ≡ old ++ one ∷ two ∷ f a ∷ []
+map_behind f old between new one two a e g =
+    ap (map f) g ∙ map-append f between (a ∷ []) ∙ ap (λ l. l ++ f a ∷ []) e ∙ append_assoc old (one ∷ two ∷ []) (f a ∷ [])
 
 -- two more elements
 pub map_two : {A B : Type 0} (f : A → B) (xs ys zs : List A) (a b : A) → ys ≡ xs ++ a ∷ [] → zs ≡ ys ++ b ∷ [] →
@@ -26,10 +32,10 @@ module _ (program : Typed) (first : ℕ) where
   made_at (d ∷ f ∷ rest) (suc i) e all at = made_at (f ∷ rest) i e all.1 at
 
   -- notes on an edge go ahead of those on the ones behind it
-  pub told_ahead : (edges : List Edge) (e : Edge) (rest : List Edge) (usage binding : Note) (more : List Note) → edges ≡ e ∷ rest →
-      TellsEdge program e (class_of_next first rest) usage binding → TellEdges program first rest more →
-      TellEdges program first edges (usage ∷ binding ∷ more)
-  told_ahead edges e rest usage binding more is one others = rw is (one, others)
+  pub told_ahead : (edges : List Edge) (e : Edge) (rest : List Edge) (usage binding way : Note) (more : List Note) → edges ≡ e ∷ rest →
+      TellsEdge program e (class_of_next first rest) usage binding → TellsWayOut program e way → TellEdges program first rest more →
+      TellEdges program first edges (usage ∷ binding ∷ way ∷ more)
+  told_ahead edges e rest usage binding way more is one out others = rw is (one, out, others)
 
 pub cycle_made : (program : Typed) (edges : List Edge) (d : Edge) → IsCycleOf program edges →
     AllMakeFirst program (get_or edges 0 d).class edges

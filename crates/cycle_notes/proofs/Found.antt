@@ -82,6 +82,11 @@ module _ (program : Typed) (section : Section) (x : SectionPaths) (are : AreSect
     pub other_class : (local : Option ℕ) → (w.class ≡ class → ⊥) → BeginsAt program section local class i → ⊥
     other_class local other h = other (ap (λ (p : LockPath). p.class) (sym (same_path h.path h.listed)) ∙ h.of_class)
 
+  -- a path of the class that the set of a point has is used there
+  pub used_at : (p class i : ℕ) (set : PathSet) → slice_get x.used.items p ≡ Some set → HasClass program section class i →
+      has set i ≡ true → UsesClass program section p class
+  used_at p class i set there h e = (h.path, (are.used.1 p i set h.path there h.listed).0 e, h.of_class)
+
   pub binds_its_root : (p class i : ℕ) (point : Point) → slice_get (points section) p ≡ Some point →
       BeginsAt program section (bound_at point) class i → IsBoundPath program section p class i
   binds_its_root p class i point at h =
@@ -125,3 +130,7 @@ point_there section ps p q same lt is =
     let few : p < length ps = omega (arith, lt, ap length same, length-map ps point_at) in
     ap (λ l. slice_get l p) (sym same) ∙ slice_get-map point_at ps p
     ∙ ap (option_map point_at) (slice_get_read ps (length ps) p q refl few is)
+
+-- a point that binds is one of the section's
+pub bound_within : (program : Typed) (section : Section) (p class : ℕ) → BindsClass program section p class → p < length (points section)
+bound_within program section p class (path, user, uses, binds, of_class) = slice_get_within (points section) p binds.2.0 binds.2.1

@@ -1,12 +1,13 @@
--- What is told of a cycle of lock classes: of each edge where a lock of its class is used, and where the root of a path of the next
--- class is bound.
-use Rattle.std.specs.Prelude.{◌≡◌, ℕ, List, [], ◌∷◌, ◌++◌, slice_get, Some, codes, string_bytes}
+-- What is told of a cycle of lock classes: of each edge where a lock of its class is used, where the root of a path of the next class is
+-- bound, and whether this binding uses a lock of the edge's class itself.
+use Rattle.std.specs.Prelude.{◌≡◌, ℕ, List, [], ◌∷◌, ◌++◌, slice_get, Some, None, codes, string_bytes}
 use Rattle.core_lang.specs.declared.tree.Section.{Section}
 use Rattle.core_lang.specs.declared.typed.Typed.{Typed}
 use Rattle.flow.specs.Points.{Point, points, start_of}
 use Rattle.locks.specs.LockPaths.{LockPath, Uses, BindsRoot}
 use Rattle.locks.specs.Texts.{class_name, path_text}
 use Rattle.lockorder.specs.declared.ranks.Edge.{Edge}
+use Rattle.lockorder.specs.Edges.{UsesClass}
 use Rattle.explanation.specs.Notes.{Note}
 
 -- in SECTION: PATH of class CLASS WORDS
@@ -50,16 +51,46 @@ pub record TellsEdge (program : Typed) (e : Edge) (next : ℕ) (usage binding : 
   pub tells_use : TellsUse program section e.used e.class usage
   pub tells_binding : TellsBinding program section e.bound next binding
 
+-- ---- ways out of an edge
+
+-- this binding uses no lock of class CLASS: ..
+abbrev pub apart_words : Typed → ℕ → List ℕ
+apart_words program class =
+    codes "this binding uses no lock of class " ++ class_name program class
+    ++ codes " itself: put it before that use, where what it names is known there"
+
+-- this binding uses a lock of class CLASS: ..
+abbrev pub within_words : Typed → ℕ → List ℕ
+within_words program class =
+    codes "this binding uses a lock of class " ++ class_name program class
+    ++ codes " itself: take a parameter, a final reference, or a global lock for the reference"
+
+abbrev pub on_no_place : List ℕ → Note
+on_no_place words = record { start = None; words = words }
+
+-- of a section's point of this number that binds, the note says whether it uses a lock of the class, with a way out for either
+pub data TellsWay (program : Typed) (section : Section) (p class : ℕ) (note : Note) : Type 0 where
+  apart : (UsesClass program section p class → ⊥) → note ≡ on_no_place (apart_words program class) → TellsWay program section p class note
+  within : UsesClass program section p class → note ≡ on_no_place (within_words program class) → TellsWay program section p class note
+
+-- of an edge, in its section
+pub record TellsWayOut (program : Typed) (e : Edge) (way : Note) : Type 0 where
+  pub section : Section
+  pub here : slice_get program.sections.items e.section ≡ Some section
+  pub tells : TellsWay program section e.bound e.class way
+
+-- ---- cycles
+
 -- the class of the next edge, or this one
 abbrev pub class_of_next : ℕ → List Edge → ℕ
 class_of_next first [] = first
 class_of_next first (e ∷ rest) = e.class
 
--- of each edge, which leads to the next one's class, and of the last to this class, both are told
+-- of each edge, which leads to the next one's class, and of the last to this class, both are told, and a way out
 abbrev pub TellEdges : Typed → ℕ → List Edge → List Note → Type 0
 TellEdges program first [] [] = Unit {0}
-TellEdges program first (e ∷ rest) (usage ∷ binding ∷ notes) =
-    TellsEdge program e (class_of_next first rest) usage binding × TellEdges program first rest notes
+TellEdges program first (e ∷ rest) (usage ∷ binding ∷ way ∷ notes) =
+    TellsEdge program e (class_of_next first rest) usage binding × TellsWayOut program e way × TellEdges program first rest notes
 TellEdges program first (e ∷ rest) _ = ⊥
 TellEdges program first [] (note ∷ notes) = ⊥
 

@@ -7,10 +7,12 @@ use Rattle.explanation.specs.Notes.{Note, note_of}
 use Rattle.locks.specs.declared.path.Root.{Root}
 use Rattle.locks.specs.declared.path.Root.TheVariants.{GlobalLock, Local as AtLocal}
 use Rattle.locks.specs.LockPaths.{LockPath, Uses, BindsRoot, lock_paths}
+use Rattle.lockorder.specs.declared.ranks.ClassPair.{ClassPair}
 use Rattle.lockorder.specs.declared.ranks.Edge.{Edge}
 use Rattle.lockorder.specs.Edges.{MakesFirst}
 use Rattle.cycle_notes.specs.declared.teller.Teller.{Teller}
-use Rattle.cycle_notes.specs.CycleNotes.{said, TellsEdge}
+use Rattle.cycle_notes.specs.CycleNotes.{said, TellsEdge, TellsWayOut}
+use Rattle.cycle_notes.specs.OrderNotes.{pair_note, TellPairs}
 
 -- a path with this root begins at the local
 abbrev pub begins : Root → Option ℕ → Bool
@@ -58,3 +60,25 @@ pub record AddsEdge (program : Typed) (e : Edge) (next : ℕ) (old new : List wr
   pub binding : Note
   pub added : map note_of new ≡ map note_of old ++ usage ∷ binding ∷ []
   pub tells : TellsEdge program e next usage binding
+
+-- and a way out of it behind them
+pub record AddsWhole (program : Typed) (edge : Edge) (next : ℕ) (old new : List written.Note) : Type 0 where
+  pub usage : Note
+  pub binding : Note
+  pub way : Note
+  pub added : map note_of new ≡ map note_of old ++ usage ∷ binding ∷ way ∷ []
+  pub tells : TellsEdge program edge next usage binding
+  pub tells_way : TellsWayOut program edge way
+
+-- the notes on a pair, and ahead of them the one that tells it
+pub record AddsPair (program : Typed) (pair : ClassPair) (old new : List written.Note) : Type 0 where
+  pub usage : Note
+  pub binding : Note
+  pub added : map note_of new ≡ map note_of old ++ pair_note program pair ∷ usage ∷ binding ∷ []
+  pub tells : TellsEdge program pair.edge pair.next usage binding
+
+-- and those on pairs
+pub record AddsPairs (program : Typed) (pairs : List ClassPair) (old new : List written.Note) : Type 0 where
+  pub told : List Note
+  pub added : map note_of new ≡ map note_of old ++ told
+  pub tell : TellPairs program pairs told

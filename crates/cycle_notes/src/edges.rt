@@ -6,7 +6,7 @@ ghost use Rattle.lockpaths.specs.Paths.{ArePaths};
 ghost use Rattle.lockorder.specs.Faults.{IsCycleOf};
 ghost use Rattle.cycle_notes.specs.CycleNotes.{AreCycleNotes};
 ghost use Rattle.cycle_notes.specs.CycleNotes as cycle;
-ghost use Rattle.cycle_notes.specs.Tellers.{IsMade, AddsEdge};
+ghost use Rattle.cycle_notes.specs.Tellers.{IsMade, AddsEdge, AddsWhole};
 
 use crate::teller::Teller;
 use core_lang::typed::Typed;
@@ -29,14 +29,16 @@ fn class_of_next(first: usize, rest: &[Edge]) -> usize
 
 /// A program and its lock paths.
 #[derive(Drop)]
-struct Edges<'a> {
-    program: &'a Typed,
-    paths: &'a Paths,
+pub struct Edges<'a> {
+    /// The program.
+    pub program: &'a Typed,
+    /// Its lock paths.
+    pub paths: &'a Paths,
 }
 
 impl Edges<'_> {
-    // The notes on an edge, which leads to a class.
-    fn push(
+    /// The notes on an edge, which leads to a class.
+    pub fn push(
         &self,
         alloc: Global,
         edge: Edge,
@@ -57,10 +59,33 @@ impl Edges<'_> {
         notes.push(teller.binding_note(alloc, &points, edge.bound, next)?)?;
         Ok(())
     }
+
+    // The same, and a way out of it.
+    fn push_whole(
+        &self,
+        alloc: Global,
+        edge: Edge,
+        next: usize,
+        notes: &mut Vec<Note>,
+    ) -> Result<(), NoMemory>
+        requires paths { ArePaths self.now.program.now self.now.paths.now }
+        requires made { IsMade self.now.program.now edge next }
+        ensures { OnOk result (AddsWhole self.now.program.now edge next notes.old.items notes.new.items) }
+    {
+        self.push(alloc, edge, next, notes)?;
+        let teller = Teller {
+            program: self.program,
+            section: &self.program.sections[edge.section],
+            found: &self.paths.sections[edge.section],
+        };
+        notes.push(teller.way_note(alloc, edge.bound, edge.class)?)?;
+        Ok(())
+    }
 }
 
 /// The notes on a cycle of a program: of each edge, where a lock of its class is used, and where the root of a path of the
-/// next class is bound, each with the section, the path and the class.
+/// next class is bound, each with the section, the path and the class; and whether this binding uses a lock of the edge's class itself, with a way
+/// out for either.
 ///
 /// # Errors
 ///
@@ -80,7 +105,7 @@ pub fn cycle_notes(
     let mut notes = Vec::new(alloc);
     for (i, edge) in edges.iter().enumerate() {
         let next = class_of_next(first, &edges[i + 1..]);
-        told.push(alloc, *edge, next, &mut notes)?;
+        told.push_whole(alloc, *edge, next, &mut notes)?;
     }
     Ok(notes)
 }

@@ -1,10 +1,13 @@
-//! Notes on a cycle of lock classes: of each edge where a lock of its class is used, and where the root of a path of the
-//! next class is bound.
+//! Notes on a cycle of lock classes, and on the order of those that have one: of each edge where a lock of its class is
+//! used, and where the root of a path of the class to which it leads is bound.
 //!
 //! - [`cycle_notes`]: the notes on the edges of a cycle; `specs/CycleNotes.antt` says which are true, and their words.
+//! - [`order_notes`]: the notes on the order of a program's classes; `specs/OrderNotes.antt` says the same of them.
 #![tactic(auto)]
 
 mod edges;
+mod order;
 mod teller;
 
 pub use edges::cycle_notes;
+pub use order::order_notes;

@@ -9,7 +9,7 @@ ghost use Rattle.flow.specs.PointList.{point_at};
 ghost use Rattle.locks.specs.LockPaths.{lock_path_of};
 ghost use Rattle.lockpaths.specs.Paths.{AreSectionPaths};
 ghost use Rattle.lockorder.specs.Edges.{UsesClass, BindsClass};
-ghost use Rattle.cycle_notes.specs.CycleNotes.{TellsUse, TellsBinding};
+ghost use Rattle.cycle_notes.specs.CycleNotes.{TellsUse, TellsBinding, TellsWay, apart_words, within_words};
 ghost use Rattle.cycle_notes.specs.Tellers.{HasClass, BeginsAt, IsUsedPath, IsBoundPath, begins, said_of};
 
 use core_lang::tree::{Action, Section};
@@ -82,6 +82,58 @@ impl Teller<'_> {
             return false;
         }
         begins_at(path.root, local)
+    }
+
+    // Whether the point of this number uses a path of the class.
+    fn uses_class(&self, point: usize, class: usize) -> bool
+        requires paths { AreSectionPaths self.now.program.now self.now.section.now self.now.found.now }
+        requires point { point < length (all_points self.now.section.now) }
+        ensures { Decides result (UsesClass self.now.program.now self.now.section.now point class) }
+    {
+        locks::laws::each_path_once();
+        let used = &self.found.used[point];
+        for number in 0..self.found.paths.len() {
+            if self.is_of_class(number, class) && used.contains(number) {
+                return true;
+            }
+        }
+        false
+    }
+
+    // This binding uses no lock of class CLASS itself, and what can be done then.
+    fn apart(&self, alloc: Global, class: usize) -> Result<String, NoMemory>
+        ensures { IfOk result (λ said. string_bytes said ≡ apart_words self.now.program.now class) }
+    {
+        let mut said = String::from_str(alloc, "this binding uses no lock of class ")?;
+        push_class(&mut said, self.program, class)?;
+        said.push_str(" itself: put it before that use, where what it names is known there")?;
+        Ok(said)
+    }
+
+    // This binding uses a lock of class CLASS itself, and what can be done then.
+    fn within(&self, alloc: Global, class: usize) -> Result<String, NoMemory>
+        ensures { IfOk result (λ said. string_bytes said ≡ within_words self.now.program.now class) }
+    {
+        let mut said = String::from_str(alloc, "this binding uses a lock of class ")?;
+        push_class(&mut said, self.program, class)?;
+        said.push_str(
+            " itself: take a parameter, a final reference, or a global lock for the reference",
+        )?;
+        Ok(said)
+    }
+
+    /// Whether the point of this number, which binds, uses a path of the class, and a way out: the note that says so.
+    pub fn way_note(&self, alloc: Global, point: usize, class: usize) -> Result<Note, NoMemory>
+        requires paths { AreSectionPaths self.now.program.now self.now.section.now self.now.found.now }
+        requires point { point < length (all_points self.now.section.now) }
+        ensures { IfOk result (λ note. TellsWay self.now.program.now self.now.section.now point class (note_of note)) }
+    {
+        let words = if self.uses_class(point, class) {
+            self.within(alloc, class)?
+        } else {
+            self.apart(alloc, class)?
+        };
+        Ok(Note { start: None, words })
     }
 
     // The number of a path of the class that the point of this number uses.

@@ -1,5 +1,5 @@
 -- What no text is answered with.
-use Rattle.std.proofs.Common.{◌≡◌, ℕ, List}
+use Rattle.std.proofs.Common.{◌≡◌, ℕ, Bool, List}
 use Rattle.lowering.specs.Plans.{Plan}
 use Rattle.driver.specs.declared.request.PairRequest.{PairRequest}
 use Rattle.driver.specs.declared.request.PairRequest.TheVariants.{Simulate, Trace, Replay}
@@ -52,11 +52,11 @@ threads_are_answered file text status out err (accepted plan accepts compiled (w
 threads_are_answered file text status out err (accepted plan accepts compiled (was_strange is)) = serving.strange is.ended
 threads_are_answered file text status out err (refused is) = serving.refused is.ended
 
-pub explained_is_answered : (file text : List ℕ) (status : Status) (out err : List ℕ) → ExplainAnswers file text status out err →
+pub explained_is_answered : (json : Bool) (file text : List ℕ) (status : Status) (out err : List ℕ) → ExplainAnswers json file text status out err →
     IsAnswered status
-explained_is_answered file text status out err (faultless is) = serving.done is.ended
-explained_is_answered file text status out err (explained is) = serving.refused is.ended
-explained_is_answered file text status out err (cycle_explained is) = serving.refused is.ended
+explained_is_answered json file text status out err (faultless is) = serving.done is.ended
+explained_is_answered json file text status out err (explained is) = serving.refused is.ended
+explained_is_answered json file text status out err (cycle_explained is) = serving.refused is.ended
 
 pub pair_is_answered : (request : PairRequest) (file text of other_file other : List ℕ) (status : Status) (out err : List ℕ) →
     TextAnswers (PairWanted request of other_file other) file text status out err → IsAnswered status

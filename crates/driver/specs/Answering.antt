@@ -1,11 +1,12 @@
 -- What this crate's functions compute of an answer. It mirrors the code: nobody has to believe it.
-use Rattle.std.specs.Prelude.{◌≡◌, ℕ, Bool, List, [], string_bytes, Result, Ok, Err}
+use Rattle.std.specs.Prelude.{◌≡◌, ℕ, Bool, List, [], map, string_bytes, Result, Ok, Err}
 use Rattle.code.specs.Listing.{line}
 use Rattle.compiler.specs.Programs.{Accepts}
 use Rattle.lowering.specs.Plans.{Plan, IsCompiled}
 use Rattle.source.specs.declared.fault.Fault.{Fault}
+use Rattle.explanation.specs.declared.explanation.Acceptance.{Acceptance}
 use Rattle.explanation.specs.declared.explanation.Explanation.{Explanation}
-use Rattle.explanation.specs.Values.{explanation_text_of}
+use Rattle.explanation.specs.Notes.{note_of}
 use Rattle.source.specs.Faults.{fault_text}
 use Rattle.steps.specs.declared.refusal.StepsFault.{StepsFault}
 use Rattle.steps.specs.Steps.{steps_fault_text}
@@ -18,6 +19,7 @@ use Rattle.driver.specs.declared.status.Status.{Status}
 use Rattle.driver.specs.declared.status.Status.TheVariants.{Refused, BadInput}
 use Rattle.driver.specs.Answers.{IsRefused}
 use Rattle.driver.specs.Checks.{IsCheckReport}
+use Rattle.driver.specs.Explanations.{acceptance_told, fault_told}
 use Rattle.driver.specs.Listings.{IsListed}
 use Rattle.driver.specs.OrderGraphs.{IsOrderGraph}
 use Rattle.driver.specs.Replays.{IsReplayed, verdict_status, judgement_text}
@@ -38,10 +40,17 @@ abbrev pub IsFaultAnswer : List ℕ → List ℕ → Fault → Answer → Type 0
 IsFaultAnswer file text fault answer =
     (answer.status ≡ Refused) × (string_bytes answer.out ≡ []) × (string_bytes answer.err ≡ line (fault_text file text fault))
 
+-- what explains a fault, and what tells of a program without one, of values of the code
+abbrev pub fault_told_of : Bool → Explanation → List ℕ
+fault_told_of json x = fault_told json x.file.now x.text.now x.fault.now (map note_of x.notes.now)
+
+abbrev pub acceptance_told_of : Bool → Acceptance → List ℕ
+acceptance_told_of json x = acceptance_told json x.file.now x.text.now (map note_of x.notes.now)
+
 -- to a fault that is explained
-abbrev pub IsExplainedAnswer : Explanation → Answer → Type 0
-IsExplainedAnswer explanation answer =
-    (answer.status ≡ Refused) × (string_bytes answer.out ≡ explanation_text_of explanation) × (string_bytes answer.err ≡ [])
+abbrev pub IsExplainedAnswer : Bool → Explanation → Answer → Type 0
+IsExplainedAnswer json explanation answer =
+    (answer.status ≡ Refused) × (string_bytes answer.out ≡ fault_told_of json explanation) × (string_bytes answer.err ≡ [])
 
 abbrev pub IsBadStepsAnswer : List ℕ → List ℕ → StepsFault → Answer → Type 0
 IsBadStepsAnswer steps_file items fault answer =

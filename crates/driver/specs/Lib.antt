@@ -30,5 +30,4 @@ pub use Rattle.driver.specs.Simulations.{SimulationAnswers}
 pub use Rattle.driver.specs.Traces.{TraceAnswers}
 pub use Rattle.driver.specs.Replays.{ReplayAnswers}
 pub use Rattle.driver.specs.ThreadRuns.{ThreadsAnswers}
-pub use Rattle.driver.specs.Engines.{Serves, Reading, reading_of}
-pub use Rattle.driver.specs.Serving.{IsUnread, IsMissed}
+pub use Rattle.driver.specs.Engines.{Serves, Reading, reading_of, IsUnread, IsMissed}

@@ -4,7 +4,7 @@ ghost use Rattle.std.specs.Prelude.{◌≡◌, [], ◌∷◌, false};
 ghost use Rattle.driver.specs.Answering.{PairWanted, RequestAnswers};
 ghost use Rattle.driver.specs.Answers.{Alone, Beside, TextAnswers};
 ghost use Rattle.driver.specs.Checks.{CheckAnswers};
-ghost use Rattle.driver.specs.Engines.{Serves, reading_of};
+ghost use Rattle.driver.specs.Engines.{Serves, IsMissed, reading_of};
 ghost use Rattle.driver.specs.Listings.{ListingAnswers};
 ghost use Rattle.driver.specs.OrderGraphs.{OrderGraphAnswers};
 ghost use Rattle.driver.specs.Replays.{ReplayAnswers};
@@ -12,7 +12,6 @@ ghost use Rattle.driver.specs.Serial.{SerialAnswers};
 ghost use Rattle.driver.specs.Simulations.{SimulationAnswers};
 ghost use Rattle.driver.specs.ThreadRuns.{ThreadsAnswers};
 ghost use Rattle.driver.specs.Traces.{TraceAnswers};
-ghost use Rattle.driver.specs.Serving.{IsMissed};
 ghost use Rattle.driver.specs.Streams.{name_of, reading_failed, writing_failed, Tells};
 
 use crate::answer::{answer_to, pair_answer_to, threads_answer};

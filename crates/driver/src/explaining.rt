@@ -2,8 +2,9 @@
 
 ghost use Rattle.std.specs.Prelude.{◌≡◌, [], false, IfOk, string_bytes};
 ghost use Rattle.compiler.specs.Cycles.{IsCyclic};
+ghost use Rattle.compiler.specs.Orders.{IsOrdered};
 ghost use Rattle.compiler.specs.Programs.{IsOfFirstPass};
-ghost use Rattle.driver.specs.Answering.{Meets, IsExplainedAnswer};
+ghost use Rattle.driver.specs.Answering.{Meets, IsExplainedAnswer, acceptance_told_of, fault_told_of};
 ghost use Rattle.driver.specs.Answers.{Alone};
 ghost use Rattle.driver.specs.Engines.{Serves, reading_of};
 ghost use Rattle.driver.specs.Explanations.{ExplainAnswers};
@@ -14,103 +15,152 @@ use crate::engine::MOST_BYTES;
 use crate::source_text::SourceText;
 use crate::status::Status;
 use crate::streams::Streams;
-use compiler::{Cyclic, examine};
-use cycle_notes::cycle_notes;
-use explanation::{Explanation, laws};
+use compiler::{Cyclic, Ordered, examine};
+use cycle_notes::{cycle_notes, order_notes};
+use explanation::{Acceptance, Explanation};
+use explanation_json::{accepted_json, fault_json};
 use fault_notes::fault_notes;
 use source::fault::{Fault, Refusal};
 use source::memory::NoMemory;
 use std::alloc::Global;
 use std::io::{Read, Write};
 
+/// A text that is to be explained, and how.
+#[derive(Clone, Copy)]
+struct Asked<'a> {
+    /// Whether it is explained as JSON.
+    json: bool,
+    /// The name of the text's file.
+    file: &'a str,
+    /// The text.
+    text: &'a [u8],
+}
+
+/// What explains a fault.
+fn fault_told(alloc: Global, json: bool, explanation: &Explanation<'_>) -> Result<String, NoMemory>
+    ensures { IfOk result (λ out. string_bytes out ≡ fault_told_of json explanation.now) }
+{
+    if json {
+        return fault_json(alloc, explanation);
+    }
+    explanation.text(alloc)
+}
+
+/// What tells of a program without a fault.
+fn acceptance_told(
+    alloc: Global,
+    json: bool,
+    acceptance: &Acceptance<'_>,
+) -> Result<String, NoMemory>
+    ensures { IfOk result (λ out. string_bytes out ≡ acceptance_told_of json acceptance.now) }
+{
+    if json {
+        return accepted_json(alloc, acceptance);
+    }
+    acceptance.text(alloc)
+}
+
 /// What is told of a fault.
-fn explained(alloc: Global, explanation: &Explanation<'_>) -> Result<Answer, NoMemory>
-    ensures { IfOk result (IsExplainedAnswer explanation.now) }
+fn explained(alloc: Global, json: bool, explanation: &Explanation<'_>) -> Result<Answer, NoMemory>
+    ensures { IfOk result (IsExplainedAnswer json explanation.now) }
 {
     Ok(Answer {
         status: Status::Refused,
-        out: explanation.text(alloc)?,
+        out: fault_told(alloc, json, explanation)?,
         err: String::new(alloc),
     })
 }
 
 /// What is told of a fault with no detail.
-fn fault_explained(
-    alloc: Global,
-    file: &str,
-    text: &[u8],
-    fault: &Fault,
-) -> Result<Answer, NoMemory>
-    requires given { IsOfFirstPass text.now fault.now }
+fn fault_explained(alloc: Global, asked: &Asked<'_>, fault: &Fault) -> Result<Answer, NoMemory>
+    requires given { IsOfFirstPass asked.now.text.now fault.now }
     requires bare { string_bytes fault.now.detail ≡ [] }
-    ensures { IfOk result (Meets (ExplainAnswers file.now text.now)) }
+    ensures { IfOk result (Meets (ExplainAnswers asked.now.json asked.now.file.now asked.now.text.now)) }
 {
-    let notes = fault_notes(alloc, text, fault)?;
+    let notes = fault_notes(alloc, asked.text, fault)?;
     let explanation = Explanation {
-        file,
-        text,
+        file: asked.file,
+        text: asked.text,
         fault,
         notes: &notes,
     };
-    explained(alloc, &explanation)
+    explained(alloc, asked.json, &explanation)
 }
 
 /// What is told of a cycle.
-fn cycle_explained(
-    alloc: Global,
-    file: &str,
-    text: &[u8],
-    cyclic: &Cyclic,
-) -> Result<Answer, NoMemory>
-    requires { IsCyclic text.now cyclic.now }
-    ensures { IfOk result (Meets (ExplainAnswers file.now text.now)) }
+fn cycle_explained(alloc: Global, asked: &Asked<'_>, cyclic: &Cyclic) -> Result<Answer, NoMemory>
+    requires { IsCyclic asked.now.text.now cyclic.now }
+    ensures { IfOk result (Meets (ExplainAnswers asked.now.json asked.now.file.now asked.now.text.now)) }
 {
     let notes = cycle_notes(alloc, &cyclic.written, &cyclic.paths, &cyclic.edges)?;
     let explanation = Explanation {
-        file,
-        text,
+        file: asked.file,
+        text: asked.text,
         fault: &cyclic.fault,
         notes: &notes,
     };
-    explained(alloc, &explanation)
+    explained(alloc, asked.json, &explanation)
 }
 
-/// What is answered for the text of the file of this name.
-fn explain_answer(alloc: Global, file: &str, text: &[u8]) -> Result<Answer, NoMemory>
-    ensures { IfOk result (Meets (ExplainAnswers file.now text.now)) }
+/// What is told of a text that is accepted.
+fn order_explained(alloc: Global, asked: &Asked<'_>, ordered: &Ordered) -> Result<Answer, NoMemory>
+    requires { IsOrdered asked.now.text.now ordered.now }
+    ensures { IfOk result (Meets (ExplainAnswers asked.now.json asked.now.file.now asked.now.text.now)) }
 {
-    match examine(alloc, text) {
-        Ok(Ok(_)) => Ok(Answer {
-            status: Status::Done,
-            out: String::from_str(alloc, "accepted\n")?,
-            err: String::new(alloc),
-        }),
-        Ok(Err(cyclic)) => cycle_explained(alloc, file, text, &cyclic),
-        Err(Refusal::Fault(fault)) => fault_explained(alloc, file, text, &fault),
+    let notes = order_notes(alloc, &ordered.written, &ordered.paths, &ordered.ranks)?;
+    let acceptance = Acceptance {
+        file: asked.file,
+        text: asked.text,
+        notes: &notes,
+    };
+    Ok(Answer {
+        status: Status::Done,
+        out: acceptance_told(alloc, asked.json, &acceptance)?,
+        err: String::new(alloc),
+    })
+}
+
+/// What is answered for a text.
+fn explain_answer(alloc: Global, asked: &Asked<'_>) -> Result<Answer, NoMemory>
+    ensures { IfOk result (Meets (ExplainAnswers asked.now.json asked.now.file.now asked.now.text.now)) }
+{
+    match examine(alloc, asked.text) {
+        Ok(Ok(ordered)) => order_explained(alloc, asked, &ordered),
+        Ok(Err(cyclic)) => cycle_explained(alloc, asked, &cyclic),
+        Err(Refusal::Fault(fault)) => fault_explained(alloc, asked, &fault),
         Err(Refusal::NoMemory) => Err(NoMemory),
     }
 }
 
 /// Explains the fault of the program that `source` gives: writes to `out` the line that reports it, the line of the source
-/// that it is in, where a lock order cycle comes from, and what can be done about it. Answers how that ended, as [`check`](crate::check) does, but:
+/// that it is in, where a lock order cycle comes from, and what can be done about it; or, where `json` is true, the same as a JSON
+/// object in one line. Answers how that ended, as [`check`](crate::check) does, but:
 ///
 /// - `Refused`: the program has a fault, and that was written to `out`; `err` gets nothing.
-/// - `Done`: the program has none, and the line `accepted` was written to `out`.
+/// - `Done`: the program has none. The line `accepted` was written to `out`, and the order of its lock classes: the class of
+///   each rank, and of each pair of classes of which the first has to come before the second what makes it so.
 pub fn explain<S: Read, O: Write, E: Write>(
     alloc: Global,
+    json: bool,
     source: &mut SourceText<'_, S>,
     streams: &mut Streams<O, E>,
 ) -> Status
     requires readable { reading_failed source.old ≡ false }
     requires writable { writing_failed streams.old.out ≡ false }
-    ensures { Serves (Alone (ExplainAnswers (name_of source.old))) (reading_of S.remaining source.old source.new) []
+    ensures { Serves (Alone (ExplainAnswers json (name_of source.old))) (reading_of S.remaining source.old source.new) []
         O.contents E.contents streams.old streams.new result }
 {
-    laws::shown_by_first_bytes();
+    explanation::laws::shown_by_first_bytes();
+    explanation_json::laws::fault_by_first_bytes();
     let text = match streams.read(alloc, source, MOST_BYTES) {
         Ok(text) => text,
         Err(status) => return status,
     };
-    let answer = explain_answer(alloc, source.name(), &text);
+    let asked = Asked {
+        json,
+        file: source.name(),
+        text: &text,
+    };
+    let answer = explain_answer(alloc, &asked);
     streams.give(&answer)
 }

@@ -1,5 +1,5 @@
--- The text that explains a fault.
-use Rattle.std.specs.Prelude.{ℕ, List, ◌++◌}
+-- The text that explains a fault, and that of a program without one.
+use Rattle.std.specs.Prelude.{ℕ, List, ◌++◌, codes}
 use Rattle.std.specs.List.{flat_map}
 use Rattle.code.specs.Listing.{line}
 use Rattle.source.specs.declared.fault.Fault.{Fault}
@@ -12,3 +12,7 @@ use Rattle.explanation.specs.Shown.{shown_place}
 abbrev pub explanation_text : List ℕ → List ℕ → Fault → List Note → List ℕ
 explanation_text file text fault notes =
     line (fault_text file text fault) ++ shown_place text fault.start ++ flat_map (note_text file text) notes ++ remedy_text fault.code
+
+-- of a program without a fault: that it is accepted, and what is told beyond that
+abbrev pub accepted_text : List ℕ → List ℕ → List Note → List ℕ
+accepted_text file text notes = line (codes "accepted") ++ flat_map (note_text file text) notes

@@ -1,25 +1,15 @@
-//! The text that explains a fault.
+//! The text that explains a fault, and that of a program without one.
 
-ghost use Rattle.std.specs.Prelude.{◌≡◌, IfOk, OnOk, map, string_bytes};
-ghost use Rattle.locks.specs.Texts.{AddsText};
-ghost use Rattle.explanation.specs.Notes.{note_of, said_text};
+ghost use Rattle.std.specs.Prelude.{◌≡◌, IfOk, string_bytes};
 
 use crate::note::Note;
+use crate::notes::Notes;
 use crate::remedy::push_remedy;
 use crate::shown::push_place;
 use source::fault::Fault;
-use source::line::{Place, fault_line};
+use source::line::fault_line;
 use source::memory::NoMemory;
-use std::alloc::{AllocError, Global};
-
-/// The line of a note on no place.
-fn push_said(out: &mut String, words: &str) -> Result<(), AllocError>
-    ensures { OnOk result (AddsText (said_text words.now) out.old out.new) }
-{
-    out.push_str("note: ")?;
-    out.push_str(words)?;
-    out.push_str("\n")
-}
+use std::alloc::Global;
 
 /// What is told of a fault.
 #[derive(Drop)]
@@ -35,50 +25,7 @@ pub struct Explanation<'a> {
 }
 
 impl Explanation<'_> {
-    ghost use Rattle.explanation.specs.Values.{explanation_text_of, note_text_of, note_texts_of, placed_text_of};
-
-    // A note on this place, and the place.
-    fn push_placed(
-        &self,
-        alloc: Global,
-        out: &mut String,
-        start: usize,
-        words: &str,
-    ) -> Result<(), NoMemory>
-        ensures { OnOk result (AddsText (placed_text_of self.now start words.now) out.old out.new) }
-    {
-        let place = Place {
-            file: self.file,
-            text: self.text,
-            start,
-        };
-        let line = place.line(alloc, "note:", words)?;
-        out.push_str(line.as_str())?;
-        out.push_str("\n")?;
-        push_place(out, self.text, start)?;
-        Ok(())
-    }
-
-    // The line of a note, and its place, if it has one.
-    fn push_note(&self, alloc: Global, out: &mut String, note: &Note) -> Result<(), NoMemory>
-        ensures { OnOk result (AddsText (note_text_of self.now (note_of note.now)) out.old out.new) }
-    {
-        if let Some(start) = note.start {
-            return self.push_placed(alloc, out, start, note.words.as_str());
-        }
-        push_said(out, note.words.as_str())?;
-        Ok(())
-    }
-
-    // The notes, one after another.
-    fn push_notes(&self, alloc: Global, out: &mut String) -> Result<(), NoMemory>
-        ensures { OnOk result (AddsText (note_texts_of self.now (map note_of self.now.notes.now)) out.old out.new) }
-    {
-        for note in self.notes {
-            self.push_note(alloc, out, note)?;
-        }
-        Ok(())
-    }
+    ghost use Rattle.explanation.specs.Values.{explanation_text_of};
 
     /// The line that reports the fault, as [`fault_line`] gives it; the line of the source that it is in, and below it a
     /// caret under the place; a line for each note, and its place in the same form, if it has one; and what can be done. Of a line of the
@@ -93,8 +40,46 @@ impl Explanation<'_> {
         let mut out = fault_line(alloc, self.file, self.text, self.fault)?;
         out.push_str("\n")?;
         push_place(&mut out, self.text, self.fault.start)?;
-        self.push_notes(alloc, &mut out)?;
+        let notes = Notes {
+            file: self.file,
+            text: self.text,
+            notes: self.notes,
+        };
+        notes.push(alloc, &mut out)?;
         push_remedy(&mut out, self.fault.code)?;
+        Ok(out)
+    }
+}
+
+/// What is told of a program without a fault.
+#[derive(Drop)]
+pub struct Acceptance<'a> {
+    /// The name of the text's file.
+    pub file: &'a str,
+    /// The text.
+    pub text: &'a [u8],
+    /// What is told beyond that it is accepted.
+    pub notes: &'a [Note],
+}
+
+impl Acceptance<'_> {
+    ghost use Rattle.explanation.specs.Values.{accepted_text_of};
+
+    /// The line `accepted`; and for each note what [`Explanation::text`] writes of one.
+    ///
+    /// # Errors
+    ///
+    /// Want of memory.
+    pub fn text(&self, alloc: Global) -> Result<String, NoMemory>
+        ensures { IfOk result (λ text. string_bytes text ≡ accepted_text_of self.now) }
+    {
+        let mut out = String::from_str(alloc, "accepted\n")?;
+        let told = Notes {
+            file: self.file,
+            text: self.text,
+            notes: self.notes,
+        };
+        told.push(alloc, &mut out)?;
         Ok(out)
     }
 }

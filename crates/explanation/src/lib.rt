@@ -1,17 +1,21 @@
 //! The text that explains a fault to a person: the line that reports it, the line of the source with a caret under the
-//! place, and what can be done about it.
+//! place, and what can be done about it. And the text that tells of a program without a fault why it is accepted.
 //!
-//! - [`Explanation`]: that text, as `specs/Explanation.antt` defines it byte for byte.
+//! - [`Explanation`], [`Acceptance`]: those texts, as `specs/Explanation.antt` defines them byte for byte.
 //! - [`laws`]: what holds of every shown place.
-//! - [`Note`]: what is told of a further place, or of the fault as a whole.
+//! - [`Note`]: what is told of a further place, or of the text as a whole.
 //! - `specs/Shown.antt`: how a line of the source is shown. `specs/Remedies.antt`: what is said of each code.
 #![tactic(auto)]
 
 mod explanation;
 pub mod laws;
+mod marks;
 mod note;
+mod notes;
 mod remedy;
 mod shown;
 
-pub use explanation::Explanation;
+pub use explanation::{Acceptance, Explanation};
+pub use marks::Marks;
 pub use note::Note;
+pub use remedy::remedy_of;

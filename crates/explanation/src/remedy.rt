@@ -8,7 +8,7 @@ use source::fault::Code;
 use std::alloc::AllocError;
 
 /// What can be done about a fault of this code, in fixed words.
-fn remedy_of(code: Code) -> &'static str
+pub fn remedy_of(code: Code) -> &'static str
     ensures { result.now ≡ remedy code }
 {
     match code {

@@ -1,5 +1,5 @@
 -- What is found of the names inside a declaration.
-use Rattle.std.proofs.Common.{◌≡◌, ℕ, true, false, List, Option, Some, None, sym, subst, ap, ◌∙◌}
+use Rattle.std.proofs.Common.{◌≡◌, ℕ, true, false, List, Option, Some, None, sym, subst}
 use Rattle.std.specs.Prelude.{slice_get}
 use denote.Ref.{Bor}
 use Rattle.syntax.specs.declared.tree.Name.{Name}

@@ -1,12 +1,11 @@
 -- The first of the declarations that gives what an `init` gives.
-use Rattle.std.proofs.Common.{◌≡◌, ◌∙◌, ◌<◌, ◌+◌, ℕ, suc, Bool, true, false, List, ◌∷◌, drop, length, map, get_or, Some, refl, sym, ap, add-one}
+use Rattle.std.proofs.Common.{◌≡◌, ◌∙◌, ◌<◌, ◌+◌, ℕ, Bool, true, false, List, ◌∷◌, drop, length, map, get_or, Some, refl, sym, ap, add-one}
 use Rattle.std.proofs.lemmas.List.{at_drop_more}
-use Rattle.std.specs.Prelude.{Option}
 use Rattle.syntax.specs.declared.tree.Decl as the_decl
 use Rattle.syntax.specs.declared.tree.Decl.TheVariants as decl_case
 use Rattle.syntax.specs.declared.tree.Init as the_init
 use Rattle.syntax.specs.Trees.{Init, Decl, init}
-use Rattle.syntax.specs.Views.{decl_of, init_of}
+use Rattle.syntax.specs.Views.{decl_of}
 use Rattle.resolution.specs.Scopes.{place_from}
 use Rattle.fault_notes.specs.Inits.{gives_same}
 

@@ -1,13 +1,13 @@
 -- Of an `init` that gives what another one gives the first is found.
-use Rattle.std.proofs.Common.{◌≡◌, ◌∙◌, ◌+◌, ℕ, zero, suc, Bool, true, false, List, [], ◌∷◌, ◌++◌, length, take, Option, Some, None, refl, sym, ap, subst, eq-eqb, eqb-true}
+use Rattle.std.proofs.Common.{◌≡◌, ◌∙◌, ℕ, Bool, true, false, List, [], ◌∷◌, length, take, Option, Some, None, refl, sym, ap, subst, eq-eqb, eqb-true}
 use Rattle.std.specs.Prelude.{slice_get, ◌==◌, ◌&&◌, ◌||◌, nat_lt, if◌then◌else◌}
 use Rattle.std.specs.Str.{bytes_eq}
 use Rattle.std.proofs.lemmas.Option.{same_Some}
 use Rattle.std.proofs.lemmas.Slice.Eq.{bytes_eq-Decides}
-use Rattle.syntax.specs.Trees.{Ident, Init, Decl, lock, struct, global, array, pool, init, atomic, helper, thread, Member, lock_member, final_member, field_member, Pool}
+use Rattle.syntax.specs.Trees.{Init, Decl, lock, struct, global, array, pool, init, atomic, helper, thread, Member, lock_member, final_member, field_member, Pool}
 use Rattle.resolution.specs.declared.init_target.InitTarget.{InitTarget}
-use Rattle.resolution.specs.Constants.{init_target_at, init_target_in, init_target_to, init_target_of, same_init_target, is_init_target, gives, giver, members_of}
-use Rattle.resolution.specs.Scopes.{◌>>=◌, bears, declared, is_called, member_bears, member_name, named, place_from, place_of, the_decl, the_member}
+use Rattle.resolution.specs.Constants.{init_target_at, init_target_in, init_target_to, init_target_of, same_init_target, is_init_target, gives, members_of}
+use Rattle.resolution.specs.Scopes.{◌>>=◌, bears, member_bears, member_name, named, place_of, the_decl, the_member}
 use Rattle.fault_notes.specs.FaultNotes.{IsGivenAgain, given_again}
 use Rattle.fault_notes.specs.Inits.{same_target, gives_same, IsFirstGiver, IsGivenFirst}
 use Rattle.fault_notes.proofs.Places.{some_pass, found_passes, passing, passing_at, or_right, named_passes, at_front, take_front}

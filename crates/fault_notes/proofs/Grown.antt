@@ -1,5 +1,5 @@
 -- Names that are pushed behind others.
-use Rattle.std.proofs.Common.{◌≡◌, ◌∙◌, ◌<◌, ◌+◌, ℕ, List, [], ◌∷◌, ◌++◌, drop, length, map, refl, sym, ap, append_assoc, get_or}
+use Rattle.std.proofs.Common.{◌≡◌, ◌∙◌, ◌<◌, ◌+◌, ℕ, List, [], ◌∷◌, ◌++◌, drop, length, sym, ap, append_assoc, get_or}
 use Rattle.std.proofs.lemmas.List.{map-append, at_drop_more}
 use denote.Ref.{Bor}
 use Rattle.std.specs.Prelude.{Box}

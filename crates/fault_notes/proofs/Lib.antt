@@ -6,6 +6,12 @@ pub mod Scopes
 pub mod Twice
 pub mod Ends
 pub mod FirstInits
+pub mod FirstBy
 pub mod Given
+pub mod LocksAtHand
+pub mod PassedMembers
+pub mod MissingInits
+pub mod Structs
+pub mod VarsNoted
 pub mod Telling
 pub mod TextTrees

@@ -1,49 +1,83 @@
 -- From what is found to what is told.
-use Rattle.std.proofs.Common.{◌≡◌, Option, Some, None, Result, sym, subst, refl}
-use Rattle.std.specs.Prelude.{IfOk}
+use Rattle.std.proofs.Common.{◌≡◌, ◌∙◌, ap, true, false, Option, Some, None, Result, ℕ, List, subst, refl, sym}
+use Rattle.std.specs.Option.{option_map}
+use Rattle.std.specs.Prelude.{IfOk, IsSome, is_some}
 use Rattle.std.proofs.lemmas.Result.{IfOk-weaker}
-use Rattle.explanation.specs.Notes.{Note}
+use Rattle.explanation.specs.Notes.{Note, note_of}
 use Rattle.explanation.specs.declared.note.Note as written
 use Rattle.source.specs.declared.fault.Code.{Code}
-use Rattle.source.specs.declared.fault.Code.TheVariants.{DeclaredTwice, InitOutOfRangeOrRepeated, MisplacedReturn}
+use Rattle.source.specs.declared.fault.Code.TheVariants.{UnstableBase}
 use Rattle.source.specs.declared.memory.NoMemory.{NoMemory}
+use Rattle.resolution.specs.Faults.{IsDeclaredTwice, PassesNonFinal}
+use Rattle.syntax.specs.Trees.{Decl}
 use Rattle.fault_notes.specs.declared.tree_notes.Faulty.{Faulty}
-use Rattle.fault_notes.specs.FaultNotes.{IsTrueNote, declared, given, IsTold, declared_twice, repeated, returns, declared_note, given_note}
-use Rattle.fault_notes.specs.Values.{decls_of, IsDeclaredNote, IsGivenNote, FoundNote, IsNoteIfTold}
-use Rattle.fault_notes.proofs.Twice.{first_of_twice}
+use Rattle.fault_notes.specs.FaultNotes.{IsTrueNote, IsTold, IsDeclaredNote, IsLimitNote, IsLockNote, IsLockWanted, IsPassedNote, IsGivenNote, IsGivenAgain, declared_note, lock_note, passed_note, given_note}
+use Rattle.fault_notes.specs.LimitsPassed.{limit_passed}
+use Rattle.fault_notes.specs.Vars.{var_noted}
+use Rattle.fault_notes.specs.Words.{note_of_all}
+use Rattle.fault_notes.specs.Values.{decls_of, tokens_of, FoundNote, IsNoteIfTold}
 use Rattle.fault_notes.proofs.Given.{first_of_given}
+use Rattle.fault_notes.proofs.LocksAtHand.{lock_some}
+use Rattle.fault_notes.proofs.PassedMembers.{passed_some}
+use Rattle.fault_notes.proofs.Twice.{first_of_twice}
 
-told_if : (x : Faulty) (code : Code) → (Is : Note → Type 0) → ((note : Note) → Is note → IsTrueNote (decls_of x) code x.at note) →
-    (IsTold (decls_of x) code x.at → (note : Note) × Is note) → (o : Option written.Note) → FoundNote Is o → IsNoteIfTold x code o
-told_if x code Is true_one must (Some note) is = true_one _ is
-told_if x code Is true_one must None none = λ told. let m = must told in none m.0 m.1
+-- ---- by the code
 
-module _ (x : Faulty) (code : Code) (r : Result (Option written.Note) NoMemory) where
-  abbrev True : Note → Type 0
-  True = IsTrueNote (decls_of x) code x.at
+module _ (x : Faulty) (code kind : Code) (is : code ≡ kind) where
+  as_kind : (o : Option written.Note) → IsNoteIfTold x kind o → IsNoteIfTold x code o
+  as_kind o told = subst (λ (c : Code). IsNoteIfTold x c o) (sym is) told
 
-  pub declared_told : code ≡ DeclaredTwice → IfOk r (FoundNote (IsDeclaredNote (decls_of x) x.at)) → IfOk r (IsNoteIfTold x code)
-  declared_told is found = IfOk-weaker r _ _ (told_if x code (IsDeclaredNote (decls_of x) x.at) true_one must) found
-    where
-      true_one : (note : Note) → IsDeclaredNote (decls_of x) x.at note → True note
-      true_one note d = subst True (sym d.said) (declared is d.declared)
+  pub told_so : (r : Result (Option written.Note) NoMemory) → IfOk r (IsNoteIfTold x kind) → IfOk r (IsNoteIfTold x code)
+  told_so r told = IfOk-weaker r _ _ as_kind told
 
-      must : IsTold (decls_of x) code x.at → (note : Note) × IsDeclaredNote (decls_of x) x.at note
-      must (declared_twice same twice) =
-          let f = first_of_twice (decls_of x) x.at twice in
-          (declared_note f.0, record { name = f.0; declared = f.1; said = refl })
-      must (repeated same again) = absurd cc
-      must (returns same) = absurd cc
+  told_if : (IsTold (tokens_of x) (decls_of x) kind x.at → (note : Note) × IsTrueNote (tokens_of x) (decls_of x) kind x.at note) → (o : Option written.Note) →
+      FoundNote (IsTrueNote (tokens_of x) (decls_of x) kind x.at) o → IsNoteIfTold x code o
+  told_if must (Some note) found = as_kind (Some note) found
+  told_if must None none = as_kind None (λ told. let m = must told in none m.0 m.1)
 
-  pub given_told : code ≡ InitOutOfRangeOrRepeated → IfOk r (FoundNote (IsGivenNote (decls_of x) x.at)) → IfOk r (IsNoteIfTold x code)
-  given_told is found = IfOk-weaker r _ _ (told_if x code (IsGivenNote (decls_of x) x.at) true_one must) found
-    where
-      true_one : (note : Note) → IsGivenNote (decls_of x) x.at note → True note
-      true_one note d = subst True (sym d.said) (given is d.given)
+  -- what is found of a fault of this kind is what is told
+  pub told_as : (r : Result (Option written.Note) NoMemory) → (IsTold (tokens_of x) (decls_of x) kind x.at → (note : Note) × IsTrueNote (tokens_of x) (decls_of x) kind x.at note) →
+      IfOk r (FoundNote (IsTrueNote (tokens_of x) (decls_of x) kind x.at)) → IfOk r (IsNoteIfTold x code)
+  told_as r must found = IfOk-weaker r _ _ (told_if must) found
 
-      must : IsTold (decls_of x) code x.at → (note : Note) × IsGivenNote (decls_of x) x.at note
-      must (declared_twice same twice) = absurd cc
-      must (repeated same again) =
-          let f = first_of_given (decls_of x) x.at again in
-          (given_note f.0, record { first = f.0; given = f.1; said = refl })
-      must (returns same) = absurd cc
+-- ---- what must be told
+
+module _ (decls : List Decl) (at : ℕ) where
+  pub twice_told : IsDeclaredTwice decls at → (note : Note) × IsDeclaredNote decls at note
+  twice_told twice =
+      let f = first_of_twice decls at twice in
+      (declared_note f.0, record { name = f.0; declared = f.1; said = refl })
+
+  pub lock_told : IsLockWanted decls at → (note : Note) × IsLockNote decls at note
+  lock_told wanted =
+      let l = lock_some decls wanted.lock_name wanted.has_lock at wanted.lacking in
+      (lock_note l.0, record { name = l.0; at_hand = l.1; said = refl })
+
+  pub passed_told : PassesNonFinal decls at → (note : Note) × IsPassedNote decls at note
+  passed_told is_passed =
+      let m = passed_some decls at is_passed in
+      (passed_note m.0, record { member = m.0; passed = m.1; said = refl })
+
+  pub again_told : IsGivenAgain decls at → (note : Note) × IsGivenNote decls at note
+  again_told again =
+      let f = first_of_given decls at again in
+      (given_note f.0, record { first = f.0; given = f.1; said = refl })
+
+  limit_some : (o : Option (List ℕ)) → IsSome o → (words : List ℕ) × (o ≡ Some words)
+  limit_some (Some words) is = (words, refl)
+  limit_some None is = absurd cc
+
+  pub limit_told : IsSome (limit_passed decls at) → (note : Note) × IsLimitNote decls at note
+  limit_told some =
+      let w = limit_some (limit_passed decls at) some in
+      (note_of_all w.0, record { words = w.0; passed = w.1; said = refl })
+
+-- ---- what is told of a var
+
+var_if : (x : Faulty) (o : Option written.Note) → option_map note_of o ≡ var_noted (tokens_of x) (decls_of x) x.at → IsNoteIfTold x UnstableBase o
+var_if x (Some note) e = sym e
+var_if x None e = λ told. let none : is_some (var_noted (tokens_of x) (decls_of x) x.at) ≡ false = ap is_some (sym e) in let bad : true ≡ false = sym told ∙ none in absurd cc
+
+pub var_told : (x : Faulty) (r : Result (Option written.Note) NoMemory) →
+    IfOk r (λ o. option_map note_of o ≡ var_noted (tokens_of x) (decls_of x) x.at) → IfOk r (IsNoteIfTold x UnstableBase)
+var_told x r found = IfOk-weaker r _ _ (var_if x) found

@@ -1,32 +1,43 @@
--- The tree of a text, and what it tells.
-use Rattle.std.proofs.Common.{◌≡◌, ◌≤◌, ℕ, List, [], Some, None, length, subst, arith}
+-- The tokens of a text and their tree, and what these tell.
+use Rattle.std.proofs.Common.{◌≡◌, ℕ, List, [], Some, None, subst, arith, ◌≤◌, length}
 use Rattle.std.specs.Prelude.{All}
 use Rattle.std.proofs.lemmas.List.Elements.{All-weaker}
 use Rattle.explanation.specs.Notes.{Note}
 use Rattle.source.specs.declared.fault.Code.{Code}
-use Rattle.source.specs.Texts.{SOURCE_LIMIT}
-use Rattle.syntax.specs.declared.tree.Tree.{Tree}
+use Rattle.source.specs.Texts.{HasTokens, SOURCE_LIMIT}
+use Rattle.source.specs.Tokens.{Tok, seen}
 use Rattle.syntax.specs.Trees.{Decl}
 use Rattle.syntax.specs.Views.{tree_of}
 use Rattle.fault_notes.specs.FaultNotes.{IsTrueNote, IsTold, AreNotes}
-use Rattle.fault_notes.specs.TextNotes.{HasTextTree, IsTrueTextNote, of_tree, AreTextNotes}
-use Rattle.fault_notes.specs.Values.{IsTextTree}
+use Rattle.fault_notes.specs.TextNotes.{HasTextTree, IsTrueTextNote, of_tree, of_tokens, AreTrueTextNotes, AreTextNotes}
+use Rattle.token_notes.specs.Expected.{IsTrueTokenNote}
+use Rattle.fault_notes.specs.Values.{IsParsed}
+use Rattle.fault_notes.specs.declared.text_notes.Parsed.{Parsed}
 
--- what has no tree tells nothing
-pub no_notes_of : (text : List ℕ) (code : Code) (at : ℕ) (notes : List Note) → notes ≡ [] → IsTextTree text None → AreTextNotes text code at notes
-no_notes_of text code at notes empty none = record {
-  are_true = rw empty (λ k d lt. absurd (omega arith));
-  told = λ ds few h told. absurd (none ds few h);
-}
+-- what has no tree tells what its tokens do
+pub notes_without_tree : (text : List ℕ) (code : Code) (at : ℕ) (notes : List Note) → AreTrueTextNotes text code at notes → IsParsed text None →
+    AreTextNotes text code at notes
+notes_without_tree text code at notes are none = record { are_true = are; told = λ ts ds few h told. absurd (none ts ds few h) }
+
+pub notes_by_tokens : (text : List ℕ) (ts : List Tok) (code : Code) (at : ℕ) (notes : List Note) → length text ≤ SOURCE_LIMIT → HasTokens text ts →
+    All (IsTrueTokenNote ts code at) notes → AreTrueTextNotes text code at notes
+notes_by_tokens text ts code at notes few has all =
+    All-weaker (IsTrueTokenNote ts code at) (IsTrueTextNote text code at) (λ note is. of_tokens few has is) notes all
+
+pub none_is_true : (text : List ℕ) (code : Code) (at : ℕ) (notes : List Note) → notes ≡ [] → AreTrueTextNotes text code at notes
+none_is_true text code at notes empty = rw empty (λ k d lt. absurd (omega arith))
 
 -- notes on the tree are notes on the text
-all_of_tree : (text : List ℕ) (ds : List Decl) (code : Code) (at : ℕ) (notes : List Note) → HasTextTree text ds → All (IsTrueNote ds code at) notes →
-    All (IsTrueTextNote text code at) notes
-all_of_tree text ds code at notes has all = All-weaker (IsTrueNote ds code at) (IsTrueTextNote text code at) (λ note is. of_tree has is) notes all
+all_of_tree : (text : List ℕ) (ts : List Tok) (ds : List Decl) (code : Code) (at : ℕ) (notes : List Note) → length text ≤ SOURCE_LIMIT → HasTextTree text ts ds →
+    All (IsTrueNote ts ds code at) notes → All (IsTrueTextNote text code at) notes
+all_of_tree text ts ds code at notes few has all =
+    All-weaker (IsTrueNote ts ds code at) (IsTrueTextNote text code at) (λ note is. of_tree few has is) notes all
 
-pub text_notes_of : (text : List ℕ) (tree : Tree) (code : Code) (at : ℕ) (notes : List Note) → IsTextTree text (Some tree) →
-    AreNotes (tree_of tree) code at notes → AreTextNotes text code at notes
-text_notes_of text tree code at notes is are = record {
-  are_true = all_of_tree text (tree_of tree) code at notes is.0 are.are_true;
-  told = λ ds few h told. are.told (subst (λ (es : List Decl). IsTold es code at) (is.1 ds few h) told);
+pub text_notes_of : (text : List ℕ) (p : Parsed) (code : Code) (at : ℕ) (notes : List Note) → IsParsed text (Some p) →
+    AreNotes (seen p.tokens.items) (tree_of p.tree) code at notes → AreTextNotes text code at notes
+text_notes_of text p code at notes is are = record {
+  are_true = all_of_tree text (seen p.tokens.items) (tree_of p.tree) code at notes is.0 is.1 are.are_true;
+  told = λ ts ds few h told.
+      let same = is.2 ts ds few h in
+      are.told (subst (λ (us : List Tok). IsTold us (tree_of p.tree) code at) same.0 (subst (λ (es : List Decl). IsTold ts es code at) same.1 told));
 }

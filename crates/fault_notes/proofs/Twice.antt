@@ -1,13 +1,12 @@
 -- Of a name that is declared twice the first is found.
-use Rattle.std.proofs.Common.{◌≡◌, ◌∙◌, ◌+◌, ℕ, zero, suc, Bool, true, false, List, [], ◌∷◌, ◌++◌, length, take, map, Option, Some, None, refl, sym, ap, subst, arith}
-use Rattle.std.specs.Prelude.{slice_get, ◌||◌}
+use Rattle.std.proofs.Common.{◌≡◌, ◌∙◌, ℕ, Bool, true, List, [], ◌∷◌, ◌++◌, length, map, Option, Some, None, refl, sym, ap}
+use Rattle.std.specs.Prelude.{◌||◌}
 use Rattle.std.proofs.lemmas.List.{map-append}
 use Rattle.syntax.specs.Trees.{Ident, Decl, struct, Member}
 use Rattle.resolution.specs.Faults.{IsDeclaredTwice, two_decls, two_members, two_locals, top_level}
 use Rattle.resolution.specs.Scopes as scopes
 use Rattle.resolution.specs.Scopes.{◌>>=◌, Scope, bears, declared, is_called, local_bears, member_bears, member_name, named, place_of, the_decl, the_local}
-use Rattle.resolution.specs.Where.{Has, Binds}
-use Rattle.fault_notes.specs.NameSpaces.{with_name, top_names, inner_names, ident_bears, Repeats, Bears, IsDeclaredIn, inside, outside, IsDeclaredAs, at_the_top, in_one}
+use Rattle.fault_notes.specs.NameSpaces.{with_name, top_names, inner_names, ident_bears, Repeats, Bears, inside, outside, IsDeclaredAs, at_the_top, in_one}
 use Rattle.fault_notes.proofs.Places.{some_pass, found_passes, passing, passing_at, named_passes, at_front, take_front, get_front}
 use Rattle.fault_notes.proofs.Scopes as locals
 use Rattle.fault_notes.proofs.Scopes.{texts, bound_local}

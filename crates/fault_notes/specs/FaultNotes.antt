@@ -1,51 +1,120 @@
 -- What is told of a fault beyond its line.
-use Rattle.std.specs.Prelude.{◌≡◌, ◌≤◌, ℕ, List, ◌∷◌, ◌++◌, Some, None, All, codes, length}
+use Rattle.std.specs.Fmt.{decimal}
+use Rattle.std.specs.Prelude.{◌≡◌, ◌≤◌, ℕ, List, ◌∷◌, ◌++◌, Some, All, IsSome, codes, length}
 use Rattle.explanation.specs.Notes.{Note}
 use Rattle.resolution.specs.Constants.{init_target_of, giver}
-use Rattle.resolution.specs.Faults.{IsDeclaredTwice}
+use Rattle.resolution.specs.Faults.{IsDeclaredTwice, IsUnprotected, PassesNonFinal, IsFinalMissing}
+use Rattle.resolution.specs.Scopes.{member_name}
+use Rattle.resolution.specs.Where.{Has}
 use Rattle.resolution.specs.declared.init_target.InitTarget.{InitTarget}
 use Rattle.source.specs.declared.fault.Code.{Code}
-use Rattle.source.specs.declared.fault.Code.TheVariants.{DeclaredTwice, InitOutOfRangeOrRepeated, MisplacedReturn}
-use Rattle.syntax.specs.Trees.{Ident, Init, Decl, init}
+use Rattle.source.specs.declared.fault.Code.TheVariants.{DeclaredTwice, NeitherFinalNorProtected, ProtectedByPassesNonFinal, UnstableBase, LimitExceeded, FinalWithoutOpeningValue, InitOutOfRangeOrRepeated, MisplacedReturn}
+use Rattle.source.specs.Tokens.{Tok}
+use Rattle.syntax.specs.Trees.{Ident, Final, Init, Member, Pool, Decl, lock, init}
 use Rattle.fault_notes.specs.Inits.{IsGivenFirst}
+use Rattle.fault_notes.specs.LimitsPassed.{limit_passed}
+use Rattle.fault_notes.specs.LocksAtHand.{lock_at_hand}
+use Rattle.fault_notes.specs.MissingInits.{IsGap, null_given}
 use Rattle.fault_notes.specs.MissingReturns.{IsLacking}
 use Rattle.fault_notes.specs.NameSpaces.{IsDeclaredAs}
+use Rattle.fault_notes.specs.PassedMembers.{passed_at}
+use Rattle.fault_notes.specs.Vars.{var_noted}
+use Rattle.fault_notes.specs.Words.{name_note, note_on, note_of_all}
 
 -- ---- words
 
--- of a place
-abbrev pub note_on : ℕ → List ℕ → Note
-note_on start words = record { start = Some start; words = words }
-
--- of the fault as a whole
-abbrev pub note_of_all : List ℕ → Note
-note_of_all words = record { start = None; words = words }
-
 abbrev pub declared_note : Ident → Note
-declared_note x = note_on x.span.start (x.text ++ codes " is declared here")
+declared_note x = name_note x (codes " is declared here")
+
+abbrev pub lock_words : Ident → List ℕ
+lock_words x = codes " could protect it: protected_by(" ++ x.text ++ codes ")"
+
+abbrev pub lock_note : Ident → Note
+lock_note x = name_note x (lock_words x)
+
+abbrev pub passed_note : Member → Note
+passed_note m = name_note (member_name m) (codes " is declared here, and is no final reference")
+
+-- of the member P[N] of a pool
+abbrev pub gap_words : Pool → ℕ → List ℕ
+gap_words p n = codes " is final, and no init gives it for " ++ p.name.text ++ codes "[" ++ decimal n ++ codes "]"
+
+abbrev pub gap_note : Pool → ℕ → Final → Note
+gap_note p n f = name_note f.name (gap_words p n)
+
+abbrev pub null_note : Final → Note
+null_note f = name_note f.name (codes " is final, and is never null")
 
 abbrev pub given_note : Init → Note
 given_note i = note_on i.start.start (i.field.text ++ codes " is given here")
 
 abbrev pub missing_note : Ident → Note
-missing_note x = note_on x.span.start (x.text ++ codes " has a result, and its body does not end in a return")
+missing_note x = name_note x (codes " has a result, and its body does not end in a return")
 
 abbrev pub misplaced_note : Note
 misplaced_note = note_of_all (codes "this return is not the last statement of a body with a result")
 
--- ---- truth
+-- ---- truth, by the fault's code
 
--- of a fault of this code at this byte of the tree, the note says what is so
-pub data IsTrueNote (decls : List Decl) (code : Code) (at : ℕ) : Note → Type 0 where
-  -- E05: where the name is declared that this one is the same as
-  declared : {x : Ident} → code ≡ DeclaredTwice → IsDeclaredAs decls at x → IsTrueNote decls code at (declared_note x)
-  -- E17: where the first `init` is that gives what this one gives
-  given : {i : Init} → code ≡ InitOutOfRangeOrRepeated → IsGivenFirst decls at i → IsTrueNote decls code at (given_note i)
-  -- E18: a section or a helper whose return is missing; or that no return is missing there, so that the one there is misplaced
-  missing : {x : Ident} → code ≡ MisplacedReturn → IsLacking decls at x → IsTrueNote decls code at (missing_note x)
-  misplaced : code ≡ MisplacedReturn → ((x : Ident) → IsLacking decls at x → ⊥) → IsTrueNote decls code at misplaced_note
+-- E05: where the name is declared that this one is the same as
+pub record IsDeclaredNote (decls : List Decl) (at : ℕ) (note : Note) : Type 0 where
+  pub name : Ident
+  pub declared : IsDeclaredAs decls at name
+  pub said : note ≡ declared_note name
+
+-- E10: the lock that could protect it
+pub record IsLockNote (decls : List Decl) (at : ℕ) (note : Note) : Type 0 where
+  pub name : Ident
+  pub at_hand : lock_at_hand decls at ≡ Some name
+  pub said : note ≡ lock_note name
+
+-- E12: where the member is declared that is passed
+pub record IsPassedNote (decls : List Decl) (at : ℕ) (note : Note) : Type 0 where
+  pub member : Member
+  pub passed : passed_at decls at ≡ Some member
+  pub said : note ≡ passed_note member
+
+-- E15: which limit is passed
+pub record IsLimitNote (decls : List Decl) (at : ℕ) (note : Note) : Type 0 where
+  pub words : List ℕ
+  pub passed : limit_passed decls at ≡ Some words
+  pub said : note ≡ note_of_all words
+
+-- E16: which `init` is missing; or the final reference that is given null
+pub data IsFinalNote (decls : List Decl) (at : ℕ) : Note → Type 0 where
+  gap : {p : Pool} {n : ℕ} {f : Final} → IsGap decls at p n f → IsFinalNote decls at (gap_note p n f)
+  null : {f : Final} → null_given decls at ≡ Some f → IsFinalNote decls at (null_note f)
+
+-- E17: where the first `init` is that gives what this one gives
+pub record IsGivenNote (decls : List Decl) (at : ℕ) (note : Note) : Type 0 where
+  pub first : Init
+  pub given : IsGivenFirst decls at first
+  pub said : note ≡ given_note first
+
+-- E18: a section or a helper whose return is missing; or that no return is missing there, so that the one there is misplaced
+pub data IsReturnNote (decls : List Decl) (at : ℕ) : Note → Type 0 where
+  missing : {x : Ident} → IsLacking decls at x → IsReturnNote decls at (missing_note x)
+  misplaced : ((x : Ident) → IsLacking decls at x → ⊥) → IsReturnNote decls at misplaced_note
+
+-- of a fault of this code at this byte of the tokens and their tree, the note says what is so
+abbrev pub IsTrueNote : List Tok → List Decl → Code → ℕ → Note → Type 0
+IsTrueNote tokens decls DeclaredTwice at note = IsDeclaredNote decls at note
+IsTrueNote tokens decls NeitherFinalNorProtected at note = IsLockNote decls at note
+IsTrueNote tokens decls ProtectedByPassesNonFinal at note = IsPassedNote decls at note
+IsTrueNote tokens decls UnstableBase at note = var_noted tokens decls at ≡ Some note
+IsTrueNote tokens decls LimitExceeded at note = IsLimitNote decls at note
+IsTrueNote tokens decls FinalWithoutOpeningValue at note = IsFinalNote decls at note
+IsTrueNote tokens decls InitOutOfRangeOrRepeated at note = IsGivenNote decls at note
+IsTrueNote tokens decls MisplacedReturn at note = IsReturnNote decls at note
+IsTrueNote tokens decls code at note = ⊥
 
 -- ---- where one must be told
+
+-- something there lacks an annotation, and the top level has a lock
+pub record IsLockWanted (decls : List Decl) (at : ℕ) : Type 0 where
+  pub lock_name : Ident
+  pub lacking : IsUnprotected decls at
+  pub has_lock : Has decls (lock lock_name)
 
 -- an `init` there gives what one before it gives
 pub data IsGivenAgain (decls : List Decl) : ℕ → Type 0 where
@@ -53,12 +122,18 @@ pub data IsGivenAgain (decls : List Decl) : ℕ → Type 0 where
       decls ≡ before ++ init j ∷ behind → init_target_of decls j ≡ Some g → giver decls before g ≡ Some e →
       IsGivenAgain decls j.start.start
 
-pub data IsTold (decls : List Decl) (code : Code) (at : ℕ) : Type 0 where
-  declared_twice : code ≡ DeclaredTwice → IsDeclaredTwice decls at → IsTold decls code at
-  repeated : code ≡ InitOutOfRangeOrRepeated → IsGivenAgain decls at → IsTold decls code at
-  returns : code ≡ MisplacedReturn → IsTold decls code at
+abbrev pub IsTold : List Tok → List Decl → Code → ℕ → Type 0
+IsTold tokens decls DeclaredTwice at = IsDeclaredTwice decls at
+IsTold tokens decls NeitherFinalNorProtected at = IsLockWanted decls at
+IsTold tokens decls ProtectedByPassesNonFinal at = PassesNonFinal decls at
+IsTold tokens decls UnstableBase at = IsSome (var_noted tokens decls at)
+IsTold tokens decls LimitExceeded at = IsSome (limit_passed decls at)
+IsTold tokens decls FinalWithoutOpeningValue at = IsFinalMissing decls at
+IsTold tokens decls InitOutOfRangeOrRepeated at = IsGivenAgain decls at
+IsTold tokens decls MisplacedReturn at = Unit {0}
+IsTold tokens decls code at = ⊥
 
 -- the notes are true, and there is one where there must be
-pub record AreNotes (decls : List Decl) (code : Code) (at : ℕ) (notes : List Note) : Type 0 where
-  pub are_true : All (IsTrueNote decls code at) notes
-  pub told : IsTold decls code at → 1 ≤ length notes
+pub record AreNotes (tokens : List Tok) (decls : List Decl) (code : Code) (at : ℕ) (notes : List Note) : Type 0 where
+  pub are_true : All (IsTrueNote tokens decls code at) notes
+  pub told : IsTold tokens decls code at → 1 ≤ length notes

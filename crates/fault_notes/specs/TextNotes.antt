@@ -1,24 +1,31 @@
 -- What is told of a fault of a text beyond its line.
-use Rattle.std.specs.Prelude.{◌≡◌, ◌≤◌, ℕ, List, All, length}
+use Rattle.std.specs.Prelude.{◌≤◌, ℕ, List, All, length}
 use Rattle.explanation.specs.Notes.{Note}
 use Rattle.source.specs.declared.fault.Code.{Code}
 use Rattle.source.specs.Texts.{HasTokens, SOURCE_LIMIT}
 use Rattle.source.specs.Tokens.{Tok}
 use Rattle.syntax.specs.Grammar.{HasTree}
+use Rattle.token_notes.specs.Expected.{IsTrueTokenNote}
 use Rattle.syntax.specs.Trees.{Decl}
 use Rattle.fault_notes.specs.FaultNotes.{IsTrueNote, IsTold}
 
--- the tree of the text's tokens, wherever its returns stand
-pub record HasTextTree (text : List ℕ) (decls : List Decl) : Type 0 where
-  pub tokens : List Tok
+-- the text's tokens and their tree, wherever its returns stand
+pub record HasTextTree (text : List ℕ) (tokens : List Tok) (decls : List Decl) : Type 0 where
   pub has_tokens : HasTokens text tokens
   pub has_tree : HasTree tokens decls
 
--- of a fault of this code at this byte of the text, the note says what is so
+-- of a fault of this code at this byte of the text, the note says what is so; of a text that is too long nothing is said
 pub data IsTrueTextNote (text : List ℕ) (code : Code) (at : ℕ) (note : Note) : Type 0 where
-  of_tree : {decls : List Decl} → HasTextTree text decls → IsTrueNote decls code at note → IsTrueTextNote text code at note
+  of_tree : {tokens : List Tok} {decls : List Decl} →
+      length text ≤ SOURCE_LIMIT → HasTextTree text tokens decls → IsTrueNote tokens decls code at note → IsTrueTextNote text code at note
+  of_tokens : {tokens : List Tok} →
+      length text ≤ SOURCE_LIMIT → HasTokens text tokens → IsTrueTokenNote tokens code at note → IsTrueTextNote text code at note
 
--- the notes are true, and there is one where there must be; a text that is too long is not read
+abbrev pub AreTrueTextNotes : List ℕ → Code → ℕ → List Note → Type 0
+AreTrueTextNotes text code at notes = All (IsTrueTextNote text code at) notes
+
+-- the notes are true, and there is one where there must be
 pub record AreTextNotes (text : List ℕ) (code : Code) (at : ℕ) (notes : List Note) : Type 0 where
-  pub are_true : All (IsTrueTextNote text code at) notes
-  pub told : (decls : List Decl) → length text ≤ SOURCE_LIMIT → HasTextTree text decls → IsTold decls code at → 1 ≤ length notes
+  pub are_true : AreTrueTextNotes text code at notes
+  pub told : (tokens : List Tok) (decls : List Decl) → length text ≤ SOURCE_LIMIT → HasTextTree text tokens decls → IsTold tokens decls code at →
+      1 ≤ length notes

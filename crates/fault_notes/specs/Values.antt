@@ -1,27 +1,42 @@
 -- What values of the code are, in the words of the notes.
-use Rattle.std.specs.Prelude.{◌≡◌, ◌≤◌, ℕ, List, map, length, Option, Some, None}
+use Rattle.std.specs.Prelude.{◌≡◌, ◌<◌, ◌≤◌, ℕ, if◌then◌else◌, List, map, slice_get, length, Option, Some, None, IsSome}
 use denote.Ref.{Bor}
 use Rattle.std.specs.Option.{option_map}
 use Rattle.explanation.specs.Notes.{Note, note_of}
 use Rattle.explanation.specs.declared.note.Note as written_note
+use Rattle.resolution.specs.Constants.{members_of}
+use Rattle.resolution.specs.FaultLists.{is_at}
+use Rattle.resolution.specs.Scopes.{declared, member_bears, member_name, place_of, the_member}
+use Rattle.source.specs.Texts.{SOURCE_LIMIT}
+use Rattle.source.specs.Tokens.{Tok, seen, seen_token}
 use Rattle.source.specs.declared.fault.Code.{Code}
+use Rattle.source.specs.declared.token.Token.{Token}
+use Rattle.symbols.specs.Views.{decls_of as decls_in, members_seen}
+use Rattle.symbols.specs.declared.members.Structure.{Structure}
+use Rattle.symbols.specs.declared.table.SymbolTable.{SymbolTable}
+use Rattle.syntax.specs.Trees.{Ident, Final, Init, Member, final_member, Param, Pool, Section, Stmt, Decl, pool}
+use Rattle.syntax.specs.Views.{ident, decl_of, final_of, init_of, member_of, param_of, pool_of, protection_of, section_of, stmt_of, tree_of}
 use Rattle.syntax.specs.declared.tree.Decl as written_decl
+use Rattle.syntax.specs.declared.tree.Final as written_final
 use Rattle.syntax.specs.declared.tree.Init as written_init
 use Rattle.syntax.specs.declared.tree.Member as written_member
-use Rattle.syntax.specs.declared.tree.Section as written_section
 use Rattle.syntax.specs.declared.tree.Name.{Name}
 use Rattle.syntax.specs.declared.tree.Param as written_param
-use Rattle.source.specs.Texts.{SOURCE_LIMIT}
-use Rattle.syntax.specs.declared.tree.Tree.{Tree}
-use Rattle.fault_notes.specs.TextNotes.{HasTextTree}
-use Rattle.syntax.specs.Trees.{Ident, Init, Param, Section, Decl}
-use Rattle.syntax.specs.Views.{ident, decl_of, init_of, member_of, param_of, section_of, tree_of}
-use Rattle.resolution.specs.Scopes.{declared, member_name}
-use Rattle.fault_notes.specs.declared.tree_notes.Faulty.{Faulty}
-use Rattle.fault_notes.specs.FaultNotes.{IsTrueNote, IsTold, declared_note, given_note}
-use Rattle.fault_notes.specs.Inits.{IsGivenFirst}
+use Rattle.syntax.specs.declared.tree.Protection.{Protection}
+use Rattle.syntax.specs.declared.tree.Section as written_section
+use Rattle.syntax.specs.declared.tree.Stmt as written_stmt
+use Rattle.fault_notes.specs.FaultNotes.{IsTrueNote, IsTold, gap_note}
+use Rattle.fault_notes.specs.FirstBy.{first_by}
+use Rattle.fault_notes.specs.LimitsPassed.{struct_name, body_name, thread_name}
+use Rattle.fault_notes.specs.MissingInits.{IsFirstWithout, IsGap, IsGapOf, IsMissing, value_given}
 use Rattle.fault_notes.specs.MissingReturns.{body_of}
-use Rattle.fault_notes.specs.NameSpaces.{IsDeclaredAs}
+use Rattle.fault_notes.specs.PassedMembers.{passed_along, passed_for}
+use Rattle.fault_notes.specs.TextNotes.{HasTextTree}
+use Rattle.fault_notes.specs.declared.limits_passed.Kind.{Kind}
+use Rattle.fault_notes.specs.declared.limits_passed.Kind.TheVariants.{Structs, Bodies, Threads}
+use Rattle.fault_notes.specs.declared.missing_inits.Gap.{Gap}
+use Rattle.fault_notes.specs.declared.text_notes.Parsed.{Parsed}
+use Rattle.fault_notes.specs.declared.tree_notes.Faulty.{Faulty}
 
 -- the names that these are
 abbrev pub ident_at : Bor Name → Ident
@@ -50,26 +65,18 @@ param_names ps = map (λ (p : Param). p.name) (map param_of ps)
 abbrev pub decls_of : Faulty → List Decl
 decls_of x = tree_of x.tree.now
 
+abbrev pub tokens_of : Faulty → List Tok
+tokens_of x = seen x.tokens.now
+
 -- a note of the kind, if there is one
 abbrev pub FoundNote : (Note → Type 0) → Option written_note.Note → Type 0
 FoundNote Is (Some note) = Is (note_of note)
 FoundNote Is None = (note : Note) → Is note → ⊥
 
--- on the name that is declared as the one at the place; on the first `init`; on the section whose return is missing
-pub record IsDeclaredNote (decls : List Decl) (at : ℕ) (note : Note) : Type 0 where
-  pub name : Ident
-  pub declared : IsDeclaredAs decls at name
-  pub said : note ≡ declared_note name
-
-pub record IsGivenNote (decls : List Decl) (at : ℕ) (note : Note) : Type 0 where
-  pub first : Init
-  pub given : IsGivenFirst decls at first
-  pub said : note ≡ given_note first
-
 -- a true note, or none, where none must be
 abbrev pub IsNoteIfTold : Faulty → Code → Option written_note.Note → Type 0
-IsNoteIfTold x code (Some note) = IsTrueNote (decls_of x) code x.at (note_of note)
-IsNoteIfTold x code None = IsTold (decls_of x) code x.at → ⊥
+IsNoteIfTold x code (Some note) = IsTrueNote (tokens_of x) (decls_of x) code x.at (note_of note)
+IsNoteIfTold x code None = IsTold (tokens_of x) (decls_of x) code x.at → ⊥
 
 abbrev pub FoundInit : (Init → Type 0) → Option (Bor written_init.Init) → Type 0
 FoundInit Is (Some i) = Is (init_of i.now)
@@ -82,7 +89,88 @@ section_at s = section_of s.now
 abbrev pub IsBodyOf : written_decl.Decl → Option (Bor written_section.Section) → Type 0
 IsBodyOf d s = option_map section_at s ≡ body_of (decl_of d)
 
--- the one tree of a text that is not too long, if it has one
-abbrev pub IsTextTree : List ℕ → Option Tree → Type 0
-IsTextTree text (Some tree) = HasTextTree text (tree_of tree) × ((ds : List Decl) → length text ≤ SOURCE_LIMIT → HasTextTree text ds → ds ≡ tree_of tree)
-IsTextTree text None = (ds : List Decl) → length text ≤ SOURCE_LIMIT → HasTextTree text ds → ⊥
+-- the tokens of a text that is not too long, and their one tree, if it has them
+abbrev pub IsParsed : List ℕ → Option Parsed → Type 0
+IsParsed text (Some p) =
+    (length text ≤ SOURCE_LIMIT)
+    × HasTextTree text (seen p.tokens.items) (tree_of p.tree)
+    × ((ts : List Tok) (ds : List Decl) → length text ≤ SOURCE_LIMIT → HasTextTree text ts ds → (ts ≡ seen p.tokens.items) × (ds ≡ tree_of p.tree))
+IsParsed text None = (ts : List Tok) (ds : List Decl) → length text ≤ SOURCE_LIMIT → HasTextTree text ts ds → ⊥
+
+-- ---- tokens and statements
+
+abbrev pub token_seen : Bor Token → Tok
+token_seen t = seen_token t.now
+
+abbrev pub text_at : Bor (List ℕ) → List ℕ
+text_at text = text.now
+
+abbrev pub stmt_at : Bor written_stmt.Stmt → Stmt
+stmt_at s = stmt_of s.now
+
+-- ---- limits
+
+abbrev pub kind_name : Kind → Decl → Option Ident
+kind_name Structs d = struct_name d
+kind_name Bodies d = body_name d
+kind_name Threads d = thread_name d
+
+-- ---- what is found with the tables of declarations
+
+abbrev pub member_at : Bor written_member.Member → Member
+member_at m = member_of m.now
+
+abbrev pub member_found : ℕ × Bor written_member.Member → ℕ × Member
+member_found f = (f.0, member_of f.1.now)
+
+abbrev pub members_behind : Bor Structure → List Member
+members_behind s = members_seen s.now
+
+abbrev pub final_at : Bor written_final.Final → Final
+final_at f = final_of f.now
+
+-- along an annotation, from a struct on, if there is one; and of a struct's annotations
+abbrev pub passed_from : SymbolTable → ℕ → Option (Bor Structure) → Protection → Option Member
+passed_from symbols at s p = passed_along (decls_in symbols) at (option_map members_behind s) (protection_of p).first (protection_of p).rest
+
+abbrev pub passed_inside : SymbolTable → ℕ → Structure → Option Member
+passed_inside symbols at s = first_by (passed_for (decls_in symbols) at (members_seen s)) (members_seen s)
+
+-- the member at a place of a struct, if it is a final reference and the first of its name
+abbrev pub due_final : List Member → ℕ → Member → Option Final
+due_final members k (final_member f) = if is_at k (place_of member_bears members f.name.text) then Some f else None
+due_final members k _ = None
+
+-- all of so many members of the pool at a place are given it
+abbrev pub AllGiven : List Decl → ℕ → ℕ → ℕ → Type 0
+AllGiven decls place member count = (k : ℕ) → k < count → IsSome (value_given decls place member k)
+
+-- the first to which it is not given; or all are
+abbrev pub FoundFirst : List Decl → ℕ → ℕ → ℕ → Option ℕ → Type 0
+FoundFirst decls place member count (Some n) = IsFirstWithout decls place member count n
+FoundFirst decls place member count None = AllGiven decls place member count
+
+-- the same of all final references of a struct
+abbrev pub EachGiven : List Decl → ℕ → List Member → ℕ → Type 0
+EachGiven decls place members count =
+    (m : ℕ) (f : Final) → the_member members f.name.text ≡ Some (m, final_member f) → AllGiven decls place m count
+
+abbrev pub FoundMissing : List Decl → ℕ → List Member → ℕ → Option (ℕ × Bor written_final.Final) → Type 0
+FoundMissing decls place members count (Some found) = IsMissing decls place members count found.0 (final_at found.1)
+FoundMissing decls place members count None = EachGiven decls place members count
+
+-- the same of a pool whose name stands there
+abbrev pub IsWhole : List Decl → ℕ → Pool → ℕ → Type 0
+IsWhole decls place p at =
+    (members : List Member) → p.name.span.start ≡ at → members_of decls p.target ≡ Some members → EachGiven decls place members p.length.value
+
+abbrev pub FoundGapOf : List Decl → ℕ → Pool → ℕ → Option (ℕ × Bor written_final.Final) → Type 0
+FoundGapOf decls place p at (Some found) = IsGapOf decls place p at found.0 (final_at found.1)
+FoundGapOf decls place p at None = IsWhole decls place p at
+
+abbrev pub FoundGap : List Decl → ℕ → Option Gap → Type 0
+FoundGap decls at (Some gap) = IsGap decls at (pool_of gap.pool.now) gap.index (final_at gap.reference)
+FoundGap decls at None = (place : ℕ) (p : Pool) → slice_get decls place ≡ Some (pool p) → IsWhole decls place p at
+
+abbrev pub gap_note_of : Gap → Note
+gap_note_of gap = gap_note (pool_of gap.pool.now) gap.index (final_at gap.reference)

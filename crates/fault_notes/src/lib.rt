@@ -2,15 +2,24 @@
 //!
 //! - [`fault_notes`]: the notes on a fault: `specs/TextNotes.antt` and `specs/FaultNotes.antt` say which are true, and where there
 //!   must be one.
-//! - `specs/NameSpaces.antt`: which names must differ, and which of two is the first. `specs/Inits.antt`: the first `init` of a
-//!   field. `specs/MissingReturns.antt`: which section lacks its `return`.
+//! - `specs/NameSpaces.antt`: which names must differ, and which of two is the first. `specs/LocksAtHand.antt`: a lock for what
+//!   has none. `specs/PassedMembers.antt`: what an annotation passes. `specs/MissingInits.antt`: which `init` is missing.
+//!   `specs/Vars.antt`: which `var` a name is. `specs/LimitsPassed.antt`: which limit on names is passed.
+//!   `specs/Inits.antt`: the first `init` of a field. `specs/MissingReturns.antt`: which section lacks its `return`.
 #![tactic(auto)]
 
 mod first_inits;
+mod limits_passed;
+mod locks_at_hand;
+mod missing_inits;
 mod missing_returns;
 mod name_spaces;
+mod noted;
+mod passed_members;
 mod same_names;
 mod text_notes;
+mod tokens_there;
 mod tree_notes;
+mod vars;
 
 pub use text_notes::fault_notes;

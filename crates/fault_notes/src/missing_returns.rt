@@ -1,6 +1,6 @@
 //! Which section or helper lacks its `return`.
 
-ghost use Rattle.std.specs.Prelude.{◌≡◌, map};
+ghost use Rattle.std.specs.Prelude.{map};
 ghost use Rattle.std.specs.Bool.{Decides};
 ghost use Rattle.syntax.specs.Returns.{EndsInReturn};
 ghost use Rattle.syntax.specs.Views.{decl_of, section_of, stmts_of};
@@ -28,7 +28,8 @@ fn lacks_return(section: &Section, at: usize) -> bool
     !ends_in_return(&section.body.stmts)
 }
 
-fn body_of(decl: &Decl) -> Option<&Section>
+/// The section or helper that a declaration is.
+pub fn body_of(decl: &Decl) -> Option<&Section>
     ensures { IsBodyOf decl.now result }
 {
     match decl {

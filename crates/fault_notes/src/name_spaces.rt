@@ -4,11 +4,11 @@ ghost use Rattle.std.specs.Prelude.{◌≡◌, ◌++◌, IfOk, OnOk, map};
 ghost use Rattle.syntax.specs.Views.{decl_of, else_of, ident, section_of, stmt_of, stmts_of};
 ghost use Rattle.fault_notes.specs.NameSpaces.{inner_names, local_names, top_names};
 ghost use Rattle.fault_notes.specs.NameSpaces as space;
-ghost use Rattle.fault_notes.specs.Values.{idents, IsNameOf, member_names, name_of_member};
+ghost use Rattle.fault_notes.specs.Values.{idents, IsNameOf, member_names, name_of_member, param_names};
 
 use source::memory::NoMemory;
 use std::alloc::Global;
-use syntax::tree::{Block, Decl, Member, Name, Section, Stmt};
+use syntax::tree::{Block, Decl, Member, Name, Param, Section, Stmt};
 
 /// The name that is declared; an `init` declares none.
 fn declared(decl: &Decl) -> Option<&Name>
@@ -40,7 +40,8 @@ pub fn top_names_of<'a>(alloc: Global, decls: &'a [Decl]) -> Result<Vec<&'a Name
     Ok(names)
 }
 
-fn member_name(member: &Member) -> &Name
+/// The name of a member.
+pub fn member_name(member: &Member) -> &Name
     ensures { ident result.now ≡ name_of_member member.now }
 {
     match member {
@@ -50,7 +51,8 @@ fn member_name(member: &Member) -> &Name
     }
 }
 
-fn push_members<'a>(members: &'a [Member], names: &mut Vec<&'a Name>) -> Result<(), NoMemory>
+/// The names of members.
+pub fn push_members<'a>(members: &'a [Member], names: &mut Vec<&'a Name>) -> Result<(), NoMemory>
     ensures { OnOk result (idents names.new.items ≡ idents names.old.items ++ member_names members.now) }
 {
     for member in members {
@@ -99,12 +101,21 @@ fn push_else<'a>(other: &'a Option<Block>, names: &mut Vec<&'a Name>) -> Result<
     }
 }
 
-fn push_locals<'a>(section: &'a Section, names: &mut Vec<&'a Name>) -> Result<(), NoMemory>
-    ensures { OnOk result (idents names.new.items ≡ idents names.old.items ++ local_names (section_of section.now)) }
+/// The names of parameters.
+pub fn push_params<'a>(params: &'a [Param], names: &mut Vec<&'a Name>) -> Result<(), NoMemory>
+    ensures { OnOk result (idents names.new.items ≡ idents names.old.items ++ param_names params.now) }
 {
-    for param in &section.params {
+    for param in params {
         names.push(&param.name)?;
     }
+    Ok(())
+}
+
+/// The names of the parameters and locals of a section.
+pub fn push_locals<'a>(section: &'a Section, names: &mut Vec<&'a Name>) -> Result<(), NoMemory>
+    ensures { OnOk result (idents names.new.items ≡ idents names.old.items ++ local_names (section_of section.now)) }
+{
+    push_params(&section.params, names)?;
     push_among(&section.body.stmts, names)
 }
 

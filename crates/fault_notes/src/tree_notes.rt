@@ -1,23 +1,35 @@
 //! What a tree tells of its fault.
 
-ghost use Rattle.std.specs.Prelude.{◌≡◌, ◌++◌, IfOk, map};
+ghost use Rattle.std.specs.Prelude.{◌≡◌, IfOk, map};
+ghost use Rattle.std.specs.Option.{option_map};
 ghost use Rattle.explanation.specs.Notes.{note_of};
-ghost use Rattle.source.specs.declared.fault.Code.TheVariants.{MisplacedReturn};
-ghost use Rattle.syntax.specs.Views.{decl_of, ident, init_of};
+ghost use Rattle.source.specs.declared.fault.Code.TheVariants.{FinalWithoutOpeningValue};
+ghost use Rattle.symbols.specs.{decls_of as decls_in};
+ghost use Rattle.syntax.specs.Views.{decl_of};
 ghost use Rattle.resolution.specs.Scopes.{has_body};
-ghost use Rattle.fault_notes.specs.FaultNotes.{AreNotes, IsTrueNote, given_note, note_on};
+ghost use Rattle.fault_notes.specs.FaultNotes.{AreNotes, IsDeclaredNote, IsGivenNote, IsLimitNote, IsLockNote, IsPassedNote, IsReturnNote};
 ghost use Rattle.fault_notes.specs.NameSpaces.{IsDeclaredAs, IsDeclaredIn};
-ghost use Rattle.fault_notes.specs.Values.{FoundName, FoundNote, IsDeclaredNote, IsGivenNote, IsNoteIfTold, decls_of, idents};
+ghost use Rattle.fault_notes.specs.Vars.{note_of_var, var_noted};
+ghost use Rattle.fault_notes.specs.Values.{FoundName, FoundNote, IsNoteIfTold, decls_of, idents, stmt_at, tokens_of};
 
 use crate::first_inits::first_given;
+use crate::limits_passed::limit_passed;
+use crate::locks_at_hand::lock_at_hand;
+use crate::missing_inits::{gap_at, null_given};
 use crate::missing_returns::lacking;
-use crate::name_spaces::{inner_names_of, top_names_of};
+use crate::name_spaces::{inner_names_of, member_name, top_names_of};
+use crate::noted::{gap_note, init_note, lock_note, name_note};
+use crate::passed_members::passed_at;
 use crate::same_names::{first_of_others, first_of_same};
+use crate::tokens_there::{has_two_fields, name_of, token_at, token_of};
+use crate::vars::{all_of, section_there, some_assigns, var_named};
 use explanation::Note;
 use source::fault::Code;
 use source::memory::NoMemory;
+use source::token::Token;
 use std::alloc::Global;
-use syntax::tree::{Decl, Init, Name, Tree};
+use symbols::table::SymbolTable;
+use syntax::tree::{Decl, Name, Stmt, Tree};
 
 /// Whether a declaration is a section or a helper.
 fn is_body(decl: &Decl) -> bool
@@ -26,34 +38,33 @@ fn is_body(decl: &Decl) -> bool
     matches!(decl, Decl::Atomic(_) | Decl::Helper(_))
 }
 
-/// NAME WORDS, where the name stands.
-fn name_note(alloc: Global, name: &Name, words: &str) -> Result<Note, NoMemory>
-    ensures { IfOk result (λ note. note_of note ≡ note_on (ident name.now).span.start ((ident name.now).text ++ words.now)) }
+/// NAME is a `var`, of the `var` of this name among statements; and whether a `let` would do in its place.
+fn note_of_var(
+    alloc: Global,
+    is_long: bool,
+    text: &str,
+    all: &[&Stmt],
+) -> Result<Option<Note>, NoMemory>
+    ensures { IfOk result (λ note. option_map note_of note ≡ note_of_var is_long text.now (map stmt_at all.now)) }
 {
-    let mut said = String::from_str(alloc, name.text.as_str())?;
-    said.push_str(words)?;
-    Ok(Note {
-        start: Some(name.start as usize),
-        words: said,
-    })
+    let Some(name) = var_named(text, all) else {
+        return Ok(None);
+    };
+    let words = if is_long || some_assigns(text, all) {
+        " is a var, declared here"
+    } else {
+        " is a var, declared here, and never assigned: a let would do"
+    };
+    let note = name_note(alloc, name, words)?;
+    Ok(Some(note))
 }
 
-/// FIELD is given here, at an `init`.
-fn init_note(alloc: Global, init: &Init) -> Result<Note, NoMemory>
-    ensures { IfOk result (λ note. note_of note ≡ given_note (init_of init.now)) }
-{
-    let mut said = String::from_str(alloc, init.field.text.as_str())?;
-    said.push_str(" is given here")?;
-    Ok(Note {
-        start: Some(init.start.start as usize),
-        words: said,
-    })
-}
-
-/// A tree and the place of its fault.
+/// Tokens with their tree, and the place of its fault.
 #[derive(Drop)]
 pub struct Faulty<'a> {
-    /// The tree.
+    /// The tokens.
+    pub tokens: &'a [Token],
+    /// Their tree.
     pub tree: &'a Tree,
     /// The byte at which the fault stands.
     pub at: usize,
@@ -106,6 +117,85 @@ impl<'a> Faulty<'a> {
         Ok(Some(note))
     }
 
+    // NAME could protect it.
+    fn lock_note(&self, alloc: Global) -> Result<Option<Note>, NoMemory>
+        ensures { IfOk result (FoundNote (IsLockNote (decls_of self.now) self.now.at)) }
+    {
+        let Some(name) = lock_at_hand(&self.tree.decls, self.at) else {
+            return Ok(None);
+        };
+        let note = lock_note(alloc, name)?;
+        Ok(Some(note))
+    }
+
+    // The declarations with their tables.
+    fn symbols(&self, alloc: Global) -> Result<SymbolTable<'a>, NoMemory>
+        ensures { IfOk result (λ symbols. decls_in symbols ≡ decls_of self.now) }
+    {
+        let mut least = None;
+        let symbols = SymbolTable::new(alloc, &self.tree.decls, &mut least)?;
+        Ok(symbols)
+    }
+
+    // NAME is declared here, and is no final reference.
+    fn passed_note(&self, alloc: Global) -> Result<Option<Note>, NoMemory>
+        ensures { IfOk result (FoundNote (IsPassedNote (decls_of self.now) self.now.at)) }
+    {
+        let symbols = self.symbols(alloc)?;
+        let Some(member) = passed_at(&symbols, self.at) else {
+            return Ok(None);
+        };
+        let name = member_name(member);
+        let note = name_note(alloc, name, " is declared here, and is no final reference")?;
+        Ok(Some(note))
+    }
+
+    // NAME is a `var`, and whether a `let` would do.
+    fn var_note(&self, alloc: Global) -> Result<Option<Note>, NoMemory>
+        ensures { IfOk result (λ note. option_map note_of note ≡ var_noted (tokens_of self.now) (decls_of self.now) self.now.at) }
+    {
+        let Some(i) = token_at(self.at, self.tokens) else {
+            return Ok(None);
+        };
+        let Some(text) = name_of(token_of(i, self.tokens)) else {
+            return Ok(None);
+        };
+        let Some(section) = section_there(&self.tree.decls, self.at) else {
+            return Ok(None);
+        };
+        let all = all_of(alloc, section)?;
+        note_of_var(alloc, has_two_fields(i, self.tokens), text, &all)
+    }
+
+    // Which limit is passed.
+    fn limit_note(&self, alloc: Global) -> Result<Option<Note>, NoMemory>
+        ensures { IfOk result (FoundNote (IsLimitNote (decls_of self.now) self.now.at)) }
+    {
+        let Some(words) = limit_passed(alloc, &self.tree.decls, self.at)? else {
+            return Ok(None);
+        };
+        Ok(Some(Note {
+            start: None,
+            words: String::from_str(alloc, words)?,
+        }))
+    }
+
+    // Which `init` is missing, or which final reference is given null.
+    fn final_note(&self, alloc: Global) -> Result<Option<Note>, NoMemory>
+        ensures { IfOk result (IsNoteIfTold self.now FinalWithoutOpeningValue) }
+    {
+        let symbols = self.symbols(alloc)?;
+        if let Some(gap) = gap_at(&symbols, self.at) {
+            let note = gap_note(alloc, &gap)?;
+            return Ok(Some(note));
+        }
+        if let Some(reference) = null_given(&symbols, self.at) {
+            let note = name_note(alloc, &reference.name, " is final, and is never null")?;
+            return Ok(Some(note));
+        }
+        Ok(None)
+    }
+
     // FIELD is given here.
     fn given_note(&self, alloc: Global) -> Result<Option<Note>, NoMemory>
         ensures { IfOk result (FoundNote (IsGivenNote (decls_of self.now) self.now.at)) }
@@ -119,7 +209,7 @@ impl<'a> Faulty<'a> {
 
     // Which `return` is missing, or that none is.
     fn return_note(&self, alloc: Global) -> Result<Note, NoMemory>
-        ensures { IfOk result (λ note. IsTrueNote (decls_of self.now) MisplacedReturn self.now.at (note_of note)) }
+        ensures { IfOk result (λ note. IsReturnNote (decls_of self.now) self.now.at (note_of note)) }
     {
         let Some(name) = lacking(&self.tree.decls, self.at) else {
             let words = "this return is not the last statement of a body with a result";
@@ -141,6 +231,11 @@ impl<'a> Faulty<'a> {
     {
         match code {
             Code::DeclaredTwice => self.declared_note(alloc),
+            Code::NeitherFinalNorProtected => self.lock_note(alloc),
+            Code::ProtectedByPassesNonFinal => self.passed_note(alloc),
+            Code::UnstableBase => self.var_note(alloc),
+            Code::LimitExceeded => self.limit_note(alloc),
+            Code::FinalWithoutOpeningValue => self.final_note(alloc),
             Code::InitOutOfRangeOrRepeated => self.given_note(alloc),
             Code::MisplacedReturn => {
                 let note = self.return_note(alloc)?;
@@ -152,7 +247,7 @@ impl<'a> Faulty<'a> {
 
     /// What is told of the fault that is of this code.
     pub fn notes(&self, alloc: Global, code: Code) -> Result<Vec<Note>, NoMemory>
-        ensures { IfOk result (λ notes. AreNotes (decls_of self.now) code self.now.at (map note_of notes.items)) }
+        ensures { IfOk result (λ notes. AreNotes (tokens_of self.now) (decls_of self.now) code self.now.at (map note_of notes.items)) }
     {
         let mut notes = Vec::new(alloc);
         if let Some(note) = self.note(alloc, code)? {

@@ -6,6 +6,9 @@
 //!   it gives.
 //! - [`answer::Answer`]: what a request is answered.
 //!
+//! To it a section is a transaction under strict two-phase locking: it takes locks as it goes on, and gives all of them
+//! back at its end, when its entry goes into the history.
+//!
 //! `specs/` defines what the manager keeps and its rules (`Managers`), what each call does (`Calls`), open sections and
 //! tickets (`Sessions`) and queues (`Queues`). `Committed` and `Ties` only say what
 //! the code relies on; nobody has to believe them.

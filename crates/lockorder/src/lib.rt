@@ -6,6 +6,8 @@
 //! - [`ranks::Cycle::fault`]: the fault of a cycle.
 //! - [`text`]: how classes and cycles are written.
 //!
+//! Which class has to come before which is a lock-order graph, and the ranks are a topological order of it.
+//!
 //! `specs/` defines which class has to come before which (`Edges`), the rank list, ranks and cycles (`Ranks`), the
 //! fault of a cycle (`Faults`), and the pairs of classes as data (`ClassPairs`). Its other files only say what the code
 //! has done; nobody has to believe them.

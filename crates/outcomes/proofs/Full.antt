@@ -1,6 +1,6 @@
 -- Where all calls are done.
-use Rattle.std.proofs.Common.{◌≡◌, ◌∙◌, ℕ, ◌+◌, ◌<◌, ◌≤◌, zero, suc, List, [], ◌∷◌, length, replicate, get_or, get_or-set_same, get_or-set_other, slice_get, slice_set, Some, ap, sym, subst, refl, arith, ◌⊎◌, inl, inr}
-use Rattle.std.specs.Prelude.{option_map}
+use Rattle.std.proofs.Common.{◌≡◌, ◌∙◌, ℕ, ◌+◌, ◌<◌, ◌≤◌, zero, suc, List, [], ◌∷◌, ◌++◌, length, replicate, get_or, get_or-set_same, get_or-set_other, slice_get, slice_set, Option, Some, None, ap, sym, subst, refl, arith, ◌⊎◌, inl, inr}
+use Rattle.std.specs.Prelude.{option_map, option_to_list}
 use Rattle.std.specs.List.{Contains}
 use Rattle.std.proofs.lemmas.Bool.{cases_eq}
 use Rattle.std.proofs.lemmas.List.{length-replicate}
@@ -12,26 +12,26 @@ use Rattle.core_lang.specs.Serial.{Invocation, invocation}
 use Rattle.core_lang.specs.Typing.{lookup}
 use Rattle.core_lang.specs.WellFormed.{calls_together}
 use Rattle.std.proofs.Math.ListN.{length-set}
-use Rattle.outcomes.specs.Orders.{next_call, one_more, none_done, orders_of}
+use Rattle.outcomes.specs.Orders.{next_call, one_more, none_done, orders_of, calls_of, calls_in}
 use Rattle.outcomes.specs.Ends.{done_after}
 use Rattle.outcomes.specs.Searching.{Leads}
-use Rattle.outcomes.proofs.Leading.{next_within, among_begun}
+use Rattle.outcomes.proofs.Leading.{next_within, among_begun, leads_made}
 
-sums : List ℕ → ℕ
+unfoldable pub sums : List ℕ → ℕ
 sums [] = 0
 sums (x ∷ xs) = x + sums xs
 
 -- how many calls each thread has
-pub lengths : List Thread → List ℕ
+unfoldable pub lengths : List Thread → List ℕ
 lengths [] = []
 lengths (t ∷ ts) = length t.calls.items ∷ lengths ts
 
-sums-lengths : (ts : List Thread) → sums (lengths ts) ≡ calls_together ts
+pub sums-lengths : (ts : List Thread) → sums (lengths ts) ≡ calls_together ts
 unfolding sums lengths
 sums-lengths [] = refl
 sums-lengths (t ∷ ts) = ap (λ n. length t.calls.items + n) (sums-lengths ts)
 
-length-lengths : (ts : List Thread) → length (lengths ts) ≡ length ts
+pub length-lengths : (ts : List Thread) → length (lengths ts) ≡ length ts
 unfolding lengths
 length-lengths [] = refl
 length-lengths (t ∷ ts) = ap (λ n. suc n) (length-lengths ts)
@@ -49,7 +49,7 @@ sums_zero zero = refl
 sums_zero (suc n) = ap (λ k. 0 + k) (sums_zero n)
 
 -- none is more than the other at its place
-Within : List ℕ → List ℕ → Type 0
+unfoldable pub Within : List ℕ → List ℕ → Type 0
 Within xs ys = (k : ℕ) → get_or xs k 0 ≤ get_or ys k 0
 
 sums_within : (xs ys : List ℕ) → length xs ≡ length ys → Within xs ys → sums xs ≤ sums ys
@@ -102,16 +102,46 @@ one_more_within program done t call long next few k =
       | inr other ↦ (let at = get_or-set_other done t k (get_or done t 0 + 1) 0 other in let f = few k in omega (arith, at, f))
     ]
 
+few_behind : (program : Typed) (done : List ℕ) (t : ℕ) (order : List ℕ) (o : Option Invocation) → length (calls_of program (one_more done t) order) ≤ length order →
+    length (option_to_list o ++ calls_of program (one_more done t) order) ≤ suc (length order)
+few_behind program done t order None few = omega arith
+few_behind program done t order (Some call) few = omega arith
+
+-- the calls of an order are no more than its threads; where they are as many, the first thread has a call, and so on with the others
+few_calls : (program : Typed) (done order : List ℕ) → length (calls_of program done order) ≤ length order
+few_calls program done [] = omega arith
+few_calls program done (t ∷ order) = few_behind program done t order (next_call program done t) (few_calls program (one_more done t) order)
+
+first_made : (program : Typed) (done : List ℕ) (t : ℕ) (order : List ℕ) (o : Option Invocation) → next_call program done t ≡ o →
+    length (option_to_list o ++ calls_of program (one_more done t) order) ≡ suc (length order) →
+    (call : Invocation) × (next_call program done t ≡ Some call) × (length (calls_of program (one_more done t) order) ≡ length order)
+first_made program done t order None next made = absurd (let few = few_calls program (one_more done t) order in omega arith)
+first_made program done t order (Some call) next made = (call, next, omega arith)
+
+pub made_first : (program : Typed) (done : List ℕ) (t : ℕ) (order : List ℕ) → length (calls_of program done (t ∷ order)) ≡ length (t ∷ order) →
+    (call : Invocation) × (next_call program done t ≡ Some call) × (length (calls_of program (one_more done t) order) ≡ length order)
+made_first program done t order made = first_made program done t order (next_call program done t) refl made
+
+-- such an order is one of its length
+pub made_in_order : (program : Typed) (done order : List ℕ) → length (calls_of program done order) ≡ length order →
+    Contains (orders_of program (length order) done) order
+made_in_order program done [] made = (0, omega arith, refl)
+made_in_order program done (t ∷ order) made =
+    let first = made_first program done t order made in
+    among_begun program (orders_of program (length order)) done (length program.threads.items) t first.0 order
+    (next_within program done t first.0 first.1) first.1 (made_in_order program (one_more done t) order first.2)
+
 -- what is done grows with each call, and to no more than there are
-leads_fully : (program : Typed) (n : ℕ) (done : List ℕ) (heap : List Value) (order done' : List ℕ) (heap' : List Value) →
-    Leads program n done heap order done' heap' → length done ≡ length program.threads.items → Within done (lengths program.threads.items) →
-    (length done' ≡ length program.threads.items) × Within done' (lengths program.threads.items) × (sums done' ≡ sums done + length order)
-leads_fully program n done heap [] done' heap' there long few =
-    subst (λ d. (length d ≡ length program.threads.items) × Within d (lengths program.threads.items) × (sums d ≡ sums done + 0)) there.0 (long, few, omega arith)
-leads_fully program n done heap (t ∷ order) done' heap' there long few =
-    let inside : t < length done = (let w = next_within program done t there.0 there.2 in omega arith) in
-    let rest = leads_fully program n (one_more done t) there.1.heap order done' heap' there.4 (length-set done t (get_or done t 0 + 1) ∙ long)
-    (one_more_within program done t there.0 long there.2 few) in
+made_fully : (program : Typed) (done order : List ℕ) → length (calls_of program done order) ≡ length order →
+    length done ≡ length program.threads.items → Within done (lengths program.threads.items) →
+    (length (done_after done order) ≡ length program.threads.items) × Within (done_after done order) (lengths program.threads.items)
+    × (sums (done_after done order) ≡ sums done + length order)
+made_fully program done [] made long few = (long, few, omega arith)
+made_fully program done (t ∷ order) made long few =
+    let first = made_first program done t order made in
+    let inside : t < length done = (let w = next_within program done t first.0 first.1 in omega arith) in
+    let rest = made_fully program (one_more done t) order first.2 (length-set done t (get_or done t 0 + 1) ∙ long)
+    (one_more_within program done t first.0 long first.1 few) in
     let more : sums (one_more done t) ≡ suc (sums done) = sums_set done t inside in
     (rest.0, rest.1, omega (arith, rest.2, more))
 
@@ -120,24 +150,47 @@ zero_at zero k = refl
 zero_at (suc n) zero = refl
 zero_at (suc n) (suc k) = zero_at n k
 
--- where all calls are done, each thread's are
-pub full : (program : Typed) (n : ℕ) (heap : List Value) (order done' : List ℕ) (heap' : List Value) → Leads program n (none_done program) heap order done' heap' →
-    length order ≡ calls_together program.threads.items → done' ≡ lengths program.threads.items
+-- of each thread as many calls are done as an order has of it, and never more than there are
+pub fits_made : (program : Typed) (order : List ℕ) → length (calls_in program order) ≡ length order →
+    (length (done_after (none_done program) order) ≡ length program.threads.items) × Within (done_after (none_done program) order) (lengths program.threads.items)
+    × (sums (done_after (none_done program) order) ≡ length order)
 unfolding Within
-full program n heap order done' heap' there long =
+fits_made program order made =
     let none : length (none_done program) ≡ length program.threads.items = length-replicate (length program.threads.items) 0 in
-    let all = leads_fully program n (none_done program) heap order done' heap' there none (λ k. let z = zero_at (length program.threads.items) k in omega (arith, z)) in
+    let all = made_fully program (none_done program) order made none (λ k. let z = zero_at (length program.threads.items) k in omega (arith, z)) in
     let zero_sum : sums (none_done program) ≡ 0 = sums_zero (length program.threads.items) in
-    let sum : sums (lengths program.threads.items) ≡ calls_together program.threads.items = sums-lengths program.threads.items in
-    let same : length (lengths program.threads.items) ≡ length program.threads.items = length-lengths program.threads.items in
-    same_sums done' (lengths program.threads.items) (all.0 ∙ sym same) all.1 (omega (arith, all.2, zero_sum, sum, long))
+    (all.0, all.1, omega (arith, all.2, zero_sum))
 
--- ---- where an order leads
+-- so an order is no longer than there are calls
+pub made_few : (program : Typed) (order : List ℕ) → length (calls_in program order) ≡ length order → length order ≤ calls_together program.threads.items
+made_few program order made =
+    let all = fits_made program order made in
+    let same : length (lengths program.threads.items) ≡ length program.threads.items = length-lengths program.threads.items in
+    let most : sums (done_after (none_done program) order) ≤ sums (lengths program.threads.items) =
+    sums_within (done_after (none_done program) order) (lengths program.threads.items) (all.0 ∙ sym same) all.1 in
+    let sum : sums (lengths program.threads.items) ≡ calls_together program.threads.items = sums-lengths program.threads.items in
+    omega (arith, all.2, most, sum)
 
 pub leads_done : (program : Typed) (n : ℕ) (done : List ℕ) (heap : List Value) (order done' : List ℕ) (heap' : List Value) →
     Leads program n done heap order done' heap' → done_after done order ≡ done'
 leads_done program n done heap [] done' heap' there = there.0
 leads_done program n done heap (t ∷ order) done' heap' there = leads_done program n (one_more done t) there.1.heap order done' heap' there.4
+
+pub fits : (program : Typed) (n : ℕ) (heap : List Value) (order done' : List ℕ) (heap' : List Value) → Leads program n (none_done program) heap order done' heap' →
+    (length done' ≡ length program.threads.items) × Within done' (lengths program.threads.items) × (sums done' ≡ length order)
+fits program n heap order done' heap' there =
+    subst (λ (d : List ℕ). (length d ≡ length program.threads.items) × Within d (lengths program.threads.items) × (sums d ≡ length order))
+    (leads_done program n (none_done program) heap order done' heap' there)
+    (fits_made program order (leads_made program n (none_done program) heap order done' heap' there))
+
+-- where all calls are done, each thread's are
+pub full : (program : Typed) (n : ℕ) (heap : List Value) (order done' : List ℕ) (heap' : List Value) → Leads program n (none_done program) heap order done' heap' →
+    length order ≡ calls_together program.threads.items → done' ≡ lengths program.threads.items
+full program n heap order done' heap' there long =
+    let all = fits program n heap order done' heap' there in
+    let sum : sums (lengths program.threads.items) ≡ calls_together program.threads.items = sums-lengths program.threads.items in
+    let same : length (lengths program.threads.items) ≡ length program.threads.items = length-lengths program.threads.items in
+    same_sums done' (lengths program.threads.items) (all.0 ∙ sym same) all.1 (omega (arith, all.2, sum, long))
 
 -- ---- there is an order
 
@@ -161,7 +214,7 @@ call_there [] k within = absurd (omega arith)
 call_there (c ∷ calls) zero within = (invocation c, refl)
 call_there (c ∷ calls) (suc k) within = call_there calls k (omega arith)
 
-call_left : (ts : List Thread) (done : List ℕ) (k : ℕ) → get_or done k 0 < get_or (lengths ts) k 0 →
+pub call_left : (ts : List Thread) (done : List ℕ) (k : ℕ) → get_or done k 0 < get_or (lengths ts) k 0 →
     (call : Invocation) × (lookup (slice_get ts k) (λ (thread : Thread). option_map invocation (slice_get thread.calls.items (get_or done k 0))) ≡ Some call)
 unfolding lengths
 call_left [] done k less = absurd (omega arith)
@@ -188,9 +241,6 @@ some_order program (suc left) done long few sum =
 -- so each state has one
 pub has_order : (program : Typed) (n left : ℕ) (heap : List Value) (order done' : List ℕ) (heap' : List Value) → Leads program n (none_done program) heap order done' heap' →
     length order + left ≡ calls_together program.threads.items → (o : List ℕ) × Contains (orders_of program left done') o
-unfolding Within
 has_order program n left heap order done' heap' there long =
-    let none : length (none_done program) ≡ length program.threads.items = length-replicate (length program.threads.items) 0 in
-    let all = leads_fully program n (none_done program) heap order done' heap' there none (λ k. let z = zero_at (length program.threads.items) k in omega (arith, z)) in
-    let zero_sum : sums (none_done program) ≡ 0 = sums_zero (length program.threads.items) in
-    some_order program left done' all.0 all.1 (omega (arith, all.2, zero_sum, long))
+    let all = fits program n heap order done' heap' there in
+    some_order program left done' all.0 all.1 (omega (arith, all.2, long))

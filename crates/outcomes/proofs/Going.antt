@@ -1,5 +1,6 @@
 -- The work goes on.
-use Rattle.std.proofs.Common.{◌≡◌, ◌∙◌, ℕ, ◌+◌, ◌-◌, ◌*◌, ◌<◌, ◌≤◌, zero, suc, List, [], ◌∷◌, ◌++◌, length, take, Option, Some, None, inl, inr, sum_by, ap, sym, subst, refl, arith, append-nil, add-one}
+use Rattle.std.proofs.Common.{◌≡◌, ◌∙◌, ℕ, ◌+◌, ◌-◌, ◌*◌, ◌<◌, ◌≤◌, zero, suc, List, [], ◌∷◌, ◌++◌, length, take, Option, Some, None, inl, inr, sum_by, ap, sym, subst, refl, arith, append-nil, add-one, length-append}
+use Rattle.std.proofs.Math.ListN.{length-set}
 use Rattle.std.proofs.lemmas.List.Sums.{sum_by_more, sum_by-cons, sum_by-take-le, get_or-le-sum_by}
 use Rattle.core_lang.specs.declared.value.Value.{Value}
 use Rattle.core_lang.specs.declared.typed.Typed.{Typed}
@@ -12,9 +13,9 @@ use Rattle.outcomes.specs.declared.search.Stop.TheVariants.{TooMany, Beyond}
 use Rattle.outcomes.specs.declared.search.Work.{Work}
 use Rattle.outcomes.specs.declared.state.State.{State}
 use Rattle.outcomes.specs.Orders.{next_call, one_more, orders_of}
-use Rattle.outcomes.specs.States.{Reached, at, nowhere, reached_of, orders_to}
+use Rattle.outcomes.specs.States.{Reached, at, nowhere, reached_of, with_more, orders_to}
 use Rattle.outcomes.specs.Trails.{longer}
-use Rattle.outcomes.specs.Searching.{order_at, IsGood, AreGood, weight, total}
+use Rattle.outcomes.specs.Searching.{order_at, IsGood, AreGood, weight, total, Summand, IsFound, IsAdded}
 use Rattle.outcomes.specs.Steps.{IsOver, Puts, IsAtWork, IsReached, Growth, made_by, made_below, made_from, made_from_all, GoesOn, IsStop, HasTooMany, one}
 use Rattle.outcomes.proofs.Sums.{sum_with, sum_without, sum_more, total_found, total_added}
 use Rattle.outcomes.proofs.Full.{has_order}
@@ -34,22 +35,24 @@ times_both k a b c is = ap (λ (y : ℕ). k * y) is ∙ omega arith
 
 -- one piece of work and then another
 pub goes_again : (search : Search) (a b c : Work) (g h both : Growth) → GoesOn search a b g → GoesOn search b c h →
-    ((f : Option (List Value) → ℕ) (left : ℕ) → both f left ≡ g f left + h f left) → GoesOn search a c both
+    ((f : Summand) (left : ℕ) → both f left ≡ g f left + h f left) → GoesOn search a c both
 goes_again search a b c g h both first second sum =
     record {
       depth = second.depth ∙ first.depth;
       work = second.work;
       longer = longer_again a.trail b.trail c.trail first.longer second.longer;
+      grown = (let f = first.grown in let s = second.grown in omega arith);
       grows = λ f left. in_all _ _ _ _ _ _ (first.grows f left) (second.grows f left) (sum f left);
     }
 
 -- no work
-pub goes_nowhere : (search : Search) (a : Work) (g : Growth) → IsAtWork search a → ((f : Option (List Value) → ℕ) (left : ℕ) → g f left ≡ 0) → GoesOn search a a g
+pub goes_nowhere : (search : Search) (a : Work) (g : Growth) → IsAtWork search a → ((f : Summand) (left : ℕ) → g f left ≡ 0) → GoesOn search a a g
 goes_nowhere search a g work none =
     record {
       depth = refl;
       work = work;
       longer = ([], sym (append-nil a.trail));
+      grown = refl;
       grows = λ f left. with_none _ _ (none f left);
     }
 
@@ -58,6 +61,21 @@ pub reached_still : (search : Search) (a b : Work) (g : Growth) (from : State) �
 reached_still search a b g from goes reached =
     subst (λ (d : ℕ). IsGood search.program.now search.turns d b.trail (reached_of from)) (sym goes.depth)
     (good_longer search.program.now search.turns a.depth a.trail b.trail (reached_of from) goes.longer reached)
+
+grown_found : (old new : List Reached) (trail trail' : List (List ℕ)) (done : List ℕ) (heap : List Value) (more : ℕ) → IsFound old new trail trail' done heap more →
+    length trail' + length old ≡ length trail + length new
+grown_found old new trail trail' done heap more found =
+    let states : length new ≡ length old = ap length found.states ∙ length-set old found.number (with_more (at old found.number) more) in
+    let orders : length trail' ≡ length trail = ap length found.trail_is in
+    omega arith
+
+grown_added : (old new : List Reached) (trail trail' : List (List ℕ)) (done : List ℕ) (heap : List Value) (more from thread : ℕ) →
+    IsAdded old new trail trail' done heap more from thread → length trail' + length old ≡ length trail + length new
+grown_added old new trail trail' done heap more from thread added =
+    let s : Reached = record { done = done; cells = heap; orders = more; first = length trail } in
+    let states : length new ≡ length old + 1 = ap length added.states ∙ length-append old (s ∷ []) in
+    let orders : length trail' ≡ length trail + 1 = ap length added.trail_is ∙ length-append trail (longer trail from thread ∷ []) in
+    omega arith
 
 -- where a call is over, and where it leads is put among the states
 pub goes_step : (search : Search) (old new : Work) (heap : List Value) (from : State) (t : ℕ) (call : Invocation) →
@@ -72,7 +90,7 @@ goes_step search old new heap from t call work reached next over puts =
     λ trail' is. subst (λ (h : List Value). IsGood program n (suc old.depth) trail' (record { done = one_more from.done.items t; cells = h; orders = from.orders; first = length old.trail })) (sym over.heap_is)
     (good_child program n old.depth old.trail trail' (reached_of from) t call over.finished from.orders reached next over.over
     (subst (HasCells program) over.heap_is over.there) (subst (IsHeap program) over.heap_is over.typed) is) in
-    let leads : (f : Option (List Value) → ℕ) (left : ℕ) →
+    let leads : (f : Summand) (left : ℕ) →
     from.orders * weight program n f left (one_more from.done.items t) heap ≡ made_by search from t f left =
     λ f left. ap (λ (x : ℕ). from.orders * x)
     (ap (weight program n f left (one_more from.done.items t)) over.heap_is
@@ -91,6 +109,10 @@ goes_step search old new heap from t call work reached next over puts =
         | inl found ↦ ([], found.trail_is ∙ sym (append-nil old.trail))
         | inr added ↦ (longer old.trail from.first t ∷ [], added.trail_is)
       ];
+      grown = elim puts.2 [
+        | inl found ↦ grown_found old.next new.next old.trail new.trail (one_more from.done.items t) heap from.orders found
+        | inr added ↦ grown_added old.next new.next old.trail new.trail (one_more from.done.items t) heap from.orders from.first t added
+      ];
       grows = λ f left. elim puts.2 [
         | inl found ↦ total_found (weight program n f left) old.next new.next old.trail new.trail (one_more from.done.items t) heap from.orders found
             ∙ ap (λ (x : ℕ). total program n f left old.next + x) (leads f left)
@@ -107,7 +129,7 @@ goes_past search work from t at_work none =
     (λ f left. times_none from.orders _ (sum_without search.program.now search.turns left f from.done.items from.cells.items t none))
 
 -- one thread further
-pub below_more : (search : Search) (from : State) (t : ℕ) (f : Option (List Value) → ℕ) (left : ℕ) →
+pub below_more : (search : Search) (from : State) (t : ℕ) (f : Summand) (left : ℕ) →
     made_below search from (t + 1) f left ≡ made_below search from t f left + made_by search from t f left
 below_more search from t f left =
     ap (λ (c : ℕ). made_below search from c f left) (add-one t)
@@ -115,7 +137,7 @@ below_more search from t f left =
 
 -- one state further
 pub all_more : (search : Search) (states : List Reached) (k : ℕ) (from : State) → k < length states → at states k ≡ reached_of from →
-    (f : Option (List Value) → ℕ) (left : ℕ) →
+    (f : Summand) (left : ℕ) →
     made_from_all search (take (k + 1) states) f left ≡ made_from_all search (take k states) f left + made_from search from f left
 all_more search states k from within is f left =
     let g : Reached → ℕ = λ s. s.orders * weight search.program.now search.turns f (suc left) s.done s.cells in

@@ -15,8 +15,8 @@ use Rattle.core_lang.specs.Laws.{OverIsWhole}
 use Rattle.core_lang.specs.Whole.{Finished, Over}
 use Rattle.outcomes.specs.Orders.{next_call, one_more, none_done, orders_of, begun_with, begun_by, calls_of}
 use Rattle.outcomes.specs.States.{Reached, NoneIsAlike, at, nowhere, with_more}
-use Rattle.outcomes.specs.Trails.{longer}
-use Rattle.outcomes.specs.Searching.{Leads, order_at, IsGood, AreGood, IsLonger, Found, Added}
+use Rattle.outcomes.specs.Trails.{longer, IsLonger}
+use Rattle.outcomes.specs.Searching.{Leads, order_at, IsGood, AreGood, IsFound, IsAdded}
 
 -- one call more
 pub leads_further : (program : Typed) (n : ℕ) (done : List ℕ) (heap : List Value) (order done' : List ℕ) (heap' : List Value) (t : ℕ) (call : Invocation) (finished : Finished) →
@@ -38,7 +38,13 @@ leads_serially law program n done heap (t ∷ order) done' heap' there =
           (sym there.2) (there.1, law program n there.0 heap there.1 there.3, refl, rest.1),
     )
 
--- ---- they are orders
+-- each of them is the next of its thread
+pub leads_made : (program : Typed) (n : ℕ) (done : List ℕ) (heap : List Value) (order done' : List ℕ) (heap' : List Value) →
+    Leads program n done heap order done' heap' → length (calls_of program done order) ≡ length order
+leads_made program n done heap [] done' heap' there = refl
+leads_made program n done heap (t ∷ order) done' heap' there =
+    ap (λ (c : Option Invocation). length (Rattle.std.specs.Option.option_to_list c ++ calls_of program (one_more done t) order)) there.2
+    ∙ ap (λ (k : ℕ). suc k) (leads_made program n (one_more done t) there.1.heap order done' heap' there.4)
 
 -- ---- they are orders
 
@@ -157,7 +163,7 @@ set_good program n depth trail states number more good =
     }
 
 pub good_found : (program : Typed) (n depth : ℕ) (trail trail' : List (List ℕ)) (old new : List Reached) (done : List ℕ) (heap : List Value) (more : ℕ) →
-    Found old new trail trail' done heap more → AreGood program n depth trail old → AreGood program n depth trail' new
+    IsFound old new trail trail' done heap more → AreGood program n depth trail old → AreGood program n depth trail' new
 good_found program n depth trail trail' old new done heap more found good =
     subst (AreGood program n depth trail') (sym found.states)
     (subst (λ (t : List (List ℕ)). AreGood program n depth t (slice_set old found.number (with_more (at old found.number) more))) (sym found.trail_is)
@@ -197,7 +203,7 @@ at_pushed states s k within =
       | inr other ↦ (let inside : k < length states = (let long = length-append states (s ∷ []) in omega arith) in inl (inside, get_or-append states (s ∷ []) nowhere k inside))
     ]
 
-push_good : (program : Typed) (n depth : ℕ) (trail : List (List ℕ)) (states : List Reached) (s : Reached) →
+pub push_good : (program : Typed) (n depth : ℕ) (trail : List (List ℕ)) (states : List Reached) (s : Reached) →
     NoneIsAlike s.done s.cells states → IsGood program n depth trail s → AreGood program n depth trail states → AreGood program n depth trail (states ++ s ∷ [])
 push_good program n depth trail states s none child good =
     record {
@@ -223,7 +229,7 @@ push_good program n depth trail states s none child good =
     }
 
 pub good_added : (program : Typed) (n depth : ℕ) (trail trail' : List (List ℕ)) (old new : List Reached) (done : List ℕ) (heap : List Value) (more from thread : ℕ) →
-    Added old new trail trail' done heap more from thread → IsGood program n depth trail' (record { done = done; cells = heap; orders = more; first = length trail }) →
+    IsAdded old new trail trail' done heap more from thread → IsGood program n depth trail' (record { done = done; cells = heap; orders = more; first = length trail }) →
     AreGood program n depth trail old → AreGood program n depth trail' new
 good_added program n depth trail trail' old new done heap more from thread added child good =
     subst (AreGood program n depth trail') (sym added.states)

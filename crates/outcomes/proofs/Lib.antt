@@ -6,3 +6,5 @@ pub mod Leading
 pub mod Full
 pub mod Going
 pub mod Whole
+pub mod Drawn
+pub mod Places

@@ -6,9 +6,9 @@ use Rattle.core_lang.specs.declared.typed.Typed.{Typed}
 use Rattle.core_lang.specs.Serial.{Invocation, go_on, run_call, serial_with}
 use Rattle.core_lang.specs.Whole.{Finished, Run, Over}
 use Rattle.outcomes.specs.Orders.{next_call, one_more, orders_of, begun_with, begun_by, calls_of}
-use Rattle.outcomes.specs.Ends.{heap_left, end_from}
+use Rattle.outcomes.specs.Ends.{heap_left, end_from, done_after}
 use Rattle.outcomes.specs.States.{Reached, at, nowhere, with_more}
-use Rattle.outcomes.specs.Searching.{sum_over, weight, Found, Added}
+use Rattle.outcomes.specs.Searching.{sum_over, weight, IsFound, IsAdded, Summand}
 
 -- where a call is over, an order that begins with it ends as the others end from there
 end_behind : (program : Typed) (n : ℕ) (done : List ℕ) (heap : List Value) (t : ℕ) (call : Invocation) (finished : Finished) (order : List ℕ) →
@@ -28,29 +28,29 @@ sum_behind f g t (o ∷ os) same =
     ∙ ap (λ (x : ℕ). g o + x) (sum_behind f g t os same) ∙ sym (sum_by-cons g o os)
 
 -- the orders that begin with a thread are those from where its call leads
-pub sum_with : (program : Typed) (n left : ℕ) (f : Option (List Value) → ℕ) (done : List ℕ) (heap : List Value) (t : ℕ) (call : Invocation) (finished : Finished) →
+pub sum_with : (program : Typed) (n left : ℕ) (f : Summand) (done : List ℕ) (heap : List Value) (t : ℕ) (call : Invocation) (finished : Finished) →
     next_call program done t ≡ Some call → run_call program n call heap ≡ Over finished →
     sum_over program n f done heap (begun_with (next_call program done t) t (orders_of program left (one_more done t)))
     ≡ weight program n f left (one_more done t) finished.heap
 sum_with program n left f done heap t call finished next over =
     ap (λ (c : Option Invocation). sum_over program n f done heap (begun_with c t (orders_of program left (one_more done t)))) next
-    ∙ sum_behind (λ (o : List ℕ). f (end_from program n done heap o)) (λ (o : List ℕ). f (end_from program n (one_more done t) finished.heap o)) t
-    (orders_of program left (one_more done t)) (λ o. ap f (end_behind program n done heap t call finished o next over))
+    ∙ sum_behind (λ (o : List ℕ). f (done_after done o) (end_from program n done heap o)) (λ (o : List ℕ). f (done_after (one_more done t) o) (end_from program n (one_more done t) finished.heap o)) t
+    (orders_of program left (one_more done t)) (λ o. ap (f (done_after (one_more done t) o)) (end_behind program n done heap t call finished o next over))
 
 -- and there are none, where it has no call left
-pub sum_without : (program : Typed) (n left : ℕ) (f : Option (List Value) → ℕ) (done : List ℕ) (heap : List Value) (t : ℕ) →
+pub sum_without : (program : Typed) (n left : ℕ) (f : Summand) (done : List ℕ) (heap : List Value) (t : ℕ) →
     next_call program done t ≡ None →
     sum_over program n f done heap (begun_with (next_call program done t) t (orders_of program left (one_more done t))) ≡ 0
 sum_without program n left f done heap t none =
     ap (λ (c : Option Invocation). sum_over program n f done heap (begun_with c t (orders_of program left (one_more done t)))) none
 
 -- one thread further
-pub sum_more : (program : Typed) (n left : ℕ) (f : Option (List Value) → ℕ) (done : List ℕ) (heap : List Value) (t : ℕ) →
+pub sum_more : (program : Typed) (n left : ℕ) (f : Summand) (done : List ℕ) (heap : List Value) (t : ℕ) →
     sum_over program n f done heap (begun_by program (orders_of program left) done (suc t))
     ≡ sum_over program n f done heap (begun_by program (orders_of program left) done t)
     + sum_over program n f done heap (begun_with (next_call program done t) t (orders_of program left (one_more done t)))
 sum_more program n left f done heap t =
-    sum_by-append (λ (o : List ℕ). f (end_from program n done heap o)) (begun_by program (orders_of program left) done t)
+    sum_by-append (λ (o : List ℕ). f (done_after done o) (end_from program n done heap o)) (begun_by program (orders_of program left) done t)
     (begun_with (next_call program done t) t (orders_of program left (one_more done t)))
 
 -- ---- a state more
@@ -63,7 +63,7 @@ after a b c d x y p q r = omega arith
 
 -- orders that lead to a state that is there
 pub total_found : (w : List ℕ → List Value → ℕ) (old new : List Reached) (trail trail' : List (List ℕ)) (done : List ℕ) (heap : List Value) (more : ℕ) →
-    Found old new trail trail' done heap more →
+    IsFound old new trail trail' done heap more →
     sum_by (λ (s : Reached). s.orders * w s.done s.cells) new ≡ sum_by (λ (s : Reached). s.orders * w s.done s.cells) old + more * w done heap
 total_found w old new trail trail' done heap more found =
     let g : Reached → ℕ = λ s. s.orders * w s.done s.cells in
@@ -76,7 +76,7 @@ total_found w old new trail trail' done heap more found =
 
 -- and to a new one
 pub total_added : (w : List ℕ → List Value → ℕ) (old new : List Reached) (trail trail' : List (List ℕ)) (done : List ℕ) (heap : List Value) (more from thread : ℕ) →
-    Added old new trail trail' done heap more from thread →
+    IsAdded old new trail trail' done heap more from thread →
     sum_by (λ (s : Reached). s.orders * w s.done s.cells) new ≡ sum_by (λ (s : Reached). s.orders * w s.done s.cells) old + more * w done heap
 total_added w old new trail trail' done heap more from thread added =
     let g : Reached → ℕ = λ s. s.orders * w s.done s.cells in

@@ -17,9 +17,9 @@ use Rattle.outcomes.specs.declared.search.Work.{Work}
 use Rattle.outcomes.specs.Orders.{next_call, one_more, none_done, orders, orders_of, calls_of, calls_in}
 use Rattle.outcomes.specs.Ends.{EndsIn, heap_if_settled, heap_left, end_in, Told, told_count, AreAllEnds, StopsAfter}
 use Rattle.outcomes.specs.States.{Reached, at, nowhere}
-use Rattle.outcomes.specs.Searching.{Leads, order_at, IsGood, AreGood, weight, total, as_told}
+use Rattle.outcomes.specs.Searching.{Leads, order_at, IsGood, AreGood, weight, total, as_told, Summand}
 use Rattle.outcomes.specs.Steps.{GoesOn, made_from_all, opening_state, IsBeyond, HasTooMany, one}
-use Rattle.outcomes.proofs.Leading.{leads_in_order, leads_serially}
+use Rattle.outcomes.proofs.Leading.{leads_in_order, leads_serially, leads_made}
 use Rattle.outcomes.proofs.Full.{full, leads_done}
 
 -- ---- the begin
@@ -50,14 +50,14 @@ good_at_first program n trail layer checked trail_is layer_is =
 once : (w : ℕ) → 0 + 1 * w ≡ w
 once w = omega arith
 
-all_left : (k : ℕ) → k - 0 ≡ k
-all_left k = omega arith
+none_made : (k : ℕ) → k ≡ 0 + k
+none_made k = omega arith
 
-pub sums_at_first : (program : Typed) (n calls : ℕ) (layer : List Reached) → layer ≡ opening_state program ∷ [] → (f : Option (List Value) → ℕ) →
-    total program n f (calls - 0) layer ≡ weight program n f calls (none_done program) (opening_heap program)
-sums_at_first program n calls layer layer_is f =
-    ap (total program n f (calls - 0)) layer_is ∙ once (weight program n f (calls - 0) (none_done program) (opening_heap program))
-    ∙ ap (λ (k : ℕ). weight program n f k (none_done program) (opening_heap program)) (all_left calls)
+pub sums_at_first : (program : Typed) (n : ℕ) (layer : List Reached) → layer ≡ opening_state program ∷ [] → (f : Summand) (left : ℕ) →
+    total program n f left layer ≡ weight program n f (0 + left) (none_done program) (opening_heap program)
+sums_at_first program n layer layer_is f left =
+    ap (total program n f left) layer_is ∙ once (weight program n f left (none_done program) (opening_heap program))
+    ∙ ap (λ (k : ℕ). weight program n f k (none_done program) (opening_heap program)) (none_made left)
 
 -- ---- one layer more
 
@@ -67,14 +67,18 @@ one_left calls depth below = omega arith
 from_nothing : (a b c : ℕ) → a ≡ b + c → b ≡ 0 → a ≡ c
 from_nothing a b c is none = omega arith
 
-pub sums_of_more : (search : Search) (old new : Work) (layer : List Reached) (calls depth whole : ℕ) (f : Option (List Value) → ℕ) →
-    GoesOn search old new (made_from_all search layer) → old.next ≡ [] → depth < calls →
-    total search.program.now search.turns f (calls - depth) layer ≡ whole →
-    total search.program.now search.turns f (calls - (depth + 1)) new.next ≡ whole
-sums_of_more search old new layer calls depth whole f goes empty below sums =
-    let left = calls - (depth + 1) in
+one_made : (depth left : ℕ) → depth + suc left ≡ depth + 1 + left
+one_made depth left = omega arith
+
+pub sums_of_more : (search : Search) (old new : Work) (layer : List Reached) (depth : ℕ) → GoesOn search old new (made_from_all search layer) → old.next ≡ [] →
+    ((f : Summand) (left : ℕ) → total search.program.now search.turns f left layer
+    ≡ weight search.program.now search.turns f (depth + left) (none_done search.program.now) (opening_heap search.program.now)) →
+    (f : Summand) (left : ℕ) → total search.program.now search.turns f left new.next
+    ≡ weight search.program.now search.turns f (depth + 1 + left) (none_done search.program.now) (opening_heap search.program.now)
+sums_of_more search old new layer depth goes empty sums f left =
     from_nothing _ _ _ (goes.grows f left) (ap (total search.program.now search.turns f left) empty)
-    ∙ ap (λ (k : ℕ). total search.program.now search.turns f k layer) (one_left calls depth below) ∙ sums
+    ∙ sums f (suc left)
+    ∙ ap (λ (k : ℕ). weight search.program.now search.turns f k (none_done search.program.now) (opening_heap search.program.now)) (one_made depth left)
 
 pub good_of_more : (search : Search) (old new : Work) (layer : List Reached) (depth : ℕ) →
     GoesOn search old new (made_from_all search layer) → old.depth ≡ depth → AreGood search.program.now search.turns (depth + 1) new.trail new.next
@@ -83,13 +87,6 @@ good_of_more search old new layer depth goes is =
     subst (λ (k : ℕ). AreGood search.program.now search.turns k new.trail new.next) same goes.work.states
 
 -- ---- a call past its turns
-
-leads_made : (program : Typed) (n : ℕ) (done : List ℕ) (heap : List Value) (order done' : List ℕ) (heap' : List Value) →
-    Leads program n done heap order done' heap' → length (calls_of program done order) ≡ length order
-leads_made program n done heap [] done' heap' there = refl
-leads_made program n done heap (t ∷ order) done' heap' there =
-    ap (λ (c : Option Invocation). length (Rattle.std.specs.Option.option_to_list c ++ calls_of program (one_more done t) order)) there.2
-    ∙ ap (λ (k : ℕ). suc k) (leads_made program n (one_more done t) there.1.heap order done' heap' there.4)
 
 pub stops_after : OverIsWhole → (program : Typed) (n : ℕ) (order : List ℕ) (thread : ℕ) → IsBeyond program n order thread → StopsAfter program n order thread
 stops_after law program n order thread beyond =
@@ -143,22 +140,22 @@ ends_apart program n calls trail layer all good j k d below within same =
     )
 
 -- the same sum over the states and over what is told of them
-sum_told : (g : Reached → ℕ) (h : Told → ℕ) (trail : List (List ℕ)) (layer : List Reached) → ((s : Reached) → g s ≡ h (as_told trail s)) →
+pub sum_told : (g : Reached → ℕ) (h : Told → ℕ) (trail : List (List ℕ)) (layer : List Reached) → ((s : Reached) → g s ≡ h (as_told trail s)) →
     sum_by g layer ≡ sum_by h (map (as_told trail) layer)
 sum_told g h trail [] same = refl
 sum_told g h trail (s ∷ layer) same =
     sum_by-cons g s layer ∙ ap (λ (x : ℕ). x + sum_by g layer) (same s) ∙ ap (λ (x : ℕ). h (as_told trail s) + x) (sum_told g h trail layer same)
     ∙ sym (sum_by-cons h (as_told trail s) (map (as_told trail) layer))
 
-counted : (b : Bool) (k : ℕ) → k * (0 + cond b 1 0) ≡ cond b k 0
+pub counted : (b : Bool) (k : ℕ) → k * (0 + cond b 1 0) ≡ cond b k 0
 counted true k = omega arith
 counted false k = omega arith
 
 pub counts_told : (program : Typed) (n calls : ℕ) (trail : List (List ℕ)) (layer : List Reached) → calls ≡ calls_together program.threads.items →
-    ((f : Option (List Value) → ℕ) → total program n f 0 layer ≡ weight program n f calls (none_done program) (opening_heap program)) →
+    ((f : Summand) → total program n f 0 layer ≡ weight program n f calls (none_done program) (opening_heap program)) →
     (test : Option (List Value) → Bool) → count_by (λ (order : List ℕ). test (end_in program n order)) (orders program) ≡ told_count test (map (as_told trail) layer)
 counts_told program n calls trail layer all sums test =
-    let f : Option (List Value) → ℕ = λ o. cond (test o) 1 0 in
+    let f : Summand = λ d o. cond (test o) 1 0 in
     ap (λ (k : ℕ). weight program n f k (none_done program) (opening_heap program)) (sym all) ∙ sym (sums f)
     ∙ sum_told (λ (s : Reached). s.orders * weight program n f 0 s.done s.cells) (λ (e : Told). cond (test (Some e.cells)) e.count 0) trail layer
     (λ s. counted (test (Some s.cells)) s.orders)
@@ -174,7 +171,7 @@ same_value (Ref None) (Ref (Some b)) = false
 same_value (Ref (Some a)) (Ref None) = false
 same_value (Ref (Some a)) (Ref (Some b)) = nat_eq a b
 
-same_cells : List Value → List Value → Bool
+pub same_cells : List Value → List Value → Bool
 same_cells [] [] = true
 same_cells [] (y ∷ ys) = false
 same_cells (x ∷ xs) [] = false
@@ -196,11 +193,11 @@ value_same (Int a) = (Decides-int_eq a a).1 refl
 value_same (Ref None) = refl
 value_same (Ref (Some a)) = (Decides-eqb a a).1 refl
 
-both_true : (a b : Bool) → cond a b false ≡ true → (a ≡ true) × (b ≡ true)
+pub both_true : (a b : Bool) → cond a b false ≡ true → (a ≡ true) × (b ≡ true)
 both_true true b is = (refl, is)
 both_true false b is = cc
 
-cells_are : (xs ys : List Value) → same_cells xs ys ≡ true → xs ≡ ys
+pub cells_are : (xs ys : List Value) → same_cells xs ys ≡ true → xs ≡ ys
 unfolding same_cells
 cells_are [] [] same = refl
 cells_are [] (y ∷ ys) same = cc
@@ -209,17 +206,17 @@ cells_are (x ∷ xs) (y ∷ ys) same =
     let both = both_true (same_value x y) (same_cells xs ys) same in
     ap (λ z. z ∷ xs) (value_is x y both.0) ∙ ap (λ zs. y ∷ zs) (cells_are xs ys both.1)
 
-cells_same : (xs : List Value) → same_cells xs xs ≡ true
+pub cells_same : (xs : List Value) → same_cells xs xs ≡ true
 unfolding same_cells
 cells_same [] = refl
 cells_same (x ∷ xs) = ap (λ b. cond b (same_cells xs xs) false) (value_same x) ∙ cells_same xs
 
 -- the tests: whether the turns don't settle all calls, and whether the cells are these
-unsettled_end : Option (List Value) → Bool
+unfoldable pub unsettled_end : Option (List Value) → Bool
 unsettled_end None = true
 unsettled_end (Some heap) = false
 
-ends_as : List Value → Option (List Value) → Bool
+unfoldable pub ends_as : List Value → Option (List Value) → Bool
 ends_as heap None = false
 ends_as heap (Some cells) = same_cells cells heap
 
@@ -228,7 +225,7 @@ some_first zero b more = inr (omega arith)
 some_first (suc a) b more = inl (omega arith)
 
 -- a sum that is not nothing has a term that is not
-some_term : (g : Told → ℕ) (told : List Told) → 0 < sum_by g told → (k : ℕ) × (e : Told) × (k < length told) × (get_or told k e ≡ e) × (0 < g e)
+pub some_term : {X : Type 0} (g : X → ℕ) (told : List X) → 0 < sum_by g told → (k : ℕ) × (e : X) × (k < length told) × (get_or told k e ≡ e) × (0 < g e)
 some_term g [] more = absurd (omega arith)
 some_term g (e ∷ told) more =
     elim (some_first (g e) (sum_by g told) (rw sum_by-cons at more)) [
@@ -242,7 +239,7 @@ none_counted test (e ∷ told) none =
     sum_by-cons (λ (e : Told). cond (test (Some e.cells)) e.count 0) e told
     ∙ ap (λ (b : Bool). cond b e.count 0 + told_count test told) (none e.cells) ∙ ap (λ (x : ℕ). 0 + x) (none_counted test told none)
 
-passed : (b : Bool) (k : ℕ) → 0 < cond b k 0 → b ≡ true
+pub passed : (b : Bool) (k : ℕ) → 0 < cond b k 0 → b ≡ true
 passed true k more = refl
 passed false k more = absurd (omega arith)
 
@@ -260,7 +257,7 @@ none_left [] heap cells is = (refl, cc)
 none_left (c ∷ calls) heap cells is = cc
 
 -- where the turns settle an order's calls, its end is the heap that they leave
-settled_heap : SettledAreSerial → HaveAtMostOneSerial → (program : Typed) (n : ℕ) (start heap cells : List Value) (calls : List Invocation) (ends : List Ended) →
+pub settled_heap : SettledAreSerial → HaveAtMostOneSerial → (program : Typed) (n : ℕ) (start heap cells : List Value) (calls : List Invocation) (ends : List Ended) →
     Serial program start calls ends heap → heap_left (serial_with program n start calls) ≡ Some cells → cells ≡ heap
 settled_heap settled once program n start heap cells calls ends serial is =
     let p = serial_with program n start calls in
@@ -270,7 +267,7 @@ settled_heap settled once program n start heap cells calls ends serial is =
     let ran : Serial program start calls p.ends p.heap = subst (λ (c : List Invocation). Serial program start c p.ends p.heap) (sym whole) law.2 in
     sym parts.1 ∙ (once program start p.heap heap calls p.ends ends ran serial).1
 
-no_end : (o : Option (List Value)) → (unsettled_end o ≡ true → ⊥) → (cells : List Value) × (o ≡ Some cells)
+pub no_end : (o : Option (List Value)) → (unsettled_end o ≡ true → ⊥) → (cells : List Value) × (o ≡ Some cells)
 unfolding unsettled_end
 no_end None not = absurd (not refl)
 no_end (Some cells) not = (cells, refl)
@@ -293,7 +290,7 @@ every_end settled once program n told counts order heap ends =
 
 pub are_all_ends : OverIsWhole → SettledAreSerial → HaveAtMostOneSerial → (program : Typed) (n calls : ℕ) (trail : List (List ℕ)) (layer : List Reached) (told : List Told) →
     calls ≡ calls_together program.threads.items → AreGood program n calls trail layer →
-    ((f : Option (List Value) → ℕ) → total program n f 0 layer ≡ weight program n f calls (none_done program) (opening_heap program)) →
+    ((f : Summand) → total program n f 0 layer ≡ weight program n f calls (none_done program) (opening_heap program)) →
     told ≡ map (as_told trail) layer → AreAllEnds program n told
 are_all_ends law settled once program n calls trail layer told all good sums is =
     let counts = counts_told program n calls trail layer all sums in
@@ -312,7 +309,7 @@ count_ones (o ∷ os) = sum_by-cons (λ (order : List ℕ). 1) o os ∙ ap (λ (
 
 pub too_many : (search : Search) (old : Work) (layer : List Reached) (calls depth : ℕ) → HasTooMany search old (made_from_all search layer) → old.next ≡ [] → old.depth ≡ depth →
     depth < calls → calls ≡ calls_together search.program.now.threads.items →
-    ((f : Option (List Value) → ℕ) → total search.program.now search.turns f (calls - depth) layer
+    ((f : Summand) → total search.program.now search.turns f (calls - depth) layer
     ≡ weight search.program.now search.turns f calls (none_done search.program.now) (opening_heap search.program.now)) →
     search.most < length (orders search.program.now)
 too_many search old layer calls depth many empty deep below all sums =

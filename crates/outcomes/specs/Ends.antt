@@ -57,6 +57,16 @@ pub record AreAllEnds (program : Typed) (n : ℕ) (told : List Told) : Type 0 wh
   -- and whatever order the calls are run in, its end is among them
   pub all : (order : List ℕ) (heap : List Value) → EndsIn program order heap → Any (λ (e : Told). e.cells ≡ heap) told
 
+-- the ends of orders that were drawn, where there are more than are looked at
+pub record AreDrawnEnds (program : Typed) (most : ℕ) (told : List Told) : Type 0 where
+  pub more : most < length (orders program)
+  -- each is the end of the order that is told with it
+  pub each : All (λ (e : Told). EndsIn program e.order e.cells) told
+  -- no two have the same cells
+  pub apart : AllPairs (λ (a b : Told). a.cells ≢ b.cells) told
+  -- as many orders were drawn as are looked at
+  pub counts : sum_by (λ (e : Told). e.count) told ≡ most
+
 -- how many of each thread's calls are done after an order
 abbrev pub done_after : List ℕ → List ℕ → List ℕ
 done_after done [] = done
@@ -73,8 +83,33 @@ pub record StopsAfter (program : Typed) (n : ℕ) (order : List ℕ) (thread : �
   pub next : next_call program (done_after (none_done program) order) thread ≡ Some call
   pub beyond : run_call program n call heap ≡ Beyond_turns
 
--- what is found: the ends of all orders; or nothing, as there are more orders than are looked at; or a call that n turns don't settle
+-- ---- states
+
+-- where calls can lead: how many of each thread's are done, and what the cells hold
+pub record Place : Type 0 where
+  pub done : List ℕ
+  pub cells : List Value
+
+-- the calls of an order, each the next of its thread, run whole one after another from the opening heap, lead there
+pub record LeadsTo (program : Typed) (place : Place) : Type 0 where
+  pub order : List ℕ
+  pub made : length (calls_in program order) ≡ length order
+  pub done : done_after (none_done program) order ≡ place.done
+  pub ends : List Ended
+  pub serial : SerialFromOpening program (calls_in program order) ends place.cells
+
+-- all such places, each once
+pub record AreAllPlaces (program : Typed) (places : List Place) : Type 0 where
+  pub each : All (LeadsTo program) places
+  pub apart : AllPairs (λ (a b : Place). a ≢ b) places
+  pub all : (place : Place) → LeadsTo program place → Contains places place
+
+-- there are so many of them
+abbrev pub HasPlaces : Typed → ℕ → Type 0
+HasPlaces program count = (places : List Place) × AreAllPlaces program places × (length places ≡ count)
+
+-- what is found: the ends of all orders, and how many places there are on the way; or the ends of orders that were drawn; or a call that n turns don't settle
 abbrev pub Finds : Typed → ℕ → ℕ → Found → Type 0
-Finds program n most (found.All ends) = AreAllEnds program n (map told_of ends.items)
-Finds program n most found.TooMany = most < length (orders program)
+Finds program n most (found.All ends places) = AreAllEnds program n (map told_of ends.items) × HasPlaces program places
+Finds program n most (found.Drawn ends) = AreDrawnEnds program most (map told_of ends.items)
 Finds program n most (found.Unsettled order thread) = StopsAfter program n order.items thread

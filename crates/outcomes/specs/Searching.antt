@@ -6,7 +6,7 @@ use Rattle.core_lang.specs.Serial.{Invocation, opening_heap, run_call}
 use Rattle.core_lang.specs.Whole.{Finished, Over}
 use Rattle.core_lang.specs.Typing.{IsHeap, HasCells}
 use Rattle.outcomes.specs.Orders.{next_call, one_more, none_done, orders_of}
-use Rattle.outcomes.specs.Ends.{Told, end_from}
+use Rattle.outcomes.specs.Ends.{Told, end_from, done_after}
 use Rattle.outcomes.specs.States.{Reached, IsAlike, NoneIsAlike, at, with_more}
 use Rattle.outcomes.specs.Trails.{longer}
 
@@ -35,35 +35,36 @@ pub record AreGood (program : Typed) (n depth : ℕ) (trail : List (List ℕ)) (
   pub each : (k : ℕ) → k < length states → IsGood program n depth trail (at states k)
   pub apart : (j k : ℕ) → j < k → k < length states → ¬ (IsAlike (at states k).done (at states k).cells (at states j))
 
--- orders that begin as these
-abbrev pub IsLonger : List (List ℕ) → List (List ℕ) → Type 0
-IsLonger trail trail' = (more : List (List ℕ)) × (trail' ≡ trail ++ more)
-
 -- ---- sums over orders
 
+-- what is summed, by where the calls of an order lead: how many of each thread are done, and what the cells hold, if the turns settle
+-- them
+abbrev pub Summand : Type 0
+Summand = List ℕ → Option (List Value) → ℕ
+
 -- over these orders of calls from a state
-abbrev pub sum_over : Typed → ℕ → (Option (List Value) → ℕ) → List ℕ → List Value → List (List ℕ) → ℕ
-sum_over program n f done heap orders = sum_by (λ (order : List ℕ). f (end_from program n done heap order)) orders
+abbrev pub sum_over : Typed → ℕ → Summand → List ℕ → List Value → List (List ℕ) → ℕ
+sum_over program n f done heap orders = sum_by (λ (order : List ℕ). f (done_after done order) (end_from program n done heap order)) orders
 
 -- over the orders of `left` calls more
-abbrev pub weight : Typed → ℕ → (Option (List Value) → ℕ) → ℕ → List ℕ → List Value → ℕ
+abbrev pub weight : Typed → ℕ → Summand → ℕ → List ℕ → List Value → ℕ
 weight program n f left done heap = sum_over program n f done heap (orders_of program left done)
 
 -- over all orders of `left` calls more from these states, each as often as orders lead to its state
-abbrev pub total : Typed → ℕ → (Option (List Value) → ℕ) → ℕ → List Reached → ℕ
+abbrev pub total : Typed → ℕ → Summand → ℕ → List Reached → ℕ
 total program n f left states = sum_by (λ (s : Reached). s.orders * weight program n f left s.done s.cells) states
 
 -- ---- one call more
 
 -- a call leads to a state: to one that is there, or to a new one
-pub record Found (old new : List Reached) (trail trail' : List (List ℕ)) (done : List ℕ) (heap : List Value) (more : ℕ) : Type 0 where
+pub record IsFound (old new : List Reached) (trail trail' : List (List ℕ)) (done : List ℕ) (heap : List Value) (more : ℕ) : Type 0 where
   pub number : ℕ
   pub within : number < length old
   pub alike : IsAlike done heap (at old number)
   pub states : new ≡ slice_set old number (with_more (at old number) more)
   pub trail_is : trail' ≡ trail
 
-pub record Added (old new : List Reached) (trail trail' : List (List ℕ)) (done : List ℕ) (heap : List Value) (more from thread : ℕ) : Type 0 where
+pub record IsAdded (old new : List Reached) (trail trail' : List (List ℕ)) (done : List ℕ) (heap : List Value) (more from thread : ℕ) : Type 0 where
   pub none : NoneIsAlike done heap old
   pub states : new ≡ old ++ (record { done = done; cells = heap; orders = more; first = length trail }) ∷ []
   pub trail_is : trail' ≡ trail ++ longer trail from thread ∷ []

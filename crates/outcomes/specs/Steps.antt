@@ -13,9 +13,12 @@ use Rattle.outcomes.specs.declared.search.Stop.{Stop}
 use Rattle.outcomes.specs.declared.search.Stop.TheVariants.{TooMany, Beyond}
 use Rattle.outcomes.specs.declared.search.Work.{Work}
 use Rattle.outcomes.specs.declared.state.State.{State}
-use Rattle.outcomes.specs.Orders.{next_call, one_more, none_done, orders_of, begun_with, begun_by}
+use Rattle.outcomes.specs.declared.outcome.Found.{Found}
+use Rattle.outcomes.specs.Orders.{next_call, one_more, none_done, orders, orders_of, begun_with, begun_by}
+use Rattle.outcomes.specs.Ends.{Finds}
 use Rattle.outcomes.specs.States.{Reached, at, reached_of}
-use Rattle.outcomes.specs.Searching.{Leads, order_at, IsGood, AreGood, IsLonger, sum_over, total, Found, Added}
+use Rattle.outcomes.specs.Trails.{IsLonger}
+use Rattle.outcomes.specs.Searching.{Leads, order_at, IsGood, AreGood, sum_over, total, IsFound, IsAdded, Summand}
 
 -- the program is one that was accepted, and what was prepared is it
 pub record CanSearch (search : Search) : Type 0 where
@@ -40,8 +43,8 @@ Leaves program n call cells heap settled =
 abbrev pub Puts : Work → Work → State → ℕ → Type 0
 Puts old new from thread =
     (new.heap ≡ old.heap) × (new.depth ≡ old.depth) ×
-    (Found old.next new.next old.trail new.trail (one_more from.done.items thread) old.heap from.orders
-    ⊎ Added old.next new.next old.trail new.trail (one_more from.done.items thread) old.heap from.orders from.first thread)
+    (IsFound old.next new.next old.trail new.trail (one_more from.done.items thread) old.heap from.orders
+    ⊎ IsAdded old.next new.next old.trail new.trail (one_more from.done.items thread) old.heap from.orders from.first thread)
 
 -- the call is the one that the thread makes next, and can be made
 pub record IsNext (program : Typed) (done : List ℕ) (thread : ℕ) (call : Call) : Type 0 where
@@ -64,7 +67,7 @@ AreReached search work states = AreGood search.program.now search.turns work.dep
 
 -- what sums over orders grow by
 abbrev pub Growth : Type 0
-Growth = (Option (List Value) → ℕ) → ℕ → ℕ
+Growth = Summand → ℕ → ℕ
 
 -- by the orders that begin with the next call of a thread
 abbrev pub made_by : Search → State → ℕ → Growth
@@ -91,7 +94,9 @@ pub record GoesOn (search : Search) (old new : Work) (growth : Growth) : Type 0 
   pub depth : new.depth ≡ old.depth
   pub work : IsAtWork search new
   pub longer : IsLonger old.trail new.trail
-  pub grows : (f : Option (List Value) → ℕ) (left : ℕ) →
+  -- each new state has an order of its own
+  pub grown : length new.trail + length old.next ≡ length old.trail + length new.next
+  pub grows : (f : Summand) (left : ℕ) →
       total search.program.now search.turns f left new.next ≡ total search.program.now search.turns f left old.next + growth f left
 
 -- after the calls of this order the next one of the thread goes beyond the turns
@@ -104,8 +109,8 @@ pub record IsBeyond (program : Typed) (n : ℕ) (order : List ℕ) (thread : ℕ
   pub beyond : run_call program n call cells ≡ Beyond_turns
 
 -- every order is one
-abbrev pub one : Option (List Value) → ℕ
-one end = 1
+abbrev pub one : Summand
+one done end = 1
 
 -- there are more orders than are looked at
 abbrev pub HasTooMany : Search → Work → Growth → Type 0
@@ -122,6 +127,11 @@ IsStop search old new growth (Beyond first thread) =
 abbrev pub Steps : Search → Work → Work → Growth → Option Stop → Type 0
 Steps search old new growth None = GoesOn search old new growth
 Steps search old new growth (Some stop) = IsStop search old new growth stop
+
+-- what is found over all orders; nothing, where there are more than are looked at
+abbrev pub FindsOrHasMore : Search → Option Found → Type 0
+FindsOrHasMore search None = search.most < length (orders search.program.now)
+FindsOrHasMore search (Some found) = Finds search.program.now search.turns search.most found
 
 -- where no call is done
 abbrev pub opening_state : Typed → Reached

@@ -1,8 +1,8 @@
 //! What can come out of a program at all: how its cells can end, over all orders in which its calls can be made one after
 //! another, each thread's in the order of its script.
 //!
-//! - [`search::Search`]: what is searched; [`search::Search::all`] finds each end once, with how many orders have it and one
-//!   of them, if there are at most as many orders as are looked at.
+//! - [`search::Search`]: what is searched; [`search::Search::ends`] finds each end once, with how many orders have it and one
+//!   of them: of all orders, if they are at most as many as are looked at, else of so many that are drawn.
 //! - [`outcome`]: what is found.
 //! - [`layer`], [`state`], [`trail`]: where so many calls are done, each such place once, and an order that leads there.
 //!
@@ -10,6 +10,7 @@
 //! nobody has to believe them.
 #![tactic(auto)]
 
+mod drawing;
 mod hash;
 pub mod layer;
 pub mod outcome;

@@ -7,7 +7,7 @@ use core_lang::value::Value;
 pub struct Outcome {
     /// What they hold.
     pub cells: Vec<Value>,
-    /// After how many orders.
+    /// After how many of the orders that were looked at.
     pub count: u64,
     /// One of these orders, thread by thread.
     pub order: Vec<usize>,
@@ -16,10 +16,15 @@ pub struct Outcome {
 /// What a search finds.
 #[derive(Drop)]
 pub enum Found {
-    /// How the cells can end, over all orders.
-    All(Vec<Outcome>),
-    /// Nothing: there are more orders than are looked at.
-    TooMany,
+    /// All orders were looked at.
+    All {
+        /// How the cells can end.
+        ends: Vec<Outcome>,
+        /// At how many places these orders come by: by how many of each thread's calls are done, and what the cells hold.
+        places: usize,
+    },
+    /// How they end after orders that were drawn, since there are more than are looked at.
+    Drawn(Vec<Outcome>),
     /// After the calls of an order, the turns don't settle the next call of a thread.
     Unsettled {
         /// The order.

@@ -6,7 +6,7 @@ ghost use Rattle.core_lang.specs.Typing.{IsHeap, HasCells};
 ghost use Rattle.core_lang.specs.WellFormed.{CanCall, calls_together};
 ghost use Rattle.outcomes.specs.States.{orders_to};
 ghost use Rattle.outcomes.specs.Orders.{next_call};
-ghost use Rattle.outcomes.specs.Steps.{CanSearch, Leaves, Puts, IsNext, IsAtWork, IsReached, AreReached, Steps, made_by, made_from, made_from_all, opening_state, FirstsAre};
+ghost use Rattle.outcomes.specs.Steps.{CanSearch, FindsOrHasMore, Leaves, Puts, IsNext, IsAtWork, IsReached, AreReached, Steps, made_by, made_from, made_from_all, opening_state, FirstsAre};
 ghost use Rattle.outcomes.specs.Ends.{Finds, told_of};
 ghost use Rattle.outcomes.specs.Searching.{as_told};
 
@@ -78,6 +78,20 @@ pub(crate) fn set_cells(alloc: Global, heap: &mut Heap, cells: &[Value]) -> Resu
 }
 
 impl Search<'_> {
+    /// Makes a call on a heap. Answers whether the turns settle it; if so, the heap is what it leaves.
+    pub(crate) fn run(&self, alloc: Global, heap: &mut Heap, call: &Call) -> Result<bool, NoMemory>
+        requires search { CanSearch self.now }
+        requires heap { HasCells self.now.program.now heap.old }
+        requires typed { IsHeap self.now.program.now heap.old }
+        requires call { CanCall self.now.program.now call.now.section call.now.arguments.items }
+        ensures { IfOk result (Leaves self.now.program.now self.now.turns (invocation call.now) heap.old heap.new) }
+    {
+        let run = self
+            .prepared
+            .run_whole(alloc, call.section, &call.arguments, heap, self.turns)?;
+        Ok(run.is_some())
+    }
+
     /// Makes a call where the cells hold these values. Answers whether the turns settle it; if so, the heap is what it
     /// leaves.
     fn make(
@@ -95,10 +109,7 @@ impl Search<'_> {
         ensures { IfOk result (Leaves self.now.program.now self.now.turns (invocation call.now) cells.now heap.new) }
     {
         set_cells(alloc, heap, cells)?;
-        let run = self
-            .prepared
-            .run_whole(alloc, call.section, &call.arguments, heap, self.turns)?;
-        Ok(run.is_some())
+        self.run(alloc, heap, call)
     }
 }
 
@@ -132,7 +143,7 @@ impl Work {
 
 impl Search<'_> {
     /// The call that a thread makes next, where so many calls of each thread are done.
-    fn next(&self, done: &[usize], thread: usize) -> Option<&Call>
+    pub(crate) fn next(&self, done: &[usize], thread: usize) -> Option<&Call>
         requires search { CanSearch self.now }
         requires thread { thread < length self.now.program.now.threads.items }
         requires threads { length done.now ≡ length self.now.program.now.threads.items }
@@ -221,7 +232,7 @@ impl Search<'_> {
 }
 
 /// The states as they are told.
-fn told(alloc: Global, layer: &Layer, trail: &Trail) -> Result<Vec<Outcome>, NoMemory>
+pub(crate) fn told(alloc: Global, layer: &Layer, trail: &Trail) -> Result<Vec<Outcome>, NoMemory>
     requires { FirstsAre trail.now layer.now }
     ensures { IfOk result (λ ends. map told_of ends.items ≡ map (as_told trail.now) layer.now) }
 {
@@ -239,7 +250,7 @@ fn told(alloc: Global, layer: &Layer, trail: &Trail) -> Result<Vec<Outcome>, NoM
 
 impl Search<'_> {
     /// How many calls there are.
-    fn calls(&self) -> usize
+    pub(crate) fn calls(&self) -> usize
         requires { CanSearch self.now }
         ensures { result ≡ calls_together self.now.program.now.threads.items }
     {
@@ -266,13 +277,9 @@ impl Search<'_> {
     }
 
     /// How the cells can end, over all orders, if there are at most as many as are looked at.
-    ///
-    /// # Errors
-    ///
-    /// Want of memory.
-    pub fn all(&self, alloc: Global) -> Result<Found, NoMemory>
+    fn all(&self, alloc: Global) -> Result<Option<Found>, NoMemory>
         requires { CanSearch self.now }
-        ensures { IfOk result (Finds self.now.program.now self.now.turns self.now.most) }
+        ensures { IfOk result (FindsOrHasMore self.now) }
     {
         laws::whole_within_some_turns();
         laws::settled_are_serial();
@@ -290,14 +297,32 @@ impl Search<'_> {
             work.depth = depth;
             match self.expand_all(alloc, &mut work, &layer)? {
                 None => {}
-                Some(Stop::TooMany) => return Ok(Found::TooMany),
+                Some(Stop::TooMany) => return Ok(None),
                 Some(Stop::Beyond { first, thread }) => {
                     let order = work.trail.order(alloc, first)?;
-                    return Ok(Found::Unsettled { order, thread });
+                    return Ok(Some(Found::Unsettled { order, thread }));
                 }
             }
             layer = mem::replace(&mut work.next, Layer::new(alloc));
         }
-        Ok(Found::All(told(alloc, &layer, &work.trail)?))
+        let ends = told(alloc, &layer, &work.trail)?;
+        let places = work.trail.len();
+        Ok(Some(Found::All { ends, places }))
+    }
+
+    /// How the cells can end, over all orders, if there are at most as many as are looked at; else over so many that are
+    /// drawn, from the seed. Which are drawn no clause says.
+    ///
+    /// # Errors
+    ///
+    /// Want of memory.
+    pub fn ends(&self, alloc: Global, seed: u64) -> Result<Found, NoMemory>
+        requires { CanSearch self.now }
+        ensures { IfOk result (Finds self.now.program.now self.now.turns self.now.most) }
+    {
+        match self.all(alloc)? {
+            Some(found) => Ok(found),
+            None => self.drawn(alloc, seed),
+        }
     }
 }

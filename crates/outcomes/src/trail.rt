@@ -1,7 +1,7 @@
 //! Orders that share their beginnings.
 
-ghost use Rattle.std.specs.Prelude.{◌≡◌, ◌<◌, [], ◌∷◌, ◌++◌, length, slice_index_or, IfOk, OnErr};
-ghost use Rattle.outcomes.specs.Trails.{longer};
+ghost use Rattle.std.specs.Prelude.{◌≡◌, ◌<◌, [], ◌∷◌, ◌++◌, length, slice_index_or, IfOk, OnOk, OnErr};
+ghost use Rattle.outcomes.specs.Trails.{longer, IsBegun, IsLonger};
 
 use std::alloc::{AllocError, Global};
 use std::marker::Model;
@@ -43,6 +43,13 @@ impl Trail {
         }
     }
 
+    /// How many orders there are.
+    pub fn len(&self) -> usize
+        ensures { result ≡ length self.now }
+    {
+        self.steps.len() + 1
+    }
+
     /// Adds the order of this number with a thread behind it, and answers its number.
     ///
     /// # Errors
@@ -59,6 +66,24 @@ impl Trail {
             thread,
         })?;
         Ok(self.steps.len())
+    }
+
+    /// Adds an order, and answers its number.
+    ///
+    /// # Errors
+    ///
+    /// Want of memory; then some of its beginnings may be there.
+    pub fn add(&mut self, order: &[usize]) -> Result<usize, AllocError>
+        requires { IsBegun self.old }
+        ensures longer { OnOk result (IsLonger self.old self.new) }
+        ensures within { IfOk result (λ number. number < length self.new) }
+        ensures order { IfOk result (λ number. slice_index_or self.new number [] ≡ order.now) }
+    {
+        let mut number = 0;
+        for thread in order {
+            number = self.extend(number, *thread)?;
+        }
+        Ok(number)
     }
 
     /// The order of this number.

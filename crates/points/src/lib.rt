@@ -4,6 +4,9 @@
 //! - [`table::Points`]: what is answered; with the ranks of the classes, which paths are wanted at each point, and which
 //!   are surely held there.
 //!
+//! In the words of dataflow analysis, over the graph of which point is followed by which: used before is a forward may
+//! analysis, used later a backward may analysis, surely held a forward must analysis.
+//!
 //! `specs/` defines when a path is used before a point and later (`Used`), what an answer is (`Points`), and what is wanted
 //! and surely held (`Wanted`). Its other files only say what the passes of the code have done; nobody has to believe them.
 #![tactic(auto)]

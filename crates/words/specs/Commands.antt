@@ -27,6 +27,10 @@ why_rule = record (new_rule (codes "why")) { long = Some (codes "why"); action =
 abbrev pub sections_rule : Rule
 sections_rule = record (new_rule (codes "sections")) { long = Some (codes "sections"); action = Some SetTrue }
 
+-- --json
+abbrev pub json_rule : Rule
+json_rule = record (new_rule (codes "json")) { long = Some (codes "json"); action = Some SetTrue }
+
 -- a command over one file
 abbrev pub with_file : Text → App
 with_file name = with_rule (new_app name) (file_rule (codes "FILE"))
@@ -51,6 +55,10 @@ with_why app = with_rule app why_rule
 abbrev pub with_sections : App → App
 with_sections app = with_rule app sections_rule
 
+-- a command that takes --json besides
+abbrev pub with_json : App → App
+with_json app = with_rule app json_rule
+
 -- a command that must have a subcommand
 abbrev pub needs_subcommand : App → App
 needs_subcommand app = record app { top = record app.top { subcommand_required = true } }
@@ -67,9 +75,9 @@ program = needs_subcommand (with_version (new_app (codes "autolock")))
 abbrev pub with_check : App → App
 with_check app = with_subcommand app (with_file (codes "check")).top
 
--- autolock explain FILE
+-- autolock explain [--json] FILE
 abbrev pub with_explain : App → App
-with_explain app = with_subcommand app (with_file (codes "explain")).top
+with_explain app = with_subcommand app (with_json (with_file (codes "explain"))).top
 
 -- autolock order FILE
 abbrev pub with_order : App → App

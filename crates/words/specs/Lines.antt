@@ -28,7 +28,8 @@ pub record IsFlag (id : Text) (rows : List Row) (is : Bool) : Type 0 where
 -- the line is that command, with the values of its arguments
 abbrev pub IsLine : Text → List Row → Line → Type 0
 IsLine command rows (Check file) = (command ≡ codes "check") × (file.now ≡ name_in (codes "FILE") rows)
-IsLine command rows (Explain file) = (command ≡ codes "explain") × (file.now ≡ name_in (codes "FILE") rows)
+IsLine command rows (Explain file json) =
+    (command ≡ codes "explain") × (file.now ≡ name_in (codes "FILE") rows) × IsFlag (codes "json") rows json
 IsLine command rows (Order file) = (command ≡ codes "order") × (file.now ≡ name_in (codes "FILE") rows)
 IsLine command rows (Listing file) = (command ≡ codes "listing") × (file.now ≡ name_in (codes "FILE") rows)
 IsLine command rows (Serial file turns) =

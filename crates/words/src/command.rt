@@ -2,7 +2,7 @@
 
 ghost use Rattle.std.specs.Prelude.{◌≡◌, IfOk, codes, false};
 ghost use Rattle.clap.specs.Words.{rule_of};
-ghost use Rattle.words.specs.Commands.{IsCommand, file_rule, turns_rule, why_rule, sections_rule, with_file, with_turns, with_steps, with_history, with_why, with_sections, Adds, AddsRule, autolock};
+ghost use Rattle.words.specs.Commands.{IsCommand, file_rule, turns_rule, why_rule, sections_rule, json_rule, with_file, with_turns, with_steps, with_history, with_why, with_sections, with_json, Adds, AddsRule, autolock};
 
 use clap::builder::ValueParser;
 use clap::{Arg, ArgAction, Command};
@@ -54,6 +54,17 @@ fn sections_argument<'a>(alloc: Global) -> Arg<'a>
         .help("Leave the instructions out")
 }
 
+/// `--json`.
+fn json_argument<'a>(alloc: Global) -> Arg<'a>
+    ensures rule { rule_of result ≡ json_rule }
+    ensures local { result.global ≡ false }
+{
+    Arg::new(alloc, "json")
+        .long("json")
+        .action(ArgAction::SetTrue)
+        .help("Tell it as a JSON object, in one line")
+}
+
 /// A command over one file.
 fn file_command<'a>(alloc: Global, name: &'a str, about: &'a str) -> Result<Command<'a>, AllocError>
     ensures { IfOk result (IsCommand (with_file name.entry.now)) }
@@ -69,6 +80,15 @@ fn steps_argument<'a>(alloc: Global) -> Arg<'a>
     ensures local { result.global ≡ false }
 {
     file_argument(alloc, "STEPS").help("Which thread makes how many steps: items T or T*N")
+}
+
+/// `explain`.
+fn explain_command<'a>(alloc: Global) -> Result<Command<'a>, AllocError>
+    ensures { IfOk result (IsCommand (with_json (with_file (codes "explain")))) }
+{
+    let about =
+        "Tell the fault of a program, with its place in the source and what can be done about it";
+    file_command(alloc, "explain", about)?.arg(json_argument(alloc))
 }
 
 /// `serial`.
@@ -156,9 +176,7 @@ pub fn command<'a>(alloc: Global) -> Result<Command<'a>, AllocError>
         .subcommand_required(true);
     let about = "Say in which order locks are taken, and which ones before each statement";
     let line = with_command(Ok(line), file_command(alloc, "check", about));
-    let about =
-        "Tell the fault of a program, with its place in the source and what can be done about it";
-    let line = with_command(line, file_command(alloc, "explain", about));
+    let line = with_command(line, explain_command(alloc));
     let about =
         "Write the order of the lock classes as a graph in DOT: which has to come before which, and why";
     let line = with_command(line, file_command(alloc, "order", about));

@@ -15,6 +15,8 @@ pub enum Line<'a> {
     Explain {
         /// The file of the program's text.
         file: &'a str,
+        /// Whether it is told as JSON.
+        json: bool,
     },
     /// `order`: write the order of a program's lock classes as a graph.
     Order {

@@ -40,7 +40,10 @@ fn line<'a>(command: &str, matches: &ArgMatches<'a>) -> Option<Line<'a>>
     let file = name(matches, "FILE");
     match command {
         "check" => Some(Line::Check { file }),
-        "explain" => Some(Line::Explain { file }),
+        "explain" => Some(Line::Explain {
+            file,
+            json: flag(matches, "json"),
+        }),
         "order" => Some(Line::Order { file }),
         "listing" => Some(Line::Listing { file }),
         "serial" => Some(Line::Serial {

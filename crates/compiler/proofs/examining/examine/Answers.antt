@@ -35,18 +35,25 @@ returns-in_err-found-clause-fault c =
     (λ code start. tokens_faultless _ _ _ code start c.in_ok-tokens.ensures.found right placed) right c.in_ok-accepted.ensures.faultless
     c.in_ok-accepted.ensures.resolves c.in_ok-written.ensures.expanded c.in_err-found.ensures.fault c.in_err-found.ensures.least)
 
-pub returns-in-Ok-clause-accepts : goal.returns-in-Ok-clause-accepts
-returns-in-Ok-clause-accepts c =
+pub returns-in-Ok-clause-order : goal.returns-in-Ok-clause-order
+returns-in-Ok-clause-order c =
     let right = rw c.deref.ensures.value at c.in_ok-tree.ensures.found in
     record {
-      tokens = _;
-      tree = _;
-      has_tokens = c.in_ok-tokens.ensures.found;
-      has_tree = right;
-      resolves = c.in_ok-accepted.ensures.resolves;
-      faultless = faultless _ _ _ _ _ c.in_ok-tokens.ensures.refused c.in_ok-tokens.ensures.only c.in_ok-tokens.ensures.found right
-          (rw c.deref.ensures.value at c.in_ok-tree.ensures.misplaced) (rw c.deref.ensures.value at c.in_ok-tree.ensures.only)
-          c.in_ok-accepted.ensures.faultless c.in_ok-accepted.ensures.resolves c.in_ok-written.ensures.expanded c.in_ok-found.ensures.faultless c.in-Ok.ensures.faultless;
+      accepts = record {
+        tokens = _;
+        tree = _;
+        has_tokens = c.in_ok-tokens.ensures.found;
+        has_tree = right;
+        resolves = c.in_ok-accepted.ensures.resolves;
+        faultless = faultless _ _ _ _ _ c.in_ok-tokens.ensures.refused c.in_ok-tokens.ensures.only c.in_ok-tokens.ensures.found right
+            (rw c.deref.ensures.value at c.in_ok-tree.ensures.misplaced) (rw c.deref.ensures.value at c.in_ok-tree.ensures.only)
+            c.in_ok-accepted.ensures.faultless c.in_ok-accepted.ensures.resolves c.in_ok-written.ensures.expanded c.in_ok-found.ensures.faultless c.in-Ok.ensures.faultless;
+      };
+      expanded = c.in_ok-written.ensures.expanded;
+      well_formed = c.in_ok-written.ensures.well_formed;
+      paths = c.in_ok-found.ensures.paths;
+      ranks = c.in-Ok.ensures.ranks;
+      rise = c.in-Ok.ensures.rise;
     }
 
 pub returns-in-Err-Cycle-clause-cycle : goal.returns-in-Err-Cycle-clause-cycle

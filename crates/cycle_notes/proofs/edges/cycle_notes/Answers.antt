@@ -15,8 +15,8 @@ no_edge = record { class = 0; section = 0; used = 0; bound = 0 }
 rest_whole : (edges : List Edge) (i : ℕ) → take (length edges - (i + 1)) (drop (i + 1) edges) ≡ drop (i + 1) edges
 rest_whole edges i = take_all (length edges - (i + 1)) (drop (i + 1) edges) (omega (arith, length-drop (i + 1) edges))
 
-pub push-requires-clause-made : goal.push-requires-clause-made
-push-requires-clause-made c =
+pub push_whole-requires-clause-made : goal.push_whole-requires-clause-made
+push_whole-requires-clause-made c =
     let edges = c.args.edges.now in
     let i = c.loop-i.i in
     let first = (get_or edges 0 no_edge).class in
@@ -31,16 +31,16 @@ loop-i-preserved c more others =
     let edges = c.args.edges.now in
     let i = c.loop-i.i in
     let first = (get_or edges 0 no_edge).class in
-    let a = c.in_ok-push.ensures in
+    let a = c.in_ok-push_whole.ensures in
     let next : c.class_of_next-next.result ≡ class_of_next first (drop (i + 1) edges) =
     c.class_of_next-next.ensures ∙ ap (class_of_next first) (rest_whole edges i) in
     let tells = rw next at a.tells in
     let here : drop i edges ≡ get_or edges i no_edge ∷ drop (i + 1) edges =
     drop-cons edges i no_edge c.loop-i-test.true ∙ ap (λ k. get_or edges i no_edge ∷ drop k edges) (sym (add-one i)) in
-    let ahead = told_ahead c.args.program.now first (drop i edges) (get_or edges i no_edge) (drop (i + 1) edges) a.usage a.binding more here tells others in
-    let whole = c.loop-i.invariant (a.usage ∷ a.binding ∷ more) ahead in
+    let ahead = told_ahead c.args.program.now first (drop i edges) (get_or edges i no_edge) (drop (i + 1) edges) a.usage a.binding a.way more here tells a.tells_way others in
+    let whole = c.loop-i.invariant (a.usage ∷ a.binding ∷ a.way ∷ more) ahead in
     subst (TellEdges c.args.program.now first edges)
-    (sym (append_assoc (map note_of c.loop-i.notes.items) (a.usage ∷ a.binding ∷ []) more) ∙ ap (λ l. l ++ more) (sym a.added)) whole
+    (sym (append_assoc (map note_of c.loop-i.notes.items) (a.usage ∷ a.binding ∷ a.way ∷ []) more) ∙ ap (λ l. l ++ more) (sym a.added)) whole
 
 pub returns : goal.returns
 returns c =

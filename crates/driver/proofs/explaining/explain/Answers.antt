@@ -14,7 +14,7 @@ use Rattle.driver.proofs.explaining.explain.Goals as goal
 
 pub returns-in-Err : goal.returns-in-Err
 returns-in-Err g c =
-    program_unread (Alone (ExplainAnswers (name_of c.args.source.now)))
+    program_unread (Alone (ExplainAnswers c.args.json (name_of c.args.source.now)))
     (reading_of g.S.Read.remaining c.args.source.now c.read.new.source) [] g.O.Write.contents g.E.Write.contents c.args.streams.now
     c.read.new.self c.in-Err.status c.requires.writable c.in-Err.ensures.out refl c.in-Err.ensures.unread
 
@@ -25,16 +25,16 @@ returns g c =
     let ended = rw (← c.deref.ensures.value) at c.in-Ok.ensures.end in
     let name_is = c.name.ensures ∙ c.read.ensures.name in
     let whole = IfOk-weaker c.explain_answer-answer.result _
-    (IsRight (Alone (ExplainAnswers (name_of c.args.source.now)))
+    (IsRight (Alone (ExplainAnswers c.args.json (name_of c.args.source.now)))
     (reading_of g.S.Read.remaining c.args.source.now c.read.new.source) [])
     (λ answer is.
-    let right = explained_of_whole c.shown_by_first_bytes.ensures (name_of c.args.source.now) c.deref.result.now had _ _ _ bytes (rw name_is at is) in
+    let right = explained_of_whole c.shown_by_first_bytes.ensures c.fault_by_first_bytes.ensures c.args.json (name_of c.args.source.now) c.deref.result.now had _ _ _ bytes (rw name_is at is) in
     record {
       text = right.0;
       texts = [];
       gave = (right.1, tt);
       answers = right.2;
-      answered = explained_is_answered _ _ _ _ _ is;
+      answered = explained_is_answered _ _ _ _ _ _ is;
     })
     c.explain_answer-answer.ensures in
     given_served _ _ [] _ _ c.args.streams.now c.give.new.self c.give.result c.explain_answer-answer.result (rw c.in-Ok.ensures.ok refl) c.requires.writable

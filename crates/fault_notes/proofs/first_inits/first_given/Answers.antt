@@ -1,4 +1,4 @@
-use Rattle.std.proofs.Common.{◌≡◌, ◌∙◌, ◌<◌, ℕ, List, map, take, length, Some, refl, sym, ap, subst, below_more, arith}
+use Rattle.std.proofs.Common.{◌≡◌, ◌∙◌, List, map, take, Some, refl, sym, ap, subst, below_more, arith}
 use Rattle.std.proofs.lemmas.List.{take-map}
 use Rattle.std.proofs.lemmas.Option.{same_Some}
 use Rattle.syntax.specs.declared.tree.Decl as the_decl

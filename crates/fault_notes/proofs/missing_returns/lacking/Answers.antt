@@ -1,8 +1,7 @@
-use Rattle.std.proofs.Common.{◌≡◌, ◌∙◌, ◌<◌, true, false, Some, refl, sym, ap, subst, below_more, arith}
+use Rattle.std.proofs.Common.{◌≡◌, ◌∙◌, true, false, refl, sym, ap, subst, below_more, arith}
 use Rattle.std.proofs.lemmas.Option.{same_Some}
-use Rattle.std.specs.Option.{option_map}
-use Rattle.syntax.specs.Trees.{Decl, Section}
-use Rattle.syntax.specs.Views.{decl_of, section_of}
+use Rattle.syntax.specs.Trees.{Section}
+use Rattle.syntax.specs.Views.{decl_of}
 use Rattle.fault_notes.specs.MissingReturns.{body_of, LacksReturn}
 use Rattle.fault_notes.specs.Values.{section_at}
 use Rattle.fault_notes.proofs.Ends.{no_section}

@@ -1,4 +1,4 @@
-use Rattle.std.proofs.Common.{refl, append_assoc, ◌∙◌}
+use Rattle.std.proofs.Common.{refl, append_assoc}
 use Rattle.fault_notes.proofs.Grown.{names_of_while, names_of_if}
 use Rattle.fault_notes.proofs.name_spaces.+locals.Goals as goal
 

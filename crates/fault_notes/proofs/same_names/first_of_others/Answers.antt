@@ -1,4 +1,4 @@
-use Rattle.std.proofs.Common.{◌≡◌, ◌∙◌, ◌<◌, length, sym, ap, below_more, arith}
+use Rattle.std.proofs.Common.{◌∙◌, ◌<◌, sym, ap, below_more, arith}
 use Rattle.std.proofs.lemmas.Option.{none-some}
 use Rattle.fault_notes.specs.Values.{ident_at}
 use Rattle.syntax.specs.Trees.{Ident}

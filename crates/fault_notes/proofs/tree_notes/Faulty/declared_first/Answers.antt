@@ -1,10 +1,10 @@
-use Rattle.std.proofs.Common.{◌≡◌, ◌∙◌, ◌<◌, ap, sym, subst, below_more, arith, List, map}
+use Rattle.std.proofs.Common.{◌∙◌, ap, sym, subst, below_more, arith, List, map}
 use Rattle.std.proofs.lemmas.Option.{same_Some}
-use Rattle.syntax.specs.Trees.{Ident, Decl}
+use Rattle.syntax.specs.Trees.{Decl}
 use Rattle.syntax.specs.declared.tree.Decl as the_decl
 use Rattle.syntax.specs.Views.{decl_of}
-use Rattle.fault_notes.specs.NameSpaces.{IsDeclaredIn, IsDeclaredAs, in_one, top_names}
-use Rattle.fault_notes.specs.Values.{decls_of, idents, FoundName}
+use Rattle.fault_notes.specs.NameSpaces.{IsDeclaredIn, in_one, top_names}
+use Rattle.fault_notes.specs.Values.{decls_of, idents}
 use Rattle.fault_notes.proofs.Places.{at_has, viewed_at, within_view}
 use Rattle.fault_notes.proofs.Declared.{not_declared}
 use Rattle.fault_notes.proofs.tree_notes.Faulty.declared_first.Goals as goal

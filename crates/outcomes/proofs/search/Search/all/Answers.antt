@@ -1,7 +1,10 @@
-use Rattle.std.proofs.Common.{◌≡◌, ◌∙◌, ℕ, ◌-◌, ap, sym, subst, refl, arith}
+use Rattle.std.proofs.Common.{◌≡◌, ◌∙◌, ℕ, ◌+◌, ◌-◌, [], ◌++◌, length, map, ap, sym, subst, refl, arith}
+use Rattle.core_lang.specs.Serial.{opening_heap}
 use Rattle.outcomes.specs.declared.search.Work.{Work}
-use Rattle.outcomes.specs.Searching.{AreGood, order_at, total}
+use Rattle.outcomes.specs.Orders.{none_done}
+use Rattle.outcomes.specs.Searching.{AreGood, order_at, total, weight}
 use Rattle.outcomes.proofs.Whole.{good_at_first, sums_at_first, sums_of_more, good_of_more, stops_after, too_many, are_all_ends}
+use Rattle.outcomes.proofs.Places.{place_of, no_places, places_more, has_places, before_more}
 use Rattle.outcomes.proofs.search.Search.all.Goals as goal
 
 pub loop-depth-init : goal.loop-depth-init
@@ -10,7 +13,12 @@ loop-depth-init c =
       heap = c.in_ok-heap.ensures.cells;
       empty = c.new.ensures;
       layer = good_at_first c.args.self.now.program.now c.args.self.now.turns c.new-2.result c.in_ok-layer.layer c.requires.checked c.new-2.ensures c.in_ok-layer.ensures;
-      sums = sums_at_first c.args.self.now.program.now c.args.self.now.turns c.calls-calls.result c.in_ok-layer.layer c.in_ok-layer.ensures;
+      sums = sums_at_first c.args.self.now.program.now c.args.self.now.turns c.in_ok-layer.layer c.in_ok-layer.ensures;
+      before = (
+        [],
+        no_places c.args.self.now.program.now c.args.self.now.turns,
+        (let one : length c.in_ok-layer.layer ≡ 1 = ap length c.in_ok-layer.ensures in let root : length c.new-2.result ≡ 1 = ap length c.new-2.ensures in omega arith),
+      );
     }
 
 pub returns-in-Some-Beyond : goal.returns-in-Some-Beyond
@@ -25,7 +33,10 @@ returns-in-Some-TooMany c =
     let many = rw (c.in-Some-TooMany.is, c.in-Some-TooMany.field-0-is) at c.in_ok-expand_all.ensures in
     let old : Work = record { heap = c.loop-depth.work.heap; next = c.loop-depth.work.next; trail = c.loop-depth.work.trail; depth = c.loop-depth.depth } in
     too_many c.args.self.now old c.loop-depth.layer c.calls-calls.result c.loop-depth.depth many c.loop-depth.invariant.empty refl c.loop-depth-test.true
-    c.calls-calls.ensures c.loop-depth.invariant.sums
+    c.calls-calls.ensures
+    (λ f. c.loop-depth.invariant.sums f (c.calls-calls.result - c.loop-depth.depth)
+    ∙ ap (λ (k : ℕ). weight c.args.self.now.program.now c.args.self.now.turns f k (none_done c.args.self.now.program.now) (opening_heap c.args.self.now.program.now))
+    (omega (arith, c.loop-depth-test.true)))
 
 pub loop-depth-preserved : goal.loop-depth-preserved
 loop-depth-preserved c =
@@ -36,9 +47,18 @@ loop-depth-preserved c =
       empty = c.replace-layer.ensures.after ∙ c.new-in-loop-depth.ensures;
       layer = rw c.replace-layer.ensures.value
           (good_of_more c.args.self.now old c.expand_all.new.work c.loop-depth.layer c.loop-depth.depth goes refl);
-      sums = λ f. rw c.replace-layer.ensures.value
-          (sums_of_more c.args.self.now old c.expand_all.new.work c.loop-depth.layer c.calls-calls.result c.loop-depth.depth _ f goes
-          c.loop-depth.invariant.empty c.loop-depth-test.true (c.loop-depth.invariant.sums f));
+      sums = λ f left. rw c.replace-layer.ensures.value
+          (sums_of_more c.args.self.now old c.expand_all.new.work c.loop-depth.layer c.loop-depth.depth goes c.loop-depth.invariant.empty
+          c.loop-depth.invariant.sums f left);
+      before = rw c.replace-layer.ensures.value (
+        c.loop-depth.invariant.before.0 ++ map place_of c.loop-depth.layer,
+        places_more c.settled_are_serial.ensures c.at_most_one_serial.ensures c.args.self.now.program.now c.args.self.now.turns c.loop-depth.depth
+            c.loop-depth.work.trail c.loop-depth.layer c.loop-depth.invariant.before.0 c.loop-depth.invariant.layer
+            (λ f. c.loop-depth.invariant.sums f 0 ∙ ap (λ (k : ℕ). weight c.args.self.now.program.now c.args.self.now.turns f k (none_done c.args.self.now.program.now) (opening_heap c.args.self.now.program.now)) (omega arith))
+            c.loop-depth.invariant.before.1,
+        before_more c.args.self.now old c.expand_all.new.work c.loop-depth.invariant.before.0 c.loop-depth.layer goes c.loop-depth.invariant.empty
+            c.loop-depth.invariant.before.2,
+      );
     }
 
 pub returns : goal.returns
@@ -46,9 +66,15 @@ returns c =
     let program = c.args.self.now.program.now in
     let n = c.args.self.now.turns in
     let at_end : c.loop-depth.depth ≡ c.calls-calls.result = omega arith in
-    let none_left : c.calls-calls.result - c.loop-depth.depth ≡ 0 = omega arith in
-    are_all_ends c.whole_within_some_turns.ensures.over c.settled_are_serial.ensures c.at_most_one_serial.ensures program n c.calls-calls.result
-    c.loop-depth.work.trail c.loop-depth.layer _ c.calls-calls.ensures
-    (subst (λ (k : ℕ). AreGood program n k c.loop-depth.work.trail c.loop-depth.layer) at_end c.loop-depth.invariant.layer)
-    (λ f. ap (λ (k : ℕ). total program n f k c.loop-depth.layer) (sym none_left) ∙ c.loop-depth.invariant.sums f)
-    c.in_ok-told.ensures
+    let good = subst (λ (k : ℕ). AreGood program n k c.loop-depth.work.trail c.loop-depth.layer) at_end c.loop-depth.invariant.layer in
+    let here : c.loop-depth.depth + 0 ≡ c.calls-calls.result = omega arith in (
+      are_all_ends c.whole_within_some_turns.ensures.over c.settled_are_serial.ensures c.at_most_one_serial.ensures program n c.calls-calls.result
+          c.loop-depth.work.trail c.loop-depth.layer _ c.calls-calls.ensures good
+          (λ f. c.loop-depth.invariant.sums f 0 ∙ ap (λ (k : ℕ). weight program n f k (none_done program) (opening_heap program)) here)
+          c.in_ok-ends.ensures,
+      has_places c.whole_within_some_turns.ensures.over c.settled_are_serial.ensures c.at_most_one_serial.ensures program n c.loop-depth.depth
+          c.len-places.result c.loop-depth.work.trail c.loop-depth.layer c.loop-depth.invariant.before.0 (at_end ∙ c.calls-calls.ensures)
+          c.loop-depth.invariant.layer
+          (λ f. c.loop-depth.invariant.sums f 0 ∙ ap (λ (k : ℕ). weight program n f k (none_done program) (opening_heap program)) (omega arith))
+          c.loop-depth.invariant.before.1 (c.loop-depth.invariant.before.2 ∙ sym c.len-places.ensures),
+    )

@@ -1,0 +1,18 @@
+use Rattle.std.proofs.Common.{refl}
+use Rattle.driver.specs.Explanations.{faultless}
+use Rattle.driver.proofs.explaining.order_explained.Goals as goal
+
+pub returns : goal.returns
+returns c = faultless (record {
+  program = c.args.ordered.now.accepted;
+  accepts = c.requires.accepts;
+  written_out = c.args.ordered.now.written;
+  expanded = c.requires.expanded;
+  ranks = c.args.ordered.now.ranks.items;
+  are_ranks = c.requires.ranks;
+  notes = _;
+  tell = rw (c.deref.ensures.value, ← c.deref-2.ensures.value) at c.in_ok-notes.ensures;
+  ended = refl;
+  written = c.in_ok-acceptance_told.ensures;
+  told = c.new.ensures.bytes;
+})

@@ -1,0 +1,21 @@
+-- The objects have no numbers with a fraction, so their text is known.
+use Rattle.std.proofs.Common.{◌≡◌, ℕ, List, [], ◌∷◌, Option, Some, None, false, map, refl}
+use Rattle.explanation.specs.Notes.{Note}
+use Rattle.serde_json.specs.View.{items_of}
+use Rattle.serde_json.specs.Written.{has_float, items_have_float}
+use Rattle.source.specs.declared.fault.Fault.{Fault}
+use Rattle.explanation_json.specs.Json.{told_data, note_data, fault_data, accepted_data}
+
+none_in_told : (text : List ℕ) (start : Option ℕ) (words : List ℕ) → has_float (told_data text start words) ≡ false
+none_in_told text (Some start) words = refl
+none_in_told text None words = refl
+
+none_in_notes : (text : List ℕ) (notes : List Note) → items_have_float (items_of (map (note_data text) notes)) ≡ false
+none_in_notes text [] = refl
+none_in_notes text (note ∷ notes) = rw (none_in_told text note.start note.words, none_in_notes text notes) refl
+
+pub none_in_fault : (file text : List ℕ) (fault : Fault) (notes : List Note) → has_float (fault_data file text fault notes) ≡ false
+none_in_fault file text fault notes = rw (none_in_notes text notes) refl
+
+pub none_in_accepted : (file text : List ℕ) (notes : List Note) → has_float (accepted_data file text notes) ≡ false
+none_in_accepted file text notes = rw (none_in_notes text notes) refl

@@ -1,0 +1,71 @@
+use Rattle.std.proofs.Common.{◌≡◌, ◌∙◌, ◌<◌, ◌≤◌, ◌+◌, ℕ, List, [], take, drop, length, max, min, refl, sym, ap, ap₂, subst, arith, ⊎_elim}
+use Rattle.std.specs.List.{prefix_len}
+use Rattle.std.specs.Prelude.{◌++◌, false, codes, string_bytes}
+use Rattle.std.proofs.lemmas.Bool.{cases_lt}
+use Rattle.std.proofs.lemmas.List.{take-take, take_all, length-take}
+use Rattle.std.proofs.lemmas.List.Sums.{prefix_len-le-length}
+use Rattle.code.specs.Listing.{line}
+use Rattle.explanation.specs.Remedies.{remedy}
+use Rattle.serde_json.specs.Data.{Data, array, boolean, object, string, member, no_members, no_items}
+use Rattle.serde_json.specs.Written.{compact_text}
+use Rattle.source.specs.Codes.{code_name, code_text}
+use Rattle.source.specs.declared.fault.Fault.{Fault}
+use Rattle.source.specs.Faults.{detail_text}
+use Rattle.source.specs.Texts.{is_name_byte}
+use Rattle.explanation_json.specs.Json.{WORD, word_length, end_of, position_data, fault_json}
+use Rattle.explanation_json.proofs.laws.fault_by_first_bytes.Goals as goal
+
+zero_first : (n : ℕ) → min 0 n ≡ 0
+zero_first n = grind arith
+
+-- ---- a text that is longer than so many bytes
+module _ (n : ℕ) (text : List ℕ) (far : WORD < n) (long : n ≤ length text) where
+  as_long : length (take n text) ≡ n
+  as_long = omega (arith, length-take n text)
+
+  same_word : word_length (take n text) 0 ≡ word_length text 0
+  same_word = ap (prefix_len is_name_byte) (take-take WORD n text (omega arith))
+
+  short : word_length text 0 ≤ WORD
+  short = omega (arith, prefix_len-le-length is_name_byte (take WORD text), length-take WORD text)
+
+  same_end : end_of (take n text) 0 ≡ end_of text 0
+  same_end =
+      rw (zero_first (length (take n text)), zero_first (length text), same_word, as_long) (omega (arith, short))
+
+  near : end_of text 0 ≤ n
+  near = rw (zero_first (length text)) (omega (arith, short))
+
+  same_position : (e : ℕ) → e ≤ n → position_data (take n text) e ≡ position_data text e
+  same_position e le = rw (take-take e n text le) refl
+
+  same_first : position_data (take n text) 0 ≡ position_data text 0
+  same_first = same_position 0 (omega arith)
+
+  same_last : position_data (take n text) (end_of (take n text) 0) ≡ position_data text (end_of text 0)
+  same_last = ap (position_data (take n text)) same_end ∙ same_position (end_of text 0) near
+
+-- the object, by where the fault begins and ends
+alike : (file t u : List ℕ) (fault : Fault) → fault.start ≡ 0 → position_data t 0 ≡ position_data u 0 →
+    position_data t (end_of t 0) ≡ position_data u (end_of u 0) → fault_json file t fault [] ≡ fault_json file u fault []
+alike file t u fault first begin finish =
+    let whole = λ (start last : Data).
+    line (compact_text (object (member (codes "accepted") (boolean false)
+    (member (codes "code") (string (code_name fault.code))
+    (member (codes "end") last
+    (member (codes "file") (string file)
+    (member (codes "notes") (array no_items)
+    (member (codes "remedy") (string (remedy fault.code))
+    (member (codes "start") start
+    (member (codes "text") (string (code_text fault.code ++ detail_text (string_bytes fault.detail))) no_members)))))))))) in
+    ap (λ (k : ℕ). whole (position_data t k) (position_data t (end_of t k))) first ∙ ap₂ whole begin finish
+    ∙ sym (ap (λ (k : ℕ). whole (position_data u k) (position_data u (end_of u k))) first)
+
+pub returns : goal.returns
+returns c count file text fault far first =
+    ⊎_elim
+    (λ (few : length text < count).
+    ap (λ (t : List ℕ). fault_json file t fault []) (take_all count text (omega arith)))
+    (λ (many : count ≤ length text).
+    alike file (take count text) text fault first (same_first count text far many) (same_last count text far many))
+    (cases_lt (length text) count)

@@ -1,0 +1,74 @@
+-- The JSON of a fault that is explained, and of a program without one. `compact_text` is `serde_json`'s: the text of data without a space, with
+-- the members of each object by their keys, and strings in quotes with the shortest escapes.
+use Rattle.std.specs.Prelude.{ℕ, ◌+◌, ◌-◌, List, ◌++◌, Option, Some, None, true, false, length, max, min, map, take, drop, codes, string_bytes}
+use Rattle.std.specs.List.{prefix_len}
+use Rattle.code.specs.Listing.{line}
+use Rattle.explanation.specs.Notes.{Note}
+use Rattle.explanation.specs.Remedies.{remedy}
+use Rattle.serde_json.specs.Data.{Data, array, boolean, number, object, string, unsigned, member, no_members}
+use Rattle.serde_json.specs.View.{items_of}
+use Rattle.serde_json.specs.Written.{compact_text}
+use Rattle.source.specs.declared.fault.Fault.{Fault}
+use Rattle.source.specs.Codes.{code_name, code_text}
+use Rattle.source.specs.Faults.{line_of, column_of, detail_text}
+use Rattle.source.specs.Texts.{is_name_byte}
+
+-- ---- places
+
+-- of a word so many bytes are looked at
+abbrev pub WORD : ℕ
+WORD = 64
+
+-- how many bytes from the place on are of one word: a name, a keyword or a number
+abbrev pub word_length : List ℕ → ℕ → ℕ
+word_length text at = prefix_len is_name_byte (take WORD (drop at text))
+
+-- behind the word that begins at the place, or behind the one byte there; at the text's end that itself
+abbrev pub end_of : List ℕ → ℕ → ℕ
+end_of text start = let at = min start (length text) in min (length text) (at + max 1 (word_length text at))
+
+-- {"column":COL,"line":LINE}
+abbrev pub position_data : List ℕ → ℕ → Data
+position_data text at =
+    object (member (codes "column") (number (unsigned (column_of text at))) (member (codes "line") (number (unsigned (line_of text at))) no_members))
+
+-- ---- notes
+
+-- {"end":POSITION,"start":POSITION,"text":WORDS}, or {"text":WORDS}
+abbrev pub told_data : List ℕ → Option ℕ → List ℕ → Data
+told_data text (Some start) words =
+    object (member (codes "end") (position_data text (end_of text start)) (member (codes "start") (position_data text start)
+    (member (codes "text") (string words) no_members)))
+told_data text None words = object (member (codes "text") (string words) no_members)
+
+abbrev pub note_data : List ℕ → Note → Data
+note_data text note = told_data text note.start note.words
+
+abbrev pub notes_data : List ℕ → List Note → Data
+notes_data text notes = array (items_of (map (note_data text) notes))
+
+-- ---- the objects
+
+-- of a fault
+abbrev pub fault_data : List ℕ → List ℕ → Fault → List Note → Data
+fault_data file text fault notes =
+    object (member (codes "accepted") (boolean false)
+    (member (codes "code") (string (code_name fault.code))
+    (member (codes "end") (position_data text (end_of text fault.start))
+    (member (codes "file") (string file)
+    (member (codes "notes") (notes_data text notes)
+    (member (codes "remedy") (string (remedy fault.code))
+    (member (codes "start") (position_data text fault.start)
+    (member (codes "text") (string (code_text fault.code ++ detail_text (string_bytes fault.detail))) no_members))))))))
+
+-- of a program without one
+abbrev pub accepted_data : List ℕ → List ℕ → List Note → Data
+accepted_data file text notes =
+    object (member (codes "accepted") (boolean true) (member (codes "file") (string file) (member (codes "notes") (notes_data text notes) no_members)))
+
+-- ---- the lines
+abbrev pub fault_json : List ℕ → List ℕ → Fault → List Note → List ℕ
+fault_json file text fault notes = line (compact_text (fault_data file text fault notes))
+
+abbrev pub accepted_json : List ℕ → List ℕ → List Note → List ℕ
+accepted_json file text notes = line (compact_text (accepted_data file text notes))

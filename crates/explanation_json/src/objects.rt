@@ -1,0 +1,129 @@
+//! The objects. The one error is a refused growth.
+
+ghost use Rattle.std.specs.Prelude.{◌≡◌, IfOk, map, string_bytes};
+ghost use Rattle.explanation.specs.Notes.{note_of};
+ghost use Rattle.serde_json.specs.View.{view, members_view};
+ghost use Rattle.explanation_json.specs.Json as object;
+ghost use Rattle.explanation_json.specs.Values.{accepted_data_of, accepted_json_of, fault_data_of, fault_json_of, fault_members_of, fault_words_of};
+
+use crate::places::Places;
+use explanation::{Acceptance, Explanation, Note, remedy_of};
+use serde_json::{Map, Value, json, put};
+use source::fault::Fault;
+use source::memory::NoMemory;
+use std::alloc::{AllocError, Global};
+
+/// A note.
+fn note_value(alloc: Global, places: &Places<'_>, note: &Note) -> Result<Value, AllocError>
+    ensures { IfOk result (λ value. view value ≡ object.note_data places.now.text.now (note_of note.now)) }
+{
+    let Some(start) = note.start else {
+        return json!(in alloc; {"text": note.words.as_str()});
+    };
+    let range = places.range(alloc, start)?;
+    json!(in alloc; {"end": range.end, "start": range.start, "text": note.words.as_str()})
+}
+
+/// Notes.
+fn note_values(alloc: Global, places: &Places<'_>, notes: &[Note]) -> Result<Value, AllocError>
+    ensures { IfOk result (λ value. view value ≡ object.notes_data places.now.text.now (map note_of notes.now)) }
+{
+    let mut values = Vec::new(alloc);
+    for note in notes {
+        values.push(note_value(alloc, places, note)?)?;
+    }
+    Ok(Value::Array(values))
+}
+
+/// The text of a fault, with the classes of a cycle.
+fn fault_words(alloc: Global, fault: &Fault) -> Result<String, AllocError>
+    ensures { IfOk result (λ words. string_bytes words ≡ fault_words_of fault.now) }
+{
+    let mut words = String::from_str(alloc, fault.code.text())?;
+    if !fault.detail.is_empty() {
+        words.push_str(": ")?;
+        words.push_str(fault.detail.as_str())?;
+    }
+    Ok(words)
+}
+
+/// What is said of a fault and of no place.
+fn fault_members(alloc: Global, file: &str, fault: &Fault) -> Result<Map<String, Value>, AllocError>
+    ensures { IfOk result (λ map. members_view map.entries ≡ fault_members_of file.now fault.now) }
+{
+    let words = fault_words(alloc, fault)?;
+    let mut map = Map::new(alloc);
+    put(&mut map, alloc, "accepted", Value::Bool(false))?;
+    put(
+        &mut map,
+        alloc,
+        "code",
+        Value::try_from_str(alloc, fault.code.name())?,
+    )?;
+    put(&mut map, alloc, "file", Value::try_from_str(alloc, file)?)?;
+    put(
+        &mut map,
+        alloc,
+        "remedy",
+        Value::try_from_str(alloc, remedy_of(fault.code))?,
+    )?;
+    put(
+        &mut map,
+        alloc,
+        "text",
+        Value::try_from_str(alloc, words.as_str())?,
+    )?;
+    Ok(map)
+}
+
+/// A fault.
+fn fault_value(alloc: Global, explanation: &Explanation<'_>) -> Result<Value, NoMemory>
+    ensures { IfOk result (λ value. view value ≡ fault_data_of explanation.now) }
+{
+    let places = Places::of(alloc, explanation.text)?;
+    let range = places.range(alloc, explanation.fault.start)?;
+    let notes = note_values(alloc, &places, explanation.notes)?;
+    let mut map = fault_members(alloc, explanation.file, explanation.fault)?;
+    put(&mut map, alloc, "end", range.end)?;
+    put(&mut map, alloc, "notes", notes)?;
+    put(&mut map, alloc, "start", range.start)?;
+    Ok(Value::Object(map))
+}
+
+/// A program that is accepted.
+fn accepted_value(alloc: Global, acceptance: &Acceptance<'_>) -> Result<Value, NoMemory>
+    ensures { IfOk result (λ value. view value ≡ accepted_data_of acceptance.now) }
+{
+    let places = Places::of(alloc, acceptance.text)?;
+    let notes = note_values(alloc, &places, acceptance.notes)?;
+    Ok(json!(in alloc; {"accepted": true, "file": acceptance.file, "notes": notes})?)
+}
+
+/// The object of a fault, in one line: its code and text, the file's name, where it begins and ends, each with line and column, the
+/// notes with their places, and what can be done about it.
+///
+/// # Errors
+///
+/// Want of memory.
+pub fn fault_json(alloc: Global, explanation: &Explanation<'_>) -> Result<String, NoMemory>
+    ensures { IfOk result (λ json. string_bytes json ≡ fault_json_of explanation.now) }
+{
+    let value = fault_value(alloc, explanation)?;
+    let mut json = value.to_string(alloc)?;
+    json.push_str("\n")?;
+    Ok(json)
+}
+
+/// The same of a program without a fault: the file's name and the notes with their places.
+///
+/// # Errors
+///
+/// Want of memory.
+pub fn accepted_json(alloc: Global, acceptance: &Acceptance<'_>) -> Result<String, NoMemory>
+    ensures { IfOk result (λ json. string_bytes json ≡ accepted_json_of acceptance.now) }
+{
+    let value = accepted_value(alloc, acceptance)?;
+    let mut json = value.to_string(alloc)?;
+    json.push_str("\n")?;
+    Ok(json)
+}

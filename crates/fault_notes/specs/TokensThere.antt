@@ -1,0 +1,30 @@
+-- The tokens at a place.
+use Rattle.std.specs.Prelude.{ℕ, ◌+◌, ◌==◌, ◌&&◌, Bool, true, false, List, slice_get, Option, Some, None}
+use Rattle.resolution.specs.Scopes.{place_from}
+use Rattle.source.specs.Tokens.{Lexeme, Tok, name, mark}
+use Rattle.source.specs.declared.token.Sign.TheVariants.{Dot}
+
+-- the place among the tokens of the one that starts there
+abbrev pub token_at : ℕ → List Tok → Option ℕ
+token_at at tokens = place_from (λ (t : Tok). t.span.start == at) 0 tokens
+
+abbrev pub name_in : Lexeme → Option (List ℕ)
+name_in (name text) = Some text
+name_in _ = None
+
+abbrev pub is_dot : Lexeme → Bool
+is_dot (mark Dot) = true
+is_dot _ = false
+
+-- the name at a place among the tokens
+abbrev pub name_of : Option Tok → Option (List ℕ)
+name_of (Some t) = name_in t.kind
+name_of None = None
+
+abbrev pub has_dot : Option Tok → Bool
+has_dot (Some t) = is_dot t.kind
+has_dot None = false
+
+-- at least two fields stand behind the name at a place among the tokens, as in a.b.c
+abbrev pub has_two_fields : ℕ → List Tok → Bool
+has_two_fields i tokens = has_dot (slice_get tokens (i + 1)) && has_dot (slice_get tokens (i + 3))

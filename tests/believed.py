@@ -1,0 +1,210 @@
+#!/usr/bin/env python3
+"""What a reader has to believe: the definitions that the clauses of public calls say their promises in.
+
+    believed.py            fails where a definition that counts stands in a file whose head says that nobody has to believe
+                           it, or in a folder Theory; or where the list in docs/THEOREM.md is not that of today
+    believed.py --write    writes that list
+    believed.py --names    prints each file with the names that count
+
+Begins with the clauses of a call, and goes on to each definition that a definition names.
+"""
+import pathlib
+import re
+import sys
+
+TOP = pathlib.Path(__file__).resolve().parent.parent
+CRATES = TOP / "crates"
+THEOREM = TOP / "docs" / "THEOREM.md"
+BEGIN, END = "<!-- tests/believed.py writes from here -->\n", "<!-- to here -->\n"
+# The calls: a file and the names of its functions.
+HEADLINE = {"crates/interleavings/src/world.rt": ["run"], "crates/worlds/src/laws.rt": ["every_run"]}
+COMPILER = {"crates/compiler/src/passes.rt": ["compile"]}
+USE = re.compile(r"^(?:ghost |pub )*use Rattle\.([\w.]+?)(?:\.\{(.*?)\}| as (\S+))?;?$", re.M | re.S)
+WORD = re.compile(r"[^\s(){},;]+")
+NOT_NAMES = {"use", "module", "let", "in", "where", "|", "--", "→", "×", "λ", "if", "else", "then", "}", ")", "]", "unfolding"}
+
+
+class Module:
+    """A file of definitions: what it imports, and the text of each definition that it has."""
+
+    def __init__(self, path):
+        self.path = path
+        self.text = path.read_text()
+        head = self.text.split("\n\n")[0].replace("\n--", "")
+        self.is_working = "obody has to believe" in head or "/Theory/" in str(path)
+        self.imports = imports_of(self.text)
+        self.parts = parts_of(self.text)
+
+
+def imports_of(text):
+    """Each imported name, and from which module it comes under which name."""
+    found = {}
+    for use in USE.finditer(text):
+        module, names, alias = use.groups()
+        if alias:
+            found[alias] = (module, None)
+            continue
+        for name in (names or "").split(","):
+            name = name.strip()
+            if name:
+                old, _, new = name.partition(" as ")
+                found[new.strip() or old.strip()] = (module, old.strip())
+    return found
+
+
+def parts_of(text):
+    """The lines of each definition, by its name: from the line that declares it to the next one's."""
+    parts, name, depth = {}, None, 0
+    for line in text.split("\n"):
+        bare = line.split("--")[0].rstrip()
+        if not bare:
+            continue
+        if bare.startswith(("use ", "pub use ", "pub mod ", "module ")):
+            name = None
+            continue
+        begin = declared(bare)
+        if begin:
+            name = begin
+            parts.setdefault(name, [])
+        if name:
+            parts[name].append(bare)
+    return parts
+
+
+def declared(line):
+    """The name that a line declares."""
+    indent = len(line) - len(line.lstrip())
+    if indent > 2:
+        return None
+    words = line.split()
+    is_marked = False
+    while words and words[0] in ("abbrev", "pub", "unfoldable", "mutual", "record", "data", "opaque"):
+        is_marked = is_marked or words[0] != "pub"
+        marked = words.pop(0)
+        if marked == "pub" and indent == 0:
+            is_marked = True
+    if not words or words[0] in NOT_NAMES:
+        return None
+    if is_marked:
+        return words[0].rstrip(":")
+    if indent == 0 and len(words) > 1 and words[1] == ":":
+        return words[0]
+    return None
+
+
+def clauses_of(path, wanted):
+    """The clauses of public functions of a file, as one text, and the file's ghost imports."""
+    text = path.read_text()
+    found = []
+    for match in re.finditer(r"\n *pub(?:\([a-z]+\))? fn (\w+)(.*?)\n *\{\n", text, re.S):
+        name, head = match.groups()
+        is_public = "pub(crate)" not in match.group(0).split("fn")[0]
+        if is_public and (wanted is None or name in wanted):
+            found.append(" ".join(re.findall(r"(?:requires|ensures)[^{]*\{(.*?)\}\n", head + "\n", re.S)))
+    return "\n".join(found), imports_of(text.replace("ghost use", "use"))
+
+
+class Reading:
+    """Follows names from clauses through all files of definitions."""
+
+    def __init__(self):
+        self.modules = {}
+        for crate in sorted(CRATES.iterdir()):
+            for path in sorted(crate.glob("specs/**/*.antt")):
+                name = f"{crate.name}.specs." + ".".join(path.relative_to(crate / "specs").with_suffix("").parts)
+                self.modules[name] = Module(path)
+
+    def begin(self, calls):
+        self.seen, self.types, todo = {}, set(), []
+        for file, wanted in calls.items():
+            text, imports = clauses_of(TOP / file, wanted)
+            todo += self.named(text, imports)
+        while todo:
+            module, name = todo.pop()
+            if (module, name) in self.seen or module not in self.modules:
+                continue
+            found = self.modules[module]
+            if name not in found.parts:
+                source = found.imports.get(name)
+                if source and source[0] != module:
+                    todo.append((source[0], source[1] or name))
+                continue
+            self.seen[module, name] = len(found.parts[name])
+            todo += self.named("\n".join(found.parts[name]), found.imports, module)
+        return self
+
+    def named(self, text, imports, module=None):
+        """The definitions that a text names, by what is imported there and what the module itself has."""
+        found = []
+        for word in WORD.findall(text):
+            first, _, rest = word.partition(".")
+            for name in {word, first}:
+                if module and name in self.modules[module].parts:
+                    found.append((module, name))
+                elif name in imports:
+                    source, old = imports[name]
+                    if ".declared." in source:
+                        self.types.add(source.split(".TheVariants")[0])
+                    elif old or rest:
+                        found.append((source, old or rest.split(".")[0]))
+        return found
+
+    def files(self):
+        """The files, each with its definitions and how many lines they have."""
+        files = {}
+        for (module, name), lines in sorted(self.seen.items()):
+            files.setdefault(module, {})[name] = lines
+        return files
+
+    def table(self, title):
+        """The files and their lines as rows of a table, a row for each crate."""
+        crates = {}
+        for module, names in self.files().items():
+            crate, _, file = module.partition(".specs.")
+            crates.setdefault(crate, []).append((file.replace(".", "/"), sum(names.values())))
+        rows = [f"| {title} | {sum(self.seen.values())} lines of {len(self.seen)} definitions |", "|---|---|"]
+        for crate in sorted(crates):
+            rows.append(f"| `{crate}` | " + ", ".join(f"{file} {lines}" for file, lines in crates[crate]) + " |")
+        return "\n".join(rows) + "\n"
+
+    def wrong(self):
+        return sorted({module for module, _ in self.seen if self.modules[module].is_working})
+
+
+def engines():
+    """The calls that the driver's root names."""
+    root = CRATES / "driver" / "src" / "lib.rt"
+    calls = {}
+    for module, names in re.findall(r"^pub use (\w+)::\{?([\w,\s]+?)\}?;", root.read_text(), re.M):
+        functions = [name.strip() for name in names.split(",") if name.strip()[:1].islower()]
+        if functions:
+            calls[f"crates/driver/src/{module}.rt"] = functions
+    return calls
+
+
+def main():
+    reading, failed, tables = Reading(), 0, []
+    groups = (("The headline", HEADLINE), ("The compiler", COMPILER), ("All engines", engines()))
+    for title, calls in groups:
+        tables.append(reading.begin(calls).table(title))
+        for module in reading.wrong():
+            names = ", ".join(name for where, name in sorted(reading.seen) if where == module)
+            print(f"{title}: nobody has to believe {module}, its head says, but these count: {names}")
+            failed += 1
+        if "--names" in sys.argv[1:]:
+            for module, names in reading.files().items():
+                print(f"{title}: {module}: {', '.join(names)}")
+    text = THEOREM.read_text()
+    before, rest = text.split(BEGIN)
+    new = before + BEGIN + "\n" + "\n".join(tables) + "\n" + END + rest.split(END)[1]
+    if "--write" in sys.argv[1:]:
+        THEOREM.write_text(new)
+    elif new != text:
+        print("docs/THEOREM.md has another list of what has to be believed: tests/believed.py --write")
+        failed += 1
+    print(f"{sum(len(reading.begin(calls).seen) for _, calls in groups)} definitions, {failed} failed")
+    return 1 if failed else 0
+
+
+if __name__ == "__main__":
+    sys.exit(main())
