@@ -2,8 +2,7 @@
 use Rattle.std.proofs.Common.{◌≡◌, Bool, true, false, ℕ, List, [], ◌∷◌, map, Option, Some, None, inl, inr, refl, subst, if◌then◌else◌}
 use Rattle.std.specs.Prelude.{◌⊎◌}
 use Rattle.driver.specs.{Serves, Reading, Tells, IsMissed, cannot_read, cannot_write, writing_failed}
-use Rattle.driver.specs.Engines.{first_unread}
-use Rattle.driver.specs.Serving.{of_program, of_other, of_reader, of_memory}
+use Rattle.driver.specs.Engines.{first_unread, of_program, of_other, of_reader, of_memory}
 use Rattle.driver.specs.declared.streams.Streams.{Streams}
 use Rattle.driver.specs.declared.status.Status.{Status}
 use Rattle.driver.specs.declared.status.Status.TheVariants.{Failed}
