@@ -12,7 +12,7 @@ _autolock_files() {
 
 _autolock() {
     local word=${COMP_WORDS[COMP_CWORD]} before=${COMP_WORDS[COMP_CWORD - 1]} command= i at=0
-    local commands="check explain order listing serial simulate trace run replay help"
+    local commands="check explain order listing serial outcomes simulate trace run replay help"
     for ((i = 1; i < COMP_CWORD; i++)); do
         if [ -z "$command" ]; then
             case ${COMP_WORDS[i]} in
@@ -21,7 +21,7 @@ _autolock() {
             esac
         else
             case ${COMP_WORDS[i]} in
-                --turns) i=$((i + 1)) ;;
+                --turns | --count | --seed) i=$((i + 1)) ;;
                 -*) ;;
                 *) at=$((at + 1)) ;;
             esac
@@ -33,6 +33,7 @@ _autolock() {
         /*) mapfile -t COMPREPLY < <(compgen -W "$commands" -- "$word") ;;
         help/*) mapfile -t COMPREPLY < <(compgen -W "$commands" -- "$word") ;;
         serial/-*) mapfile -t COMPREPLY < <(compgen -W "--turns -h --help" -- "$word") ;;
+        outcomes/-*) mapfile -t COMPREPLY < <(compgen -W "--count --seed --turns -h --help" -- "$word") ;;
         replay/-*) mapfile -t COMPREPLY < <(compgen -W "--turns --why -h --help" -- "$word") ;;
         trace/-*) mapfile -t COMPREPLY < <(compgen -W "--sections -h --help" -- "$word") ;;
         explain/-*) mapfile -t COMPREPLY < <(compgen -W "--json -h --help" -- "$word") ;;
@@ -41,7 +42,9 @@ _autolock() {
         replay/*)
             if [ "$before" = --turns ]; then :; elif [ $at -gt 0 ]; then _autolock_files "$word" ''; else _autolock_files "$word" .al; fi
             ;;
-        check/* | explain/* | order/* | listing/* | serial/* | run/*) [ "$before" = --turns ] || _autolock_files "$word" .al ;;
+        check/* | explain/* | order/* | listing/* | serial/* | outcomes/* | run/*)
+            case $before in --turns | --count | --seed) ;; *) _autolock_files "$word" .al ;; esac
+            ;;
     esac
 }
 

@@ -18,7 +18,7 @@ unproved() {
         data+=(--data "file$i=$room/file$i")
     done
     for i in "${!files[@]}"; do
-        printf '%s\n' "$command" ${turns:+--turns "$turns"} ${json:+--json} "file$i" >"$room/cases/$i.args"
+        printf '%s\n' "$command" ${turns:+--turns "$turns"} ${count:+--count "$count"} ${seed:+--seed "$seed"} ${json:+--json} "file$i" >"$room/cases/$i.args"
         : >"$room/cases/$i"
     done
     if [ -n "$other" ]; then

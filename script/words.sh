@@ -1,8 +1,8 @@
 # What `autolock` says of its words, said without the program: help, the version, and what is wrong with the words.
 # ./autolock uses it where the program isn't built; tests/words.sh compares each answer with the program's.
 #
-#     judge_words WORDS..     answers and exits, or sets `command`, `turns` (the N of --turns, or nothing), `why`,
-#                             `sections`, `json` (each 1 or nothing), and `files`
+#     judge_words WORDS..     answers and exits, or sets `command`, `turns`, `count` and `seed` (the N of --turns, --count and
+#                             --seed, or nothing), `why`, `sections` and `json` (each 1 or nothing), and `files`
 #
 # Where `many` is 1, a command over one FILE takes several. `top` is the folder of the repository.
 # shellcheck disable=SC2154,SC2016
@@ -10,6 +10,8 @@
 many=0
 command=
 turns=
+count=
+seed=
 why=
 sections=
 json=
@@ -56,14 +58,23 @@ names_of() {
     echo "<FILE>${other:+ $other}"
 }
 
-takes_options() { [ "$command" = serial ] || [ "$command" = replay ] || [ "$command" = trace ] || [ "$command" = explain ]; }
+takes_options() { [ "$command" = serial ] || [ "$command" = outcomes ] || [ "$command" = replay ] || [ "$command" = trace ] ||
+    [ "$command" = explain ]; }
+
+# The options of a command whose value is a number.
+numbers_of() {
+    case $1 in
+        serial | replay) echo turns ;;
+        outcomes) echo count seed turns ;;
+    esac
+}
 
 # How the words of a command look; with a second word, where that option is among them.
 usage_of() {
     local option=${2-}
     case $1 in
         check | order | listing | run) echo "$1 ${option:+$option }<FILE>" ;;
-        serial | explain) echo "$1 ${option:-[OPTIONS]} <FILE>" ;;
+        serial | explain | outcomes) echo "$1 ${option:-[OPTIONS]} <FILE>" ;;
         replay) echo "replay ${option:-[OPTIONS]} <FILE> <HISTORY>" ;;
         trace) echo "trace ${option:-[OPTIONS]} <FILE> <STEPS>" ;;
         simulate) echo "simulate ${option:+$option }<FILE> <STEPS>" ;;
@@ -114,7 +125,7 @@ similar() {
 
 refuse_command() {
     local names tip=
-    mapfile -t names < <(similar "$1" check explain order listing serial simulate trace run replay help)
+    mapfile -t names < <(similar "$1" check explain order listing serial outcomes simulate trace run replay help)
     case ${#names[@]} in
         0) ;;
         1) tip="a similar subcommand exists: '${names[0]}'" ;;
@@ -132,6 +143,7 @@ refuse_long() {
     shift
     case $command in
         serial) options=(turns help) ;;
+        outcomes) options=(count seed turns help) ;;
         replay) options=(turns why help) ;;
         trace) options=(sections help) ;;
         explain) options=(json help) ;;
@@ -139,7 +151,7 @@ refuse_long() {
     esac
     near=$(similar "$name" "${options[@]}" | tail -n 1)
     case $near in
-        turns) used=$(used_with '--turns <N>') ;;
+        turns | count | seed) used=$(used_with "--$near <N>") ;;
         ?*) used=$(used_with "--$near") ;;
     esac
     if [ -n "$near" ]; then
@@ -156,6 +168,7 @@ refuse_long() {
         case $word in
             check | order | listing | simulate | run) near=$(similar "$name" help) ;;
             serial) near=$(similar "$name" turns help | tail -n 1) ;;
+            outcomes) near=$(similar "$name" count seed turns help | tail -n 1) ;;
             replay) near=$(similar "$name" turns why help | tail -n 1) ;;
             trace) near=$(similar "$name" sections help | tail -n 1) ;;
             explain) near=$(similar "$name" json help | tail -n 1) ;;
@@ -170,7 +183,7 @@ judge_help() {
     local name=${1-autolock}
     case $name in
         autolock) [ $# -eq 0 ] || refuse "unrecognized subcommand '$1'" "$(usage_of '')" ;;
-        check | explain | order | listing | serial | simulate | trace | run | replay | help) ;;
+        check | explain | order | listing | serial | outcomes | simulate | trace | run | replay | help) ;;
         *) refuse "unrecognized subcommand '$1'" "$(usage_of '')" ;;
     esac
     [ $# -gt 1 ] || show_help "$name"
@@ -181,34 +194,40 @@ judge_help() {
     refuse "unrecognized subcommand '$2'" "$(usage_of "$name")"
 }
 
-# The value of `--turns`.
-judge_turns() {
-    local value=$1 digits=${1#+} least most=18446744073709551615
-    [ -n "$value" ] || refuse "invalid value '' for '--turns <N>': cannot parse integer from empty string"
+# The value of an option whose value is a number.
+judge_number() {
+    local name=$1 value=$2 digits=${2#+} least most=18446744073709551615
+    [ -n "$value" ] || refuse "invalid value '' for '--$name <N>': cannot parse integer from empty string"
     case $digits in
-        '' | *[!0-9]*) refuse "invalid value '$value' for '--turns <N>': invalid digit found in string" ;;
+        '' | *[!0-9]*) refuse "invalid value '$value' for '--$name <N>': invalid digit found in string" ;;
     esac
     least=${digits#"${digits%%[!0]*}"}
     least=${least:-0}
     if [ ${#least} -gt 20 ] || { [ ${#least} -eq 20 ] && [[ $least > $most ]]; }; then
-        refuse "invalid value '$value' for '--turns <N>': number too large to fit in target type"
+        refuse "invalid value '$value' for '--$name <N>': number too large to fit in target type"
     elif [ ${#least} -gt 10 ] || [ "$least" -gt 1000000000 ]; then
-        refuse "invalid value '$value' for '--turns <N>': $least is not in 0..=1000000000"
+        refuse "invalid value '$value' for '--$name <N>': $least is not in 0..=1000000000"
     fi
-    [ -z "$turns" ] || refuse "the argument '--turns <N>' cannot be used multiple times" "$(usage_of "$command")"
-    turns=$least
-    used=$(used_with '--turns <N>')
+    [ -z "${!name}" ] || refuse "the argument '--$name <N>' cannot be used multiple times" "$(usage_of "$command")"
+    printf -v "$name" %s "$least"
+    used=$(used_with "--$name <N>")
 }
 
-# The words from `--turns` on.
-judge_option_turns() {
-    [ $# -gt 1 ] || refuse "a value is required for '--turns <N>' but none was supplied"
+# The words from such an option on.
+judge_option_number() {
+    local name=${1#--} number
+    [ $# -gt 1 ] || refuse "a value is required for '--$name <N>' but none was supplied"
+    for number in $(numbers_of "$command"); do
+        case $2 in
+            "--$number"*) refuse "a value is required for '--$name <N>' but none was supplied" ;;
+        esac
+    done
     case $2 in
-        -- | -h* | --help | --turns*) refuse "a value is required for '--turns <N>' but none was supplied" ;;
+        -- | -h* | --help) refuse "a value is required for '--$name <N>' but none was supplied" ;;
         --?*) judge_long "${@:2}" ;;
         -?*) judge_short "$2" ;;
     esac
-    judge_turns "$2"
+    judge_number "$name" "$2"
 }
 
 # An option `--NAME` or `--NAME=VALUE` of the command, and the words after it.
@@ -255,7 +274,7 @@ judge_short() {
 
 # The words after a command.
 judge_arguments() {
-    local most=1 is_last=0 missing other
+    local most=1 is_last=0 missing other option
     other=$(other_of "$command")
     [ -z "$other" ] || most=2
     [ -n "$other" ] || [ "$many" = 0 ] || most=100000
@@ -266,8 +285,8 @@ judge_arguments() {
                 shift
                 continue
                 ;;
-            0serial--turns | 0replay--turns)
-                judge_option_turns "$@"
+            0serial--turns | 0replay--turns | 0outcomes--turns | 0outcomes--count | 0outcomes--seed)
+                judge_option_number "$@"
                 shift 2
                 continue
                 ;;
@@ -292,8 +311,9 @@ judge_arguments() {
                 shift
                 continue
                 ;;
-            0serial--turns=* | 0replay--turns=*)
-                judge_turns "${1#--turns=}"
+            0serial--turns=* | 0replay--turns=* | 0outcomes--turns=* | 0outcomes--count=* | 0outcomes--seed=*)
+                option=${1%%=*}
+                judge_number "${option#--}" "${1#*=}"
                 shift
                 continue
                 ;;
@@ -319,7 +339,7 @@ judge_words() {
     local is_last=0
     while [ $# -gt 0 ]; do
         case $is_last$1 in
-            0check | 0explain | 0order | 0listing | 0serial | 0simulate | 0trace | 0run | 0replay)
+            0check | 0explain | 0order | 0listing | 0serial | 0outcomes | 0simulate | 0trace | 0run | 0replay)
                 command=$1
                 shift
                 judge_arguments "$@"
@@ -332,7 +352,7 @@ judge_words() {
             0--) is_last=1 ;;
             0--?*) judge_long "$@" ;;
             0-?*) judge_short "$1" ;;
-            1check | 1explain | 1order | 1listing | 1serial | 1simulate | 1trace | 1run | 1replay | 1help)
+            1check | 1explain | 1order | 1listing | 1serial | 1outcomes | 1simulate | 1trace | 1run | 1replay | 1help)
                 refuse "unexpected argument '$1' found" "$(usage_of '')" \
                     "subcommand '$1' exists; to use it, remove the '--' before it"
                 ;;
@@ -341,5 +361,5 @@ judge_words() {
         shift
     done
     refuse $'\'autolock\' requires a subcommand but one was not provided
-  [subcommands: check, explain, order, listing, serial, simulate, trace, run, replay, help]' "$(usage_of '')"
+  [subcommands: check, explain, order, listing, serial, outcomes, simulate, trace, run, replay, help]' "$(usage_of '')"
 }

@@ -1,8 +1,9 @@
 #!/bin/sh
 # Runs each program of examples/ through `serial` and `check`, and through `listing` where NAME.listing
-# stands beside it, through `order` and `explain` where NAME.order and NAME.explained do, and through `simulate` with the steps of NAME.steps where this stands beside it, and
-# with these through `trace` where NAME.trace does, and compares what they write with the files kept beside
-# it, NAME.out, NAME.check, NAME.listing, NAME.order, NAME.explained, NAME.simulation and NAME.trace. Where NAME.refused stands beside it, all have to refuse it with that line. Its
+# stands beside it, through `order`, `explain` and `outcomes` where NAME.order, NAME.explained and NAME.outcomes do, and through
+# `simulate` with the steps of NAME.steps where this stands beside it, and with these through `trace` where NAME.trace does, and
+# compares what they write with the files kept beside it, NAME.out, NAME.check, NAME.listing, NAME.order, NAME.explained,
+# NAME.outcomes, NAME.simulation and NAME.trace. Where NAME.refused stands beside it, all have to refuse it with that line. Its
 # argument is the program to run, by default ./autolock at the top.
 set -u
 
@@ -39,12 +40,14 @@ for source in *.al; do
         judge order "$name" 1 /dev/null "$name.refused"
         judge listing "$name" 1 /dev/null "$name.refused"
         [ ! -e "$name.explained" ] || judge explain "$name" 1 "$name.explained" /dev/null
+        judge outcomes "$name" 1 /dev/null "$name.refused"
     else
         judge serial "$name" 0 "$name.out" /dev/null
         judge check "$name" 0 "$name.check" /dev/null
         [ ! -e "$name.listing" ] || judge listing "$name" 0 "$name.listing" /dev/null
         [ ! -e "$name.order" ] || judge order "$name" 0 "$name.order" /dev/null
         [ ! -e "$name.explained" ] || judge explain "$name" 0 "$name.explained" /dev/null
+        [ ! -e "$name.outcomes" ] || judge outcomes "$name" 0 "$name.outcomes" /dev/null
         [ ! -e "$name.steps" ] || judge simulate "$name" 0 "$name.simulation" /dev/null "$name.steps"
         [ ! -e "$name.trace" ] || judge trace "$name" 0 "$name.trace" /dev/null "$name.steps"
     fi

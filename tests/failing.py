@@ -5,8 +5,9 @@
     tests/failing.py --cases [--program BIN] [--every N] [FILE..]
     tests/failing.py --unit-tests [--program BIN] [--every N] [--test NAME]
 
---commands      which of check, explain, order, listing, serial, simulate, trace, run and replay, joined by commas; by default all
---turns N       of serial and replay, by default 1000
+--commands      which of check, explain, order, listing, serial, outcomes, simulate, trace, run and replay, joined by commas; by
+                default all
+--turns N       of serial, outcomes and replay, by default 1000; outcomes looks at 5 orders at most
 --every N       only every N-th growth
 --cases         the program `cases` over each of its files, and of its calls the growths alone
 --unit-tests    the programs of the tests of `unit_tests`, `command_tests` and `thread_tests`, and of their calls the
@@ -146,7 +147,7 @@ def of_autolock(a, room):
                 history = pathlib.Path(room, f"history-{number}")
                 history.write_bytes(told.stdout)
                 names += [str(history)] * (command == "replay")
-            turns = ["--turns", str(a.turns)] * (command in ("serial", "replay"))
+            turns = ["--turns", str(a.turns)] * (command in ("serial", "outcomes", "replay")) + ["--count", "5"] * (command == "outcomes")
             judged = {**judges, "growth": wrong_growth_of_run} if command == "run" else judges
             yield Subject([program, command, *turns, *names], names, judged, a.every)
             if command == "explain":
@@ -179,7 +180,7 @@ def of_unit_tests(a):
 def main():
     p = argparse.ArgumentParser(formatter_class=argparse.RawDescriptionHelpFormatter, description=__doc__)
     p.add_argument("--program", type=pathlib.Path)
-    p.add_argument("--commands", default="check,explain,order,listing,serial,simulate,trace,run,replay")
+    p.add_argument("--commands", default="check,explain,order,listing,serial,outcomes,simulate,trace,run,replay")
     p.add_argument("--turns", type=int, default=1000)
     p.add_argument("--every", type=int, default=1)
     p.add_argument("--cases", action="store_true")

@@ -1,12 +1,12 @@
 #!/usr/bin/env python3
-"""Gives hostile sources to `autolock` and looks at how each run ends: of `check`, `explain`,
-`explain --json`, `order`, `listing`, `serial --turns 1000` and, with a steps file drawn for each source, `simulate` and `trace`.
+"""Gives hostile sources to `autolock` and looks at how each run ends: of `check`, `explain`, `explain --json`, `order`,
+`listing`, `serial --turns 1000`, `outcomes` of 10 orders and, with a steps file drawn for each source, `simulate` and `trace`.
 
     tests/hostile.py [--program BIN] [--commands NAMES] [--cuts] [--bytes] [--random COUNT] [--every N] [--seed N] [FILE..]
 
 With no choice of kinds: --cuts --bytes --random 2000, each cut and byte at every 7th place, which takes a minute.
 
---commands      which of the eight, joined by commas (`json` is `explain --json`); by default all
+--commands      which of the nine, joined by commas (`json` is `explain --json`); by default all
 --cuts          every beginning of each program
 --bytes         each program with one byte replaced by each of `(`, `}`, `0`, `.`, 0x00 and 0x80
 --random COUNT  so many programs made from the given ones by a few random changes each, and a third of them by a helper and calls
@@ -16,7 +16,7 @@ With no choice of kinds: --cuts --bytes --random 2000, each cut and byte at ever
 --without WORDS the words that the other build does not know, joined by commas; by default none
 FILE..          the programs to begin with; by default those of examples/
 
-A run must end within 20 seconds with status 0 or 1, or of `serial` with 7. With 0, standard output is a whole text of
+A run must end within 20 seconds with status 0 or 1, or of `serial` and `outcomes` with 7. With 0, standard output is a whole text of
 the command and standard error is empty; with 1, standard error is one line, the same of each command, and standard
 output is empty, and of explain the other way round: standard output begins with that line, and shows its place, or with --json is an object that tells it; with 7, the last line of standard output begins with `unsettled` and standard error is empty. What
 `trace` writes has a line for each step, and ends with what `simulate` writes. These two end with 6 and the line of the steps file's first fault, as this script finds it, exactly where there is one. A source
@@ -203,6 +203,7 @@ ARGUMENTS = {
     "order": ["order"],
     "listing": ["listing"],
     "serial": ["serial", "--turns", "1000"],
+    "outcomes": ["outcomes", "--turns", "1000", "--count", "10"],
     "simulate": ["simulate"],
     "trace": ["trace"],
 }
@@ -216,6 +217,9 @@ ACCEPTED = re.compile(rb"accepted\n(note: rank \d+ [\w.]+\n)*(note: [\w.]+ comes
 GRAPH = re.compile(
     rb'digraph lock_order \{\n(  "[\w.]+" \[label="rank \d+ [\w.]+"\];\n)*'
     rb'(  "[\w.]+" -> "[\w.]+" \[label="\w+:\d+:\d+"\];\n)*\}\n'
+)
+OUTCOMES = re.compile(
+    rb"orders \d+ (all\nstates [1-9]\d*|drawn)\n(outcome [1-9]\d* after( \d+)*\ncells\n([\w.\[\]]+ ([\w\[\]]+|-\d+)\n)*end\n)*"
 )
 LINE = re.compile(rb"section \w+|\d+ [a-z][ -~]*")
 LOCK = rb"[\w.\[\]]+"
@@ -252,6 +256,8 @@ def is_whole(command, out):
         return object_in(out).get("accepted") is True
     if command == "order":
         return bool(GRAPH.fullmatch(out))
+    if command == "outcomes":
+        return bool(OUTCOMES.fullmatch(out))
     if command == "check":
         return out.startswith(b"accepted\n") and out.endswith(b"\n")
     if command == "trace":
@@ -274,7 +280,7 @@ def fault_of(command, ended):
         return None if one_line and not out else f"{command}: status 1 without one line alone"
     if ended.returncode == 6 and command in WITH_STEPS:
         return None if not out else "status 6 with a text"
-    if ended.returncode == 7 and command == "serial":
+    if ended.returncode == 7 and command in ("serial", "outcomes"):
         unsettled = out.rstrip(b"\n").rsplit(b"\n", 1)[-1].startswith(b"unsettled ")
         return None if unsettled and not err else "status 7 without an unsettled call"
     return f"{command}: status {ended.returncode}"

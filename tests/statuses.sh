@@ -27,6 +27,9 @@ printf 'accepted\nrank 0 G\nsection f\nat 3:14 take G\n' >checked
 printf 'digraph lock_order {\n  "G" [label="rank 0 G"];\n}\n' >ordered
 printf 'section f\n0 acquire G\n1 int 1\n2 store n\n3 end\n' >listed
 printf 'history 1\ncall 0 0 f() ends\ncells\nn 1\nend\n' >history
+printf 'orders 1 all\nstates 2\noutcome 1 after 0\ncells\nn 1\nend\n' >outcomes
+printf 'orders 0 drawn\n' >drawn
+printf 'history 1\nunsettled 0 0\n' >unsettled_call
 for name in missing.al folder; do echo "autolock: cannot read $name" >"no_$name"; done
 printf 'accepted\nnote: rank 0 G\n' >accepted
 echo '{"accepted":true,"file":"right.al","notes":[{"text":"rank 0 G"}]}' >accepted_json
@@ -39,7 +42,7 @@ wrong.al:1:6: note: G could protect it: protected_by(G)
        ^
 help: say which lock protects it: protected_by(LOCK)
 end
-printf '%s' '{"accepted":false,"code":"E10","end":{"column":13,"line":2},"file":"wrong.al","notes":[],' >explained_json
+printf '%s' '{"accepted":false,"code":"E10","end":{"column":13,"line":2},"file":"wrong.al","notes":[{"end":{"column":7,"line":1},"start":{"column":6,"line":1},"text":"G could protect it: protected_by(G)"}],' >explained_json
 printf '%s\n' '"remedy":"say which lock protects it: protected_by(LOCK)","start":{"column":12,"line":2},"text":"neither final nor protected"}' >>explained_json
 echo 'autolock: cannot write' >unwritten
 printf '0\n\t9*1 x' >bad_steps
@@ -85,6 +88,8 @@ run() {
 
 run "done" 0 history none serial right.al
 run "turns" 0 history none serial --turns 0 right.al
+run "outcomes" 0 outcomes none outcomes right.al
+run "outcomes, with more orders than are looked at" 0 drawn none outcomes --count 0 right.al
 run "check" 0 checked none check right.al
 run "explain" 0 accepted none explain right.al
 run "explain, as JSON" 0 accepted_json none explain --json right.al
@@ -100,6 +105,8 @@ run "replay, with turns enough" 0 same none replay --turns 3 loop.al loop_histor
 run "another history" 5 differs none replay right.al other_history
 run "a fault of the history" 6 none history_fault replay right.al bad_history
 run "a call past its turns" 7 unsettled none replay --turns 2 loop.al loop_history
+run "a call past its turns, of outcomes" 7 unsettled_call none outcomes --turns 2 loop.al
+run "a fault, of outcomes" 1 none fault outcomes wrong.al
 run "a fault, of run" 1 none fault run wrong.al
 run "a fault, of replay" 1 none fault replay wrong.al bad_history
 run "a fault" 1 none fault serial wrong.al
@@ -115,6 +122,7 @@ run "a fault, of listing" 1 none fault listing wrong.al
 run "a lock order cycle" 1 none circle serial cycle.al
 run "a lock order cycle, of check" 1 none circle check cycle.al
 run "a lock order cycle, of order" 1 none circle order cycle.al
+run "a lock order cycle, of outcomes" 1 none circle outcomes cycle.al
 run "a lock order cycle, of listing" 1 none circle listing cycle.al
 run "no words" 2 none some
 run "another command" 2 none some walk right.al
@@ -123,6 +131,7 @@ run "no file, of check" 2 none some check
 run "no file, of explain" 2 none some explain
 run "no file, of order" 2 none some order
 run "no file, of listing" 2 none some listing
+run "no file, of outcomes" 2 none some outcomes
 run "no steps file" 2 none some simulate right.al
 run "no steps file, of trace" 2 none some trace right.al
 run "sections, of simulate" 2 none some simulate --sections right.al two_steps
@@ -136,9 +145,12 @@ run "turns, of explain" 2 none some explain --turns 3 right.al
 run "turns, of order" 2 none some order --turns 3 right.al
 run "turns, of listing" 2 none some listing --turns 3 right.al
 run "too many turns" 2 none some serial --turns 1000000001 right.al
+run "too large a count" 2 none some outcomes --count 1000000001 right.al
+run "too large a seed" 2 none some outcomes --seed 1000000001 right.al
+run "a count, of serial" 2 none some serial --count 3 right.al
 run "turns that are no number" 2 none some serial --turns many right.al
 run "help" 0 some none --help
-for command in check explain order listing serial simulate trace run replay; do
+for command in check explain order listing serial outcomes simulate trace run replay; do
     if grep -q "^  $command  " out; then
         echo "ok help lists $command"
     else
@@ -153,6 +165,7 @@ run "a file that is not there" 3 none no_missing.al serial missing.al
 run "a file that is not there, of check" 3 none no_missing.al check missing.al
 run "a file that is not there, of explain" 3 none no_missing.al explain missing.al
 run "a file that is not there, of order" 3 none no_missing.al order missing.al
+run "a file that is not there, of outcomes" 3 none no_missing.al outcomes missing.al
 run "a file that is not there, of listing" 3 none no_missing.al listing missing.al
 run "a file that is not there, of simulate" 3 none no_missing.al simulate missing.al two_steps
 run "a steps file that is not there" 3 none no_missing.al simulate right.al missing.al

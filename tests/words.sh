@@ -57,7 +57,7 @@ same -V
 same -hV
 same -Vh
 same -hx
-for command in check explain order listing serial simulate trace run replay; do
+for command in check explain order listing serial outcomes simulate trace run replay; do
     same help "$command"
     same "$command" --help
     same "$command" -h
@@ -107,7 +107,7 @@ same -- check right.al
 same -- nothing
 same -- chek
 for word in chek Check CHECK checks c lis list listin lsiting seral seriall sim simulat simulation s hlep halp helper \
-    rnu rum ordr oder orders replya repla expl explian foobar größe trcae traces tra prints seril stimulate; do
+    rnu rum ordr oder orders replya repla expl explian foobar größe trcae traces tra prints seril stimulate outcome outcoms comes; do
     same "$word" right.al
 done
 
@@ -198,6 +198,31 @@ same serial --turns 3 --turn 4
 same serial --turns 3 --help=x
 same serial --turns 3 a -x
 
+# Arguments of `outcomes`.
+for option in count seed turns; do
+    for number in -1 --x -h -- '' x +5 1000000001 18446744073709551616 --count --seed=3 3; do
+        same outcomes --$option "$number" missing.al
+        same outcomes --$option="$number" missing.al
+    done
+    same outcomes --$option
+    same outcomes --$option 3
+    same outcomes --$option 3 a b
+    same outcomes --$option 3 --$option 4 a
+    same outcomes --$option 3 --foo
+    same outcomes --$option 3 a --foo
+    same outcomes --$option 3 a -x
+    same outcomes --$option 3 --hel
+    same --$option 3 outcomes right.al
+    same serial --$option 3
+    same --${option%?} 3 outcomes right.al
+    same outcomes --${option%?} 3 a
+done
+same outcomes --count 3 --seed 4 --turns 5 missing.al
+same outcomes --turns 5 --seed 4 --count 3
+same outcomes --turns 5 --seed 4 --coun 3
+same outcomes --seed 4 --why right.al
+same -- outcomes right.al
+
 # Files that can't be read.
 same check missing.al
 same check folder
@@ -208,6 +233,7 @@ same check -dash.al
 same check right.al/
 same explain missing.al
 same order missing.al
+same outcomes missing.al
 same explain folder
 same simulate missing.al nothing
 same simulate right.al missing.al
@@ -218,8 +244,8 @@ same serial --turns 3 missing.al
 # The completions and the manual page name what the help names.
 commands=$(sed -n '/^Commands:/,/^$/s/^  \([a-z]*\) .*/\1/p' "$top/script/help/autolock.txt")
 options=$(sed -n 's/^ *\(-[a-zA-Z], \)\{0,1\}--\([a-z]*\).*/\2/p' "$top"/script/help/*.txt | sort -u)
-[ "$(echo $commands)" = "check explain order listing serial simulate trace run replay help" ] || fail "the commands of the help: $commands"
-[ "$(echo $options)" = "help json sections turns version why" ] || fail "the options of the help: $options"
+[ "$(echo $commands)" = "check explain order listing serial outcomes simulate trace run replay help" ] || fail "the commands of the help: $commands"
+[ "$(echo $options)" = "count help json sections seed turns version why" ] || fail "the options of the help: $options"
 for file in completions/autolock.bash completions/_autolock completions/autolock.fish docs/autolock.1; do
     for word in $commands $options; do
         sed 's/\\-/-/g' "$top/$file" | grep -qw -- "$word" || fail "$file lacks $word"
@@ -246,14 +272,19 @@ completes() {
 }
 . "$top/completions/autolock.bash"
 : >x.steps
-completes "check explain help listing order replay run serial simulate trace" ''
+completes "check explain help listing order outcomes replay run serial simulate trace" ''
 completes "serial simulate" s
 completes "right.al" order r
 completes "--build --help --unproved --version -V -h" -
-completes "check explain help listing order replay run serial simulate trace" --unproved ''
+completes "check explain help listing order outcomes replay run serial simulate trace" --unproved ''
 completes "--turns" serial --t
 completes "--why" replay --w
 completes "--json" explain --j
+completes "--count" outcomes --c
+completes "--seed" outcomes --s
+completes "right.al" outcomes r
+completes "folder right.al" outcomes --count 3 ''
+completes "" outcomes --seed ''
 completes "folder right.al" check ''
 completes "right.al" check r
 completes "folder x.steps" simulate right.al ''

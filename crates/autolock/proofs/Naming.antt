@@ -7,7 +7,7 @@ use Rattle.driver.specs.declared.streams.Streams.{Streams}
 use Rattle.driver.specs.declared.status.Status.{Status}
 use Rattle.driver.specs.declared.status.Status.TheVariants.{Failed}
 use Rattle.words.specs.declared.line.Line.{Line}
-use Rattle.words.specs.declared.line.Line.TheVariants.{Check, Explain, Order, Listing, Serial, Simulate, Trace, Run, Replay}
+use Rattle.words.specs.declared.line.Line.TheVariants.{Check, Explain, Order, Listing, Serial, Outcomes, Simulate, Trace, Run, Replay}
 use Rattle.autolock.specs.Asked.{file_of, other_of, files_of, NamesOneOf, IsOverOne, IsOverTwo}
 
 abbrev pub names_of : List Reading → List (List ℕ)
@@ -49,6 +49,7 @@ one_file (Explain file json) over = refl
 one_file (Order file) over = refl
 one_file (Listing file) over = refl
 one_file (Serial file turns) over = refl
+one_file (Outcomes file turns count seed) over = refl
 one_file (Run file) over = refl
 one_file (Simulate file steps) over = absurd over
 one_file (Trace file steps sections) over = absurd over
@@ -60,6 +61,7 @@ two_files (Explain file json) over = absurd over
 two_files (Order file) over = absurd over
 two_files (Listing file) over = absurd over
 two_files (Serial file turns) over = absurd over
+two_files (Outcomes file turns count seed) over = absurd over
 two_files (Run file) over = absurd over
 two_files (Simulate file steps) over = refl
 two_files (Trace file steps sections) over = refl
@@ -72,6 +74,7 @@ first_named (Explain file json) Told told = inl told
 first_named (Order file) Told told = inl told
 first_named (Listing file) Told told = inl told
 first_named (Serial file turns) Told told = inl told
+first_named (Outcomes file turns count seed) Told told = inl told
 first_named (Run file) Told told = inl told
 first_named (Simulate file steps) Told told = inl told
 first_named (Trace file steps sections) Told told = inl told

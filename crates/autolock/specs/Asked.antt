@@ -3,9 +3,9 @@ use Rattle.std.specs.Prelude.{◌≡◌, ◌⊎◌, ℕ, List, [], ◌∷◌, �
 use Rattle.clap.specs.declared.error.kind.ErrorKind.{ErrorKind}
 use Rattle.clap.specs.declared.error.kind.ErrorKind.TheVariants.{DisplayHelp, DisplayVersion}
 use Rattle.driver.specs.declared.status.Status.{Status}
-use Rattle.driver.specs.{cannot_read, CheckAnswers, ExplainAnswers, OrderGraphAnswers, ListingAnswers, SerialAnswers, SimulationAnswers, TraceAnswers, ReplayAnswers, ThreadsAnswers}
+use Rattle.driver.specs.{cannot_read, CheckAnswers, ExplainAnswers, OrderGraphAnswers, ListingAnswers, SerialAnswers, OutcomesAnswers, SimulationAnswers, TraceAnswers, ReplayAnswers, ThreadsAnswers}
 use Rattle.words.specs.declared.line.Line.{Line}
-use Rattle.words.specs.declared.line.Line.TheVariants.{Check, Explain, Order, Listing, Serial, Simulate, Trace, Run, Replay}
+use Rattle.words.specs.declared.line.Line.TheVariants.{Check, Explain, Order, Listing, Serial, Outcomes, Simulate, Trace, Run, Replay}
 
 -- the name of the file whose program is asked for
 abbrev pub file_of : Line → List ℕ
@@ -14,6 +14,7 @@ file_of (Explain file json) = file.now
 file_of (Order file) = file.now
 file_of (Listing file) = file.now
 file_of (Serial file turns) = file.now
+file_of (Outcomes file turns count seed) = file.now
 file_of (Simulate file steps) = file.now
 file_of (Trace file steps sections) = file.now
 file_of (Run file) = file.now
@@ -59,6 +60,7 @@ LineAnswers (Explain file json) = ExplainAnswers json
 LineAnswers (Order file) = OrderGraphAnswers
 LineAnswers (Listing file) = ListingAnswers
 LineAnswers (Serial file turns) = SerialAnswers turns
+LineAnswers (Outcomes file turns count seed) = OutcomesAnswers (record { turns = turns; count = count; seed = seed })
 LineAnswers (Run file) = ThreadsAnswers
 LineAnswers (Simulate file steps) = λ name text status out err. ⊥
 LineAnswers (Trace file steps sections) = λ name text status out err. ⊥

@@ -15,8 +15,8 @@ ghost use Rattle.driver.specs.{Alone, Beside, Serves, Tells, IsMissed, cannot_re
 use clap::Error;
 use clap::error::ErrorKind;
 use driver::{
-    Judging, Sink, SourceText, Status, Streams, check, explain, list, miss_other, order_graph,
-    replay, run, serial, simulate, trace,
+    Judging, Looking, Sink, SourceText, Status, Streams, check, explain, find_outcomes, list,
+    miss_other, order_graph, replay, run, serial, simulate, trace,
 };
 use std::alloc::{AllocError, Global};
 use std::io::{Read, Write};
@@ -36,6 +36,7 @@ fn file_name<'a>(line: Line<'a>) -> &'a str
         Line::Order { file } => file,
         Line::Listing { file } => file,
         Line::Serial { file, .. } => file,
+        Line::Outcomes { file, .. } => file,
         Line::Simulate { file, .. } => file,
         Line::Trace { file, .. } => file,
         Line::Run { file } => file,
@@ -76,6 +77,15 @@ fn run_opened<R: Threads + Wait + Sync, S: Read, O: Write, E: Write>(
         Line::Order { .. } => order_graph(alloc, source, streams),
         Line::Listing { .. } => list(alloc, source, streams),
         Line::Serial { turns, .. } => serial(alloc, turns, source, streams),
+        Line::Outcomes {
+            turns,
+            count,
+            seed,
+            ..
+        } => {
+            let looking = Looking { turns, count, seed };
+            find_outcomes(alloc, looking, source, streams)
+        }
         Line::Run { .. } => run(threads, alloc, source, streams),
         Line::Simulate { .. } => unreachable!(),
         Line::Trace { .. } => unreachable!(),

@@ -1,9 +1,19 @@
 //! What the engines of the crate `driver` answer for a text.
 
 use case_files::asked::Engine;
-use driver::{Sink, SourceText, Status, Streams, check, list, order_graph, serial, simulate};
+use driver::{
+    Looking, Sink, SourceText, Status, Streams, check, find_outcomes, list, order_graph, serial,
+    simulate,
+};
 use source::memory::NoMemory;
 use std::alloc::Global;
+
+/// How orders of calls are looked at.
+const LOOKING: Looking = Looking {
+    turns: 1000,
+    count: 1000,
+    seed: 0,
+};
 
 /// How an engine ended, and what it wrote.
 #[derive(Drop)]
@@ -27,6 +37,7 @@ fn answer(alloc: Global, engine: Engine<'_>, text: &str) -> Result<Outcome, NoMe
         Engine::Graph => order_graph(alloc, &mut source, &mut streams),
         Engine::Listing => list(alloc, &mut source, &mut streams),
         Engine::Serial(turns) => serial(alloc, turns, &mut source, &mut streams),
+        Engine::Outcomes => find_outcomes(alloc, LOOKING, &mut source, &mut streams),
         Engine::Simulate(steps) => {
             let mut steps = SourceText::new("T", steps.as_bytes());
             simulate(alloc, &mut source, &mut steps, &mut streams)

@@ -10,7 +10,7 @@ use Rattle.case_files.specs.declared.asked.Asked.{Asked}
 use Rattle.case_files.specs.declared.asked.Asked.TheVariants.{Engine, Tokens, Tree, Print, Again, Paths, Points, Order}
 use Rattle.case_files.specs.declared.paragraph.Paragraph.{Paragraph}
 use Rattle.case_files.specs.declared.paragraph.Paragraph.TheVariants.{Note, Ask, Head, Case, Unreadable}
-use Rattle.case_files.specs.declared.asked.Engine.TheVariants.{Check, Lists, Graph, Listing, Serial, Simulate}
+use Rattle.case_files.specs.declared.asked.Engine.TheVariants.{Check, Lists, Graph, Listing, Serial, Outcomes, Simulate}
 
 -- what `Asked::named` promises of a word and its answer
 abbrev pub Named : List ℕ → Option Asked → Type 0
@@ -20,6 +20,7 @@ Named word result = record {
   graph : (result ≡ Some (Engine Graph)) ↔ (word ≡ codes "graph");
   listing : (result ≡ Some (Engine Listing)) ↔ (word ≡ codes "listing");
   serial : (turns : ℕ) → (result ≡ Some (Engine (Serial turns))) ↔ IsSerial word turns;
+  outcomes : (result ≡ Some (Engine Outcomes)) ↔ (word ≡ codes "outcomes");
   simulate : (steps : Bor (List ℕ)) → result ≡ Some (Engine (Simulate steps)) → IsSimulate word steps.now;
   steps : (s : List ℕ) → IsSimulate word s → (steps : Bor (List ℕ)) × (result ≡ Some (Engine (Simulate steps)));
   tokens : (result ≡ Some Tokens) ↔ (word ≡ codes "tokens");
@@ -39,6 +40,9 @@ named_lists = search rules
 
 pub named_graph : Named (codes "graph") (Some (Engine Graph))
 named_graph = search rules
+
+pub named_outcomes : Named (codes "outcomes") (Some (Engine Outcomes))
+named_outcomes = search rules
 
 pub named_listing : Named (codes "listing") (Some (Engine Listing))
 named_listing = search rules

@@ -17,6 +17,8 @@ pub enum Engine<'a> {
     Listing,
     /// `serial`: the history within so many turns of each loop.
     Serial(u64),
+    /// `find_outcomes`: how its cells can end, over the orders of its calls.
+    Outcomes,
     /// `simulate`: the world after these steps.
     Simulate(&'a str),
 }
@@ -50,6 +52,7 @@ impl Asked<'_> {
         ensures graph { (result ≡ Some (Asked.Engine Engine.Graph)) ↔ (word.now ≡ codes "graph") }
         ensures listing { (result ≡ Some (Asked.Engine Engine.Listing)) ↔ (word.now ≡ codes "listing") }
         ensures serial { (turns : ℕ) → (result ≡ Some (Asked.Engine (Engine.Serial turns))) ↔ IsSerial word.now turns }
+        ensures outcomes { (result ≡ Some (Asked.Engine Engine.Outcomes)) ↔ (word.now ≡ codes "outcomes") }
         ensures simulate { (steps : Bor (List ℕ)) → result ≡ Some (Asked.Engine (Engine.Simulate steps)) → IsSimulate word.now steps.now }
         ensures steps { (s : List ℕ) → IsSimulate word.now s → (steps : Bor (List ℕ)) × (result ≡ Some (Asked.Engine (Engine.Simulate steps))) }
         ensures tokens { (result ≡ Some Asked.Tokens) ↔ (word.now ≡ codes "tokens") }
@@ -74,6 +77,7 @@ impl Asked<'_> {
             "lists" => Some(Asked::Engine(Engine::Lists)),
             "graph" => Some(Asked::Engine(Engine::Graph)),
             "listing" => Some(Asked::Engine(Engine::Listing)),
+            "outcomes" => Some(Asked::Engine(Engine::Outcomes)),
             "tokens" => Some(Asked::Tokens),
             "tree" => Some(Asked::Tree),
             "print" => Some(Asked::Print),

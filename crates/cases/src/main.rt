@@ -11,6 +11,7 @@
 //!   - `graph`: what `order_graph` writes;
 //!   - `listing`: what `list` writes;
 //!   - `serial N`: what `serial` writes within N turns of each loop;
+//!   - `outcomes`: what `find_outcomes` writes, of at most 1,000 orders and within 1,000 turns of each loop;
 //!   - `simulate STEPS`: what `simulate` writes after these steps, in a file called `T`; they may be none behind the blank;
 //!   - `tree`: `tree`, or the line of the fault that the lexer or the parser tells;
 //!   - `print`: the tree printed, without the last line feed;

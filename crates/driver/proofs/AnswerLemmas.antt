@@ -4,11 +4,12 @@ use Rattle.lowering.specs.Plans.{Plan}
 use Rattle.driver.specs.declared.request.PairRequest.{PairRequest}
 use Rattle.driver.specs.declared.request.PairRequest.TheVariants.{Simulate, Trace, Replay}
 use Rattle.driver.specs.declared.request.Request.{Request}
-use Rattle.driver.specs.declared.request.Request.TheVariants.{Check, OrderGraph, Listing, Serial}
+use Rattle.driver.specs.declared.request.Request.TheVariants.{Check, OrderGraph, Listing, Serial, Outcomes}
 use Rattle.driver.specs.declared.status.Status.{Status}
 use Rattle.driver.specs.Answering.{RequestAnswers, PairWanted}
 use Rattle.driver.specs.Answers.{TextAnswers, accepted, refused}
 use Rattle.driver.specs.Explanations.{ExplainAnswers, faultless, explained, cycle_explained}
+use Rattle.driver.specs.Outcomes as outcomes
 use Rattle.driver.specs.Serial.{all_settled, stopped}
 use Rattle.driver.specs.Replays.{verdict_status, judged, bad_history}
 use Rattle.driver.specs.Simulations.{ran, bad_steps}
@@ -26,6 +27,9 @@ of_program OrderGraph text plan status out err is = serving.done is.ended
 of_program Listing text plan status out err is = serving.done is.ended
 of_program (Serial turns) text plan status out err (all_settled is) = serving.done is.ended
 of_program (Serial turns) text plan status out err (stopped is) = serving.unsettled is.ended
+of_program (Outcomes looking) text plan status out err (outcomes.all_told is) = serving.done is.ended
+of_program (Outcomes looking) text plan status out err (outcomes.drawn_told is) = serving.done is.ended
+of_program (Outcomes looking) text plan status out err (outcomes.stopped is) = serving.unsettled is.ended
 
 pub is_answered : (request : Request) (file text of : List ℕ) (status : Status) (out err : List ℕ) →
     TextAnswers (RequestAnswers request of) file text status out err → IsAnswered status

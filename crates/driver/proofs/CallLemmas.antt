@@ -6,21 +6,19 @@ use Rattle.core_lang.specs.declared.typed.Thread.{Thread}
 use Rattle.core_lang.specs.declared.typed.Typed.{Typed}
 use Rattle.core_lang.specs.Serial.{Scheduled, script_from, scripts_from, all_calls}
 use Rattle.core_lang.specs.WellFormed.{IsChecked, CanCall}
+use Rattle.driver.specs.Running.{CanMake}
 
--- each of a list
-abbrev pub Each : {A : Type 0} → (A → Type 0) → List A → Type 0
-Each P [] = Unit {0}
-Each P (x ∷ xs) = P x × Each P xs
+-- calls that can be made, one list behind the other
+pub can_make_both : (program : Typed) (ss more : List Scheduled) → CanMake program ss → CanMake program more → CanMake program (ss ++ more)
+can_make_both program [] more all rest = rest
+can_make_both program (s ∷ ss) more all rest = (all.0, can_make_both program ss more all.1 rest)
 
-pub Each-append : {A : Type 0} (P : A → Type 0) (xs ys : List A) → Each P xs → Each P ys → Each P (xs ++ ys)
-Each-append P [] ys all more = more
-Each-append P (x ∷ xs) ys all more = (all.0, Each-append P xs ys all.1 more)
-
-pub Each-at : {A B : Type 0} (f : A → B) (P : B → Type 0) (xs : List A) (i : ℕ) (x : A) → Each P (map f xs) → i < length xs
-    → x ≡ get_or xs i x → P (f x)
-Each-at f P [] i x all within is = absurd (omega arith)
-Each-at f P (y ∷ ys) zero x all within is = rw is all.0
-Each-at f P (y ∷ ys) (suc i) x all within is = Each-at f P ys i x all.1 (omega arith) is
+-- each of such calls
+pub can_make_at : {A : Type 0} (f : A → Scheduled) (program : Typed) (xs : List A) (i : ℕ) (x : A) → CanMake program (map f xs) → i < length xs
+    → x ≡ get_or xs i x → CanCall program (f x).call.section (f x).call.arguments
+can_make_at f program [] i x all within is = absurd (omega arith)
+can_make_at f program (y ∷ ys) zero x all within is = rw is all.0
+can_make_at f program (y ∷ ys) (suc i) x all within is = can_make_at f program ys i x all.1 (omega arith) is
 
 -- what is left from one item on
 pub drop_next : {A B : Type 0} (f : A → B) (xs : List A) (i : ℕ) (x : A) → i < length xs → x ≡ get_or xs i x
@@ -36,19 +34,19 @@ map_parts f xs i x within is =
 -- the calls of a script can be made
 pub can_call_script : (program : Typed) (thread : ℕ) (calls : List Call) (step : ℕ)
     → ((k : ℕ) (call : Call) → slice_get calls k ≡ Some call → CanCall program call.section call.arguments.items)
-    → Each (λ (s : Scheduled). CanCall program s.call.section s.call.arguments) (script_from thread step calls)
+    → CanMake program (script_from thread step calls)
 can_call_script program thread [] step can = tt
 can_call_script program thread (call ∷ calls) step can =
     (can 0 call refl, can_call_script program thread calls _ (λ k c is. can (suc k) c is))
 
 pub can_call_scripts : (program : Typed) (threads : List Thread) (thread : ℕ)
     → ((t k : ℕ) (x : Thread) (call : Call) → slice_get threads t ≡ Some x → slice_get x.calls.items k ≡ Some call → CanCall program call.section call.arguments.items)
-    → Each (λ (s : Scheduled). CanCall program s.call.section s.call.arguments) (scripts_from thread threads)
+    → CanMake program (scripts_from thread threads)
 can_call_scripts program [] thread can = tt
 can_call_scripts program (x ∷ xs) thread can =
-    Each-append _ (script_from thread 0 x.calls.items) _ (can_call_script program thread x.calls.items 0 (λ k call is. can 0 k x call refl is))
+    can_make_both program (script_from thread 0 x.calls.items) _ (can_call_script program thread x.calls.items 0 (λ k call is. can 0 k x call refl is))
     (can_call_scripts program xs _ (λ t k y call here is. can (suc t) k y call here is))
 
 -- each call of a well-formed program's scripts can be made
-pub can_call_all : (program : Typed) → IsChecked program → Each (λ (s : Scheduled). CanCall program s.call.section s.call.arguments) (all_calls program)
+pub can_call_all : (program : Typed) → IsChecked program → CanMake program (all_calls program)
 can_call_all program well = can_call_scripts program program.threads.items 0 well.scripts

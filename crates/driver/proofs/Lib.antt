@@ -1,6 +1,7 @@
 pub mod CallLemmas
 pub mod RunningLemmas
 pub mod SerialLemmas
+pub mod OrderLemmas
 pub mod WritingLemmas
 pub mod ReadingLemmas
 pub mod ValueLemmas

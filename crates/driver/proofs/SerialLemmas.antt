@@ -9,23 +9,23 @@ use Rattle.recorded.specs.declared.format.Format.TheVariants.{One}
 use Rattle.report.specs.History.{history_of, unsettled_of}
 use Rattle.driver.specs.declared.status.Status.{Status}
 use Rattle.driver.specs.declared.status.Status.TheVariants.{Done, Unsettled}
-use Rattle.driver.specs.Running.{StopsAt}
+use Rattle.driver.specs.Running.{StopsAt, progress_of}
 use Rattle.driver.specs.Serial.{calls_of, entry, entries, IsHistory, StopsAtCall}
 
 -- the calls ahead of those that the turns don't settle are run serially
-settled_ahead : SettledAreSerial → (turns : ℕ) (program : Typed) (before after : List Scheduled) →
-    all_calls program ≡ before ++ after → (serial_run program turns).unsettled ≡ calls_of after →
-    SerialFromOpening program (calls_of before) (serial_run program turns).ends (serial_run program turns).heap
-settled_ahead law turns program before after parts left =
-    let settled = (law program turns (opening_heap program) (calls_of (all_calls program))).0 in
-    let split : calls_of (all_calls program) ≡ calls_of before ++ calls_of after =
+pub settled_ahead : SettledAreSerial → (turns : ℕ) (program : Typed) (ss before after : List Scheduled) →
+    ss ≡ before ++ after → (progress_of turns program ss).unsettled ≡ calls_of after →
+    SerialFromOpening program (calls_of before) (progress_of turns program ss).ends (progress_of turns program ss).heap
+settled_ahead law turns program ss before after parts left =
+    let settled = (law program turns (opening_heap program) (calls_of ss)).0 in
+    let split : calls_of ss ≡ calls_of before ++ calls_of after =
     ap calls_of parts ∙ map-append (λ (s : Scheduled). s.call) before after in
     let same : settled.0 ≡ calls_of before =
     append_cancel_right settled.0 (calls_of before) (calls_of after) (ap (λ xs. settled.0 ++ xs) (sym left) ∙ sym settled.1 ∙ split) in
-    subst (λ xs. Serial program (opening_heap program) xs (serial_run program turns).ends (serial_run program turns).heap) same settled.2
+    subst (λ xs. Serial program (opening_heap program) xs (progress_of turns program ss).ends (progress_of turns program ss).heap) same settled.2
 
 -- as many calls end as are run
-entries_ahead : (program : Typed) (heap last : List Value) (before after : List Scheduled) (ends : List Ended) →
+pub entries_ahead : (program : Typed) (heap last : List Value) (before after : List Scheduled) (ends : List Ended) →
     Serial program heap (calls_of before) ends last → entries (before ++ after) ends ≡ entries before ends
 entries_ahead program heap last [] [] [] ran = refl
 entries_ahead program heap last [] (s ∷ after) [] ran = refl
@@ -42,7 +42,7 @@ pub history_told : SettledAreSerial → (turns : ℕ) (program : Typed) (status 
 history_told law turns program status out err done settled is none =
     record {
       settled = settled;
-      serial = settled_ahead law turns program (all_calls program) [] (sym (append-nil (all_calls program))) settled;
+      serial = settled_ahead law turns program (all_calls program) (all_calls program) [] (sym (append-nil (all_calls program))) settled;
       ended = done;
       written = is;
       told = none;
@@ -50,11 +50,11 @@ history_told law turns program status out err done settled is none =
 
 -- the turns settle the calls up to one
 pub stop_told : SettledAreSerial → (turns : ℕ) (program : Typed) (thread step : ℕ) (status : Status) (out err : List ℕ) →
-    status ≡ Unsettled → StopsAt turns program (thread, step) →
+    status ≡ Unsettled → StopsAt turns program (all_calls program) (thread, step) →
     out ≡ unsettled_of program (entries (all_calls program) (serial_run program turns).ends) thread step → err ≡ [] →
     StopsAtCall turns program status out err
 stop_told law turns program thread step status out err ended stops is none =
-    let ran = settled_ahead law turns program stops.before (stops.this ∷ stops.after) stops.parts stops.unsettled in
+    let ran = settled_ahead law turns program (all_calls program) stops.before (stops.this ∷ stops.after) stops.parts stops.unsettled in
     let ends = (serial_run program turns).ends in
     let ahead : entries (all_calls program) ends ≡ entries stops.before ends =
     ap (λ ss. entries ss ends) stops.parts ∙ entries_ahead program (opening_heap program) (serial_run program turns).heap stops.before (stops.this ∷ stops.after) ends ran in

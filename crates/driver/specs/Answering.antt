@@ -1,8 +1,11 @@
 -- What this crate's functions compute of an answer. It mirrors the code: nobody has to believe it.
-use Rattle.std.specs.Prelude.{◌≡◌, ℕ, Bool, List, [], map, string_bytes, Result, Ok, Err}
+use Rattle.std.specs.Prelude.{◌≡◌, ℕ, Bool, List, [], map, string_bytes, Option, Result, Ok, Err}
 use Rattle.code.specs.Listing.{line}
 use Rattle.compiler.specs.Programs.{Accepts}
+use Rattle.core_lang.specs.declared.typed.Typed.{Typed}
 use Rattle.lowering.specs.Plans.{Plan, IsCompiled}
+use Rattle.outcomes.specs.Ends.{Told}
+use Rattle.outcomes_report.specs.Outcomes.{outcomes_text}
 use Rattle.source.specs.declared.fault.Fault.{Fault}
 use Rattle.explanation.specs.declared.explanation.Acceptance.{Acceptance}
 use Rattle.explanation.specs.declared.explanation.Explanation.{Explanation}
@@ -14,14 +17,15 @@ use Rattle.driver.specs.declared.answer.Answer.{Answer}
 use Rattle.driver.specs.declared.request.PairRequest.{PairRequest}
 use Rattle.driver.specs.declared.request.PairRequest.TheVariants.{Simulate, Trace, Replay}
 use Rattle.driver.specs.declared.request.Request.{Request}
-use Rattle.driver.specs.declared.request.Request.TheVariants.{Check, OrderGraph, Listing, Serial}
+use Rattle.driver.specs.declared.request.Request.TheVariants.{Check, OrderGraph, Listing, Serial, Outcomes}
 use Rattle.driver.specs.declared.status.Status.{Status}
-use Rattle.driver.specs.declared.status.Status.TheVariants.{Refused, BadInput}
+use Rattle.driver.specs.declared.status.Status.TheVariants.{Done, Refused, BadInput}
 use Rattle.driver.specs.Answers.{IsRefused}
 use Rattle.driver.specs.Checks.{IsCheckReport}
 use Rattle.driver.specs.Explanations.{acceptance_told, fault_told}
 use Rattle.driver.specs.Listings.{IsListed}
 use Rattle.driver.specs.OrderGraphs.{IsOrderGraph}
+use Rattle.driver.specs.Outcomes.{IsLookedAt}
 use Rattle.driver.specs.Replays.{IsReplayed, verdict_status, judgement_text}
 use Rattle.driver.specs.Serial.{IsRun}
 use Rattle.driver.specs.Simulations.{IsSimulated}
@@ -66,6 +70,11 @@ IsJudgementAnswer why judgement lines answer =
     (answer.status ≡ verdict_status judgement.verdict)
     × (string_bytes answer.out ≡ judgement_text why judgement.verdict judgement.wanted lines) × (string_bytes answer.err ≡ [])
 
+-- to ends of all orders, or of some that were drawn
+abbrev pub IsToldAnswer : Typed → Option ℕ → List Told → Answer → Type 0
+IsToldAnswer program states ends answer =
+    (answer.status ≡ Done) × (string_bytes answer.out ≡ outcomes_text program states ends) × (string_bytes answer.err ≡ [])
+
 -- to threads that found another history than they had left
 abbrev pub IsStrangeAnswer : Answer → Type 0
 IsStrangeAnswer answer = Meets IsStrange answer
@@ -81,6 +90,7 @@ RequestAnswers Check text plan = IsCheckReport text plan
 RequestAnswers OrderGraph text plan = IsOrderGraph text plan
 RequestAnswers Listing text plan = IsListed plan
 RequestAnswers (Serial turns) text plan = IsRun turns plan.accepted
+RequestAnswers (Outcomes looking) text plan = IsLookedAt looking plan.accepted
 
 -- to one for a program with this text, and the text of another file
 abbrev pub PairWanted : PairRequest → List ℕ → List ℕ → List ℕ → Plan → Status → List ℕ → List ℕ → Type 0

@@ -7,6 +7,7 @@ pub mod Checks
 pub mod Explanations
 pub mod Listings
 pub mod OrderGraphs
+pub mod Outcomes
 pub mod Simulations
 pub mod Traces
 pub mod Replays
@@ -26,6 +27,7 @@ pub use Rattle.driver.specs.Checks.{CheckAnswers}
 pub use Rattle.driver.specs.Explanations.{ExplainAnswers}
 pub use Rattle.driver.specs.Listings.{ListingAnswers}
 pub use Rattle.driver.specs.OrderGraphs.{OrderGraphAnswers}
+pub use Rattle.driver.specs.Outcomes.{OutcomesAnswers}
 pub use Rattle.driver.specs.Simulations.{SimulationAnswers}
 pub use Rattle.driver.specs.Traces.{TraceAnswers}
 pub use Rattle.driver.specs.Replays.{ReplayAnswers}

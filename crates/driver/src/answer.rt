@@ -10,6 +10,7 @@ ghost use Rattle.driver.specs.Listings.{IsListed};
 ghost use Rattle.driver.specs.Serial.{IsRun};
 ghost use Rattle.driver.specs.ThreadRuns.{ThreadsAnswers};
 
+use crate::exploring::Exploring;
 use crate::ordering::ordered;
 use crate::replaying::replayed;
 use crate::request::{Pair, PairRequest, Request};
@@ -143,6 +144,13 @@ fn of_program(
         Request::Serial { turns } => {
             let prepared = prepared(alloc, program)?;
             ran(alloc, program.accepted(), &prepared, turns)
+        }
+        Request::Outcomes(looking) => {
+            let exploring = Exploring {
+                prepared: &prepared(alloc, program)?,
+                looking,
+            };
+            exploring.answer(alloc)
         }
     }
 }

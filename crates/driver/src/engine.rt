@@ -7,6 +7,7 @@ ghost use Rattle.driver.specs.Checks.{CheckAnswers};
 ghost use Rattle.driver.specs.Engines.{Serves, IsMissed, reading_of};
 ghost use Rattle.driver.specs.Listings.{ListingAnswers};
 ghost use Rattle.driver.specs.OrderGraphs.{OrderGraphAnswers};
+ghost use Rattle.driver.specs.Outcomes.{OutcomesAnswers};
 ghost use Rattle.driver.specs.Replays.{ReplayAnswers};
 ghost use Rattle.driver.specs.Serial.{SerialAnswers};
 ghost use Rattle.driver.specs.Simulations.{SimulationAnswers};
@@ -15,7 +16,7 @@ ghost use Rattle.driver.specs.Traces.{TraceAnswers};
 ghost use Rattle.driver.specs.Streams.{name_of, reading_failed, writing_failed, Tells};
 
 use crate::answer::{answer_to, pair_answer_to, threads_answer};
-use crate::request::{Judging, Pair, PairRequest, Request};
+use crate::request::{Judging, Looking, Pair, PairRequest, Request};
 use crate::source_text::SourceText;
 use crate::status::Status;
 use crate::streams::Streams;
@@ -155,6 +156,23 @@ pub fn serial<S: Read, O: Write, E: Write>(
         O.contents E.contents streams.old streams.new result }
 {
     serve(alloc, Request::Serial { turns }, source, streams)
+}
+
+/// Runs all calls of the program that `source` gives one after another, in each order that keeps each thread's own, or in so
+/// many that are drawn where there are more; each execution of a loop makes at most so many turns. Writes each end of the
+/// cells to `out`, with how many of these orders have it and one of them, and answers how that ended, as [`serial`] does.
+pub fn find_outcomes<S: Read, O: Write, E: Write>(
+    alloc: Global,
+    looking: Looking,
+    source: &mut SourceText<'_, S>,
+    streams: &mut Streams<O, E>,
+) -> Status
+    requires readable { reading_failed source.old ≡ false }
+    requires writable { writing_failed streams.old.out ≡ false }
+    ensures { Serves (Alone (OutcomesAnswers looking (name_of source.old))) (reading_of S.remaining source.old source.new) []
+        O.contents E.contents streams.old streams.new result }
+{
+    serve(alloc, Request::Outcomes(looking), source, streams)
 }
 
 /// Runs the steps that `steps` gives over the threads of the program that `source` gives, and writes the text of the world

@@ -10,6 +10,8 @@
 //! - [`order_graph`]: the order of a program's lock classes, as a graph. `specs/OrderGraphs.antt` says what it answers.
 //! - [`list`]: the instructions of each section. `specs/Listings.antt` says what it answers.
 //! - [`serial`]: all calls of a program one after another. `specs/Serial.antt` says what it answers.
+//! - [`find_outcomes`]: how a program's cells can end, over the orders of its calls. `specs/Outcomes.antt` says what it
+//!   answers.
 //! - [`simulate`]: the world after the steps of a steps file. `specs/Simulations.antt` says what it answers.
 //! - [`trace`]: the steps of a steps file one after another, and the world after them. `specs/Traces.antt` says what it
 //!   answers.
@@ -24,6 +26,8 @@
 mod answer;
 mod engine;
 mod explaining;
+mod exploring;
+mod order_calls;
 mod ordering;
 mod replaying;
 mod request;
@@ -38,9 +42,11 @@ mod threads_run;
 mod tracing;
 mod why;
 
-pub use engine::{check, list, miss_other, order_graph, replay, run, serial, simulate, trace};
+pub use engine::{
+    check, find_outcomes, list, miss_other, order_graph, replay, run, serial, simulate, trace,
+};
 pub use explaining::explain;
-pub use request::Judging;
+pub use request::{Judging, Looking};
 pub use sink::Sink;
 pub use source_text::{ReadError, SourceText};
 pub use status::Status;

@@ -14,6 +14,19 @@ pub enum Request {
         /// The most turns that each execution of a loop may make.
         turns: u64,
     },
+    /// How its cells can end, over the orders of its calls.
+    Outcomes(Looking),
+}
+
+/// How the orders of a program's calls are looked at.
+#[derive(Clone, Copy, Debug, PartialEq, Eq)]
+pub struct Looking {
+    /// The most turns that each execution of a loop may make.
+    pub turns: u64,
+    /// The most orders that are looked at.
+    pub count: u64,
+    /// Which orders are drawn, where there are more.
+    pub seed: u64,
 }
 
 /// What is asked of a program's text and that of another file.

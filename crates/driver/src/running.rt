@@ -1,11 +1,12 @@
-//! The serial run of a program's calls.
+//! The serial run of a program's calls, and of some of them.
 
-ghost use Rattle.std.specs.Prelude.{◌≡◌, IfOk};
+ghost use Rattle.std.specs.Prelude.{◌≡◌, IfOk, map};
 ghost use Rattle.core_lang.specs.Expansion.{IsExpansion};
+ghost use Rattle.core_lang.specs.Serial.{all_calls};
 ghost use Rattle.core_lang.specs.Typing.{HasCells};
 ghost use Rattle.core_lang.specs.WellFormed.{IsChecked};
 ghost use Rattle.report.specs.{entry_of};
-ghost use Rattle.driver.specs.Running.{scheduled_of, ended_of, IsRan};
+ghost use Rattle.driver.specs.Running.{scheduled_of, ended_of, CanMake, IsRan};
 ghost use Rattle.driver.specs.Serial.{entry};
 
 use crate::schedule::{ScheduledCall, schedule};
@@ -55,24 +56,23 @@ pub fn prepared(alloc: Global, program: &Program) -> Result<Prepared<'_>, NoMemo
     Prepared::new(alloc, program.accepted(), program.typed())
 }
 
-/// Runs all calls of a program one after another, thread 0's whole script first, as far as so many
-/// turns of each execution of a loop settle them.
-pub fn run_scripts(
+/// Runs calls of a program one after another from its opening heap, as far as so many turns of each execution of a loop
+/// settle them.
+pub fn run_calls(
     alloc: Global,
-    typed: &Typed,
     prepared: &Prepared<'_>,
     turns: u64,
+    calls: &[ScheduledCall<'_>],
 ) -> Result<Ran, NoMemory>
-    requires checked { IsChecked typed.now }
-    requires same { prepared.now.program.now ≡ typed.now }
-    requires expansion { IsExpansion typed.now prepared.now.written.now }
-    ensures ran { IfOk result (IsRan turns typed.now) }
-    ensures cells { IfOk result (λ ran. HasCells typed.now ran.heap) }
+    requires checked { IsChecked prepared.now.program.now }
+    requires expansion { IsExpansion prepared.now.program.now prepared.now.written.now }
+    requires calls { CanMake prepared.now.program.now (map scheduled_of calls.now) }
+    ensures ran { IfOk result (IsRan turns prepared.now.program.now (map scheduled_of calls.now)) }
+    ensures cells { IfOk result (λ ran. HasCells prepared.now.program.now ran.heap) }
 {
-    let calls = schedule(alloc, typed)?;
-    let mut heap = Heap::open(alloc, typed)?;
+    let mut heap = Heap::open(alloc, prepared.program())?;
     let mut records = Vec::with_capacity(alloc, calls.len())?;
-    for next in &calls {
+    for next in calls {
         let call = next.call;
         let run = prepared.run_whole(alloc, call.section, &call.arguments, &mut heap, turns)?;
         let Some(end) = run else {
@@ -90,4 +90,22 @@ pub fn run_scripts(
         heap,
         unsettled: None,
     })
+}
+
+/// Runs all calls of a program one after another, thread 0's whole script first, as far as so many
+/// turns of each execution of a loop settle them.
+pub fn run_scripts(
+    alloc: Global,
+    typed: &Typed,
+    prepared: &Prepared<'_>,
+    turns: u64,
+) -> Result<Ran, NoMemory>
+    requires checked { IsChecked typed.now }
+    requires same { prepared.now.program.now ≡ typed.now }
+    requires expansion { IsExpansion typed.now prepared.now.written.now }
+    ensures ran { IfOk result (IsRan turns typed.now (all_calls typed.now)) }
+    ensures cells { IfOk result (λ ran. HasCells typed.now ran.heap) }
+{
+    let calls = schedule(alloc, typed)?;
+    run_calls(alloc, prepared, turns, &calls)
 }

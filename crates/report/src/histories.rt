@@ -94,19 +94,24 @@ fn push_cells(
     cells: &[Cell],
     values: &[Value],
 ) -> Result<(), AllocError>
-    requires { length cells.now ≡ length values.now }
     ensures { OnOk result (AddsText (cell_texts typed.now cells.now values.now) out.old out.new) }
 {
     for (i, cell) in cells.iter().enumerate() {
-        push_cell(out, typed, cell, values[i])?;
+        let Some(value) = values.get(i) else {
+            return Ok(());
+        };
+        push_cell(out, typed, cell, *value)?;
         out.push_str("\n")?;
     }
     Ok(())
 }
 
-/// The cells, and the last line.
-fn push_closing(out: &mut String, typed: &Typed, values: &[Value]) -> Result<(), AllocError>
-    requires { vec_len typed.now.cells ≡ length values.now }
+/// The line `cells`, a line for each cell of the program with its value, by the cells' numbers, and the line `end`.
+///
+/// # Errors
+///
+/// Want of memory.
+pub fn push_closing(out: &mut String, typed: &Typed, values: &[Value]) -> Result<(), AllocError>
     ensures { OnOk result (AddsText (closing_of typed.now values.now) out.old out.new) }
 {
     out.push_str("cells\n")?;

@@ -3,6 +3,7 @@
 //! - [`history_text`]: the calls and the values of all cells, in one of the two formats of [`recorded::Format`].
 //! - [`entries_text`]: the same of the entries of a history.
 //! - [`unsettled_text`]: the calls before one that is not settled, and that one.
+//! - [`push_closing`]: the end of a history, the values of all cells.
 //! - [`simulation_text`]: the finished sections of a world, its cells and its threads.
 //! - [`Record`]: a call, how it ended and what it printed.
 //! - [`lines`] and [`pieces`]: single lines of a history, and what they are put together from.
@@ -16,6 +17,6 @@ pub mod pieces;
 pub mod record;
 mod simulation;
 
-pub use histories::{entries_text, history_text, unsettled_text};
+pub use histories::{entries_text, history_text, push_closing, unsettled_text};
 pub use record::Record;
 pub use simulation::simulation_text;

@@ -10,14 +10,26 @@ use Rattle.clap.specs.declared.builder.value_parser.ValueParser.TheVariants as v
 abbrev pub file_rule : Text → Rule
 file_rule id = record (new_rule id) { required = true }
 
--- --turns N, from 0 to 1000000000, by default 1000000
-abbrev pub turns_rule : Rule
-turns_rule = record (new_rule (codes "turns")) {
-  long = Some (codes "turns");
+-- an option with a number from 0 to 1000000000, and what stands for it where it isn't given
+abbrev pub number_rule : Text → Text → Rule
+number_rule id default = record (new_rule id) {
+  long = Some id;
   value_names = 1;
-  defaults = codes "1000000" ∷ [];
+  defaults = default ∷ [];
   parser = Some (vp.Unsigned 0 1000000000);
 }
+
+-- --turns N, by default 1000000
+abbrev pub turns_rule : Rule
+turns_rule = number_rule (codes "turns") (codes "1000000")
+
+-- --count N, by default 100000
+abbrev pub count_rule : Rule
+count_rule = number_rule (codes "count") (codes "100000")
+
+-- --seed N, by default 0
+abbrev pub seed_rule : Rule
+seed_rule = number_rule (codes "seed") (codes "0")
 
 -- --why
 abbrev pub why_rule : Rule
@@ -38,6 +50,14 @@ with_file name = with_rule (new_app name) (file_rule (codes "FILE"))
 -- a command that takes --turns N besides
 abbrev pub with_turns : App → App
 with_turns app = with_rule app turns_rule
+
+-- a command that takes --count N besides
+abbrev pub with_count : App → App
+with_count app = with_rule app count_rule
+
+-- a command that takes --seed N besides
+abbrev pub with_seed : App → App
+with_seed app = with_rule app seed_rule
 
 -- a command that takes a steps file besides
 abbrev pub with_steps : App → App
@@ -91,6 +111,10 @@ with_listing app = with_subcommand app (with_file (codes "listing")).top
 abbrev pub with_serial : App → App
 with_serial app = with_subcommand app (with_turns (with_file (codes "serial"))).top
 
+-- autolock outcomes [--count N] [--seed N] [--turns N] FILE
+abbrev pub with_outcomes : App → App
+with_outcomes app = with_subcommand app (with_turns (with_seed (with_count (with_file (codes "outcomes"))))).top
+
 -- autolock simulate FILE STEPS
 abbrev pub with_simulate : App → App
 with_simulate app = with_subcommand app (with_steps (with_file (codes "simulate"))).top
@@ -109,7 +133,7 @@ with_replay app = with_subcommand app (with_why (with_turns (with_history (with_
 
 -- the whole command line
 abbrev pub autolock : App
-autolock = with_replay (with_run (with_trace (with_simulate (with_serial (with_listing (with_order (with_explain (with_check program))))))))
+autolock = with_replay (with_run (with_trace (with_simulate (with_outcomes (with_serial (with_listing (with_order (with_explain (with_check program)))))))))
 
 -- the command is that one, and has no global argument
 abbrev pub IsCommand : App → Command → Type 0

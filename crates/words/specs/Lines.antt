@@ -7,17 +7,21 @@ use Rattle.clap.specs.declared.error.Error.{Error}
 use Rattle.clap.specs.declared.error.kind.ErrorKind.TheVariants.{MissingSubcommand}
 use Rattle.words.specs.Commands.{autolock}
 use Rattle.words.specs.declared.line.Line.{Line}
-use Rattle.words.specs.declared.line.Line.TheVariants.{Check, Explain, Order, Listing, Serial, Simulate, Trace, Run, Replay}
+use Rattle.words.specs.declared.line.Line.TheVariants.{Check, Explain, Order, Listing, Serial, Outcomes, Simulate, Trace, Run, Replay}
 
 -- the value of a name, or nothing
 abbrev pub name_in : Text → List Row → Text
 name_in id rows = unwrap_or (first_of id rows) []
 
--- the number that the value of `turns` writes, where a plus may stand first; without a value, 1000000
-pub record IsTurns (rows : List Row) (turns : ℕ) : Type 0 where
-  pub given : (text : Text) → one_of (codes "turns") rows ≡ Some text → IsNumeral 10 (without_leading_plus text)
-      → digits_value 10 (without_leading_plus text) < 2 ^ 64 → turns ≡ digits_value 10 (without_leading_plus text)
-  pub default : one_of (codes "turns") rows ≡ None → turns ≡ 1000000
+-- the number that the value of a name writes, where a plus may stand first; without a value, another
+pub record IsNumber (id : Text) (otherwise : ℕ) (rows : List Row) (number : ℕ) : Type 0 where
+  pub given : (text : Text) → one_of id rows ≡ Some text → IsNumeral 10 (without_leading_plus text)
+      → digits_value 10 (without_leading_plus text) < 2 ^ 64 → number ≡ digits_value 10 (without_leading_plus text)
+  pub default : one_of id rows ≡ None → number ≡ otherwise
+
+-- the number of `turns`; without one, 1000000
+abbrev pub IsTurns : List Row → ℕ → Type 0
+IsTurns rows turns = IsNumber (codes "turns") 1000000 rows turns
 
 -- whether a word that takes no value stands among the words, as clap tells it
 pub record IsFlag (id : Text) (rows : List Row) (is : Bool) : Type 0 where
@@ -34,6 +38,9 @@ IsLine command rows (Order file) = (command ≡ codes "order") × (file.now ≡ 
 IsLine command rows (Listing file) = (command ≡ codes "listing") × (file.now ≡ name_in (codes "FILE") rows)
 IsLine command rows (Serial file turns) =
     (command ≡ codes "serial") × (file.now ≡ name_in (codes "FILE") rows) × IsTurns rows turns
+IsLine command rows (Outcomes file turns count seed) =
+    (command ≡ codes "outcomes") × (file.now ≡ name_in (codes "FILE") rows) × IsTurns rows turns
+    × IsNumber (codes "count") 100000 rows count × IsNumber (codes "seed") 0 rows seed
 IsLine command rows (Simulate file steps) =
     (command ≡ codes "simulate") × (file.now ≡ name_in (codes "FILE") rows) × (steps.now ≡ name_in (codes "STEPS") rows)
 IsLine command rows (Trace file steps sections) =
@@ -52,8 +59,9 @@ IsLineOf (Some (command, rows)) line = IsLine command rows line
 -- a name of the program's own subcommands
 abbrev pub IsOwnName : Text → Type 0
 IsOwnName command =
-    (command ≡ codes "check") ⊎ ((command ≡ codes "explain") ⊎ ((command ≡ codes "order") ⊎ ((command ≡ codes "listing") ⊎ ((command ≡ codes "serial")
-    ⊎ ((command ≡ codes "simulate") ⊎ ((command ≡ codes "trace") ⊎ ((command ≡ codes "run") ⊎ (command ≡ codes "replay"))))))))
+    (command ≡ codes "check") ⊎ ((command ≡ codes "explain") ⊎ ((command ≡ codes "order") ⊎ ((command ≡ codes "listing")
+    ⊎ ((command ≡ codes "serial") ⊎ ((command ≡ codes "outcomes") ⊎ ((command ≡ codes "simulate") ⊎ ((command ≡ codes "trace")
+    ⊎ ((command ≡ codes "run") ⊎ (command ≡ codes "replay")))))))))
 
 -- the subcommand that was met is one of the program's own
 abbrev pub IsOwn : Option (Text × List Row) → Type 0

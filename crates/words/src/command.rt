@@ -2,7 +2,7 @@
 
 ghost use Rattle.std.specs.Prelude.{◌≡◌, IfOk, codes, false};
 ghost use Rattle.clap.specs.Words.{rule_of};
-ghost use Rattle.words.specs.Commands.{IsCommand, file_rule, turns_rule, why_rule, sections_rule, json_rule, with_file, with_turns, with_steps, with_history, with_why, with_sections, with_json, Adds, AddsRule, autolock};
+ghost use Rattle.words.specs.Commands.{IsCommand, file_rule, number_rule, turns_rule, count_rule, seed_rule, why_rule, sections_rule, json_rule, with_file, with_turns, with_count, with_seed, with_steps, with_history, with_why, with_sections, with_json, Adds, AddsRule, autolock};
 
 use clap::builder::ValueParser;
 use clap::{Arg, ArgAction, Command};
@@ -19,17 +19,42 @@ fn file_argument<'a>(alloc: Global, id: &'a str) -> Arg<'a>
     Arg::new(alloc, id).required(true)
 }
 
+/// An option with a number, and what stands for it where it isn't given.
+fn number_argument<'a>(alloc: Global, id: &'a str, default: &'a str) -> Arg<'a>
+    ensures rule { rule_of result ≡ number_rule id.entry.now default.entry.now }
+    ensures local { result.global ≡ false }
+{
+    Arg::new(alloc, id)
+        .long(id)
+        .value_name("N")
+        .value_parser(ValueParser::unsigned(0, 1_000_000_000))
+        .default_value(default)
+}
+
 /// `--turns N`.
 fn turns_argument<'a>(alloc: Global) -> Arg<'a>
     ensures rule { rule_of result ≡ turns_rule }
     ensures local { result.global ≡ false }
 {
-    Arg::new(alloc, "turns")
-        .long("turns")
-        .value_name("N")
-        .help("How many turns an execution of a loop may take")
-        .value_parser(ValueParser::unsigned(0, 1_000_000_000))
-        .default_value("1000000")
+    number_argument(alloc, "turns", "1000000").help(
+        "How many turns an execution of a loop may take",
+    )
+}
+
+/// `--count N`.
+fn count_argument<'a>(alloc: Global) -> Arg<'a>
+    ensures rule { rule_of result ≡ count_rule }
+    ensures local { result.global ≡ false }
+{
+    number_argument(alloc, "count", "100000").help("How many orders to look at, at most")
+}
+
+/// `--seed N`.
+fn seed_argument<'a>(alloc: Global) -> Arg<'a>
+    ensures rule { rule_of result ≡ seed_rule }
+    ensures local { result.global ≡ false }
+{
+    number_argument(alloc, "seed", "0").help("Which orders to draw, where there are more")
 }
 
 /// `--why`.
@@ -134,6 +159,18 @@ fn with_argument<'a>(
     command?.arg(argument)
 }
 
+/// `outcomes`.
+fn outcomes_command<'a>(alloc: Global) -> Result<Command<'a>, AllocError>
+    ensures { IfOk result (IsCommand (with_turns (with_seed (with_count (with_file (codes "outcomes")))))) }
+{
+    let about =
+        "Run all calls one after another in all orders, or in some, and write each way the cells end";
+    let command = file_command(alloc, "outcomes", about);
+    let command = with_argument(command, count_argument(alloc));
+    let command = with_argument(command, seed_argument(alloc));
+    with_argument(command, turns_argument(alloc))
+}
+
 /// `replay`.
 fn replay_command<'a>(alloc: Global) -> Result<Command<'a>, AllocError>
     ensures { IfOk result (IsCommand (with_why (with_turns (with_history (with_file (codes "replay")))))) }
@@ -183,6 +220,7 @@ pub fn command<'a>(alloc: Global) -> Result<Command<'a>, AllocError>
     let about = "Write the instructions of each section";
     let line = with_command(line, file_command(alloc, "listing", about));
     let line = with_command(line, serial_command(alloc));
+    let line = with_command(line, outcomes_command(alloc));
     let line = with_command(line, simulate_command(alloc));
     let line = with_command(line, trace_command(alloc));
     let line = with_command(line, run_command(alloc));

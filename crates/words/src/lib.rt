@@ -9,5 +9,5 @@ mod command;
 mod line;
 mod reading;
 
-pub use line::{DEFAULT_TURNS, Line};
+pub use line::{DEFAULT_COUNT, DEFAULT_SEED, DEFAULT_TURNS, Line};
 pub use reading::words;

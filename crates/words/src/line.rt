@@ -3,6 +3,12 @@
 /// The turns that each execution of a loop may take where `--turns` is not given.
 pub const DEFAULT_TURNS: u64 = 1_000_000;
 
+/// How many orders are looked at, at most, where `--count` is not given.
+pub const DEFAULT_COUNT: u64 = 100_000;
+
+/// The seed of what is drawn where `--seed` is not given.
+pub const DEFAULT_SEED: u64 = 0;
+
 /// A command, with the names of its files as they were given.
 #[derive(Clone, Copy, Debug, PartialEq, Eq)]
 pub enum Line<'a> {
@@ -34,6 +40,17 @@ pub enum Line<'a> {
         file: &'a str,
         /// The most turns that each execution of a loop may make.
         turns: u64,
+    },
+    /// `outcomes`: tell how the cells of a program can end, over the orders of its calls.
+    Outcomes {
+        /// The file of the program's text.
+        file: &'a str,
+        /// The most turns that each execution of a loop may make.
+        turns: u64,
+        /// The most orders that are looked at.
+        count: u64,
+        /// Which orders are drawn, where there are more.
+        seed: u64,
     },
     /// `simulate`: run the steps of a steps file over the threads of a program.
     Simulate {

@@ -3,10 +3,10 @@
 ghost use Rattle.std.specs.Prelude.{◌≡◌, IfOk, IfErr, IfSome, OnOk, None, [], map};
 ghost use Rattle.clap.specs.Words.{fault_of, found_of, rows_of, subcommand_of};
 ghost use Rattle.words.specs.Commands.{autolock};
-ghost use Rattle.words.specs.Lines.{name_in, IsTurns, IsFlag, IsLine, IsLineOf, IsOwnName, IsRefused};
+ghost use Rattle.words.specs.Lines.{name_in, IsNumber, IsTurns, IsFlag, IsLine, IsLineOf, IsOwnName, IsRefused};
 
 use crate::command::command;
-use crate::line::{DEFAULT_TURNS, Line};
+use crate::line::{DEFAULT_COUNT, DEFAULT_SEED, DEFAULT_TURNS, Line};
 use clap::error::ErrorKind;
 use clap::{ArgMatches, Error};
 use std::alloc::Global;
@@ -18,11 +18,18 @@ fn name<'a>(matches: &ArgMatches<'a>, id: &str) -> &'a str
     matches.get_str(id).unwrap_or("")
 }
 
-/// The value of `--turns`, which has a default.
+/// The number of a name, or this one where it has none.
+fn number(matches: &ArgMatches<'_>, id: &str, otherwise: u64) -> u64
+    ensures { IsNumber id.now otherwise (rows_of (found_of matches.now)) result }
+{
+    matches.get_one::<u64>(id).unwrap_or(otherwise)
+}
+
+/// The number of `--turns`.
 fn turns(matches: &ArgMatches<'_>) -> u64
     ensures { IsTurns (rows_of (found_of matches.now)) result }
 {
-    matches.get_one::<u64>("turns").unwrap_or(DEFAULT_TURNS)
+    number(matches, "turns", DEFAULT_TURNS)
 }
 
 /// Whether a word that takes no value is given.
@@ -49,6 +56,12 @@ fn line<'a>(command: &str, matches: &ArgMatches<'a>) -> Option<Line<'a>>
         "serial" => Some(Line::Serial {
             file,
             turns: turns(matches),
+        }),
+        "outcomes" => Some(Line::Outcomes {
+            file,
+            turns: turns(matches),
+            count: number(matches, "count", DEFAULT_COUNT),
+            seed: number(matches, "seed", DEFAULT_SEED),
         }),
         "simulate" => Some(Line::Simulate {
             file,

@@ -1,6 +1,6 @@
 use Rattle.std.proofs.Common.{◌≡◌, ◌++◌, List, ℕ, sym, ap, ◌∙◌}
 use Rattle.std.specs.Prelude.{codes}
-use Rattle.case_files.proofs.Words.{named_simulate, named_check, named_lists, named_graph, named_listing, named_tokens, named_tree, named_print, named_again, named_paths, named_points, named_order}
+use Rattle.case_files.proofs.Words.{named_simulate, named_check, named_lists, named_graph, named_listing, named_outcomes, named_tokens, named_tree, named_print, named_again, named_paths, named_points, named_order}
 use Rattle.case_files.proofs.asked.Asked.named.Goals as goal
 
 pub returns-in-check : goal.returns-in-check
@@ -11,6 +11,9 @@ returns-in-lists c = rw c.in-lists.is named_lists
 
 pub returns-in-graph : goal.returns-in-graph
 returns-in-graph c = rw c.in-graph.is named_graph
+
+pub returns-in-outcomes : goal.returns-in-outcomes
+returns-in-outcomes c = rw c.in-outcomes.is named_outcomes
 
 pub returns-in-listing : goal.returns-in-listing
 returns-in-listing c = rw c.in-listing.is named_listing

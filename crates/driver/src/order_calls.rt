@@ -1,0 +1,62 @@
+//! The calls of an order of threads.
+
+ghost use Rattle.std.specs.Prelude.{◌≡◌, ◌<◌, ◌+◌, ◌^◌, IfOk, IfSome, length, map, option_map, slice_index};
+ghost use Rattle.outcomes.specs.Ends.{done_after};
+ghost use Rattle.outcomes.specs.Orders.{calls_in, none_done};
+ghost use Rattle.driver.specs.Outcomes.{scheduled_in, scheduled_next};
+ghost use Rattle.driver.specs.Running.{scheduled_of};
+
+use crate::schedule::ScheduledCall;
+use core_lang::typed::Typed;
+use source::memory::NoMemory;
+use std::alloc::Global;
+
+/// The calls of an order.
+#[derive(Drop)]
+pub struct OrderCalls<'a> {
+    /// The calls, one after another.
+    pub calls: Vec<ScheduledCall<'a>>,
+    /// How many of each thread's calls are done after them.
+    pub done: Vec<usize>,
+}
+
+impl OrderCalls<'_> {
+    /// How many calls of a thread are done.
+    pub fn done_of(&self, thread: usize) -> usize
+        ensures { result ≡ slice_index self.now.done.items thread }
+    {
+        self.done.get(thread).copied().unwrap_or(0)
+    }
+}
+
+/// The call that a thread makes next, where so many calls of each thread are done.
+fn next<'a>(typed: &'a Typed, done: &[usize], thread: usize) -> Option<ScheduledCall<'a>>
+    ensures next { option_map scheduled_of result ≡ scheduled_next typed.entry.now done.now thread }
+    ensures thread { IfSome result (λ _. thread < length typed.entry.now.threads.items) }
+    ensures step { IfSome result (λ call. call.step + 1 < 2 ^ 64) }
+{
+    let step = done.get(thread).copied().unwrap_or(0);
+    let call = typed.threads.get(thread)?.calls.get(step)?;
+    Some(ScheduledCall { thread, step, call })
+}
+
+/// The calls of an order each of whose threads has a call left there.
+pub fn order_calls<'a>(
+    alloc: Global,
+    typed: &'a Typed,
+    order: &[usize],
+) -> Result<OrderCalls<'a>, NoMemory>
+    requires { length (calls_in typed.now order.now) ≡ length order.now }
+    ensures calls { IfOk result (λ made. map scheduled_of made.calls.items ≡ scheduled_in typed.entry.now order.now) }
+    ensures done { IfOk result (λ made. made.done.items ≡ done_after (none_done typed.entry.now) order.now) }
+{
+    let mut calls = Vec::with_capacity(alloc, order.len())?;
+    let mut done = vec![in alloc; 0; typed.threads.len()]?;
+    for thread in order {
+        if let Some(call) = next(typed, &done, *thread) {
+            done[*thread] = call.step + 1;
+            calls.push(call)?;
+        }
+    }
+    Ok(OrderCalls { calls, done })
+}

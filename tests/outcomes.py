@@ -1,0 +1,241 @@
+#!/usr/bin/env python3
+"""What `outcomes` tells, judged by `serial`.
+
+    tests/outcomes.py PROGRAM [--seed N] [--count N] [--most N] [FILE..]
+
+PROGRAM is the built program. It is judged over each FILE, a program that is accepted, and over `--count` small programs
+that are drawn (200 by default), from the seed that is printed: sections that write what they read, threads of a few
+calls, some of which meet a loop past their turns.
+
+The calls of each thread are what `serial` tells. An order of them is made the one thread of the program in place of its
+own, and `serial` has to tell the cells that `outcomes` tells of it. Where the orders are at most `--most` (by default
+300), all of them are run so, with each of their beginnings: `outcomes` has to say `all`, to tell how many states these come
+by, and just the cells that they end in, each once, and of each after how many orders; and where some order meets a loop past its turns, the calls before that one and its place. Then it
+is asked to look at fewer orders than there are: it has to say `drawn`, and of as many orders cells that some of them end in.
+Where there are more orders than that, those that it tells are run.
+
+Exits with 1 where anything differs, and prints the program and what is wrong.
+"""
+
+import argparse
+import math
+import os
+import random
+import re
+import subprocess
+import sys
+import tempfile
+
+from schedules import without_threads
+
+CALL = re.compile(r"call (\d+) \d+ (.*\)) (ends|returns .*|traps \d+)$")
+FIRST = re.compile(r"orders (\d+) (all|drawn)$")
+STATES = re.compile(r"states (\d+)$")
+OUTCOME = re.compile(r"outcome (\d+) after((?: \d+)*)$")
+TURNS = 50
+
+
+class Differs(Exception):
+    pass
+
+
+def orders_of(left):
+    """All orders in which threads with so many calls left can make them."""
+    if not any(left):
+        yield ()
+    for thread, calls in enumerate(left):
+        if calls:
+            for order in orders_of(left[:thread] + (calls - 1,) + left[thread + 1 :]):
+                yield (thread, *order)
+
+
+def number_of_orders(lengths):
+    whole = math.factorial(sum(lengths))
+    for length in lengths:
+        whole //= math.factorial(length)
+    return whole
+
+
+class Judge:
+    def __init__(self, program, path, folder):
+        self.program, self.path, self.folder = program, path, folder
+        with open(path, encoding="latin-1") as source:
+            self.text, threads = without_threads(source.read())
+        self.scripts = [[] for _ in range(threads)]
+        self.known = {}
+
+    def run(self, *words):
+        done = subprocess.run([self.program, *words], capture_output=True, timeout=120)
+        if done.returncode not in (0, 7) or done.stderr:
+            raise Differs(f"{words}: status {done.returncode}: {done.stderr.decode('latin-1')}")
+        return done.returncode, done.stdout.decode("latin-1").splitlines()
+
+    def read_scripts(self):
+        """Reads the calls of each thread; whether `serial` runs them all."""
+        status, lines = self.run("serial", "--turns", "1000000", self.path)
+        for line in lines:
+            call = CALL.match(line)
+            if call:
+                self.scripts[int(call.group(1))].append(call.group(2))
+        return status == 0
+
+    def calls_of(self, order):
+        done = [0] * len(self.scripts)
+        for thread in order:
+            done[thread] += 1
+            yield self.scripts[thread][done[thread] - 1]
+
+    def serial(self, order):
+        """How calls in this order end: the status, and what `serial` tells but for the numbers of threads and calls."""
+        if order not in self.known:
+            file = os.path.join(self.folder, "serial.al")
+            with open(file, "w", encoding="latin-1") as out:
+                out.write(self.text + "\nthread only_one {\n" + "".join(f"  {c};\n" for c in self.calls_of(order)) + "}\n")
+            status, lines = self.run("serial", "--turns", str(TURNS), file)
+            self.known[order] = status, lines
+        return self.known[order]
+
+    def cells(self, order):
+        status, lines = self.serial(order)
+        if status:
+            raise Differs(f"after {order} a call is past its turns")
+        return tuple(lines[lines.index("cells") :])
+
+    def state(self, order):
+        """How many calls of each thread are in the beginning of an order, and the cells after it."""
+        return tuple(order.count(thread) for thread in range(len(self.scripts))), self.cells(order)
+
+    def outcomes(self, count):
+        return self.run("outcomes", "--turns", str(TURNS), "--count", str(count), "--seed", "3", self.path)
+
+    def told(self, lines):
+        """The first line's number and word, and of each outcome its count, its order and its cells."""
+        number, scope = FIRST.match(lines[0]).groups()
+        ends, at, self.states = [], 1, None
+        if scope == "all":
+            at, self.states = 2, int(STATES.match(lines[1]).group(1))
+        while at < len(lines):
+            count, order = OUTCOME.match(lines[at]).groups()
+            end = lines.index("end", at) + 1
+            ends.append((int(count), tuple(map(int, order.split())), tuple(lines[at + 1 : end])))
+            at = end
+        return int(number), scope, ends
+
+    def judge_ends(self, lines, scope, number):
+        """Whether what is told is true, as far as its own orders go; and what is told."""
+        told_number, told_scope, ends = self.told(lines)
+        if (told_number, told_scope) != (number, scope):
+            raise Differs(f"{lines[0]}, and not {number} {scope}")
+        lengths = [len(script) for script in self.scripts]
+        for count, order, cells in ends:
+            if count < 1 or [order.count(t) for t in range(len(lengths))] != lengths or len(order) != sum(lengths):
+                raise Differs(f"no order: {count} {order}")
+            if self.cells(order) != cells:
+                raise Differs(f"after {order} {self.cells(order)}, and not {cells}")
+        if sum(count for count, _, _ in ends) != number or len({cells for _, _, cells in ends}) != len(ends):
+            raise Differs("counts that don't sum up, or an end that is told twice:\n" + "\n".join(lines))
+        return {cells: count for count, _, cells in ends}
+
+    def judge_stop(self, lines):
+        """Whether the calls that are told lead to one past its turns."""
+        thread, step = map(int, lines[-1].split()[1:])
+        order = tuple(int(CALL.match(line).group(1)) for line in lines if line.startswith("call "))
+        if order.count(thread) != step:
+            raise Differs(lines[-1])
+        status, wanted = self.serial((*order, thread))
+        bare = [re.sub(r"^call \d+ \d+ ", "call ", line) for line in lines[:-1]]
+        if status != 7 or bare != [re.sub(r"^call \d+ \d+ ", "call ", line) for line in wanted[:-1]]:
+            raise Differs("\n".join(lines) + "\nbut serial:\n" + "\n".join(wanted))
+
+    def judge_all(self, orders, number):
+        stops = [order for order in orders if self.serial(order)[0] == 7]
+        status, lines = self.outcomes(number)
+        if stops:
+            if status != 7:
+                raise Differs(f"a call past its turns in {stops[0]}, and status {status}")
+            return self.judge_stop(lines)
+        if status:
+            raise Differs(f"status {status}, and no call is past its turns")
+        wanted = {}
+        for order in orders:
+            wanted[self.cells(order)] = wanted.get(self.cells(order), 0) + 1
+        if self.judge_ends(lines, "all", number) != wanted:
+            raise Differs("\n".join(lines) + f"\nbut all orders: {wanted}")
+        states = {self.state(order[:length]) for order in orders for length in range(len(order) + 1)}
+        if self.states != len(states):
+            raise Differs(f"{self.states} states, and not {len(states)}")
+        if number > 1:
+            fewer = number - 1 if number < 5 else number // 2
+            drawn = self.judge_ends(self.outcomes(fewer)[1], "drawn", fewer)
+            if not drawn.keys() <= wanted.keys():
+                raise Differs("a drawn end that no order has")
+
+    def judge(self, most):
+        lengths = tuple(len(script) for script in self.scripts)
+        number = number_of_orders(lengths)
+        if number <= most:
+            return self.judge_all(list(orders_of(lengths)), number)
+        count = min(number, 2000)
+        status, lines = self.outcomes(count)
+        if status == 7:
+            return self.judge_stop(lines)
+        self.judge_ends(lines, "all" if number <= count else "drawn", count)
+
+
+STATEMENTS = (
+    "x = k;", "x = x + k;", "x = y;", "y = x + 1;", "y = x - y;", "x = a[0]; a[0] = k;", "a[1] = a[0] + k;",
+    "if (x < y) { x = y; } else { y = k; }", "y = 12 / x;", "a[x] = k;", "p[0].v = x + k;", "x = p[0].v;", "print x; x = 0 - x;",
+    "var i: int = 0; while (i < x) { y = y + 1; i = i + 1; }",
+)
+
+
+def drawn(chance):
+    """A small program."""
+    text = "lock G; lock H; global int x protected_by(G); global int y protected_by(H); global int a[2] protected_by(G);\n"
+    text += "struct P { lock l; int v protected_by(l); } pool P p[1];\n"
+    for number in range(4):
+        body = " ".join(chance.choice(STATEMENTS).replace("var i", f"var i{n}").replace("(i <", f"(i{n} <").replace("i = i + 1", f"i{n} = i{n} + 1")
+                        for n in range(chance.randint(1, 2)))
+        text += f"atomic f{number}(int k, ref P q) {{ {body.replace('p[0]', 'q')} }}\n"
+    for number, calls in enumerate(chance.choice([(1, 1), (2, 1), (2, 2), (3, 2), (1, 1, 1), (2, 1, 1), (2, 2, 1), (0, 3), (4, 2), (3, 3)])):
+        script = " ".join(f"f{chance.randrange(4)}({chance.choice((0, 1, 2, -1, 70))}, p[0]);" for _ in range(calls))
+        text += f"thread t{number} {{ {script} }}\n"
+    return text
+
+
+def main():
+    words = argparse.ArgumentParser(formatter_class=argparse.RawDescriptionHelpFormatter, description=__doc__)
+    words.add_argument("program")
+    words.add_argument("files", nargs="*")
+    words.add_argument("--seed", type=int, default=None)
+    words.add_argument("--count", type=int, default=200)
+    words.add_argument("--most", type=int, default=300)
+    given = words.parse_args()
+    seed = random.randrange(2**32) if given.seed is None else given.seed
+    print(f"seed {seed}")
+    chance = random.Random(seed)
+    failed = judged = 0
+    with tempfile.TemporaryDirectory() as folder:
+        for number in range(given.count):
+            path = os.path.join(folder, f"drawn-{number}.al")
+            with open(path, "w", encoding="latin-1") as out:
+                out.write(drawn(chance))
+            given.files.append(path)
+        for path in given.files:
+            judge = Judge(os.path.abspath(given.program), path, folder)
+            try:
+                if not judge.read_scripts():
+                    print(f"passed over {path}")
+                    continue
+                judge.judge(given.most)
+                judged += 1
+            except Differs as wrong:
+                with open(path, encoding="latin-1") as source:
+                    print(f"FAILED {path}\n{source.read()}\n{wrong}")
+                failed += 1
+    print(f"{judged} programs judged, {failed} failed")
+    sys.exit(1 if failed else 0)
+
+
+if __name__ == "__main__":
+    main()
