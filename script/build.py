@@ -3,14 +3,17 @@
 
     build.py FOLDER    the folder of `rt`
 
-`rt all check` does the same, but reads all sources at once before any proof, which takes three minutes and 9 GB, and
-hands the crates out in a fixed order. Here they go as those of `rt ci` do: first those with the longest chain of others
-above them, and with more than one job where a processor is idle. Writes a line for each crate that is done. The status
-is 5 where the toolchain has no such functions, as in another version: `rt all check` serves then.
+`rt all check` does the same, but reads all sources at once before any proof, which takes three minutes and 9 GB, keeps
+13 GB of proofs, and has each crate load the proofs of all those below it. Here a library is left as its statements, as
+`rt ci` leaves it, which is all that a proof above it reads; and the crates go as those of `rt ci` do: first those with
+the longest chain of others above them, and with more than one job where a processor is idle. A library that was built of
+the same files is taken as it is, so a run that was stopped goes on where it was. Writes a line for each crate that is
+done. The status is 5 where the toolchain has no such functions, as in another version: `rt all check` serves then.
 """
 import importlib.machinery
 import importlib.util
 import os
+import shutil
 import signal
 import sys
 import tempfile
@@ -40,9 +43,7 @@ def load_to_build(folder):
         rt.read_files(self)
 
     rt.rtlib.Crate.__init__ = make
-    if hasattr(rt, "share_work"):
-        rt.share_work(True)
-    else:
+    if not hasattr(rt, "share_work"):
         sum_once(rt.rtlib.Crate)
     return rt
 
@@ -67,58 +68,89 @@ def sum_once(crate_type):
     crate_type.stamp = stamp
 
 
-def main(folder):
-    try:
-        rt = load_to_build(folder)
-        rtlib, need, in_lanes = rt.rtlib, rt.need, rt.in_lanes
-    except (ImportError, OSError, AttributeError, SyntaxError):
-        return NO_SUCH_FUNCTIONS
-    signal.signal(signal.SIGINT, signal.SIG_DFL)
-    rtlib.guarded()
-    for word in ("may_have_bugs", "may_be_empty", "may_call_c"):
-        setattr(rtlib.Crate, word, True)
-    here = os.getcwd()
-    crates = rtlib.Crate(here, rtlib.root_above(here), {}).below()
-    held = rtlib.lock(crates)
-    begun, printing, done = time.time(), threading.Lock(), []
-    for crate in crates:
-        rtlib.stop_on_links(crate.folder)
-        rtlib.stop_on_text(crate, "check")
+class Build:
+    """Proves a program's libraries side by side."""
 
-    def prove(crate, given, jobs):
+    def __init__(self, rt):
+        rtlib = rt.rtlib
+        self.rattle, self.need, self.in_lanes = rtlib.RATTLE, rt.need, rt.in_lanes
+        for word in ("may_have_bugs", "may_be_empty", "may_call_c"):
+            setattr(rtlib.Crate, word, True)
+        here = os.getcwd()
+        self.crates = rtlib.Crate(here, rtlib.root_above(here), {}).below()
+        self.held = rtlib.lock(self.crates)
+        self.begun, self.printing, self.done = time.time(), threading.Lock(), 0
+        for crate in self.crates:
+            rtlib.stop_on_links(crate.folder)
+            rtlib.stop_on_text(crate, "check")
+
+    def prove_library(self, crate, jobs):
+        """Leaves the crate's statements in its folder, with what they were made from, where it is proved."""
+        stamp, kept = crate.stamp(), f"{crate.folder}/out/rlib/stamp"
+        shutil.rmtree(os.path.dirname(kept), ignore_errors=True)
+        os.makedirs(os.path.dirname(kept))
+        words = crate.words(["--jobs", str(jobs)], keeps=False)
+        status = crate.call(self.rattle, "build", *words, "--statements", "-o", crate.rlib)
+        if not status and stamp == crate.stamp():
+            with open(kept, "w", encoding="utf-8") as it:
+                it.write(stamp)
+        return status
+
+    def prove(self, crate, given, jobs):
         """Whether the crate is proved and built; not tried where one below is not."""
         if not all(given[it.name, "proof"] for it in crate.below()):
             return False
-        os.makedirs(f"{crate.folder}/out", exist_ok=True)
-        start = time.time()
-        with tempfile.TemporaryFile("a+", errors="replace") as crate.out:
-            status = crate.build_rlib(["--jobs", str(jobs)], anew=False)
-            crate.out.seek(0)
-            said = crate.out.read()
-        with printing:
-            done.append(crate)
-            now = time.time()
-            left = len(crates) + 1 - len(done)
-            whole = f"{int(now - begun) // 60} min {int(now - begun) % 60} s"
-            if status:
-                print(f"{said}\n{crate.name} was not proved", flush=True)
-            else:
-                print(
-                    f"== {len(done)} of {len(crates) + 1} done, {left} left, {whole}: {crate.name}"
-                    f" ({now - start:.0f} s)",
-                    flush=True,
-                )
+        start, status, said = time.time(), 0, ""
+        if not crate.is_built():
+            os.makedirs(f"{crate.folder}/out", exist_ok=True)
+            with tempfile.TemporaryFile("a+", errors="replace") as crate.out:
+                status = self.prove_library(crate, jobs)
+                crate.out.seek(0)
+                said = crate.out.read()
+        self.tell(crate, status, said, time.time() - start)
         return not status
 
-    tasks = {}
-    for crate in crates:
-        waits = [(it.name, "proof") for it in crate.below()]
-        call = lambda given, jobs, it=crate: prove(it, given, jobs)
-        tasks[crate.name, "proof"] = (waits, crate.count(rb"\n"), need(crate), call)
-    given = in_lanes(tasks)
-    for it in held:
-        os.close(it)
-    return 0 if all(given.values()) else 1
+    def tell(self, crate, status, said, took):
+        with self.printing:
+            if status:
+                print(f"{said}\n{crate.name} was not proved", flush=True)
+                return
+            self.done += 1
+            count, now = len(self.crates) + 1, int(time.time() - self.begun)
+            whole = f"{now // 60} min {now % 60} s"
+            left = f"{self.done} of {count} done, {count - self.done} left"
+            print(f"== {left}, {whole}: {crate.name} ({took:.0f} s)", flush=True)
+
+    def run(self):
+        """Whether all are proved."""
+        tasks = {}
+        for crate in self.crates:
+            waits = [(it.name, "proof") for it in crate.below()]
+            call = lambda given, jobs, it=crate: self.prove(it, given, jobs)
+            tasks[crate.name, "proof"] = (waits, work_of(crate), self.need(crate), call)
+        given = self.in_lanes(tasks)
+        for it in self.held:
+            os.close(it)
+        return all(given.values())
+
+
+def work_of(crate):
+    """About how long the proof takes beside the others: by its lines of code, and the lines below it that it reads."""
+    return 300 + crate.count(rb"\n")
+
+
+def main(folder):
+    try:
+        rt = load_to_build(folder)
+        rtlib = rt.rtlib
+        if "--statements" not in rtlib.help_of("build"):
+            return NO_SUCH_FUNCTIONS
+        signal.signal(signal.SIGINT, signal.SIG_DFL)
+        rtlib.guarded()
+        build = Build(rt)
+    except (ImportError, OSError, AttributeError, SyntaxError):
+        return NO_SUCH_FUNCTIONS
+    return 0 if build.run() else 1
 
 
 if __name__ == "__main__":

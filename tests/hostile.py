@@ -1,12 +1,13 @@
 #!/usr/bin/env python3
 """Gives hostile sources to `autolock` and looks at how each run ends: of `check`, `explain`, `explain --json`, `order`,
-`listing`, `serial --turns 1000`, `outcomes` of 10 orders and, with a steps file drawn for each source, `simulate` and `trace`.
+`listing`, `serial --turns 1000`, `outcomes` of 10 orders, with a steps file drawn for each source `simulate` and `trace`,
+and `replay --turns 1000` of what `serial` wrote, as it is and with one byte changed.
 
     tests/hostile.py [--program BIN] [--commands NAMES] [--cuts] [--bytes] [--random COUNT] [--every N] [--seed N] [FILE..]
 
 With no choice of kinds: --cuts --bytes --random 2000, each cut and byte at every 7th place, which takes a minute.
 
---commands      which of the nine, joined by commas (`json` is `explain --json`); by default all
+--commands      which of the ten, joined by commas (`json` is `explain --json`); by default all
 --cuts          every beginning of each program
 --bytes         each program with one byte replaced by each of `(`, `}`, `0`, `.`, 0x00 and 0x80
 --random COUNT  so many programs made from the given ones by a few random changes each, and a third of them by a helper and calls
@@ -14,14 +15,18 @@ With no choice of kinds: --cuts --bytes --random 2000, each cut and byte at ever
 --beside BIN    another build of the program, which is to answer each run in the same way, byte for byte; sources with one of
                 the words of --without are passed over
 --without WORDS the words that the other build does not know, joined by commas; by default none
+--kept FOLDER   where sources are kept that fail; by default a new folder beside the system's temporary files
 FILE..          the programs to begin with; by default those of examples/
 
-A run must end within 20 seconds with status 0 or 1, or of `serial` and `outcomes` with 7. With 0, standard output is a whole text of
-the command and standard error is empty; with 1, standard error is one line, the same of each command, and standard
-output is empty, and of explain the other way round: standard output begins with that line, and shows its place, or with --json is an object that tells it; with 7, the last line of standard output begins with `unsettled` and standard error is empty. What
-`trace` writes has a line for each step, and ends with what `simulate` writes. These two end with 6 and the line of the steps file's first fault, as this script finds it, exactly where there is one. A source
-of which that doesn't hold is kept as hostile-NUMBER.al in the current folder, with its steps. The last line is 'N runs,
-M failed'; exit status 1 where M is not 0.
+A run must end within 20 seconds with status 0 or 1, or of `serial` and `outcomes` with 7. With 0, standard output is a
+whole text of the command and standard error is empty; with 1, standard error is one line, the same of each command, and
+standard output is empty, and of `explain` the other way round: standard output begins with that line and shows its place,
+or with --json is an object that tells it; with 7, the last line of standard output begins with `unsettled` and standard
+error is empty. What `trace` writes has a line for each step, and ends with what `simulate` writes. These two end with 6
+and the line of the steps file's first fault, as this script finds it, exactly where there is one. `replay` answers `same`
+to what `serial` wrote; of a changed text it answers one line with status 5 or 7, or tells the text's first fault with 6.
+A source of which that doesn't hold is kept as hostile-NUMBER.al, with its steps. The last line is 'N runs, M failed';
+exit status 1 where M is not 0.
 """
 import argparse
 import json
@@ -206,6 +211,7 @@ ARGUMENTS = {
     "outcomes": ["outcomes", "--turns", "1000", "--count", "10"],
     "simulate": ["simulate"],
     "trace": ["trace"],
+    "replay": ["replay", "--turns", "1000"],
 }
 WITH_STEPS = ("simulate", "trace")
 TITLES = {"serial": b"history 1\n", "simulate": b"simulation 1\n"}
@@ -314,11 +320,41 @@ def wrong_steps(program, command, path, ended):
     return wrong_trace(program, path, ended) if command == "trace" and fault is None else None
 
 
+def changed(text):
+    """A text with one byte changed, dropped or doubled."""
+    choose = random.Random(zlib.crc32(text))
+    at = choose.randrange(len(text))
+    return text[:at] + choose.choice([b"", text[at : at + 1] * 2, b"%c" % choose.randrange(256)]) + text[at + 1 :]
+
+
+def wrong_verdict(program, path, history):
+    """What is wrong with what `replay` says of the history that `serial` wrote, or nothing."""
+    words = [program, *ARGUMENTS["replay"], path, path + ".history"]
+    with open(path + ".history", "wb") as file:
+        file.write(history)
+    if run(words) != Ended(0, b"same\n", b""):
+        return "replay: what serial wrote is not the same"
+    other = changed(history)
+    with open(path + ".history", "wb") as file:
+        file.write(other)
+    code, out, err = run(words)
+    verdict = {0: rb"same\n", 5: rb"differs at line \d+\n", 7: rb"unsettled at line \d+\n", 6: rb""}.get(code)
+    if verdict is None or not re.fullmatch(verdict, out) or (code == 0) > (other == history):
+        return f"replay: status {code} of a changed history"
+    return None if (code == 6) == bool(err) else "replay: another message than its status"
+
+
 def try_one(program, commands, path, other):
     """What is wrong with the runs of these commands over a source, or nothing."""
     told = set()
     for command in commands:
         try:
+            if command == "replay":
+                history = run([program, *ARGUMENTS["serial"], path])
+                fault = wrong_verdict(program, path, history.stdout) if history.returncode == 0 else None
+                if fault:
+                    return fault
+                continue
             words = [path] if command not in WITH_STEPS else [path, path + ".steps"]
             ended = run([program, *ARGUMENTS[command], *words])
             if other and run([other, *ARGUMENTS[command], *words]) != ended:
@@ -370,6 +406,7 @@ def main():
     p.add_argument("--seed", type=int, default=1, metavar="N")
     p.add_argument("--beside", metavar="BIN")
     p.add_argument("--without", default="", metavar="WORDS")
+    p.add_argument("--kept", type=pathlib.Path, metavar="FOLDER")
     p.add_argument("--jobs", type=int, default=os.cpu_count())
     p.add_argument("files", nargs="*", type=pathlib.Path, metavar="FILE")
     a = p.parse_args()
@@ -393,8 +430,9 @@ def main():
             for count, wrong in pool.imap_unordered(try_all, parts):
                 runs += count
                 failed += wrong
+    kept = a.kept or (failed and pathlib.Path(tempfile.mkdtemp(prefix="hostile-")))
     for number, (fault, text) in enumerate(failed[:20]):
-        path = pathlib.Path(f"hostile-{number}.al")
+        path = kept / f"hostile-{number}.al"
         path.write_bytes(text)
         path.with_suffix(".steps").write_bytes(steps_for(text))
         print(f"{path}: {fault}")

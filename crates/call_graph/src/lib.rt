@@ -15,5 +15,3 @@ pub mod helper_set;
 pub mod judge;
 pub mod laws;
 pub mod reach;
-#[cfg(test)]
-mod tests;

@@ -16,6 +16,4 @@ mod idle;
 pub mod program;
 pub mod scope;
 pub mod stop;
-#[cfg(test)]
-mod tests;
 pub mod writing;

@@ -1,12 +1,13 @@
 //! Runs of a scene.
 
 ghost use Rattle.std.specs.Prelude.{◌≡◌, ◌≤◌, IfOk, IfSome};
+ghost use Rattle.core_lang.specs.Typing.{HasCells};
 ghost use Rattle.workers.specs.Seats.{new_seats};
 
 use crate::scene::Scene;
 use crate::stage::Stage;
 use crate::told::{say_agreement, say_done, say_history};
-use crate::turns::{Turns, all_at_once, one_by_one, take_turn};
+use crate::turns::{Answered, Turns, all_at_once, one_by_one, take_turn};
 use compiler::compile;
 use lowering::compiled::Program;
 use std::alloc::Global;
@@ -14,7 +15,7 @@ use std::marker::Brand;
 use std::sync::Wait;
 use std::test::Fail;
 use std::thread::Threads;
-use workers::closed::Strange;
+use workers::closed::{Closed, Strange};
 use workers::naming::Naming;
 use workers::row::Row;
 use workers::seat::Seat;
@@ -58,9 +59,7 @@ pub fn by_threads<R: Threads + Wait + Sync>(
     let program = compile(alloc, scene.text.as_bytes())?;
     let stage = Stage::new(scene);
     let closed = run_threads(rt, alloc, &program, &stage)?;
-    let mut said = String::new(alloc);
-    say_history(&mut said, &program, &closed)?;
-    with_patience(said, &stage)
+    with_patience(history_of(alloc, &program, &closed), &stage)
 }
 
 // What `in_turn` says of the program that `J` names.
@@ -80,8 +79,7 @@ fn said_in_turn<J: Naming, R: Wait>(
     )?;
     let stage = Stage::new(scene);
     let turns = one_by_one(rt, alloc, &shared, seats, &stage)?;
-    let said = said_of(alloc, program, shared, turns, closing)?;
-    with_patience(said, &stage)
+    with_patience(said_of(alloc, program, shared, turns, closing), &stage)
 }
 
 // What `side_by_side` says of the program that `J` names.
@@ -100,8 +98,10 @@ fn said_side_by_side<J: Naming + Send + Sync, R: Threads + Wait + Sync>(
     )?;
     let stage = Stage::new(scene);
     let turns = all_at_once(rt, alloc, &shared, seats, &stage)?;
-    let said = said_of(alloc, program, shared, turns, scene.calls.len())?;
-    with_patience(said, &stage)
+    with_patience(
+        said_of(alloc, program, shared, turns, scene.calls.len()),
+        &stage,
+    )
 }
 
 // What `in_agreement` says of the program that `J` names.
@@ -119,12 +119,27 @@ fn said_in_agreement<J: Naming, R: Wait>(
         return Err(Fail::new("there aren't two seats"));
     };
     let stage = Stage::new(scene);
-    let mut said = String::new(alloc);
-    say_agreement(&mut said, &one, &other)?;
-    say_done(&mut said, 0, take_turn(rt, &shared, &mut one, &stage))?;
-    say_done(&mut said, 1, take_turn(rt, &shared, &mut other, &stage))?;
-    say_agreement(&mut said, &one, &other)?;
+    let said = agreement(rt, alloc, &shared, &mut one, &mut other, &stage);
     with_patience(said, &stage)
+}
+
+// What two seats that call one after another are answered, and how they agree before that and after.
+fn agreement<'r, J: Naming, R: Wait>(
+    rt: &R,
+    alloc: Global,
+    shared: &Shared<'_, J>,
+    one: &mut Seat<'r, J>,
+    other: &mut Seat<'r, J>,
+    stage: &Stage<'_>,
+) -> Result<String, Fail>
+    requires { one.old.row ≡ other.old.row }
+{
+    let mut said = String::new(alloc);
+    say_agreement(&mut said, one, other)?;
+    say_done(&mut said, 0, take_turn(rt, shared, one, stage))?;
+    say_done(&mut said, 1, take_turn(rt, shared, other, stage))?;
+    say_agreement(&mut said, one, other)?;
+    Ok(said)
 }
 
 // Two seats of a row.
@@ -165,20 +180,37 @@ fn said_of<J: Naming>(
 {
     let mut said = String::new(alloc);
     let Turns { mut seats, answers } = turns;
-    for (thread, answer) in answers.into_iter().enumerate() {
-        say_done(&mut said, thread, answer)?;
-    }
+    let answered = say_answers(&mut said, answers);
     seats.truncate(closing);
-    match shared.close(seats) {
+    let closed = shared.close(seats);
+    // Only here, so that less is let go where memory is refused.
+    answered?;
+    match closed {
         Ok(closed) => say_history(&mut said, program, &closed)?,
         Err(Strange) => said.push_str("strange\n")?,
     }
     Ok(said)
 }
 
-// What is said, and whether a thread waited in vain.
-fn with_patience(said: String, stage: &Stage<'_>) -> Result<String, Fail> {
-    let mut said = said;
+fn say_answers(said: &mut String, answers: Vec<Answered>) -> Result<(), Fail> {
+    for (thread, answer) in answers.into_iter().enumerate() {
+        say_done(said, thread, answer)?;
+    }
+    Ok(())
+}
+
+// What is said of a history.
+fn history_of(alloc: Global, program: &Program, closed: &Closed<'_>) -> Result<String, Fail>
+    requires { HasCells program.now.program closed.now.values }
+{
+    let mut said = String::new(alloc);
+    say_history(&mut said, program, closed)?;
+    Ok(said)
+}
+
+// What is said, if it could be, and whether a thread waited in vain.
+fn with_patience(said: Result<String, Fail>, stage: &Stage<'_>) -> Result<String, Fail> {
+    let mut said = said?;
     if stage.gave_up() {
         said.push_str("a thread waited in vain\n")?;
     }
