@@ -1,0 +1,2 @@
+mod OneSeat
+mod Quiet
