@@ -59,6 +59,7 @@ none_of_long : (text : List ℕ) (code : Code) (at : ℕ) → IsLong text → Ar
 none_of_long text code at long = record {
   are_true = λ k d lt. absurd (omega arith);
   told = λ tokens decls few has told. absurd (omega arith);
+  expected = λ tokens few has unexpected told. absurd (omega arith);
 }
 
 no_cycle : (program : Typed) (fault : Fault) → fault.code ≡ LimitExceeded → IsFaultAtFirst program fault → ⊥

@@ -1,6 +1,6 @@
 //! How a place of a source text is shown.
 
-ghost use Rattle.std.specs.Prelude.{◌≡◌, ◌≤◌, IfOk, OnOk, length, replicate};
+ghost use Rattle.std.specs.Prelude.{◌≡◌, ◌≤◌, IfOk, OnOk, length, min, replicate};
 ghost use Rattle.std.specs.List.{flat_map, prefix_len, suffix_len};
 ghost use Rattle.locks.specs.Texts.{AddsText};
 ghost use Rattle.explanation.specs.Shown.{hex_text, shown_byte, is_in_line, dots, shown_before, shown_after, shown_place};
@@ -9,6 +9,9 @@ use std::alloc::AllocError;
 
 /// How many bytes before a place, and how many from it on, are shown at most.
 const SIDE: usize = 60;
+
+/// How many of each are looked at: one more, which says whether some are left out.
+const LOOK: usize = SIDE + 1;
 
 /// A byte by its two hexadecimal digits.
 fn push_hex(out: &mut String, byte: u8) -> Result<(), AllocError>
@@ -80,6 +83,22 @@ fn first_of_line(bytes: &[u8]) -> usize
     bytes.iter().take_while(|byte| **byte != b'\n').count()
 }
 
+/// The same as [`last_of_line`], of those that are looked at.
+fn last_near(bytes: &[u8]) -> usize
+    ensures count { result ≡ min LOOK (suffix_len is_in_line bytes.now) }
+    ensures few { result ≤ length bytes.now }
+{
+    last_of_line(&bytes[bytes.len() - bytes.len().min(LOOK)..])
+}
+
+/// The same as [`first_of_line`], of those that are looked at.
+fn first_near(bytes: &[u8]) -> usize
+    ensures count { result ≡ min LOOK (prefix_len is_in_line bytes.now) }
+    ensures few { result ≤ length bytes.now }
+{
+    first_of_line(&bytes[..bytes.len().min(LOOK)])
+}
+
 /// A byte of a source text, or its end.
 #[derive(Drop)]
 struct Shown<'a> {
@@ -96,7 +115,7 @@ impl Shown<'_> {
     {
         let begin = out.len();
         let before = &self.text[..self.at];
-        let count = last_of_line(before);
+        let count = last_near(before);
         push_dots(out, count)?;
         push_bytes(out, &before[self.at - count.min(SIDE)..])?;
         Ok(out.len() - begin)
@@ -107,7 +126,7 @@ impl Shown<'_> {
         ensures { OnOk result (AddsText (shown_after self.now.text.now self.now.at) out.old out.new) }
     {
         let after = &self.text[self.at..];
-        let count = first_of_line(after);
+        let count = first_near(after);
         push_bytes(out, &after[..count.min(SIDE)])?;
         push_dots(out, count)
     }

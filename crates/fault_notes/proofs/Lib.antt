@@ -8,10 +8,13 @@ pub mod Ends
 pub mod FirstInits
 pub mod FirstBy
 pub mod Given
+pub mod LimitsPassed
 pub mod LocksAtHand
 pub mod PassedMembers
 pub mod MissingInits
 pub mod Structs
 pub mod VarsNoted
+pub mod VarsThere
 pub mod Telling
+pub mod InOrder
 pub mod TextTrees

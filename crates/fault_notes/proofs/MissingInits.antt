@@ -15,10 +15,13 @@ use Rattle.syntax.specs.declared.tree.Final as written_final
 use Rattle.syntax.specs.declared.tree.Pool as the_pool
 use Rattle.syntax.specs.Views.{decl_of}
 use Rattle.symbols.specs.Views.{struct_in}
-use Rattle.syntax.specs.Trees.{Final, Member, lock_member, final_member, field_member, Pool, Struct, Decl, lock, struct, global, array, pool, init, atomic, helper, thread}
-use Rattle.fault_notes.specs.MissingInits.{final_in, is_null_at, null_given, null_given_in, value_given}
+use Rattle.source.specs.declared.span.Span.{Span}
+use Rattle.resolution.specs.Where.{Has}
+use Rattle.syntax.specs.Trees.{Const, int_const, negative, null_const, member_const, Final, Member, lock_member, final_member, field_member, Pool, Struct, Decl, lock, struct, global, array, pool, init, atomic, helper, thread}
+use Rattle.fault_notes.specs.MissingInits.{IsNullGiven, value_given}
+use Rattle.fault_notes.specs.NullsFound.{final_in, is_null_at, null_given, null_given_in}
 use Rattle.fault_notes.specs.Values.{EachGiven, FoundGapOf, FoundMissing, IsWhole, due_final}
-use Rattle.fault_notes.proofs.FirstBy.{some_first}
+use Rattle.fault_notes.proofs.FirstBy.{some_first, first_from}
 use Rattle.fault_notes.proofs.Given.{named_at}
 
 -- ---- the struct of a pool
@@ -106,6 +109,42 @@ no_gap decls at whole none (given_null {i = i} {m = m} {f = f} {at = s} has fiel
     let found = some_first (null_given_in decls at) decls (init i) f has gives in
     let e : None ≡ Some found.0 = sym none ∙ found.1 in
     absurd cc
+
+-- ---- what is given null
+
+if_given : {A : Type 0} (b : Bool) (o : Option A) (x : A) → (if b then o else None) ≡ Some x → (b ≡ true) × (o ≡ Some x)
+if_given true o x is = (refl, is)
+if_given false o x is = absurd cc
+
+null_there : (at : ℕ) (c : Const) → is_null_at at c ≡ true → (s : Span) × (c ≡ null_const s) × (s.start ≡ at)
+null_there at (null_const s) is = (s, refl, eqb-true s.start at is)
+null_there at (int_const n) is = absurd cc
+null_there at (negative s n) is = absurd cc
+null_there at (member_const x n) is = absurd cc
+
+final_there : (o : Option (ℕ × Member)) (f : Final) → final_in o ≡ Some f → (m : ℕ) × (o ≡ Some (m, final_member f))
+final_there (Some (m, final_member g)) f is = let same : g ≡ f = cc in (m, ap (λ (h : Final). Some (m, final_member h)) same)
+final_there (Some (m, lock_member g)) f is = absurd cc
+final_there (Some (m, field_member g)) f is = absurd cc
+final_there None f is = absurd cc
+
+given_by : (decls : List Decl) (at : ℕ) (d : Decl) (f : Final) → Has decls d → null_given_in decls at d ≡ Some f → IsNullGiven decls at f
+given_by decls at (init i) f has is =
+    let gives = if_given (is_null_at at i.value) (final_in (initialised decls i)) f is in
+    let null = null_there at i.value gives.0 in
+    let target = final_there (initialised decls i) f gives.1 in
+    record { giver = i; listed = has; span = null.0; value = null.1; starts = null.2; member = target.0; target = target.1 }
+given_by decls at (lock x) f has is = absurd cc
+given_by decls at (struct x) f has is = absurd cc
+given_by decls at (global x) f has is = absurd cc
+given_by decls at (array x) f has is = absurd cc
+given_by decls at (pool x) f has is = absurd cc
+given_by decls at (atomic x) f has is = absurd cc
+given_by decls at (helper x) f has is = absurd cc
+given_by decls at (thread x) f has is = absurd cc
+
+pub is_null_given : (decls : List Decl) (at : ℕ) (f : Final) → null_given decls at ≡ Some f → IsNullGiven decls at f
+is_null_given decls at f is = let from = first_from (null_given_in decls at) decls f is in given_by decls at from.0 f from.1 from.2
 
 -- ---- what is found of a pool
 

@@ -1,7 +1,7 @@
 -- From what is found to what is told.
-use Rattle.std.proofs.Common.{◌≡◌, ◌∙◌, ap, true, false, Option, Some, None, Result, ℕ, List, subst, refl, sym}
+use Rattle.std.proofs.Common.{◌≡◌, Option, Some, None, Result, ℕ, List, subst, refl, sym}
 use Rattle.std.specs.Option.{option_map}
-use Rattle.std.specs.Prelude.{IfOk, IsSome, is_some}
+use Rattle.std.specs.Prelude.{IfOk}
 use Rattle.std.proofs.lemmas.Result.{IfOk-weaker}
 use Rattle.explanation.specs.Notes.{Note, note_of}
 use Rattle.explanation.specs.declared.note.Note as written
@@ -12,14 +12,15 @@ use Rattle.resolution.specs.Faults.{IsDeclaredTwice, PassesNonFinal}
 use Rattle.syntax.specs.Trees.{Decl}
 use Rattle.fault_notes.specs.declared.tree_notes.Faulty.{Faulty}
 use Rattle.fault_notes.specs.FaultNotes.{IsTrueNote, IsTold, IsDeclaredNote, IsLimitNote, IsLockNote, IsLockWanted, IsPassedNote, IsGivenNote, IsGivenAgain, declared_note, lock_note, passed_note, given_note}
-use Rattle.fault_notes.specs.LimitsPassed.{limit_passed}
-use Rattle.fault_notes.specs.Vars.{var_noted}
+use Rattle.fault_notes.specs.LimitsPassed.{IsLimitPassed}
+use Rattle.fault_notes.specs.VarsFound.{var_noted}
 use Rattle.fault_notes.specs.Words.{note_of_all}
 use Rattle.fault_notes.specs.Values.{decls_of, tokens_of, FoundNote, IsNoteIfTold}
 use Rattle.fault_notes.proofs.Given.{first_of_given}
-use Rattle.fault_notes.proofs.LocksAtHand.{lock_some}
+use Rattle.fault_notes.proofs.LocksAtHand.{is_at_hand, lock_some}
 use Rattle.fault_notes.proofs.PassedMembers.{passed_some}
 use Rattle.fault_notes.proofs.Twice.{first_of_twice}
+use Rattle.fault_notes.proofs.VarsThere.{is_var_note, no_var_there}
 
 -- ---- by the code
 
@@ -51,7 +52,7 @@ module _ (decls : List Decl) (at : ℕ) where
   pub lock_told : IsLockWanted decls at → (note : Note) × IsLockNote decls at note
   lock_told wanted =
       let l = lock_some decls wanted.lock_name wanted.has_lock at wanted.lacking in
-      (lock_note l.0, record { name = l.0; at_hand = l.1; said = refl })
+      (lock_note l.0, record { name = l.0; at_hand = is_at_hand decls at l.0 l.1; said = refl })
 
   pub passed_told : PassesNonFinal decls at → (note : Note) × IsPassedNote decls at note
   passed_told is_passed =
@@ -63,20 +64,14 @@ module _ (decls : List Decl) (at : ℕ) where
       let f = first_of_given decls at again in
       (given_note f.0, record { first = f.0; given = f.1; said = refl })
 
-  limit_some : (o : Option (List ℕ)) → IsSome o → (words : List ℕ) × (o ≡ Some words)
-  limit_some (Some words) is = (words, refl)
-  limit_some None is = absurd cc
-
-  pub limit_told : IsSome (limit_passed decls at) → (note : Note) × IsLimitNote decls at note
-  limit_told some =
-      let w = limit_some (limit_passed decls at) some in
-      (note_of_all w.0, record { words = w.0; passed = w.1; said = refl })
+  pub limit_told : (words : List ℕ) × IsLimitPassed decls at words → (note : Note) × IsLimitNote decls at note
+  limit_told some = (note_of_all some.0, record { words = some.0; passed = some.1; said = refl })
 
 -- ---- what is told of a var
 
 var_if : (x : Faulty) (o : Option written.Note) → option_map note_of o ≡ var_noted (tokens_of x) (decls_of x) x.at → IsNoteIfTold x UnstableBase o
-var_if x (Some note) e = sym e
-var_if x None e = λ told. let none : is_some (var_noted (tokens_of x) (decls_of x) x.at) ≡ false = ap is_some (sym e) in let bad : true ≡ false = sym told ∙ none in absurd cc
+var_if x (Some note) e = is_var_note (tokens_of x) (decls_of x) x.at (note_of note) (sym e)
+var_if x None e = λ told. no_var_there (tokens_of x) (decls_of x) x.at (sym e) told.0 told.1
 
 pub var_told : (x : Faulty) (r : Result (Option written.Note) NoMemory) →
     IfOk r (λ o. option_map note_of o ≡ var_noted (tokens_of x) (decls_of x) x.at) → IfOk r (IsNoteIfTold x UnstableBase)

@@ -17,7 +17,8 @@ use Rattle.syntax.specs.Rows.{stmt_of-While, if_of-out}
 use Rattle.syntax.specs.Trees.{Section, Decl}
 use Rattle.syntax.specs.Views.{stmt_of, stmts_of, else_of}
 use Rattle.fault_notes.specs.TokensThere.{token_at, name_of, has_two_fields}
-use Rattle.fault_notes.specs.Vars.{all_of, assigns, behind, note_of_var, section_there, var_in, var_noted, within}
+use Rattle.fault_notes.specs.Vars.{all_of, behind, within}
+use Rattle.fault_notes.specs.VarsFound.{assigns, note_of_var, section_there, var_in, var_noted}
 
 -- ---- statements
 

@@ -1,6 +1,6 @@
 -- What is told of a fault beyond its line.
 use Rattle.std.specs.Fmt.{decimal}
-use Rattle.std.specs.Prelude.{◌≡◌, ◌≤◌, ℕ, List, ◌∷◌, ◌++◌, Some, All, IsSome, codes, length}
+use Rattle.std.specs.Prelude.{◌≡◌, ◌≤◌, ℕ, List, ◌∷◌, ◌++◌, Some, All, codes, length}
 use Rattle.explanation.specs.Notes.{Note}
 use Rattle.resolution.specs.Constants.{init_target_of, giver}
 use Rattle.resolution.specs.Faults.{IsDeclaredTwice, IsUnprotected, PassesNonFinal, IsFinalMissing}
@@ -12,13 +12,13 @@ use Rattle.source.specs.declared.fault.Code.TheVariants.{DeclaredTwice, NeitherF
 use Rattle.source.specs.Tokens.{Tok}
 use Rattle.syntax.specs.Trees.{Ident, Final, Init, Member, Pool, Decl, lock, init}
 use Rattle.fault_notes.specs.Inits.{IsGivenFirst}
-use Rattle.fault_notes.specs.LimitsPassed.{limit_passed}
-use Rattle.fault_notes.specs.LocksAtHand.{lock_at_hand}
-use Rattle.fault_notes.specs.MissingInits.{IsGap, null_given}
+use Rattle.fault_notes.specs.LimitsPassed.{IsLimitPassed}
+use Rattle.fault_notes.specs.LocksAtHand.{IsAtHand}
+use Rattle.fault_notes.specs.MissingInits.{IsGap, IsNullGiven}
 use Rattle.fault_notes.specs.MissingReturns.{IsLacking}
 use Rattle.fault_notes.specs.NameSpaces.{IsDeclaredAs}
 use Rattle.fault_notes.specs.PassedMembers.{passed_at}
-use Rattle.fault_notes.specs.Vars.{var_noted}
+use Rattle.fault_notes.specs.Vars.{IsVarNote, IsVarThere}
 use Rattle.fault_notes.specs.Words.{name_note, note_on, note_of_all}
 
 -- ---- words
@@ -65,7 +65,7 @@ pub record IsDeclaredNote (decls : List Decl) (at : ℕ) (note : Note) : Type 0 
 -- E10: the lock that could protect it
 pub record IsLockNote (decls : List Decl) (at : ℕ) (note : Note) : Type 0 where
   pub name : Ident
-  pub at_hand : lock_at_hand decls at ≡ Some name
+  pub at_hand : IsAtHand decls at name
   pub said : note ≡ lock_note name
 
 -- E12: where the member is declared that is passed
@@ -77,13 +77,13 @@ pub record IsPassedNote (decls : List Decl) (at : ℕ) (note : Note) : Type 0 wh
 -- E15: which limit is passed
 pub record IsLimitNote (decls : List Decl) (at : ℕ) (note : Note) : Type 0 where
   pub words : List ℕ
-  pub passed : limit_passed decls at ≡ Some words
+  pub passed : IsLimitPassed decls at words
   pub said : note ≡ note_of_all words
 
 -- E16: which `init` is missing; or the final reference that is given null
 pub data IsFinalNote (decls : List Decl) (at : ℕ) : Note → Type 0 where
   gap : {p : Pool} {n : ℕ} {f : Final} → IsGap decls at p n f → IsFinalNote decls at (gap_note p n f)
-  null : {f : Final} → null_given decls at ≡ Some f → IsFinalNote decls at (null_note f)
+  null : {f : Final} → IsNullGiven decls at f → IsFinalNote decls at (null_note f)
 
 -- E17: where the first `init` is that gives what this one gives
 pub record IsGivenNote (decls : List Decl) (at : ℕ) (note : Note) : Type 0 where
@@ -101,7 +101,7 @@ abbrev pub IsTrueNote : List Tok → List Decl → Code → ℕ → Note → Typ
 IsTrueNote tokens decls DeclaredTwice at note = IsDeclaredNote decls at note
 IsTrueNote tokens decls NeitherFinalNorProtected at note = IsLockNote decls at note
 IsTrueNote tokens decls ProtectedByPassesNonFinal at note = IsPassedNote decls at note
-IsTrueNote tokens decls UnstableBase at note = var_noted tokens decls at ≡ Some note
+IsTrueNote tokens decls UnstableBase at note = IsVarNote tokens decls at note
 IsTrueNote tokens decls LimitExceeded at note = IsLimitNote decls at note
 IsTrueNote tokens decls FinalWithoutOpeningValue at note = IsFinalNote decls at note
 IsTrueNote tokens decls InitOutOfRangeOrRepeated at note = IsGivenNote decls at note
@@ -126,8 +126,8 @@ abbrev pub IsTold : List Tok → List Decl → Code → ℕ → Type 0
 IsTold tokens decls DeclaredTwice at = IsDeclaredTwice decls at
 IsTold tokens decls NeitherFinalNorProtected at = IsLockWanted decls at
 IsTold tokens decls ProtectedByPassesNonFinal at = PassesNonFinal decls at
-IsTold tokens decls UnstableBase at = IsSome (var_noted tokens decls at)
-IsTold tokens decls LimitExceeded at = IsSome (limit_passed decls at)
+IsTold tokens decls UnstableBase at = (x : Ident) × IsVarThere tokens decls at x
+IsTold tokens decls LimitExceeded at = (words : List ℕ) × IsLimitPassed decls at words
 IsTold tokens decls FinalWithoutOpeningValue at = IsFinalMissing decls at
 IsTold tokens decls InitOutOfRangeOrRepeated at = IsGivenAgain decls at
 IsTold tokens decls MisplacedReturn at = Unit {0}

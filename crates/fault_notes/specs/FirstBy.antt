@@ -1,7 +1,15 @@
--- The first thing that a list gives.
+-- The first thing of a list.
 use Rattle.std.specs.List.{filter_map}
-use Rattle.std.specs.Prelude.{List, slice_get, Option}
+use Rattle.std.specs.Prelude.{◌≡◌, List, ◌∷◌, ◌++◌, slice_get, Option}
+use Rattle.resolution.specs.Where.{Has}
 
 -- what f gives of the first element of which it gives something
 abbrev pub first_by : {A B : Type 0} → (A → Option B) → List A → Option B
 first_by f xs = slice_get (filter_map f xs) 0
+
+-- of the elements of this kind the first is x
+pub record IsFirst {A B : Type 0} (kind : B → A) (xs : List A) (x : B) : Type 0 where
+  pub before : List A
+  pub after : List A
+  pub parts : xs ≡ before ++ kind x ∷ after
+  pub none : (y : B) → Has before (kind y) → ⊥

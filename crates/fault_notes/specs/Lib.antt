@@ -3,12 +3,16 @@ pub mod Inits
 pub mod MissingReturns
 pub mod FirstBy
 pub mod LimitsPassed
+pub mod LimitsFound
 pub mod TokensThere
 pub mod Vars
+pub mod VarsFound
 pub mod Words
 pub mod LocksAtHand
+pub mod LocksFound
 pub mod PassedMembers
 pub mod MissingInits
+pub mod NullsFound
 pub mod FaultNotes
 pub mod TextNotes
 pub mod Values

@@ -1,12 +1,11 @@
--- Which limit on names is passed.
+-- Which limit is passed.
 use Rattle.std.specs.List.{filter_map, flat_map}
-use Rattle.std.specs.Option.{option_or}
-use Rattle.std.specs.Prelude.{ℕ, ◌==◌, ◌||◌, Bool, false, if◌then◌else◌, List, [], ◌∷◌, drop, map, Option, Some, None, codes}
-use Rattle.resolution.specs.Limits.{STRUCT_LIMIT, MEMBER_LIMIT, CLASS_LIMIT, SECTION_LIMIT, THREAD_LIMIT, PARAMETER_LIMIT, LOCAL_LIMIT}
+use Rattle.std.specs.Prelude.{◌≡◌, ◌+◌, ◌<◌, ◌≤◌, ℕ, List, [], ◌∷◌, ◌++◌, length, map, Option, Some, None, codes}
+use Rattle.resolution.specs.Limits.{STRUCT_LIMIT, MEMBER_LIMIT, CLASS_LIMIT, OBJECT_LIMIT, SECTION_LIMIT, THREAD_LIMIT, PARAMETER_LIMIT, LOCAL_LIMIT}
+use Rattle.resolution.specs.Numbers.{objects_of, total}
 use Rattle.resolution.specs.Scopes.{member_name}
-use Rattle.syntax.specs.Trees.{Ident, Member, Param, Decl, lock, struct, atomic, helper, thread}
-use Rattle.fault_notes.specs.FirstBy.{first_by}
-use Rattle.fault_notes.specs.LocksAtHand.{own_lock_in}
+use Rattle.resolution.specs.Where.{Has}
+use Rattle.syntax.specs.Trees.{Ident, Member, lock_member, Param, Struct, Pool, Section, Decl, lock, struct, pool, atomic, helper, thread}
 use Rattle.fault_notes.specs.NameSpaces.{local_names}
 
 -- ---- names of a kind
@@ -25,6 +24,11 @@ abbrev pub thread_name : Decl → Option Ident
 thread_name (thread t) = Some t.name
 thread_name _ = None
 
+abbrev pub own_lock_in : Member → Option Ident
+own_lock_in (lock_member x) = Some x
+own_lock_in _ = None
+
+-- of the locks of a struct
 abbrev pub own_lock_names : List Member → List Ident
 own_lock_names members = filter_map own_lock_in members
 
@@ -34,36 +38,40 @@ lock_names (lock x) = x ∷ []
 lock_names (struct s) = own_lock_names s.members
 lock_names _ = []
 
+abbrev pub parameter_names : List Param → List Ident
+parameter_names params = map (λ (p : Param). p.name) params
+
 -- ---- which are too many
 
-abbrev pub some_starts : ℕ → List Ident → Bool
-some_starts at [] = false
-some_starts at (x ∷ xs) = (x.span.start == at) || some_starts at xs
+-- one of these names begins there, and ahead of it are as many as there may be
+pub record IsPast (at limit : ℕ) (names : List Ident) : Type 0 where
+  pub before : List Ident
+  pub name : Ident
+  pub after : List Ident
+  pub parts : names ≡ before ++ name ∷ after
+  pub many : limit ≤ length before
+  pub starts : name.span.start ≡ at
 
--- behind the first so many names one starts there
-abbrev pub is_past : ℕ → ℕ → List Ident → Bool
-is_past at limit names = some_starts at (drop limit names)
+-- the pool whose name begins there is the one with which there are first more objects than there may be
+pub record AreObjectsPast (decls : List Decl) (at limit : ℕ) : Type 0 where
+  pub before : List Decl
+  pub last : Pool
+  pub behind : List Decl
+  pub parts : decls ≡ before ++ pool last ∷ behind
+  pub few : total objects_of before ≤ limit
+  pub many : limit < total objects_of before + last.length.value
+  pub starts : last.name.span.start ≡ at
 
--- what is said, if it is so
-abbrev pub said_if : Bool → List ℕ → Option (List ℕ)
-said_if b words = if b then Some words else None
-
--- of names of the program
-abbrev pub limit_of_all : ℕ → List Decl → Option (List ℕ)
-limit_of_all at decls =
-    option_or (said_if (is_past at STRUCT_LIMIT (filter_map struct_name decls)) (codes "a program has at most 64 structs"))
-    (option_or (said_if (is_past at SECTION_LIMIT (filter_map body_name decls)) (codes "a program has at most 256 sections and helpers"))
-    (option_or (said_if (is_past at THREAD_LIMIT (filter_map thread_name decls)) (codes "a program has at most 64 threads"))
-    (said_if (is_past at CLASS_LIMIT (flat_map lock_names decls)) (codes "a program has at most 128 lock classes"))))
-
--- of names inside a declaration
-abbrev pub limit_in : ℕ → Decl → Option (List ℕ)
-limit_in at (struct s) = said_if (is_past at MEMBER_LIMIT (map member_name s.members)) (codes "a struct has at most 32 members")
-limit_in at (atomic s) =
-    option_or (said_if (is_past at PARAMETER_LIMIT (map (λ (p : Param). p.name) s.params)) (codes "a section has at most 8 parameters"))
-    (said_if (is_past at LOCAL_LIMIT (local_names s)) (codes "a section has at most 64 locals, parameters included"))
-limit_in at _ = None
-
--- the limit by which a name that starts there is too many
-abbrev pub limit_passed : List Decl → ℕ → Option (List ℕ)
-limit_passed decls at = option_or (limit_of_all at decls) (first_by (limit_in at) decls)
+-- what is said of a limit that is passed there
+pub data IsLimitPassed (decls : List Decl) (at : ℕ) : List ℕ → Type 0 where
+  structs : IsPast at STRUCT_LIMIT (filter_map struct_name decls) → IsLimitPassed decls at (codes "a program has at most 64 structs")
+  bodies : IsPast at SECTION_LIMIT (filter_map body_name decls) → IsLimitPassed decls at (codes "a program has at most 256 sections and helpers")
+  threads : IsPast at THREAD_LIMIT (filter_map thread_name decls) → IsLimitPassed decls at (codes "a program has at most 64 threads")
+  classes : IsPast at CLASS_LIMIT (flat_map lock_names decls) → IsLimitPassed decls at (codes "a program has at most 128 lock classes")
+  objects : AreObjectsPast decls at OBJECT_LIMIT → IsLimitPassed decls at (codes "a program has at most 65536 objects")
+  members : {s : Struct} → Has decls (struct s) → IsPast at MEMBER_LIMIT (map member_name s.members) →
+      IsLimitPassed decls at (codes "a struct has at most 32 members")
+  parameters : {s : Section} → Has decls (atomic s) → IsPast at PARAMETER_LIMIT (parameter_names s.params) →
+      IsLimitPassed decls at (codes "a section has at most 8 parameters")
+  locals : {s : Section} → Has decls (atomic s) → IsPast at LOCAL_LIMIT (local_names s) →
+      IsLimitPassed decls at (codes "a section has at most 64 locals, parameters included")

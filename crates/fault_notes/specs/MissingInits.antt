@@ -1,9 +1,10 @@
 -- Which final reference no `init` gives an object.
-use Rattle.std.specs.Prelude.{◌≡◌, ◌<◌, ℕ, ◌==◌, Bool, false, if◌then◌else◌, List, slice_get, Option, Some, None, IsSome}
+use Rattle.std.specs.Prelude.{◌≡◌, ◌<◌, ℕ, List, slice_get, Option, Some, None, IsSome}
 use Rattle.resolution.specs.Constants.{given, initialised, members_of}
 use Rattle.resolution.specs.Scopes.{the_member}
-use Rattle.syntax.specs.Trees.{Const, null_const, Final, Member, final_member, Pool, Decl, pool, init}
-use Rattle.fault_notes.specs.FirstBy.{first_by}
+use Rattle.resolution.specs.Where.{Has}
+use Rattle.source.specs.declared.span.Span.{Span}
+use Rattle.syntax.specs.Trees.{Const, null_const, Final, Member, final_member, Pool, Init, Decl, pool, init}
 
 -- ---- none gives it
 
@@ -38,21 +39,12 @@ pub record IsGap (decls : List Decl) (at : ℕ) (p : Pool) (n : ℕ) (f : Final)
 
 -- ---- one gives null
 
--- a null that stands there
-abbrev pub is_null_at : ℕ → Const → Bool
-is_null_at at (null_const s) = s.start == at
-is_null_at at _ = false
-
--- what is found, if it is a final reference
-abbrev pub final_in : Option (ℕ × Member) → Option Final
-final_in (Some (m, final_member f)) = Some f
-final_in _ = None
-
--- the final reference that a declaration gives null there
-abbrev pub null_given_in : List Decl → ℕ → Decl → Option Final
-null_given_in decls at (init i) = if is_null_at at i.value then final_in (initialised decls i) else None
-null_given_in decls at _ = None
-
--- the same of the first declaration that gives one null there
-abbrev pub null_given : List Decl → ℕ → Option Final
-null_given decls at = first_by (null_given_in decls at) decls
+-- an `init` whose null stands there gives it to the final reference f
+pub record IsNullGiven (decls : List Decl) (at : ℕ) (f : Final) : Type 0 where
+  pub giver : Init
+  pub listed : Has decls (init giver)
+  pub span : Span
+  pub value : giver.value ≡ null_const span
+  pub starts : span.start ≡ at
+  pub member : ℕ
+  pub target : initialised decls giver ≡ Some (member, final_member f)

@@ -4,8 +4,9 @@ use Rattle.explanation.specs.Notes.{Note}
 use Rattle.source.specs.declared.fault.Code.{Code}
 use Rattle.source.specs.Texts.{HasTokens, SOURCE_LIMIT}
 use Rattle.source.specs.Tokens.{Tok}
+use Rattle.syntax.specs.Faults.{IsUnexpected}
 use Rattle.syntax.specs.Grammar.{HasTree}
-use Rattle.token_notes.specs.Expected.{IsTrueTokenNote}
+use Rattle.token_notes.specs.Expected.{IsTrueTokenNote, IsTokenTold}
 use Rattle.syntax.specs.Trees.{Decl}
 use Rattle.fault_notes.specs.FaultNotes.{IsTrueNote, IsTold}
 
@@ -24,8 +25,14 @@ pub data IsTrueTextNote (text : List ℕ) (code : Code) (at : ℕ) (note : Note)
 abbrev pub AreTrueTextNotes : List ℕ → Code → ℕ → List Note → Type 0
 AreTrueTextNotes text code at notes = All (IsTrueTextNote text code at) notes
 
+-- at an unexpected token of the text there is one where its tokens tell one
+abbrev pub IsExpectedTold : List ℕ → Code → ℕ → List Note → Type 0
+IsExpectedTold text code at notes =
+    (tokens : List Tok) → length text ≤ SOURCE_LIMIT → HasTokens text tokens → IsUnexpected tokens at → IsTokenTold tokens code at → 1 ≤ length notes
+
 -- the notes are true, and there is one where there must be
 pub record AreTextNotes (text : List ℕ) (code : Code) (at : ℕ) (notes : List Note) : Type 0 where
   pub are_true : AreTrueTextNotes text code at notes
   pub told : (tokens : List Tok) (decls : List Decl) → length text ≤ SOURCE_LIMIT → HasTextTree text tokens decls → IsTold tokens decls code at →
       1 ≤ length notes
+  pub expected : IsExpectedTold text code at notes

@@ -7,7 +7,7 @@ use Rattle.explanation.specs.declared.note.Note as written_note
 use Rattle.resolution.specs.Constants.{members_of}
 use Rattle.resolution.specs.FaultLists.{is_at}
 use Rattle.resolution.specs.Scopes.{declared, member_bears, member_name, place_of, the_member}
-use Rattle.source.specs.Texts.{SOURCE_LIMIT}
+use Rattle.source.specs.Texts.{HasTokens, SOURCE_LIMIT}
 use Rattle.source.specs.Tokens.{Tok, seen, seen_token}
 use Rattle.source.specs.declared.fault.Code.{Code}
 use Rattle.source.specs.declared.token.Token.{Token}
@@ -31,7 +31,7 @@ use Rattle.fault_notes.specs.LimitsPassed.{struct_name, body_name, thread_name}
 use Rattle.fault_notes.specs.MissingInits.{IsFirstWithout, IsGap, IsGapOf, IsMissing, value_given}
 use Rattle.fault_notes.specs.MissingReturns.{body_of}
 use Rattle.fault_notes.specs.PassedMembers.{passed_along, passed_for}
-use Rattle.fault_notes.specs.TextNotes.{HasTextTree}
+use Rattle.fault_notes.specs.TextNotes.{AreTrueTextNotes, HasTextTree, IsExpectedTold}
 use Rattle.fault_notes.specs.declared.limits_passed.Kind.{Kind}
 use Rattle.fault_notes.specs.declared.limits_passed.Kind.TheVariants.{Structs, Bodies, Threads}
 use Rattle.fault_notes.specs.declared.missing_inits.Gap.{Gap}
@@ -94,8 +94,14 @@ abbrev pub IsParsed : List ℕ → Option Parsed → Type 0
 IsParsed text (Some p) =
     (length text ≤ SOURCE_LIMIT)
     × HasTextTree text (seen p.tokens.items) (tree_of p.tree)
+    × ((ts : List Tok) → length text ≤ SOURCE_LIMIT → HasTokens text ts → ts ≡ seen p.tokens.items)
     × ((ts : List Tok) (ds : List Decl) → length text ≤ SOURCE_LIMIT → HasTextTree text ts ds → (ts ≡ seen p.tokens.items) × (ds ≡ tree_of p.tree))
 IsParsed text None = (ts : List Tok) (ds : List Decl) → length text ≤ SOURCE_LIMIT → HasTextTree text ts ds → ⊥
+
+-- what the tokens alone tell
+pub record AreNotesOfTokens (text : List ℕ) (code : Code) (at : ℕ) (notes : List Note) : Type 0 where
+  pub are_true : AreTrueTextNotes text code at notes
+  pub expected : IsExpectedTold text code at notes
 
 -- ---- tokens and statements
 

@@ -1,11 +1,9 @@
 -- Which `var` a name is, and whether a `let` would do in its place.
 use Rattle.explanation.specs.Notes.{Note}
-use Rattle.std.specs.Prelude.{ℕ, ◌&&◌, ◌||◌, nat_lt, Bool, false, if◌then◌else◌, List, [], ◌∷◌, ◌++◌, slice_get, Option, Some, None, codes}
-use Rattle.std.specs.Str.{bytes_eq}
-use Rattle.resolution.specs.Scopes.{◌>>=◌}
+use Rattle.std.specs.Prelude.{◌≡◌, ℕ, ◌<◌, ◌⊎◌, IsTrue, List, [], ◌∷◌, ◌++◌, slice_get, Some, codes}
+use Rattle.resolution.specs.Where.{Has}
 use Rattle.source.specs.Tokens.{Tok}
-use Rattle.syntax.specs.Trees.{Ident, Place, lone, Stmt, let_local, let_owned, let_call, var_local, assign, if_then, while, print, return_value, call, Stmts, no_stmts, stmt, Otherwise, no_else, else_do, Section, Decl}
-use Rattle.fault_notes.specs.FirstBy.{first_by}
+use Rattle.syntax.specs.Trees.{Ident, lone, Expr, Local, Stmt, let_local, let_owned, let_call, var_local, assign, if_then, while, print, return_value, call, Stmts, no_stmts, stmt, Otherwise, no_else, else_do, Section, Decl}
 use Rattle.fault_notes.specs.MissingReturns.{body_of}
 use Rattle.fault_notes.specs.TokensThere.{token_at, name_of, has_two_fields}
 use Rattle.fault_notes.specs.Words.{name_note}
@@ -35,37 +33,39 @@ abbrev mutual
   all_of no_stmts = []
   all_of (stmt s rest) = s ∷ within s ++ all_of rest
 
--- the `var` of this name
-abbrev pub var_in : List ℕ → Stmt → Option Ident
-var_in q (var_local l) = if bytes_eq q l.name.text then Some l.name else None
-var_in q _ = None
-
--- the name alone
-abbrev pub is_named : List ℕ → Place → Bool
-is_named q (lone x) = bytes_eq q x.text
-is_named q _ = false
-
--- an assignment to the name
-abbrev pub assigns : List ℕ → Stmt → Bool
-assigns q (assign p e) = is_named q p
-assigns q _ = false
-
-abbrev pub some_assigns : List ℕ → List Stmt → Bool
-some_assigns q [] = false
-some_assigns q (s ∷ ss) = assigns q s || some_assigns q ss
-
--- ---- sections
+-- ---- the section
 
 -- the place is behind the section's name and ahead of its closing brace
-abbrev pub encloses : ℕ → Section → Bool
-encloses at s = nat_lt s.name.span.start at && nat_lt at s.body.close.start
+abbrev pub Encloses : ℕ → Section → Type 0
+Encloses at s = (s.name.span.start < at) × (at < s.body.close.start)
 
-abbrev pub section_if : ℕ → Decl → Option Section
-section_if at d = body_of d >>= λ (s : Section). if encloses at s then Some s else None
+-- the first section or helper that the place is in
+pub record IsIn (decls : List Decl) (at : ℕ) (s : Section) : Type 0 where
+  pub before : List Decl
+  pub decl : Decl
+  pub behind : List Decl
+  pub parts : decls ≡ before ++ decl ∷ behind
+  pub body : body_of decl ≡ Some s
+  pub encloses : Encloses at s
+  pub none : (d : Decl) (t : Section) → Has before d → body_of d ≡ Some t → Encloses at t → ⊥
 
--- the section or helper that the place is in
-abbrev pub section_there : List Decl → ℕ → Option Section
-section_there decls at = first_by (section_if at) decls
+-- ---- the var
+
+-- x is the name of the first `var` of that name
+pub record IsVar (ss : List Stmt) (q : List ℕ) (x : Ident) : Type 0 where
+  pub before : List Stmt
+  pub local : Local
+  pub behind : List Stmt
+  pub parts : ss ≡ before ++ var_local local ∷ behind
+  pub named : q ≡ local.name.text
+  pub is : local.name ≡ x
+  pub none : (l : Local) → Has before (var_local l) → q ≡ l.name.text → ⊥
+
+pub record IsAssigned (ss : List Stmt) (q : List ℕ) : Type 0 where
+  pub place : Ident
+  pub value : Expr
+  pub listed : Has ss (assign (lone place) value)
+  pub named : q ≡ place.text
 
 -- ---- notes
 
@@ -75,14 +75,21 @@ var_note x = name_note x (codes " is a var, declared here")
 abbrev pub fixed_note : Ident → Note
 fixed_note x = name_note x (codes " is a var, declared here, and never assigned: a let would do")
 
--- of the `var` of this name among these statements: that it is one; and if none of them assigns it, and it is the base of one field at
--- most, that a `let` would do
-abbrev pub note_of_var : Bool → List ℕ → List Stmt → Option Note
-note_of_var is_long q ss =
-    first_by (var_in q) ss >>= λ (x : Ident). Some (if is_long || some_assigns q ss then var_note x else fixed_note x)
+-- the name at this place is that of a `var`, the first of its section
+pub record IsVarThere (tokens : List Tok) (decls : List Decl) (at : ℕ) (x : Ident) : Type 0 where
+  pub i : ℕ
+  pub q : List ℕ
+  pub section : Section
+  pub token : token_at at tokens ≡ Some i
+  pub named : name_of (slice_get tokens i) ≡ Some q
+  pub inside : IsIn decls at section
+  pub is_var : IsVar (all_of section.body.stmts) q x
 
--- of the `var` that the name at this place is
-abbrev pub var_noted : List Tok → List Decl → ℕ → Option Note
-var_noted tokens decls at =
-    token_at at tokens >>= λ i. name_of (slice_get tokens i) >>= λ q. section_there decls at >>= λ (s : Section).
-    note_of_var (has_two_fields i tokens) q (all_of s.body.stmts)
+-- it is the base of two fields or more, or a statement of its section assigns it
+abbrev pub IsNeeded : (tokens : List Tok) (decls : List Decl) (at : ℕ) (x : Ident) → IsVarThere tokens decls at x → Type 0
+IsNeeded tokens decls at x v = IsTrue (has_two_fields v.i tokens) ⊎ IsAssigned (all_of v.section.body.stmts) v.q
+
+-- that it is a `var`; and if that is not needed, that a `let` would do
+pub data IsVarNote (tokens : List Tok) (decls : List Decl) (at : ℕ) : Note → Type 0 where
+  needed : {x : Ident} (v : IsVarThere tokens decls at x) → IsNeeded tokens decls at x v → IsVarNote tokens decls at (var_note x)
+  not_needed : {x : Ident} (v : IsVarThere tokens decls at x) → (IsNeeded tokens decls at x v → ⊥) → IsVarNote tokens decls at (fixed_note x)

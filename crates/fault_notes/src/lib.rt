@@ -4,8 +4,10 @@
 //!   must be one.
 //! - `specs/NameSpaces.antt`: which names must differ, and which of two is the first. `specs/LocksAtHand.antt`: a lock for what
 //!   has none. `specs/PassedMembers.antt`: what an annotation passes. `specs/MissingInits.antt`: which `init` is missing.
-//!   `specs/Vars.antt`: which `var` a name is. `specs/LimitsPassed.antt`: which limit on names is passed.
+//!   `specs/Vars.antt`: which `var` a name is. `specs/LimitsPassed.antt`: which limit is passed.
 //!   `specs/Inits.antt`: the first `init` of a field. `specs/MissingReturns.antt`: which section lacks its `return`.
+//! - What the code finds where several would do stands in `specs/LimitsFound.antt`, `LocksFound.antt`, `NullsFound.antt` and
+//!   `VarsFound.antt`; `proofs/` joins it to these.
 #![tactic(auto)]
 
 mod first_inits;

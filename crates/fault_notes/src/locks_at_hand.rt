@@ -3,7 +3,8 @@
 ghost use Rattle.std.specs.Prelude.{◌≡◌, None, if◌then◌else◌, map};
 ghost use Rattle.std.specs.Option.{option_map, option_or};
 ghost use Rattle.syntax.specs.Views.{decl_of, ident, member_of, option_of, protection_of};
-ghost use Rattle.fault_notes.specs.LocksAtHand.{field_lacks_lock, global_lock, lacks_lock, lock_at_hand, lock_for, lock_in, own_lock, own_lock_in, some_lacks_lock};
+ghost use Rattle.fault_notes.specs.LocksFound.{field_lacks_lock, global_lock, lacks_lock, lock_at_hand, lock_for, lock_in, own_lock, some_lacks_lock};
+ghost use Rattle.fault_notes.specs.LimitsPassed.{own_lock_in};
 ghost use Rattle.fault_notes.specs.Values.{ident_at};
 
 use syntax::tree::{Decl, Member, Name, Protection};

@@ -4,7 +4,7 @@ ghost use Rattle.std.specs.Prelude.{◌≡◌};
 ghost use Rattle.std.specs.Option.{option_map};
 ghost use Rattle.symbols.specs.{decls_of, members_seen};
 ghost use Rattle.syntax.specs.Views.{const_of, decl_of, member_of, pool_of};
-ghost use Rattle.fault_notes.specs.MissingInits.{final_in, is_null_at, null_given, null_given_in};
+ghost use Rattle.fault_notes.specs.NullsFound.{final_in, is_null_at, null_given, null_given_in};
 ghost use Rattle.fault_notes.specs.Values.{FoundFirst, FoundGap, FoundGapOf, FoundMissing, due_final, final_at, member_found};
 
 use resolution::init_target::InitTarget;

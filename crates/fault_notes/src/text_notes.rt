@@ -2,8 +2,8 @@
 
 ghost use Rattle.std.specs.Prelude.{IfOk, map};
 ghost use Rattle.explanation.specs.Notes.{note_of};
-ghost use Rattle.fault_notes.specs.TextNotes.{AreTextNotes, AreTrueTextNotes};
-ghost use Rattle.fault_notes.specs.Values.{IsParsed};
+ghost use Rattle.fault_notes.specs.TextNotes.{AreTextNotes};
+ghost use Rattle.fault_notes.specs.Values.{AreNotesOfTokens, IsParsed};
 
 use crate::tree_notes::Faulty;
 use explanation::Note;
@@ -47,7 +47,7 @@ fn parse(alloc: Global, text: &[u8]) -> Result<Option<Parsed>, NoMemory>
 
 /// What the tokens of a text tell of its fault.
 fn notes_of_tokens(alloc: Global, text: &[u8], fault: &Fault) -> Result<Vec<Note>, NoMemory>
-    ensures { IfOk result (λ notes. AreTrueTextNotes text.now fault.now.code fault.now.start (map note_of notes.items)) }
+    ensures { IfOk result (λ notes. AreNotesOfTokens text.now fault.now.code fault.now.start (map note_of notes.items)) }
 {
     if text.len() > MOST_BYTES {
         return Ok(Vec::new(alloc));
@@ -61,9 +61,10 @@ fn notes_of_tokens(alloc: Global, text: &[u8], fault: &Fault) -> Result<Vec<Note
     Ok(notes)
 }
 
-/// What is told of this fault of the text, beyond its line: what could come in the place of an unexpected token, where a name is declared first, a lock that could protect it, which
-/// member an annotation passes, which `var` a name is, which limit on names is passed, which `init` is missing or the first, which
-/// `return` is missing. Only an unexpected token and a fault of names, annotations, bases, limits, `init`s or returns has such notes.
+/// What is told of this fault of the text, beyond its line: all that could come in the place of an unexpected token, where a name is
+/// declared first, a lock that could protect it, which member an annotation passes, which `var` a name is, which limit is passed,
+/// which `init` is missing or the first, which `return` is missing. Only an unexpected token and a fault of names, annotations,
+/// bases, limits, `init`s or returns has such notes.
 ///
 /// # Errors
 ///

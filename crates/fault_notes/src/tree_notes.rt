@@ -9,7 +9,7 @@ ghost use Rattle.syntax.specs.Views.{decl_of};
 ghost use Rattle.resolution.specs.Scopes.{has_body};
 ghost use Rattle.fault_notes.specs.FaultNotes.{AreNotes, IsDeclaredNote, IsGivenNote, IsLimitNote, IsLockNote, IsPassedNote, IsReturnNote};
 ghost use Rattle.fault_notes.specs.NameSpaces.{IsDeclaredAs, IsDeclaredIn};
-ghost use Rattle.fault_notes.specs.Vars.{note_of_var, var_noted};
+ghost use Rattle.fault_notes.specs.VarsFound.{note_of_var, var_noted};
 ghost use Rattle.fault_notes.specs.Values.{FoundName, FoundNote, IsNoteIfTold, decls_of, idents, stmt_at, tokens_of};
 
 use crate::first_inits::first_given;

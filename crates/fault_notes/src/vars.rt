@@ -4,7 +4,8 @@ ghost use Rattle.std.specs.Prelude.{◌≡◌, ◌&&◌, ◌++◌, IfOk, OnOk, m
 ghost use Rattle.std.specs.Option.{option_map};
 ghost use Rattle.syntax.specs.Views.{decl_of, else_of, place_of, section_of, stmt_of, stmts_of};
 ghost use Rattle.fault_notes.specs.FirstBy.{first_by};
-ghost use Rattle.fault_notes.specs.Vars.{all_of, assigns, behind, encloses, is_named, section_if, section_there, some_assigns, var_in, within};
+ghost use Rattle.fault_notes.specs.Vars.{all_of, behind, within};
+ghost use Rattle.fault_notes.specs.VarsFound.{assigns, encloses, is_named, section_if, section_there, some_assigns, var_in};
 ghost use Rattle.fault_notes.specs.Values.{ident_at, section_at, stmt_at};
 
 use crate::missing_returns::body_of;

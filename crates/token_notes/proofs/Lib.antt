@@ -1,1 +1,3 @@
-pub mod Tried
+mod Tried
+mod Spots
+mod Told

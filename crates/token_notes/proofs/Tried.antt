@@ -1,20 +1,16 @@
 -- What a parse of tokens with one that is tried says of it.
-use Rattle.std.proofs.Common.{◌≡◌, ◌∙◌, ℕ, ◌+◌, ◌<◌, ◌≤◌, zero, suc, List, [], ◌∷◌, ◌++◌, length, take, get_or, slice_get, Some, ap, sym, subst, refl, arith, append_assoc}
-use Rattle.std.specs.List.{All}
-use Rattle.std.proofs.lemmas.List.{length-map}
-use Rattle.std.proofs.lemmas.List.Elements.{All-more}
-use Rattle.std.proofs.Math.ListN.{get_or-map}
+use Rattle.std.proofs.Common.{◌≡◌, ◌∙◌, ℕ, ◌+◌, ◌<◌, ◌≤◌, ◌==◌, zero, suc, Bool, true, false, List, [], ◌∷◌, ◌++◌, length, take, ap, sym, subst, refl, arith, append_assoc}
+use Rattle.std.proofs.lemmas.Bool.{eqb-true, eqb-false}
 use Rattle.source.specs.declared.fault.Code.{Code}
-use Rattle.source.specs.declared.fault.Code.TheVariants.{UnexpectedToken}
 use Rattle.source.specs.declared.token.Token.{Token}
 use Rattle.source.specs.Tokens.{Tok, end, seen, seen_token}
-use Rattle.syntax.specs.Faults.{IsFault, IsUnexpected, unended, unexpected, too_deep, misplaced}
-use Rattle.syntax.specs.Grammar.{Spells}
+use Rattle.syntax.specs.Faults.{IsFault, IsUnexpected, IsTooDeep, NoEnd, unended, unexpected, too_deep, misplaced}
+use Rattle.syntax.specs.Grammar.{Spells, IsShallow, IsOpening, HasTree}
 use Rattle.syntax.specs.Trees.{Decl}
 use Rattle.token_notes.specs.declared.candidate.Candidate.{Candidate}
-use Rattle.token_notes.specs.Expected.{IsOf, CanCome, IsExpected, IsTrueTokenNote, expected}
 use Rattle.token_notes.specs.declared.trial.Spot.{Spot}
-use Rattle.token_notes.specs.Trials.{StartBefore, IsBehind, IsPlace, before_in, notes_on}
+use Rattle.token_notes.specs.Expected.{CanCome, StartBefore, token_at}
+use Rattle.token_notes.specs.Trials.{AreBefore, says_it_can}
 
 starts_later : (t : Tok) (ts : List Tok) (start : ℕ) → StartBefore (t ∷ ts) start → StartBefore ts start
 starts_later t ts start all k d within = all (suc k) d (omega arith)
@@ -37,38 +33,124 @@ all_before (b ∷ bs) (x ∷ xs) tried last t after start parts first at later =
     let rest : bs ++ tried ∷ last ∷ [] ≡ xs ++ t ∷ after = cc in
     ap (λ (y : Tok). y ∷ xs) (sym same) ∙ ap (λ (ys : List Tok). b ∷ ys) (all_before bs xs tried last t after start rest (starts_later b bs start first) at later)
 
--- so where that is the first with which no program begins, some program begins with those before and the one that is tried
-pub comes_if_unexpected : (before : List Tok) (tried last : Tok) (start : ℕ) (candidate : Candidate) → StartBefore before start → tried.span.start ≡ start →
-    last.kind ≡ end → IsOf candidate tried.kind → IsUnexpected (before ++ tried ∷ last ∷ []) (start + 1) → CanCome before candidate
-comes_if_unexpected before tried last start candidate first at is_end such fault =
-    let all = all_before before fault.before tried last fault.token fault.after start fault.parts first at fault.place in
+-- a token that is not the last is among those ahead of it
+inside : (xs other : List Tok) (last t : Tok) (after : List Tok) → xs ++ last ∷ [] ≡ other ++ t ∷ after → (t ≡ last → ⊥) →
+    (mid : List Tok) × (xs ≡ other ++ t ∷ mid)
+inside [] [] last t after parts differs = absurd (differs cc)
+inside [] (o ∷ []) last t after parts differs = cc
+inside [] (o ∷ p ∷ os) last t after parts differs = cc
+inside (x ∷ xs) [] last t after parts differs = (xs, let same : x ≡ t = cc in ap (λ (y : Tok). y ∷ xs) same)
+inside (x ∷ xs) (o ∷ os) last t after parts differs =
+    let same : x ≡ o = cc in
+    let rest : xs ++ last ∷ [] ≡ os ++ t ∷ after = cc in
+    let found = inside xs os last t after rest differs in
+    (found.0, ap (λ (y : Tok). y ∷ xs) same ∙ ap (λ (ys : List Tok). o ∷ ys) found.1)
+
+-- those ahead of the last, of tokens that end in the one that is tried and it
+ahead : (before other : List Tok) (tried last t : Tok) (after : List Tok) → before ++ tried ∷ last ∷ [] ≡ other ++ t ∷ after → (t ≡ last → ⊥) →
+    (mid : List Tok) × (before ++ tried ∷ [] ≡ other ++ t ∷ mid)
+ahead before other tried last t after parts differs =
+    inside (before ++ tried ∷ []) other last t after (append_assoc before (tried ∷ []) (last ∷ []) ∙ parts) differs
+
+shallow_ahead : (a b : List Tok) → IsShallow (a ++ b) → IsShallow a
+shallow_ahead a b shallow before after t parts opens =
+    shallow before (after ++ b) t (ap (λ (l : List Tok). l ++ b) parts ∙ append_assoc before (t ∷ after) b) opens
+
+has_end : (xs : List Tok) (last : Tok) → last.kind ≡ end → NoEnd (xs ++ last ∷ []) → ⊥
+has_end [] last is none = none.0 is
+has_end (x ∷ xs) last is none = has_end xs last is none.1
+
+-- ---- it can come
+
+-- some program begins with those before and the one that is tried, where the one behind these is the first with which none does
+comes_if_unexpected : (before : List Tok) (last : Tok) (start : ℕ) (candidate : Candidate) → StartBefore before start →
+    IsUnexpected (before ++ token_at candidate start ∷ last ∷ []) (start + 1) → CanCome before start candidate
+comes_if_unexpected before last start candidate first fault =
+    let tried = token_at candidate start in
+    let all = all_before before fault.before tried last fault.token fault.after start fault.parts first refl fault.place in
     let other = fault.begun.1 in
     record {
-      token = tried;
-      is_such = such;
       decls = fault.begun.0;
       others = other;
       begins = subst (Spells fault.begun.0) (ap (λ (ts : List Tok). ts ++ other) all ∙ append_assoc before (tried ∷ []) other) fault.begun.2;
+      shallow = subst IsShallow all fault.shallow;
     }
 
-pub comes_if_fault : (before ts : List Tok) (tried last : Tok) (start at : ℕ) (code : Code) (candidate : Candidate) → ts ≡ before ++ tried ∷ last ∷ [] →
-    StartBefore before start → tried.span.start ≡ start → last.kind ≡ end → IsOf candidate tried.kind → IsFault ts code at → code ≡ UnexpectedToken → at ≡ start + 1 →
-    CanCome before candidate
-comes_if_fault before ts tried last start at code candidate parts first place is_end such (unended none) is later = absurd (omega arith)
-comes_if_fault before ts tried last start at code candidate parts first place is_end such (unexpected fault) is later =
-    comes_if_unexpected before tried last start candidate first place is_end such
-    (subst (λ (k : ℕ). IsUnexpected (before ++ tried ∷ last ∷ []) k) later (subst (λ (l : List Tok). IsUnexpected l at) parts fault))
-comes_if_fault before ts tried last start at code candidate parts first place is_end such (too_deep fault) is later = cc
-comes_if_fault before ts tried last start at code candidate parts first place is_end such (misplaced fault) is later = cc
+-- or where they have a tree with the end
+pub comes_if_tree : (before : List Tok) (last : Tok) (start : ℕ) (candidate : Candidate) (decls : List Decl) →
+    HasTree (before ++ token_at candidate start ∷ last ∷ []) decls → CanCome before start candidate
+comes_if_tree before last start candidate decls tree =
+    let tried = token_at candidate start in
+    record {
+      decls = decls;
+      others = last ∷ [];
+      begins = tree.0;
+      shallow = shallow_ahead (before ++ tried ∷ []) (last ∷ []) (subst IsShallow (sym (append_assoc before (tried ∷ []) (last ∷ []))) tree.1);
+    }
 
-pub comes_if_tree : (before ts : List Tok) (tried last : Tok) (decls : List Decl) (candidate : Candidate) → ts ≡ before ++ tried ∷ last ∷ [] → IsOf candidate tried.kind →
-    Spells decls ts → CanCome before candidate
-comes_if_tree before ts tried last decls candidate parts such spells =
-    record { token = tried; is_such = such; decls = decls; others = last ∷ []; begins = subst (Spells decls) parts spells }
+-- ---- it can't
+
+-- with the one at fault no program begins, and it is not the last
+none_if_unexpected : (before : List Tok) (last : Tok) (start at : ℕ) (candidate : Candidate) → last.span.start ≡ start + 1 → (at ≡ start + 1 → ⊥) →
+    IsUnexpected (before ++ token_at candidate start ∷ last ∷ []) at → CanCome before start candidate → ⊥
+none_if_unexpected before last start at candidate is_last differs fault can =
+    let tried = token_at candidate start in
+    let found = ahead before fault.before tried last fault.token fault.after fault.parts
+    (λ same. differs (sym fault.place ∙ ap (λ (t : Tok). t.span.start) same ∙ is_last)) in
+    let mid = found.0 in
+    fault.no_program can.decls (mid ++ can.others)
+    (subst (Spells can.decls)
+    (sym (append_assoc before (tried ∷ []) can.others) ∙ ap (λ (l : List Tok). l ++ can.others) found.1 ∙ append_assoc fault.before (fault.token ∷ mid) can.others)
+    can.begins)
+
+-- so that the one behind it is at fault
+unexpected_says : (b : Bool) (before : List Tok) (last : Tok) (start at : ℕ) (candidate : Candidate) → (at == start + 1) ≡ b → last.span.start ≡ start + 1 →
+    IsUnexpected (before ++ token_at candidate start ∷ last ∷ []) at → CanCome before start candidate → (at == start + 1) ≡ true
+unexpected_says true before last start at candidate is is_last fault can = is
+unexpected_says false before last start at candidate is is_last fault can =
+    absurd (none_if_unexpected before last start at candidate is_last (eqb-false at (start + 1) is) fault can)
+
+-- or an opening sign is too deep
+none_if_deep : (before : List Tok) (last : Tok) (start at : ℕ) (candidate : Candidate) → last.kind ≡ end →
+    IsTooDeep (before ++ token_at candidate start ∷ last ∷ []) at → CanCome before start candidate → ⊥
+none_if_deep before last start at candidate is_end fault can =
+    let tried = token_at candidate start in
+    let found = ahead before fault.before tried last fault.token fault.after fault.parts
+    (λ same. subst IsOpening (ap (λ (t : Tok). t.kind) same ∙ is_end) fault.opens) in
+    let low = can.shallow fault.before found.0 fault.token found.1 fault.opens in
+    omega (arith, low, fault.deep)
+
+-- ---- what a parse says
+
+-- those before, the one that is tried, the end
+abbrev pub Parts : List Tok → List Tok → Candidate → ℕ → Tok → Type 0
+Parts ts before candidate start last = (ts ≡ before ++ token_at candidate start ∷ last ∷ []) × (last.kind ≡ end) × (last.span.start ≡ start + 1)
+
+pub can_if_fault : (before ts : List Tok) (last : Tok) (start at : ℕ) (code : Code) (candidate : Candidate) → Parts ts before candidate start last →
+    StartBefore before start → IsFault ts code at → says_it_can code at (start + 1) ≡ true → CanCome before start candidate
+can_if_fault before ts last start at code candidate parts first (unended none) says =
+    absurd (has_end (before ++ token_at candidate start ∷ []) last parts.1
+    (subst NoEnd (parts.0 ∙ sym (append_assoc before (token_at candidate start ∷ []) (last ∷ []))) none))
+can_if_fault before ts last start at code candidate parts first (unexpected fault) says =
+    comes_if_unexpected before last start candidate first
+    (subst (λ (k : ℕ). IsUnexpected (before ++ token_at candidate start ∷ last ∷ []) k) (eqb-true at (start + 1) says) (subst (λ (l : List Tok). IsUnexpected l at) parts.0 fault))
+can_if_fault before ts last start at code candidate parts first (too_deep fault) says = cc
+can_if_fault before ts last start at code candidate parts first (misplaced fault) says =
+    comes_if_tree before last start candidate fault.tree (subst (λ (l : List Tok). HasTree l fault.tree) parts.0 fault.has_tree)
+
+pub says_if_fault : (before ts : List Tok) (last : Tok) (start at : ℕ) (code : Code) (candidate : Candidate) → Parts ts before candidate start last →
+    IsFault ts code at → CanCome before start candidate → says_it_can code at (start + 1) ≡ true
+says_if_fault before ts last start at code candidate parts (unended none) can =
+    absurd (has_end (before ++ token_at candidate start ∷ []) last parts.1
+    (subst NoEnd (parts.0 ∙ sym (append_assoc before (token_at candidate start ∷ []) (last ∷ []))) none))
+says_if_fault before ts last start at code candidate parts (unexpected fault) can =
+    unexpected_says (at == start + 1) before last start at candidate refl parts.2 (subst (λ (l : List Tok). IsUnexpected l at) parts.0 fault) can
+says_if_fault before ts last start at code candidate parts (too_deep fault) can =
+    absurd (none_if_deep before last start at candidate parts.1 (subst (λ (l : List Tok). IsTooDeep l at) parts.0 fault) can)
+says_if_fault before ts last start at code candidate parts (misplaced fault) can = refl
 
 -- ---- the tokens that are tried
 
--- those before, one that is tried, the end
 abbrev pub tried_with : ℕ → List Token → Token → Token → List Token
 tried_with n old tried last = (take n old ++ tried ∷ []) ++ last ∷ []
 
@@ -88,47 +170,10 @@ before_still zero old a b few = refl
 before_still (suc n) [] a b few = absurd (omega arith)
 before_still (suc n) (x ∷ old) a b few = ap (λ (l : List Tok). seen_token x ∷ l) (before_still n old a b (omega arith))
 
-pub behind_still : (place : Spot) (old : List Token) (a b : Token) → IsBehind place old → IsBehind place (tried_with place.number old a b)
+pub behind_still : (place : Spot) (old : List Token) (a b : Token) → AreBefore place old → AreBefore place (tried_with place.number old a b)
 behind_still place old a b behind =
     record {
       within = long_still place.number old a b behind.within;
-      before = subst (λ (l : List Tok). StartBefore l place.start) (sym (before_still place.number old a b behind.within)) behind.before;
+      before = subst (λ (l : List Tok). StartBefore l place.span.start) (sym (before_still place.number old a b behind.within)) behind.before;
+      one = behind.one;
     }
-
--- ---- the place, and what is said of it
-
--- one token more that starts before
-pub one_more_before : (tokens : List Token) (n start : ℕ) (t : Token) → n < length tokens → get_or tokens n t ≡ t → StartBefore (take n (seen tokens)) start →
-    (seen_token t).span.start < start → StartBefore (take (n + 1) (seen tokens)) start
-one_more_before tokens n start t within is all early =
-    All-more (λ (x : Tok). x.span.start < start) (seen tokens) n (seen_token t) (rw length-map within) all
-    (subst (λ (x : Tok). x.span.start < start) (sym (get_or-map seen_token tokens n t ∙ ap seen_token is)) early)
-
-pub there_seen : (tokens : List Token) (n : ℕ) (t : Token) → slice_get tokens n ≡ Some t → slice_get (seen tokens) n ≡ Some (seen_token t)
-there_seen [] n t is = cc
-there_seen (x ∷ tokens) zero t is = let same : x ≡ t = cc in ap (λ (y : Token). Some (seen_token y)) same
-there_seen (x ∷ tokens) (suc n) t is = there_seen tokens n t is
-
-split_at : (ts : List Tok) (n : ℕ) (t : Tok) → slice_get ts n ≡ Some t → (after : List Tok) × (ts ≡ take n ts ++ t ∷ after)
-split_at [] n t is = cc
-split_at (x ∷ ts) zero t is = (ts, let same : x ≡ t = cc in ap (λ (y : Tok). y ∷ ts) same)
-split_at (x ∷ ts) (suc n) t is = let rest = split_at ts n t is in (rest.0, ap (λ (l : List Tok). x ∷ l) rest.1)
-
-pub are_expected : (tokens : List Token) (start : ℕ) (place : Spot) (list : List Candidate) → IsPlace tokens start place →
-    All (CanCome (before_in place tokens)) list → All (IsExpected (seen tokens) start) list
-are_expected tokens start place list at all k d within =
-    let parts = split_at (seen tokens) place.number at.token at.there in
-    record {
-      before = before_in place tokens;
-      token = at.token;
-      after = parts.0;
-      parts = parts.1;
-      place = at.starts;
-      can_come = all k d within;
-    }
-
-pub true_notes : (ts : List Tok) (code : Code) (start : ℕ) (list : List Candidate) → code ≡ UnexpectedToken → All (IsExpected ts start) list →
-    All (IsTrueTokenNote ts code start) (notes_on list)
-true_notes ts code start [] is all k d within = absurd (omega arith)
-true_notes ts code start (first ∷ others) is all zero d within = expected first others is all refl
-true_notes ts code start (first ∷ others) is all (suc k) d within = absurd (omega arith)

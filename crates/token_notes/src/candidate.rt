@@ -1,9 +1,9 @@
 //! What a token can be.
 
-ghost use Rattle.std.specs.Prelude.{◌≡◌, IfOk, OnOk};
+ghost use Rattle.std.specs.Prelude.{◌≡◌, ◌+◌, IfOk, OnOk};
 ghost use Rattle.source.specs.Tokens.{seen_token};
 ghost use Rattle.locks.specs.Texts.{AddsText};
-ghost use Rattle.token_notes.specs.Expected.{IsOf, candidate_text, candidate_texts};
+ghost use Rattle.token_notes.specs.Expected.{candidate_text, candidate_texts, token_at};
 
 use source::span::Span;
 use source::token::{Keyword, Sign, Token};
@@ -24,14 +24,13 @@ pub enum Candidate {
 }
 
 impl Candidate {
-    /// Such a token, at this place.
-    pub fn token(self, alloc: Global, start: u32) -> Result<Token, AllocError>
-        ensures kind { IfOk result (λ token. IsOf self (seen_token token).kind) }
-        ensures start { IfOk result (λ token. (seen_token token).span.start ≡ start) }
+    /// Such a token, at this byte.
+    pub fn token(self, alloc: Global, span: Span) -> Result<Token, AllocError>
+        requires { span.end ≡ span.start + 1 }
+        ensures { IfOk result (λ token. seen_token token ≡ token_at self span.start) }
     {
-        let span = Span { start, end: start };
         Ok(match self {
-            Candidate::Name => Token::Name(start, RcStr::from_str(alloc, "a")?),
+            Candidate::Name => Token::Name(span.start, RcStr::from_str(alloc, "a")?),
             Candidate::Number => Token::Int(span, 0),
             Candidate::Word(word) => Token::Word(span, word),
             Candidate::Mark(sign) => Token::Mark(span, sign),
@@ -76,7 +75,7 @@ pub(crate) fn push_first(out: &mut String, candidate: Candidate) -> Result<(), A
     candidate.push(out)
 }
 
-/// All that a token can be, a name and a number first.
+/// All that a token can be but the end of the text, a name and a number first.
 pub const ALL: [Candidate; 49] = [
     Candidate::Name,
     Candidate::Number,

@@ -1,9 +1,9 @@
 //! The notes.
 
-ghost use Rattle.std.specs.Prelude.{◌≡◌, All, IfOk, map, string_bytes};
+ghost use Rattle.std.specs.Prelude.{◌≡◌, IfOk, map, string_bytes};
 ghost use Rattle.explanation.specs.Notes.{note_of};
 ghost use Rattle.source.specs.Tokens.{seen};
-ghost use Rattle.token_notes.specs.Expected.{expected_words, IsTrueTokenNote};
+ghost use Rattle.token_notes.specs.Expected.{AreTokenNotes, expected_words};
 ghost use Rattle.token_notes.specs.Trials.{notes_on};
 
 use crate::candidate::{Candidate, push_first, push_others};
@@ -41,15 +41,15 @@ fn notes_on(alloc: Global, candidates: &[Candidate]) -> Result<Vec<Note>, NoMemo
     Ok(notes)
 }
 
-/// What these tokens tell of a fault of theirs, beyond its line: of an `E03` what could come in the place of the token that
-/// is there, unless it has more than 4,096 before it.
+/// What these tokens tell of a fault of theirs, beyond its line: of an `E03` all that could come in the place of the token that
+/// is there, unless it has more than 4,096 before it, or nothing could.
 ///
 /// # Errors
 ///
 /// Want of memory.
 pub fn token_notes(alloc: Global, tokens: Vec<Token>, fault: &Fault) -> Result<Vec<Note>, NoMemory>
     ensures { IfOk result (λ notes.
-        All (IsTrueTokenNote (seen tokens.items) fault.now.code fault.now.start) (map note_of notes.items)) }
+        AreTokenNotes (seen tokens.items) fault.now.code fault.now.start (map note_of notes.items)) }
 {
     let Code::UnexpectedToken = fault.code else {
         return Ok(Vec::new(alloc));

@@ -1,6 +1,6 @@
 use Rattle.std.proofs.Common.{◌∙◌, ◌-◌, drop, length, sym, ap, arith, length-drop}
 use Rattle.std.proofs.lemmas.List.{drop-map, take_all}
-use Rattle.fault_notes.specs.LimitsPassed.{some_starts}
+use Rattle.fault_notes.specs.LimitsFound.{some_starts}
 use Rattle.fault_notes.specs.Values.{ident_at, idents}
 use Rattle.fault_notes.proofs.limits_passed.is_past.Goals as goal
 

@@ -1,5 +1,5 @@
 use Rattle.std.proofs.Common.{◌≡◌, drop}
-use Rattle.fault_notes.specs.LimitsPassed.{some_starts}
+use Rattle.fault_notes.specs.LimitsFound.{some_starts}
 use Rattle.fault_notes.specs.Values.{idents}
 use Rattle.fault_notes.proofs.limits_passed.some_starts.Given as goal
 

@@ -1,7 +1,7 @@
 use Rattle.std.proofs.Common.{◌≡◌, map, drop}
 use Rattle.syntax.specs.Views.{member_of}
 use Rattle.fault_notes.specs.FirstBy.{first_by}
-use Rattle.fault_notes.specs.LocksAtHand.{own_lock_in}
+use Rattle.fault_notes.specs.LimitsPassed.{own_lock_in}
 use Rattle.fault_notes.proofs.locks_at_hand.own_lock.Given as goal
 
 abbrev pub invariant-loop-member : goal.invariant-loop-member

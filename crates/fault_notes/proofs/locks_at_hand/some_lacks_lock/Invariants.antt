@@ -1,6 +1,6 @@
 use Rattle.std.proofs.Common.{◌≡◌, map, drop}
 use Rattle.syntax.specs.Views.{member_of}
-use Rattle.fault_notes.specs.LocksAtHand.{some_lacks_lock}
+use Rattle.fault_notes.specs.LocksFound.{some_lacks_lock}
 use Rattle.fault_notes.proofs.locks_at_hand.some_lacks_lock.Given as goal
 
 abbrev pub invariant-loop-member : goal.invariant-loop-member

@@ -2,7 +2,7 @@ use Rattle.std.proofs.Common.{◌≡◌, map, drop}
 use Rattle.symbols.specs.Views.{decls_of}
 use Rattle.syntax.specs.Views.{decl_of}
 use Rattle.fault_notes.specs.FirstBy.{first_by}
-use Rattle.fault_notes.specs.MissingInits.{null_given_in}
+use Rattle.fault_notes.specs.NullsFound.{null_given_in}
 use Rattle.fault_notes.proofs.missing_inits.null_given.Given as goal
 
 abbrev pub invariant-loop-decl : goal.invariant-loop-decl

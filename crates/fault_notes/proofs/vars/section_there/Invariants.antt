@@ -1,7 +1,7 @@
 use Rattle.std.proofs.Common.{◌≡◌, map, drop}
 use Rattle.syntax.specs.Views.{decl_of}
 use Rattle.fault_notes.specs.FirstBy.{first_by}
-use Rattle.fault_notes.specs.Vars.{section_if}
+use Rattle.fault_notes.specs.VarsFound.{section_if}
 use Rattle.fault_notes.proofs.vars.section_there.Given as goal
 
 abbrev pub invariant-loop-decl : goal.invariant-loop-decl

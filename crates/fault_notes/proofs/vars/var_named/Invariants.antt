@@ -1,7 +1,7 @@
 use Rattle.std.proofs.Common.{◌≡◌, map, drop}
 use Rattle.fault_notes.specs.FirstBy.{first_by}
 use Rattle.fault_notes.specs.Values.{stmt_at}
-use Rattle.fault_notes.specs.Vars.{var_in}
+use Rattle.fault_notes.specs.VarsFound.{var_in}
 use Rattle.fault_notes.proofs.vars.var_named.Given as goal
 
 abbrev pub invariant-loop-stmt : goal.invariant-loop-stmt

@@ -1,55 +1,68 @@
-use Rattle.std.proofs.Common.{◌≡◌, ◌∙◌, List, [], ◌∷◌, ◌++◌, ap, sym, refl, arith}
-use Rattle.std.proofs.lemmas.Bool.{eqb-true}
+use Rattle.std.proofs.Common.{◌≡◌, ◌∙◌, List, [], ◌∷◌, ◌++◌, ap, sym, refl}
 use Rattle.source.specs.declared.token.Token.{Token}
 use Rattle.source.specs.declared.token.Token.TheVariants.{End}
 use Rattle.source.specs.Tokens.{seen, seen_token}
+use Rattle.token_notes.specs.Expected.{token_at}
 use Rattle.token_notes.specs.Trials.{before_in}
-use Rattle.token_notes.proofs.Tried.{tried_with, seen_parts, before_still, behind_still, comes_if_fault, comes_if_tree}
+use Rattle.token_notes.proofs.Tried.{tried_with, seen_parts, before_still, behind_still, can_if_fault, says_if_fault, comes_if_tree}
 use Rattle.token_notes.proofs.trial.can_come.Goals as goal
-use Rattle.token_notes.proofs.trial.can_come.Goals.{in-UnexpectedToken, in_default-code}
 
 pub returns-in-Ok-clause-behind : goal.returns-in-Ok-clause-behind
 returns-in-Ok-clause-behind c =
     rw (c.in_ok-push-2.ensures.items, c.in_ok-push.ensures.items, c.truncate.ensures.items)
-    (behind_still c.args.place c.args.tokens.now.items c.in_ok-token.token (End c.in-Some.end) c.requires)
+    (behind_still c.args.place c.args.tokens.now.items c.in_ok-token.token (End c.args.place.span.end) c.requires)
 
 pub returns-in-Ok-clause-before : goal.returns-in-Ok-clause-before
 returns-in-Ok-clause-before c =
     rw (c.in_ok-push-2.ensures.items, c.in_ok-push.ensures.items, c.truncate.ensures.items)
-    (before_still c.args.place.number c.args.tokens.now.items c.in_ok-token.token (End c.in-Some.end) c.requires.within)
+    (before_still c.args.place.number c.args.tokens.now.items c.in_ok-token.token (End c.args.place.span.end) c.requires.within)
 
-pub returns-after-fault-clause-behind : goal.returns-after-fault-clause-behind
-returns-after-fault-clause-behind c =
+pub returns-in-Err-Fault-clause-behind : goal.returns-in-Err-Fault-clause-behind
+returns-in-Err-Fault-clause-behind c =
     rw (c.in_ok-push-2.ensures.items, c.in_ok-push.ensures.items, c.truncate.ensures.items)
-    (behind_still c.args.place c.args.tokens.now.items c.in_ok-token.token (End c.in-Some.end) c.requires)
+    (behind_still c.args.place c.args.tokens.now.items c.in_ok-token.token (End c.args.place.span.end) c.requires)
 
-pub returns-after-fault-clause-before : goal.returns-after-fault-clause-before
-returns-after-fault-clause-before c =
+pub returns-in-Err-Fault-clause-before : goal.returns-in-Err-Fault-clause-before
+returns-in-Err-Fault-clause-before c =
     rw (c.in_ok-push-2.ensures.items, c.in_ok-push.ensures.items, c.truncate.ensures.items)
-    (before_still c.args.place.number c.args.tokens.now.items c.in_ok-token.token (End c.in-Some.end) c.requires.within)
+    (before_still c.args.place.number c.args.tokens.now.items c.in_ok-token.token (End c.args.place.span.end) c.requires.within)
 
 pub returns-in-Ok-clause-can : goal.returns-in-Ok-clause-can
 returns-in-Ok-clause-can c is_so =
     let old = c.args.tokens.now.items in
-    let items : c.deref.result.now ≡ tried_with c.args.place.number old c.in_ok-token.token (End c.in-Some.end) =
+    let last = End c.args.place.span.end in
+    let items : c.deref.result.now ≡ tried_with c.args.place.number old c.in_ok-token.token last =
     c.deref.ensures.value ∙ c.in_ok-push-2.ensures.items
-    ∙ ap (λ (l : List Token). l ++ End c.in-Some.end ∷ []) (c.in_ok-push.ensures.items ∙ ap (λ (l : List Token). l ++ c.in_ok-token.token ∷ []) c.truncate.ensures.items) in
-    comes_if_tree (before_in c.args.place old) (seen c.deref.result.now) (seen_token c.in_ok-token.token) (seen_token (End c.in-Some.end)) _ c.args.candidate
-    (ap seen items ∙ seen_parts c.args.place.number old c.in_ok-token.token (End c.in-Some.end) c.requires.within) c.in_ok-token.ensures.kind
-    c.in-Ok.ensures.found.0.0
+    ∙ ap (λ (l : List Token). l ++ last ∷ []) (c.in_ok-push.ensures.items ∙ ap (λ (l : List Token). l ++ c.in_ok-token.token ∷ []) c.truncate.ensures.items) in
+    let parts : seen c.deref.result.now ≡ before_in c.args.place old ++ token_at c.args.candidate c.args.place.span.start ∷ seen_token last ∷ [] =
+    ap seen items ∙ seen_parts c.args.place.number old c.in_ok-token.token last c.requires.within
+    ∙ ap (λ t. before_in c.args.place old ++ t ∷ seen_token last ∷ []) c.in_ok-token.ensures in
+    comes_if_tree (before_in c.args.place old) (seen_token last) c.args.place.span.start c.args.candidate _ (rw parts at c.in-Ok.ensures.found.0)
 
-pub returns-after-fault-clause-can : goal.returns-after-fault-clause-can
-returns-after-fault-clause-can c is_so =
+pub returns-in-Err-Fault-clause-can : goal.returns-in-Err-Fault-clause-can
+returns-in-Err-Fault-clause-can c is_so =
     let old = c.args.tokens.now.items in
-    let items : c.deref.result.now ≡ tried_with c.args.place.number old c.in_ok-token.token (End c.in-Some.end) =
+    let last = End c.args.place.span.end in
+    let items : c.deref.result.now ≡ tried_with c.args.place.number old c.in_ok-token.token last =
     c.deref.ensures.value ∙ c.in_ok-push-2.ensures.items
-    ∙ ap (λ (l : List Token). l ++ End c.in-Some.end ∷ []) (c.in_ok-push.ensures.items ∙ ap (λ (l : List Token). l ++ c.in_ok-token.token ∷ []) c.truncate.ensures.items) in
-    elim c.match-fault.branch [
-      | in-UnexpectedToken w ↦ (
-          let at : c.in-Err-Fault.fault.start ≡ c.in-Some.end = eqb-true c.in-Err-Fault.fault.start c.in-Some.end (sym w.result-is ∙ is_so) in
-          comes_if_fault (before_in c.args.place old) (seen c.deref.result.now) (seen_token c.in_ok-token.token) (seen_token (End c.in-Some.end)) c.args.place.start
-          c.in-Err-Fault.fault.start c.in-Err-Fault.fault.code c.args.candidate
-          (ap seen items ∙ seen_parts c.args.place.number old c.in_ok-token.token (End c.in-Some.end) c.requires.within) c.requires.before
-          c.in_ok-token.ensures.start refl c.in_ok-token.ensures.kind (rw c.in-Err-Fault.field-0-is at c.in-Err-Fault.ensures.fault).0 w.in-UnexpectedToken.is (omega (arith, at, c.in-Some.ensures)))
-      | in_default-code w ↦ cc
-    ]
+    ∙ ap (λ (l : List Token). l ++ last ∷ []) (c.in_ok-push.ensures.items ∙ ap (λ (l : List Token). l ++ c.in_ok-token.token ∷ []) c.truncate.ensures.items) in
+    let parts : seen c.deref.result.now ≡ before_in c.args.place old ++ token_at c.args.candidate c.args.place.span.start ∷ seen_token last ∷ [] =
+    ap seen items ∙ seen_parts c.args.place.number old c.in_ok-token.token last c.requires.within
+    ∙ ap (λ t. before_in c.args.place old ++ t ∷ seen_token last ∷ []) c.in_ok-token.ensures in
+    can_if_fault (before_in c.args.place old) (seen c.deref.result.now) (seen_token last) c.args.place.span.start c.in-Err-Fault.fault.start c.in-Err-Fault.fault.code
+    c.args.candidate (parts, refl, c.requires.one) c.requires.before (rw c.in-Err-Fault.field-0-is at c.in-Err-Fault.ensures.fault).0
+    (rw (sym c.requires.one) (sym c.says_it_can.ensures ∙ is_so))
+
+pub returns-in-Err-Fault-clause-cannot : goal.returns-in-Err-Fault-clause-cannot
+returns-in-Err-Fault-clause-cannot c can =
+    let old = c.args.tokens.now.items in
+    let last = End c.args.place.span.end in
+    let items : c.deref.result.now ≡ tried_with c.args.place.number old c.in_ok-token.token last =
+    c.deref.ensures.value ∙ c.in_ok-push-2.ensures.items
+    ∙ ap (λ (l : List Token). l ++ last ∷ []) (c.in_ok-push.ensures.items ∙ ap (λ (l : List Token). l ++ c.in_ok-token.token ∷ []) c.truncate.ensures.items) in
+    let parts : seen c.deref.result.now ≡ before_in c.args.place old ++ token_at c.args.candidate c.args.place.span.start ∷ seen_token last ∷ [] =
+    ap seen items ∙ seen_parts c.args.place.number old c.in_ok-token.token last c.requires.within
+    ∙ ap (λ t. before_in c.args.place old ++ t ∷ seen_token last ∷ []) c.in_ok-token.ensures in
+    c.says_it_can.ensures ∙ rw c.requires.one
+    (says_if_fault (before_in c.args.place old) (seen c.deref.result.now) (seen_token last) c.args.place.span.start c.in-Err-Fault.fault.start c.in-Err-Fault.fault.code
+    c.args.candidate (parts, refl, c.requires.one) (rw c.in-Err-Fault.field-0-is at c.in-Err-Fault.ensures.fault).0 can)

@@ -1,13 +1,12 @@
-use Rattle.std.proofs.Common.{◌≡◌}
-use Rattle.std.specs.List.{All}
-use Rattle.token_notes.specs.Expected.{CanCome}
-use Rattle.token_notes.specs.Trials.{before_in, IsBehind}
+use Rattle.std.proofs.Common.{◌≡◌, take}
+use Rattle.token_notes.specs.Expected.{AreThose, CanCome, all_candidates}
+use Rattle.token_notes.specs.Trials.{AreBefore, before_in}
 use Rattle.token_notes.proofs.trial.expected.Given as goal
 
--- the tokens before the place are what they were, and what was found can come
+-- the tokens before the place are what they were, and of those tried so far the ones are found that can come
 abbrev pub invariant-loop-candidate : goal.invariant-loop-candidate
 invariant-loop-candidate l = record {
-  behind : IsBehind l.place l.tokens.items;
+  behind : AreBefore l.place l.tokens.items;
   before : before_in l.place l.tokens.items ≡ before_in l.place l.initial.tokens.items;
-  all : All (CanCome (before_in l.place l.initial.tokens.items)) l.list.items;
+  those : AreThose (CanCome (before_in l.place l.initial.tokens.items) l.place.span.start) (take l.candidate-index all_candidates) l.list.items;
 }

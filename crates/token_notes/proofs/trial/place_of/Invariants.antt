@@ -1,6 +1,6 @@
 use Rattle.std.proofs.Common.{take}
 use Rattle.source.specs.Tokens.{seen}
-use Rattle.token_notes.specs.Trials.{StartBefore}
+use Rattle.token_notes.specs.Expected.{StartBefore}
 use Rattle.token_notes.proofs.trial.place_of.Given as goal
 
 -- the tokens so far start before

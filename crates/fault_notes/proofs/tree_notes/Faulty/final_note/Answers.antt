@@ -1,14 +1,16 @@
 use Rattle.std.proofs.Common.{sym}
 use Rattle.fault_notes.specs.FaultNotes.{gap, null}
 use Rattle.fault_notes.specs.Values.{decls_of}
-use Rattle.fault_notes.proofs.MissingInits.{no_gap}
+use Rattle.fault_notes.proofs.MissingInits.{is_null_given, no_gap}
 use Rattle.fault_notes.proofs.tree_notes.Faulty.final_note.Goals as goal
 
 pub returns-in-Some : goal.returns-in-Some
 returns-in-Some c = rw c.in_ok-note.ensures (gap (rw c.in_ok-symbols.ensures at c.in-Some.ensures))
 
 pub returns-in-Some-null_given : goal.returns-in-Some-null_given
-returns-in-Some-null_given c = rw c.in_ok-note-2.ensures (null (sym (rw c.in_ok-symbols.ensures at c.in-Some-null_given.ensures)))
+returns-in-Some-null_given c =
+    let x = c.args.self.now in
+    rw c.in_ok-note-2.ensures (null (is_null_given (decls_of x) x.at _ (sym (rw c.in_ok-symbols.ensures at c.in-Some-null_given.ensures))))
 
 pub returns : goal.returns
 returns c =

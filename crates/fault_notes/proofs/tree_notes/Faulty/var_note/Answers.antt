@@ -2,7 +2,7 @@ use Rattle.std.proofs.Common.{◌∙◌, sym, ap, map, Bool, List}
 use Rattle.std.proofs.lemmas.Result.{IfOk-weaker}
 use Rattle.fault_notes.specs.TokensThere.{name_of, has_two_fields}
 use Rattle.fault_notes.specs.Values.{decls_of, section_at, stmt_at, text_at, tokens_of}
-use Rattle.fault_notes.specs.Vars.{note_of_var}
+use Rattle.fault_notes.specs.VarsFound.{note_of_var}
 use Rattle.fault_notes.proofs.VarsNoted.{noted_by}
 use Rattle.syntax.specs.Trees.{Stmt}
 use Rattle.fault_notes.proofs.tree_notes.Faulty.var_note.Goals as goal
