@@ -1,7 +1,6 @@
 -- What the parts of a call, and of a run of all scripts, tell each other. It mirrors the code: nobody has to believe
 -- it.
-use Rattle.std.specs.Prelude.{◌≡◌, ◌≤◌, ◌<◌, ◌+◌, ◌^◌, ℕ, List, length, map, Some, None, slice_index_or}
-use Rattle.core_lang.specs.declared.value.Value.{Value}
+use Rattle.std.specs.Prelude.{◌≡◌, ◌≤◌, ◌<◌, ◌+◌, ℕ, true, List, length, map, Some, None, slice_index_or}
 use Rattle.core_lang.specs.declared.value.Outcome.{Outcome}
 use Rattle.core_lang.specs.declared.typed.Call.{Call}
 use Rattle.core_lang.specs.Serial.{Invocation, invocation}
@@ -12,18 +11,25 @@ use Rattle.history.specs.Commits.{Commit, committed, IsTrueCommit}
 use Rattle.lowering.specs.Plans.{Plan}
 use Rattle.worlds.specs.Worlds.{call_at}
 use Rattle.runner.specs.Opens.{ReadyOf, PoisedOf, OpenOf, entry_of}
-use Rattle.workers.specs.Seats.{ReplyOf, SeatOf, AllBelow, reply}
-use Rattle.workers.specs.Answers.{IsSound, IsAnswer, reply_at, call_in, script_at}
+use Rattle.workers.specs.Seats.{SeatOf, reply}
+use Rattle.workers.specs.Answers.{IsSound, IsAnswer, AnswersAreIn, reply_at, replies_of, in_step, call_in, script_at}
+use Rattle.workers.specs.Seen.{SeenIsIn}
 use Rattle.workers.specs.Rows.{SeenOf, SeesOwn}
 use Rattle.workers.specs.declared.seat.Done.{Done}
 
 -- ---- a seat
 
--- its next call has the number of its answers, and these stand among the copies that it has seen
-pub record IsSeat (thread step : ℕ) (answers : List ReplyOf) (log : List Commit) : Type 0 where
+-- its next call has the number of its answers, and its entries among the copies that it has seen have the numbers
+-- before that, in order
+pub record IsSeat (thread step : ℕ) (log : List Commit) : Type 0 where
   pub few : thread < 64
-  pub step_is : step ≡ length answers
-  pub below : AllBelow (length log) answers
+  pub step_is : step ≡ length (replies_of thread 0 log)
+  pub steps : in_step thread 0 log ≡ true
+
+-- what it has seen begins a history, which has no further entry of its thread
+pub record IsIn (log : List Commit) (s : SeatOf) : Type 0 where
+  pub answers : AnswersAreIn log s
+  pub seen : SeenIsIn log s
 
 -- ---- the parts of a call
 
@@ -34,10 +40,9 @@ pub record IsBegun (p : PoisedOf) (o : OpenOf) : Type 0 where
   pub step : o.step ≡ p.step
   pub call : o.activation.call ≡ p.call
 
--- a call of a thread has begun, and there is room for its answer
-pub record HasBegun (plan : Plan) (call : Invocation) (ready : ReadyOf) (arguments : List Value) (o : OpenOf) : Type 0
+-- a call of a thread has begun
+pub record HasBegun (plan : Plan) (call : Invocation) (ready : ReadyOf) (o : OpenOf) : Type 0
   where
-    pub room : arguments ≡ call.arguments
     pub plan_is : o.plan ≡ plan
     pub thread : o.thread ≡ ready.thread
     pub step : o.step ≡ ready.step
@@ -56,42 +61,26 @@ pub record IsEntered (plan : Plan) (floor : ℕ) (o : OpenOf) (position : ℕ) :
   pub above : floor ≤ o.activation.begun
   pub begun : o.activation.begun ≤ position
 
--- what is kept of an entry whose position isn't known yet
-abbrev pub noted : List Value → Commit → ReplyOf
-noted arguments entry = record {
-  position = 0;
-  begun = entry.begun;
-  call = record { section = entry.section; arguments = arguments };
-  outcome = entry.outcome;
-  prints = entry.prints;
-}
+-- what is told of an entry, but for its position, and the entry's copy
+pub record IsNotedOf (entry : Commit) (told : Done) (copy : Commit) : Type 0 where
+  pub outcome : told.outcome ≡ entry.outcome
+  pub prints : told.prints.items ≡ entry.prints
+  pub copy_is : copy ≡ entry
 
--- what is kept and what is told of it, and its copy
-pub record IsNotedOf (arguments : List Value) (entry : Commit) (kept : ReplyOf) (told : Done) (copy : Commit) : Type 0
-  where
-    pub kept_is : kept ≡ noted arguments entry
-    pub outcome : told.outcome ≡ entry.outcome
-    pub prints : told.prints.items ≡ entry.prints
-    pub copy_is : copy ≡ entry
-
--- an answered call: what is kept and what is told of it, and the thread, with the number of its next call
-pub record HasAnswer (plan : Plan) (call : Invocation) (floor : ℕ) (ready ready' : ReadyOf) (kept : ReplyOf)
-    (told : Done) : Type 0 where
+-- an answered call: what is told of it; the thread, with the number of its next call; and what its seat has seen then,
+-- with the call's entry last
+pub record HasAnswer (plan : Plan) (call : Invocation) (ready : ReadyOf) (old : SeenOf) (ready' : ReadyOf) (told : Done)
+    (new : SeenOf) : Type 0 where
   pub answer : IsAnswer plan call told.position told.outcome told.prints.items
-  pub kept_is : kept ≡ reply told.position kept.begun call told.outcome told.prints.items
-  pub above : floor ≤ kept.begun
-  pub at_most : kept.begun ≤ told.position
-  pub small : told.position + 1 < 2 ^ 64
   pub ready_is : ready' ≡ record { thread = ready.thread; step = ready.step + 1 }
-
--- and what its seat has seen then
-pub record HasSeen (plan : Plan) (ready : ReadyOf) (position : ℕ) (old new : SeenOf) (kept : ReplyOf) : Type 0 where
-  pub row : new.known.row ≡ old.known.row
   pub entry : Commit
   pub own : entry.thread ≡ ready.thread
   pub step : entry.step ≡ ready.step
-  pub kept_is : kept ≡ reply_at position entry
-  pub seen : SeesOwn ready.thread position entry old.log new.log
+  pub reply_is : reply_at told.position entry ≡ reply told.position entry.begun call told.outcome told.prints.items
+  pub above : length old.log ≤ entry.begun
+  pub at_most : entry.begun ≤ told.position
+  pub row : new.known.row ≡ old.known.row
+  pub seen : SeesOwn ready.thread told.position entry old.log new.log
   pub sound : IsSound plan new.log
 
 -- ---- scripts

@@ -4,7 +4,8 @@ ghost use Rattle.std.specs.Prelude.{◌≡◌, ◌<◌, ℕ, length, slice_get, 
 ghost use Rattle.workers.specs.Rows.{GrowsTo, AreAlike, name_at, chunk_of, offset_of};
 
 use crate::naming::Naming;
-use crate::row::{CHUNKS, Chunk, Row, TrueCopy};
+use crate::row::{CHUNKS, Chunk, CopyCell, Row, TrueCopy};
+use boxcar::slot::Written;
 use history::entry::Entry;
 use source::memory::NoMemory;
 use std::alloc::Global;
@@ -126,7 +127,7 @@ impl<'r, J: Naming> Known<'r, J> {
     }
 
     /// The cell at a place, if its chunk is known.
-    pub fn cell(&self, at: usize) -> Option<&'r OnceLock<TrueCopy<J>>>
+    pub fn cell(&self, at: usize) -> Option<&'r CopyCell<J>>
         ensures { MatchOption result (name_at self.now.chunks at ≡ None) (λ cell. name_at self.now.chunks at ≡ Some cell.now.id) }
     {
         let (number, offset) = place(at);
@@ -141,7 +142,7 @@ impl<'r, J: Naming> Known<'r, J> {
     }
 
     /// The copy at a place, of whose cell there is a token.
-    pub fn copy(&self, at: usize, token: &OnceToken<'r, TrueCopy<J>>) -> &'r Entry
+    pub fn copy(&self, at: usize, token: &Written<TrueCopy<J>>) -> &'r Entry
         requires { name_at self.now.chunks at ≡ Some token.now.of }
         ensures { result.now ≡ token.now.value }
     {

@@ -26,6 +26,7 @@ pub mod guarded;
 mod known;
 pub mod naming;
 mod parking;
+mod print_rooms;
 pub mod row;
 pub mod seat;
 mod seating;

@@ -2,12 +2,20 @@
 
 use crossbeam_utils::sync::{Parker, Unparker};
 use std::alloc::{AllocError, Global};
-use std::sync::Wait;
+use std::hint::spin_loop;
+use std::sync::atomic::{AtomicBool, Ordering};
+use std::sync::{Arc, Wait};
+
+/// How often a thread looks whether it was woken before it sleeps. To sleep and to be woken are two calls of the system,
+/// which take longer than most sections hold their locks.
+const LOOKS: u32 = 200;
 
 /// Where one thread waits.
 #[derive(Drop)]
 pub struct Parking {
     parker: Parker,
+    // Whether it was woken. It says when to look no more; whether the thread goes on, the parker says.
+    woken: Arc<AtomicBool, Global>,
 }
 
 unsafe impl Send for Parking {}
@@ -20,7 +28,8 @@ impl Parking {
     /// Want of memory.
     pub fn new(alloc: Global) -> Result<Parking, AllocError> {
         let parker = Parker::new(alloc)?;
-        Ok(Parking { parker })
+        let woken = Arc::new(alloc, AtomicBool::new(false))?;
+        Ok(Parking { parker, woken })
     }
 
     /// What ends the waiting here.
@@ -30,12 +39,20 @@ impl Parking {
     /// Want of memory.
     pub fn waking(&self) -> Result<Waking, AllocError> {
         let unparker = self.parker.unparker().clone()?;
-        Ok(Waking { unparker })
+        let woken = Arc::try_clone(&self.woken)?;
+        Ok(Waking { unparker, woken })
     }
 
     /// Waits until it is woken, or goes on at once if it was woken since it waited last.
     pub fn wait<R: Wait>(&self, rt: &R) {
+        for _ in 0..LOOKS {
+            if self.woken.load(Ordering::SeqCst) {
+                break;
+            }
+            spin_loop();
+        }
         self.parker.park(rt);
+        self.woken.store(false, Ordering::SeqCst);
     }
 }
 
@@ -43,6 +60,7 @@ impl Parking {
 #[derive(Drop)]
 pub struct Waking {
     unparker: Unparker,
+    woken: Arc<AtomicBool, Global>,
 }
 
 unsafe impl Send for Waking {}
@@ -51,6 +69,7 @@ unsafe impl Sync for Waking {}
 
 impl Waking {
     fn wake(&self) {
+        self.woken.store(true, Ordering::SeqCst);
         self.unparker.unpark();
     }
 }

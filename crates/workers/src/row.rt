@@ -4,6 +4,8 @@ ghost use Rattle.std.specs.Prelude.{◌≡◌, slice_get, Some, None, MatchOptio
 ghost use Rattle.history.specs.Commits.{IsTrueCommit};
 
 use crate::naming::Naming;
+use boxcar::slot::{OnceSlot, SlotRule};
+use boxcar::tag::Tag;
 use history::entry::Entry;
 use source::memory::NoMemory;
 use std::alloc::Global;
@@ -50,10 +52,22 @@ impl<J: Naming> TrueCopy<J> {
     }
 }
 
+/// What is asked of a copy that is set: nothing that its type doesn't say.
+pub(crate) struct AnyCopy;
+
+impl<J: Naming> SlotRule<TrueCopy<J>> for AnyCopy {
+    ghost use Rattle.std.specs.Prelude.{⊤};
+
+    ghost holds = { λ _ _. ⊤ };
+}
+
+/// Where a copy is set once. A `OnceLock` would call the system each time, to wake who waits for it; here nobody waits.
+pub(crate) type CopyCell<J> = OnceSlot<TrueCopy<J>, AnyCopy>;
+
 /// Cells for copies, each of which is written once. As a value it is the names of the cells.
 #[derive(Drop)]
 pub(crate) struct Chunk<J: Naming> {
-    cells: Vec<OnceLock<TrueCopy<J>>>,
+    cells: Vec<CopyCell<J>>,
 }
 
 impl<J: Naming> Model for Chunk<J> {
@@ -72,8 +86,9 @@ impl<J: Naming> Chunk<J> {
     /// Want of memory.
     pub fn new(alloc: Global, count: usize) -> Result<Chunk<J>, NoMemory> {
         let mut cells = Vec::with_capacity(alloc, count)?;
+        let tag = Tag::empty();
         for _ in 0..count {
-            cells.push(OnceLock::new())?;
+            cells.push(OnceSlot::new(&tag))?;
         }
         Ok(Chunk { cells })
     }
@@ -84,7 +99,7 @@ impl<J: Naming> Chunk<J> {
     }
 
     /// The cell that stands there, if there is one.
-    pub fn cell(&self, offset: usize) -> Option<&OnceLock<TrueCopy<J>>>
+    pub fn cell(&self, offset: usize) -> Option<&CopyCell<J>>
         ensures { MatchOption result (slice_get self.now offset ≡ None) (λ cell. slice_get self.now offset ≡ Some cell.now.id) }
     {
         if offset >= self.cells.len() {

@@ -7,10 +7,10 @@ ghost use Rattle.workers.specs.Answers.{IsSound};
 use crate::naming::Naming;
 use crate::parking::Parking;
 use crate::seen::Seen;
-use core_lang::value::{Outcome, Value};
+use core_lang::value::Outcome;
 use runner::states::Ready;
 use source::memory::NoMemory;
-use std::alloc::{AllocError, Global};
+use std::alloc::AllocError;
 use std::marker::Model;
 
 /// What a call answers.
@@ -45,69 +45,38 @@ impl From<NoMemory> for CallRefusal {
     }
 }
 
-/// What a seat keeps of an answered call.
-#[derive(Drop)]
-pub(crate) struct Reply {
-    pub(crate) position: usize,
-    // How long the history was when it began.
-    pub(crate) begun: usize,
-    pub(crate) section: usize,
-    pub(crate) arguments: Vec<Value>,
-    pub(crate) outcome: Outcome,
-    pub(crate) prints: Vec<i64>,
-}
-
-impl Model for Reply {
-    ghost use Rattle.workers.specs.Seats.{ReplyOf};
-
-    ghost Value = { ReplyOf };
-
-    ghost view = { λ r. record {
-      position = r.position;
-      begun = r.begun;
-      call = record { section = r.section; arguments = r.arguments.items };
-      outcome = r.outcome;
-      prints = r.prints.items;
-    } };
-}
-
 /// A thread's place at a [`crate::shared::Shared`]. As a value it is the thread, the answers to its calls, in order, and
-/// what it has seen of the row.
+/// what it has seen of the row. The answers are those that its own entries give among what it has seen.
 #[derive(Drop)]
 pub struct Seat<'r, J: Naming> {
     // The number of its next call is that of its answers: only a release raises it.
     pub(crate) ready: Ready,
     pub(crate) parking: Parking,
-    pub(crate) answers: Vec<Reply>,
     pub(crate) seen: Seen<'r, J>,
 }
 
 impl<'r, J: Naming> Model for Seat<'r, J> {
     ghost use Rattle.workers.specs.Seats.{SeatOf};
+    ghost use Rattle.workers.specs.Answers.{replies_of};
     ghost use Rattle.workers.specs.Within.{IsSeat};
 
     ghost Value = { SeatOf };
 
     ghost view = { λ s. record {
       thread = s.ready.thread;
-      answers = s.answers.items;
+      answers = replies_of s.ready.thread 0 s.seen.log;
       row = s.seen.known.row;
       seen = s.seen.log;
     } };
 
-    ghost invariant = { λ s. IsSeat s.ready.thread s.ready.step s.answers.items s.seen.log };
+    ghost invariant = { λ s. IsSeat s.ready.thread s.ready.step s.seen.log };
 }
 
 impl<'r, J: Naming> Seat<'r, J> {
     ghost use Rattle.std.specs.Prelude.{◌≡◌, ◌<◌, []};
 
     // A thread's place before its first call.
-    pub(crate) fn new(
-        alloc: Global,
-        thread: u32,
-        parking: Parking,
-        seen: Seen<'r, J>,
-    ) -> Seat<'r, J>
+    pub(crate) fn new(thread: u32, parking: Parking, seen: Seen<'r, J>) -> Seat<'r, J>
         requires few { thread < 64 }
         requires none { seen.log ≡ [] }
         ensures { result ≡ new_seat seen.entry.known.row thread }
@@ -115,7 +84,6 @@ impl<'r, J: Naming> Seat<'r, J> {
         Seat {
             ready: Ready::new(thread),
             parking,
-            answers: Vec::new(alloc),
             seen,
         }
     }
@@ -132,7 +100,7 @@ impl<'r, J: Naming> Seat<'r, J> {
     pub(crate) fn is_new(&self) -> bool
         ensures { IsTrue result → self.now.answers ≡ [] }
     {
-        self.answers.is_empty()
+        self.ready.step() == 0
     }
 
     /// What it has seen is a legal list of true entries.

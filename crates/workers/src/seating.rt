@@ -67,6 +67,6 @@ impl<'r, 'p, J: Naming> Seating<'r, 'p, J> {
         ensures { IfOk result (λ s. s ≡ new_seat self.now.row.now thread) }
     {
         let seen = Seen::none(self.alloc, self.row, self.program)?;
-        Ok(Seat::new(self.alloc, thread, parking, seen))
+        Ok(Seat::new(thread, parking, seen))
     }
 }

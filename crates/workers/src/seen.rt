@@ -10,13 +10,14 @@ use crate::known::Known;
 use crate::naming::Naming;
 use crate::row::{Row, TrueCopy};
 use crate::values::{agrees_with, enter, open_again, opening_values};
+use boxcar::slot::Written;
 use core_lang::value::Value;
 use history::entries::History;
 use lowering::compiled::Program;
 use source::memory::NoMemory;
 use std::alloc::Global;
 use std::marker::Model;
-use std::sync::{OnceToken, Wait};
+use std::sync::Wait;
 
 // For so many tokens there is room from the start: they take no bytes.
 const MANY: usize = 1 << 62;
@@ -26,7 +27,7 @@ const MANY: usize = 1 << 62;
 #[derive(Drop)]
 pub struct Seen<'r, J: Naming> {
     known: Known<'r, J>,
-    tokens: Vec<OnceToken<'r, TrueCopy<J>>>,
+    tokens: Vec<Written<TrueCopy<J>>>,
     values: Vec<Value>,
 }
 
@@ -163,7 +164,7 @@ impl<'r, J: Naming> Seen<'r, J> {
         let Some(cell) = self.known.cell(at) else {
             return false;
         };
-        let Ok(token) = cell.try_set(copy) else {
+        let Ok(token) = cell.set_written(copy) else {
             return false;
         };
         let entry = cell.value(&token).entry();
@@ -245,7 +246,7 @@ impl<'r, J: Naming> Seen<'r, J> {
 // Makes the writes of all copies, from the first one on.
 fn write_copies<'r, J: Naming>(
     known: &Known<'r, J>,
-    tokens: &Vec<OnceToken<'r, TrueCopy<J>>>,
+    tokens: &Vec<Written<TrueCopy<J>>>,
     values: &mut Vec<Value>,
 )
     requires { AreAt known.now.chunks 0 (map (λ t. t.of) tokens.now.items) }

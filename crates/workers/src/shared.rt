@@ -8,18 +8,19 @@ ghost use Rattle.runner.specs.Opens.{IsItsEntry, IsSame, ready_again};
 ghost use Rattle.workers.specs.Seats.{AllBelow, Gains, new_seats};
 ghost use Rattle.workers.specs.Answers.{IsAnswer, IsSeated, IsHistoryOf, IsSound, AnswersAreIn, as_call};
 ghost use Rattle.workers.specs.Seen.{Begins, Sees, SeenIsIn};
-ghost use Rattle.workers.specs.Within.{HasAnswer, HasBegun, HasSeen, IsEntered};
+ghost use Rattle.workers.specs.Within.{HasAnswer, HasBegun, IsEntered};
 ghost use Rattle.workers.specs.Rows.{IsSameSeen, SeesOwn};
 
 use crate::answer_room::AnswerRoom;
 use crate::closed::{Closed, Strange};
-use crate::closing::{all_answered, all_seen, are_seated};
+use crate::closing::{all_in, are_seated};
 use crate::gate::Gate;
 use crate::guarded::Guarded;
 use crate::naming::Naming;
 use crate::parking::{Parking, Wakings};
+use crate::print_rooms::PrintRooms;
 use crate::row::Row;
-use crate::seat::{CallRefusal, Done, Reply, Seat};
+use crate::seat::{CallRefusal, Done, Seat};
 use crate::seating::Seating;
 use crate::seen::Seen;
 use core_lang::value::Value;
@@ -39,15 +40,15 @@ pub struct Shared<'p, J: Naming> {
     program: &'p Program,
     guarded: Mutex<Guarded<'p, J>>,
     wakings: Wakings,
+    print_rooms: PrintRooms,
     ghost is: { program.now ≡ J.plan },
 }
 
-// A call of a section, which is to begin when the history is at least as long as the floor, and where its thread waits.
+// A call of a section, and where its thread waits.
 #[derive(Clone, Copy)]
 struct Request<'a> {
     section: usize,
     arguments: &'a [Value],
-    floor: usize,
     parking: &'a Parking,
 }
 
@@ -74,6 +75,7 @@ impl<'p, J: Naming> Shared<'p, J> {
             program,
             guarded: Mutex::new(guarded),
             wakings: Wakings::new(wakings),
+            print_rooms: PrintRooms::of(alloc, program.code())?,
         };
         Ok((shared, seats))
     }
@@ -112,19 +114,16 @@ impl<'p, J: Naming> Shared<'p, J> {
         ensures row { seat.new.row ≡ seat.old.row }
         ensures err { OnErr result (seat.new ≡ seat.old) }
     {
-        seat.answers.reserve(1)?;
         let thread = seat.ready.thread();
         let ready = std::mem::replace(&mut seat.ready, Ready::new(thread));
         let request = Request {
             section,
             arguments,
-            floor: seat.seen.len(),
             parking: &seat.parking,
         };
         match self.run(rt, ready, request, &mut seat.seen, gate) {
-            Ok((ready, reply, done)) => {
+            Ok((ready, done)) => {
                 seat.ready = ready;
-                seat.answers.push_reserved(reply);
                 Ok(done)
             }
             Err((ready, refusal)) => {
@@ -142,12 +141,11 @@ impl<'p, J: Naming> Shared<'p, J> {
         request: Request<'_>,
         seen: &mut Seen<'_, J>,
         gate: &G,
-    ) -> Result<(Ready, Reply, Done), (Ready, CallRefusal)>
+    ) -> Result<(Ready, Done), (Ready, CallRefusal)>
         requires thread { ready.thread < 64 }
         requires fits { CanCall J.plan.program request.section request.arguments.now }
         ensures answer { let call = as_call request.entry.section request.entry.arguments.now in
-            IfOk result (λ r. HasAnswer J.plan call request.entry.floor ready r.0 r.1 r.2) }
-        ensures seen { IfOk result (λ r. HasSeen J.plan ready r.2.position seen.old seen.new r.1) }
+            IfOk result (λ r. HasAnswer J.plan call ready seen.old r.0 r.1 seen.new) }
         ensures err { IfErr result (λ r. r.0 ≡ ready) }
         ensures same { OnErr result (IsSameSeen seen.old seen.new) }
     {
@@ -158,14 +156,13 @@ impl<'p, J: Naming> Shared<'p, J> {
             Ok(ended) => ended,
             Err(ready) => return Err((ready, CallRefusal::Strange)),
         };
-        let Some((mut reply, mut done, copy)) = room.of(ended.entry()) else {
+        let Some((mut done, copy)) = room.of(ended.entry()) else {
             return Err((self.give_up(rt, ended), CallRefusal::Strange));
         };
-        match self.finish(rt, request.floor, ended, copy, seen) {
+        match self.finish(rt, ended, copy, seen) {
             Ok((ready, position)) => {
-                reply.position = position;
                 done.position = position;
-                Ok((ready, reply, done))
+                Ok((ready, done))
             }
             Err(ready) => Err((ready, CallRefusal::Strange)),
         }
@@ -182,13 +179,15 @@ impl<'p, J: Naming> Shared<'p, J> {
         requires thread { ready.thread < 64 }
         requires fits { CanCall J.plan.program request.section request.arguments.now }
         ensures ok { let call = as_call request.entry.section request.entry.arguments.now in
-            IfOk result (λ r. HasBegun J.plan call ready r.0 r.1) }
+            IfOk result (λ r. HasBegun J.plan call ready r.1) }
         ensures err { IfErr result (λ r. r.0 ≡ ready) }
         ensures same { IsSameSeen seen.old seen.new }
     {
         let alloc = self.alloc;
+        let arguments = request.arguments.len();
         let cells = self.program.room(request.section).cells;
-        let Ok(room) = AnswerRoom::new(alloc, request.arguments, cells) else {
+        let prints = self.print_rooms.room(request.section);
+        let Ok(room) = AnswerRoom::new(alloc, arguments, cells, prints) else {
             return Err((ready, CallRefusal::NoMemory));
         };
         let poised = match ready.prepare(alloc, self.program, request.section, request.arguments) {
@@ -245,28 +244,27 @@ impl<'p, J: Naming> Shared<'p, J> {
         unreachable!()
     }
 
-    // Enters the entry of a section, and wakes who waits first for each of its locks. Errors: it doesn't fit, or a copy
-    // isn't there, or isn't what it should be; the section has ended without an entry.
+    // Enters the entry of a section that began when the history was at least as long as what its seat has seen, and wakes
+    // who waits first for each of its locks. Errors: it doesn't fit, or a copy isn't there, or isn't what it should be; the
+    // section has ended without an entry.
     fn finish<R: Wait>(
         &self,
         rt: &R,
-        floor: usize,
         ended: Ended<'p>,
         copy: Entry,
         seen: &mut Seen<'_, J>,
     ) -> Result<(Ready, usize), Ready>
         requires plan { ended.plan ≡ J.plan }
         requires copy { IsItsEntry ended copy }
-        ensures entered { IfOk result (λ r. IsEntered J.plan floor ended.entry r.1) }
+        ensures entered { IfOk result (λ r. IsEntered J.plan (length seen.old.log) ended.entry r.1) }
         ensures row { seen.new.known.row ≡ seen.old.known.row }
         ensures own { IfOk result (λ r. SeesOwn ended.entry.thread r.1 copy seen.old.log seen.new.log) }
         ensures sound { OnOk result (IsSound J.plan seen.new.log) }
-        ensures small { IfOk result (λ r. r.1 + 1 < 2 ^ 64) }
         ensures ok { IfOk result (λ r. r.0 ≡ record { thread = ended.entry.thread; step = ended.entry.step + 1 }) }
         ensures err { IfErr result (λ ready. ready ≡ ready_again ended.entry) }
         ensures same { OnErr result (seen.new.log ≡ seen.old.log) }
     {
-        let count = seen.len();
+        let floor = seen.len();
         // What is there is seen while other threads may go on, so that little is left to see under the Mutex.
         seen.catch_up(copy.thread());
         let finished = self.guarded.lock(rt).finish(floor, ended, copy, seen);
@@ -277,7 +275,7 @@ impl<'p, J: Naming> Shared<'p, J> {
                 Ok((ready.keep(receipt), position))
             }
             Err(ready) => {
-                seen.go_back(self.program, count);
+                seen.go_back(self.program, floor);
                 self.wakings.wake_all();
                 Err(ready)
             }
@@ -332,6 +330,7 @@ impl<'p, J: Naming> Shared<'p, J> {
             program,
             guarded,
             wakings: _,
+            print_rooms: _,
         } = self;
         let _typed = program.typed();
         let Some(manager) = guarded.into_inner().into_manager() else {
@@ -339,13 +338,10 @@ impl<'p, J: Naming> Shared<'p, J> {
         };
         manager.keeps_its_rules();
         let history = manager.history();
-        if !all_answered(seats.as_slice(), history) {
+        if !all_in(seats.as_slice(), history) {
             return Err(Strange);
         }
         if !are_seated(seats.as_slice(), history) {
-            return Err(Strange);
-        }
-        if !all_seen(seats.as_slice(), history) {
             return Err(Strange);
         }
         Ok(Closed { manager })

@@ -16,5 +16,5 @@ pub returns-in-Err-clause-same : goal.returns-in-Err-clause-same
 returns-in-Err-clause-same g c =
     let before = others_begin c.thread.result c.args.seen.now.log c.catch_up.new.self.log c.catch_up.ensures.seen in
     c.go_back.ensures.log
-    ∙ gone_back c.args.seen.now.log _ c.len-count.result
-    (begins-trans c.args.seen.now.log c.catch_up.new.self.log _ before c.in-Err.ensures.more.log) c.len-count.ensures
+    ∙ gone_back c.args.seen.now.log _ c.len-floor.result
+    (begins-trans c.args.seen.now.log c.catch_up.new.self.log _ before c.in-Err.ensures.more.log) c.len-floor.ensures
