@@ -10,8 +10,9 @@ use Rattle.source.specs.declared.fault.Code.TheVariants.{UnstableBase}
 use Rattle.source.specs.declared.memory.NoMemory.{NoMemory}
 use Rattle.resolution.specs.Faults.{IsDeclaredTwice, PassesNonFinal}
 use Rattle.syntax.specs.Trees.{Decl}
+use Rattle.name_notes.specs.TypeNotes.{IsTypeNote}
 use Rattle.fault_notes.specs.declared.tree_notes.Faulty.{Faulty}
-use Rattle.fault_notes.specs.FaultNotes.{IsTrueNote, IsTold, IsDeclaredNote, IsLimitNote, IsLockNote, IsLockWanted, IsPassedNote, IsGivenNote, IsGivenAgain, declared_note, lock_note, passed_note, given_note}
+use Rattle.fault_notes.specs.FaultNotes.{IsTrueNote, IsTold, IsDeclaredNote, IsLimitNote, HasTypeNote, IsLockNote, IsLockWanted, IsPassedNote, IsGivenNote, IsGivenAgain, declared_note, lock_note, passed_note, given_note}
 use Rattle.fault_notes.specs.LimitsPassed.{IsLimitPassed}
 use Rattle.fault_notes.specs.VarsFound.{var_noted}
 use Rattle.fault_notes.specs.Words.{note_of_all}
@@ -48,6 +49,9 @@ module _ (decls : List Decl) (at : ℕ) where
   twice_told twice =
       let f = first_of_twice decls at twice in
       (declared_note f.0, record { name = f.0; declared = f.1; said = refl })
+
+  pub type_told : HasTypeNote decls at → (note : Note) × IsTypeNote decls at note
+  type_told said = (said.note, said.is_true)
 
   pub lock_told : IsLockWanted decls at → (note : Note) × IsLockNote decls at note
   lock_told wanted =

@@ -8,9 +8,10 @@ use Rattle.resolution.specs.Scopes.{member_name}
 use Rattle.resolution.specs.Where.{Has}
 use Rattle.resolution.specs.declared.init_target.InitTarget.{InitTarget}
 use Rattle.source.specs.declared.fault.Code.{Code}
-use Rattle.source.specs.declared.fault.Code.TheVariants.{DeclaredTwice, NeitherFinalNorProtected, ProtectedByPassesNonFinal, UnstableBase, LimitExceeded, FinalWithoutOpeningValue, InitOutOfRangeOrRepeated, MisplacedReturn}
+use Rattle.source.specs.declared.fault.Code.TheVariants.{DeclaredTwice, WrongType, NeitherFinalNorProtected, ProtectedByPassesNonFinal, UnstableBase, LimitExceeded, FinalWithoutOpeningValue, InitOutOfRangeOrRepeated, MisplacedReturn}
 use Rattle.source.specs.Tokens.{Tok}
 use Rattle.syntax.specs.Trees.{Ident, Final, Init, Member, Pool, Decl, lock, init}
+use Rattle.name_notes.specs.TypeNotes.{IsTypeNote}
 use Rattle.fault_notes.specs.Inits.{IsGivenFirst}
 use Rattle.fault_notes.specs.LimitsPassed.{IsLimitPassed}
 use Rattle.fault_notes.specs.LocksAtHand.{IsAtHand}
@@ -99,6 +100,7 @@ pub data IsReturnNote (decls : List Decl) (at : ℕ) : Note → Type 0 where
 -- of a fault of this code at this byte of the tokens and their tree, the note says what is so
 abbrev pub IsTrueNote : List Tok → List Decl → Code → ℕ → Note → Type 0
 IsTrueNote tokens decls DeclaredTwice at note = IsDeclaredNote decls at note
+IsTrueNote tokens decls WrongType at note = IsTypeNote decls at note
 IsTrueNote tokens decls NeitherFinalNorProtected at note = IsLockNote decls at note
 IsTrueNote tokens decls ProtectedByPassesNonFinal at note = IsPassedNote decls at note
 IsTrueNote tokens decls UnstableBase at note = IsVarNote tokens decls at note
@@ -109,6 +111,11 @@ IsTrueNote tokens decls MisplacedReturn at note = IsReturnNote decls at note
 IsTrueNote tokens decls code at note = ⊥
 
 -- ---- where one must be told
+
+-- something can be said of types there
+pub record HasTypeNote (decls : List Decl) (at : ℕ) : Type 0 where
+  pub note : Note
+  pub is_true : IsTypeNote decls at note
 
 -- something there lacks an annotation, and the top level has a lock
 pub record IsLockWanted (decls : List Decl) (at : ℕ) : Type 0 where
@@ -124,6 +131,7 @@ pub data IsGivenAgain (decls : List Decl) : ℕ → Type 0 where
 
 abbrev pub IsTold : List Tok → List Decl → Code → ℕ → Type 0
 IsTold tokens decls DeclaredTwice at = IsDeclaredTwice decls at
+IsTold tokens decls WrongType at = HasTypeNote decls at
 IsTold tokens decls NeitherFinalNorProtected at = IsLockWanted decls at
 IsTold tokens decls ProtectedByPassesNonFinal at = PassesNonFinal decls at
 IsTold tokens decls UnstableBase at = (x : Ident) × IsVarThere tokens decls at x

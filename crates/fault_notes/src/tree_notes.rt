@@ -7,6 +7,7 @@ ghost use Rattle.source.specs.declared.fault.Code.TheVariants.{FinalWithoutOpeni
 ghost use Rattle.symbols.specs.{decls_of as decls_in};
 ghost use Rattle.syntax.specs.Views.{decl_of};
 ghost use Rattle.resolution.specs.Scopes.{has_body};
+ghost use Rattle.name_notes.specs.TypeNotes.{IsTypeNote};
 ghost use Rattle.fault_notes.specs.FaultNotes.{AreNotes, IsDeclaredNote, IsGivenNote, IsLimitNote, IsLockNote, IsPassedNote, IsReturnNote};
 ghost use Rattle.fault_notes.specs.NameSpaces.{IsDeclaredAs, IsDeclaredIn};
 ghost use Rattle.fault_notes.specs.VarsFound.{note_of_var, var_noted};
@@ -24,6 +25,7 @@ use crate::same_names::{first_of_others, first_of_same};
 use crate::tokens_there::{has_two_fields, name_of, token_at, token_of};
 use crate::vars::{all_of, section_there, some_assigns, var_named};
 use explanation::Note;
+use name_notes::type_note;
 use source::fault::Code;
 use source::memory::NoMemory;
 use source::token::Token;
@@ -150,6 +152,15 @@ impl<'a> Faulty<'a> {
         Ok(Some(note))
     }
 
+    // Which type is wanted, and which is there.
+    fn type_note(&self, alloc: Global) -> Result<Option<Note>, NoMemory>
+        ensures { IfOk result (FoundNote (IsTypeNote (decls_of self.now) self.now.at)) }
+    {
+        let symbols = self.symbols(alloc)?;
+        let note = type_note(alloc, &symbols, self.at)?;
+        Ok(note)
+    }
+
     // NAME is a `var`, and whether a `let` would do.
     fn var_note(&self, alloc: Global) -> Result<Option<Note>, NoMemory>
         ensures { IfOk result (λ note. option_map note_of note ≡ var_noted (tokens_of self.now) (decls_of self.now) self.now.at) }
@@ -231,6 +242,7 @@ impl<'a> Faulty<'a> {
     {
         match code {
             Code::DeclaredTwice => self.declared_note(alloc),
+            Code::WrongType => self.type_note(alloc),
             Code::NeitherFinalNorProtected => self.lock_note(alloc),
             Code::ProtectedByPassesNonFinal => self.passed_note(alloc),
             Code::UnstableBase => self.var_note(alloc),

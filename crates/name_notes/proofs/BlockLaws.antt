@@ -1,0 +1,96 @@
+-- Blocks, as the code reads them.
+use Rattle.std.proofs.Common.{◌≡◌, Global, ℕ, List, ◌++◌, Option, length, refl, sym, ap, ◌∙◌}
+use Rattle.std.specs.Prelude.{Box}
+use Rattle.explanation.specs.Notes.{Note}
+use Rattle.syntax.specs.declared.tree.Stmt as tree_stmt
+use Rattle.syntax.specs.declared.tree.Stmt.{While, If}
+use Rattle.syntax.specs.declared.tree.If as tree_if
+use Rattle.syntax.specs.declared.tree.If.{out-If}
+use Rattle.syntax.specs.declared.tree.While as tree_while
+use Rattle.syntax.specs.Rows.{while_of, stmt_of-While, if_of-out}
+use Rattle.syntax.specs.Trees.{Decl, Stmt, let_local, let_owned, let_call, var_local, assign, if_then, while, print, return_value, call, Stmts, no_stmts, stmt, no_else, else_do}
+use Rattle.syntax.specs.Views.{expr_of, stmt_of, if_of, stmts_of, else_of}
+use Rattle.core_lang.specs.declared.value.ValueType as core_type
+use Rattle.resolution.specs.declared.body_limits.BodyLimits.{BodyLimits}
+use Rattle.resolution.specs.Scopes.{Scope, hidden_from, left}
+use Rattle.resolution.specs.Statements.{after, after_else, after_all}
+use Rattle.resolution.specs.Facts.{after_result}
+use Rattle.name_notes.specs.Searches.{in_blocks, in_else, of_stmts}
+use Rattle.name_notes.proofs.NoteSteps.{two}
+
+-- ---- what stays behind statements
+
+after_decls : (sc : Scope) (s : Stmt) → (after sc s).decls ≡ sc.decls
+after_decls sc (let_local l) = refl
+after_decls sc (let_owned l o) = refl
+after_decls sc (let_call l) = refl
+after_decls sc (var_local l) = refl
+after_decls sc (assign p e) = refl
+after_decls sc (if_then start e body close no_else) = refl
+after_decls sc (if_then start e body close (else_do other end)) = refl
+after_decls sc (while start e body close) = refl
+after_decls sc (print start e) = refl
+after_decls sc (return_value start e) = refl
+after_decls sc (call start c) = refl
+
+all_decls : (sc : Scope) (ss : Stmts) → (after_all sc ss).decls ≡ sc.decls
+all_decls sc no_stmts = refl
+all_decls sc (stmt s rest) = all_decls (after sc s) rest ∙ after_decls sc s
+
+all_result : (sc : Scope) (ss : Stmts) → (after_all sc ss).result ≡ sc.result
+all_result sc no_stmts = refl
+all_result sc (stmt s rest) = all_result (after sc s) rest ∙ after_result sc s
+
+after_limits : (sc : Scope) (s : Stmt) → (after sc s).limits ≡ sc.limits
+after_limits sc (let_local l) = refl
+after_limits sc (let_owned l o) = refl
+after_limits sc (let_call l) = refl
+after_limits sc (var_local l) = refl
+after_limits sc (assign p e) = refl
+after_limits sc (if_then start e body close no_else) = refl
+after_limits sc (if_then start e body close (else_do other end)) = refl
+after_limits sc (while start e body close) = refl
+after_limits sc (print start e) = refl
+after_limits sc (return_value start e) = refl
+after_limits sc (call start c) = refl
+
+all_limits : (sc : Scope) (ss : Stmts) → (after_all sc ss).limits ≡ sc.limits
+all_limits sc no_stmts = refl
+all_limits sc (stmt s rest) = all_limits (after sc s) rest ∙ after_limits sc s
+
+-- behind a block, whose locals are hidden
+pub left_is : (sc inner new : Scope) (number : ℕ) (ss : Stmts) → number ≡ length sc.locals → inner ≡ after_all sc ss → new ≡ record inner { locals = hidden_from number inner.locals } →
+    new ≡ left sc (after_all sc ss)
+left_is sc inner new number ss here within made =
+    let end = after_all sc ss in
+    made ∙ ap (λ (z : Scope). record z { locals = hidden_from number z.locals }) within
+    ∙ ap (λ (n : ℕ). record end { locals = hidden_from n end.locals }) here
+    ∙ ap (λ (ds : List Decl). record { decls = ds; locals = hidden_from (length sc.locals) end.locals; result = end.result; limits = end.limits }) (all_decls sc ss)
+    ∙ ap (λ (r : Option core_type.ValueType). record { decls = sc.decls; locals = hidden_from (length sc.locals) end.locals; result = r; limits = end.limits }) (all_result sc ss)
+    ∙ ap (λ (l : BodyLimits). record { decls = sc.decls; locals = hidden_from (length sc.locals) end.locals; result = sc.result; limits = l }) (all_limits sc ss)
+
+-- ---- loops and choices, read through the box
+
+pub while_seen : (s : tree_stmt.Stmt) (b : Box tree_while.While Global) (x : tree_while.While) → s ≡ While b → x ≡ b.value → while_of x ≡ stmt_of s
+while_seen s b x is here = ap while_of here ∙ sym (ap stmt_of is ∙ stmt_of-While b)
+
+pub if_seen : (s : tree_stmt.Stmt) (b : Box tree_if.If Global) (x : tree_if.If) → s ≡ If b → x ≡ b.value →
+    if_then (out-If x).start (expr_of (out-If x).condition) (stmts_of (out-If x).block.stmts.items) (out-If x).block.close (else_of (out-If x).otherwise) ≡ stmt_of s
+if_seen s b x is here = sym (if_of-out x) ∙ ap if_of here ∙ sym (ap stmt_of is)
+
+-- a choice by its parts, where the scope behind its block is sc2
+module _ (say : Scope → Stmt → List Note) (sc sc2 : Scope) (s : tree_stmt.Stmt) (b : Box tree_if.If Global) (x y : tree_if.If) (is : s ≡ If b) (here : x ≡ b.value) (there : y ≡ b.value)
+    (left_behind : sc2 ≡ left sc (after_all sc (stmts_of (out-If x).block.stmts.items))) where
+  pub if_notes : (xs ys zs : List Note) → ys ≡ xs ++ of_stmts say sc (stmts_of (out-If x).block.stmts.items) → zs ≡ ys ++ in_else say sc2 (else_of (out-If y).otherwise) →
+      zs ≡ xs ++ in_blocks say sc (stmt_of s)
+  if_notes xs ys zs ahead behind =
+      let sc3 = left sc (after_all sc (stmts_of (out-If x).block.stmts.items)) in
+      two xs ys zs (of_stmts say sc (stmts_of (out-If x).block.stmts.items)) (in_else say sc3 (else_of (out-If x).otherwise)) ahead
+      (behind ∙ ap (λ z. ys ++ in_else say z (else_of (out-If y).otherwise)) left_behind ∙ ap (λ i. ys ++ in_else say sc3 (else_of (out-If i).otherwise)) (there ∙ sym here))
+      ∙ ap (λ t. xs ++ in_blocks say sc t) (if_seen s b x is here)
+
+  pub if_scope : (end : Scope) → end ≡ after_else sc2 (else_of (out-If y).otherwise) → end ≡ after sc (stmt_of s)
+  if_scope end made =
+      made ∙ ap (λ z. after_else z (else_of (out-If y).otherwise)) left_behind
+      ∙ ap (λ i. after_else (left sc (after_all sc (stmts_of (out-If x).block.stmts.items))) (else_of (out-If i).otherwise)) (there ∙ sym here)
+      ∙ ap (after sc) (if_seen s b x is here)

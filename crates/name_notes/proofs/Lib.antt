@@ -1,0 +1,9 @@
+pub mod Lists
+pub mod ExpressionLaws
+pub mod StatementLaws
+pub mod KindLaws
+pub mod NoteSteps
+pub mod TargetLaws
+pub mod BlockLaws
+pub mod ConstantLaws
+pub mod TypeLaws

@@ -1,0 +1,15 @@
+//! What is told of a fault of names and types beyond its line: types.
+//!
+//! - [`type_note`]: the type that is wanted, and the one that is there: `specs/TypeNotes.antt`.
+#![tactic(auto)]
+
+mod bodies;
+mod const_search;
+mod kinds;
+mod searches;
+mod statements;
+mod targets;
+mod types;
+mod words;
+
+pub use types::type_note;
