@@ -4,7 +4,8 @@ use Rattle.core_lang.specs.declared.value.Value.{Value}
 use Rattle.core_lang.specs.Serial.{Invocation, Ended, SerialFromOpening}
 use Rattle.history.specs.Commits.{Commit, call_of, answer_of, committed}
 use Rattle.lowering.specs.Plans.{Plan}
-use Rattle.workers.specs.Answers.{IsSound, RunsAsAccepted, HasScript, script_at}
+use Rattle.workers.specs.Answers.{RunsAsAccepted, HasScript, script_at}
+use Rattle.entry_copies.specs.Logs.{IsSound}
 
 -- all entries are of calls of this thread
 abbrev pub AreOf : ℕ → List Commit → Type 0

@@ -6,7 +6,7 @@ ghost use Rattle.core_lang.specs.Typing.{HasCells};
 use lowering::compiled::Program;
 use std::test::Fail;
 use workers::closed::Closed;
-use workers::naming::Naming;
+use entry_copies::naming::Naming;
 use workers::seat::{CallRefusal, Done, Seat};
 use workers::shared::Shared;
 

@@ -12,7 +12,7 @@ use std::alloc::Global;
 use std::sync::Wait;
 use std::thread;
 use std::thread::Threads;
-use workers::naming::Naming;
+use entry_copies::naming::Naming;
 use workers::seat::{CallRefusal, Done, Seat};
 use workers::shared::Shared;
 

@@ -2,5 +2,4 @@ pub mod Passing
 pub mod Scripts
 pub mod Guarding
 pub mod Seats
-pub mod Rows
-pub mod CellValues
+pub mod Copies

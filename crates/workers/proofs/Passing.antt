@@ -4,8 +4,8 @@ use Rattle.std.proofs.lemmas.List.{append-nil, drop_at}
 use Rattle.std.proofs.lemmas.List.Elements.{All-nil, All-cons, All-head, All-tail}
 use Rattle.history.specs.Commits.{Commit}
 use Rattle.workers.specs.Seats.{ReplyOf, SeatOf, AllBelow}
-use Rattle.workers.specs.Seen.{Begins, NoneOf}
-use Rattle.workers.specs.Rows.{SeenOf, SeesOwn}
+use Rattle.entry_copies.specs.Logs.{Begins, NoneOf}
+use Rattle.entry_copies.specs.Rows.{SeenOf, SeesOwn}
 use Rattle.workers.specs.Answers.{reply_at, replies_of, in_step}
 use Rattle.workers.specs.Within.{IsSeat, IsIn}
 

@@ -5,15 +5,11 @@ use Rattle.core_lang.specs.declared.value.Value.{Value}
 use Rattle.core_lang.specs.declared.value.Outcome.{Outcome}
 use Rattle.core_lang.specs.Serial.{Invocation, WholeCall, SerialFromOpening}
 use Rattle.core_lang.specs.Typing.{HasCells}
-use Rattle.history.specs.Commits.{Commit, call_of, answer_of, committed, IsLegal, AreTrue}
+use Rattle.history.specs.Commits.{Commit, call_of, answer_of, committed}
 use Rattle.lowering.specs.Plans.{Plan}
 use Rattle.worlds.specs.Worlds.{scripts}
+use Rattle.entry_copies.specs.Logs.{IsSound}
 use Rattle.workers.specs.Seats.{ReplyOf, SeatOf}
-
--- the log is one that the program can make: a legal list of true entries
-pub record IsSound (plan : Plan) (log : List Commit) : Type 0 where
-  pub legal : IsLegal plan.layout.opening log
-  pub true_entries : AreTrue plan.program log
 
 -- there is such a log, as long as the position, after which the call, run whole, ends and prints so
 pub record IsAnswer (plan : Plan) (call : Invocation) (position : ℕ) (outcome : Outcome) (prints : List ℤ) : Type 0

@@ -1,19 +1,10 @@
 -- What a seat has seen.
-use Rattle.std.specs.Prelude.{◌≡◌, ◌≢◌, ℕ, List, [], ◌∷◌, ◌++◌, length}
-use Rattle.std.specs.List.{All}
+use Rattle.std.specs.Prelude.{◌≡◌, List, [], ◌∷◌, ◌++◌, length}
 use Rattle.history.specs.Commits.{Commit}
 use Rattle.lowering.specs.Plans.{Plan}
 use Rattle.workers.specs.Seats.{SeatOf}
-use Rattle.workers.specs.Answers.{IsSound, reply_at}
-
--- a list begins another
-pub record Begins {X : Type 0} (first whole : List X) : Type 0 where
-  pub rest : List X
-  pub is : whole ≡ first ++ rest
-
--- none of the entries is of the thread
-abbrev pub NoneOf : ℕ → List Commit → Type 0
-NoneOf thread log = All (λ (c : Commit). c.thread ≢ thread) log
+use Rattle.workers.specs.Answers.{reply_at}
+use Rattle.entry_copies.specs.Logs.{IsSound, Begins, NoneOf}
 
 -- what a seat has seen after a call: what it had seen before, then entries of other threads, then the call's own. That
 -- is the entry of the answer that the seat has more; it is the thread's, has the number of the answers before it, and

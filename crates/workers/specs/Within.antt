@@ -12,9 +12,10 @@ use Rattle.lowering.specs.Plans.{Plan}
 use Rattle.worlds.specs.Worlds.{call_at}
 use Rattle.runner.specs.Opens.{ReadyOf, PoisedOf, OpenOf, entry_of}
 use Rattle.workers.specs.Seats.{SeatOf, reply}
-use Rattle.workers.specs.Answers.{IsSound, IsAnswer, AnswersAreIn, reply_at, replies_of, in_step, call_in, script_at}
+use Rattle.workers.specs.Answers.{IsAnswer, AnswersAreIn, reply_at, replies_of, in_step, call_in, script_at}
+use Rattle.entry_copies.specs.Logs.{IsSound}
 use Rattle.workers.specs.Seen.{SeenIsIn}
-use Rattle.workers.specs.Rows.{SeenOf, SeesOwn}
+use Rattle.entry_copies.specs.Rows.{SeenOf, SeesOwn}
 use Rattle.workers.specs.declared.seat.Done.{Done}
 
 -- ---- a seat

@@ -3,10 +3,10 @@
 ghost use Rattle.std.specs.Prelude.{◌≤◌, IsTrue, drop, length};
 ghost use Rattle.std.specs.List.{All};
 ghost use Rattle.workers.specs.Answers.{IsSeated};
-ghost use Rattle.workers.specs.Seen.{NoneOf};
+ghost use Rattle.entry_copies.specs.Logs.{NoneOf};
 ghost use Rattle.workers.specs.Within.{IsIn};
 
-use crate::naming::Naming;
+use entry_copies::naming::Naming;
 use crate::seat::Seat;
 use history::entries::History;
 use history::kept::Kept;

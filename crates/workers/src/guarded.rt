@@ -6,14 +6,14 @@ ghost use Rattle.lock_manager.specs.Managers.{opened, askers_of, IsKept, IsQuiet
 ghost use Rattle.runner.specs.Opens.{IsItsEntry, ready_of, ready_again};
 ghost use Rattle.runner.specs.Answers.{GoesOnSame};
 ghost use Rattle.workers.specs.Guarding.{IsManagerOf};
-ghost use Rattle.workers.specs.Answers.{IsSound};
+ghost use Rattle.entry_copies.specs.Logs.{IsSound};
 ghost use Rattle.workers.specs.Within.{IsBegun, IsEntered};
-ghost use Rattle.workers.specs.Rows.{IsSameSeen, SeesMore, SeesOwn};
+ghost use Rattle.entry_copies.specs.Rows.{IsSameSeen, SeesMore, SeesOwn};
 
-use crate::naming::Naming;
-use crate::row::TrueCopy;
+use entry_copies::naming::Naming;
+use entry_copies::row::TrueCopy;
 use crate::seat::CallRefusal;
-use crate::seen::Seen;
+use entry_copies::seen::Seen;
 use history::entry::Entry;
 use lock_manager::manager::Manager;
 use lock_manager::ticket::Receipt;

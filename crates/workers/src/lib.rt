@@ -8,14 +8,13 @@
 //! - [`threads::run_threads`]: one thread for each script of a program; its script's calls are in the history, in order
 //!   and each once.
 //! - [`seat::Seat`]: a thread's place at a [`shared::Shared`], with the answers to its calls and what it has seen.
-//! - [`row::Row`]: where calls leave copies of their entries; [`seen::Seen`]: what a seat has seen of one.
 //! - [`closed::Closed`]: a history that is over.
 //! - [`guarded::Guarded`]: what lies under the Mutex; whenever this is free, nobody waits in a circle.
 //! - [`gate::Gate`]: is told, with no lock held, how far each call has come.
 //!
 //! `specs/` defines a seat as data (`Seats`), what answers and a closed history say (`Answers`), what a call adds to what
-//! its seat has seen (`Seen`) and what the Mutex guards (`Guarding`). `Within` and `Rows` mirror the code, and `NoPlan`
-//! names the empty program: nobody has to believe them.
+//! its seat has seen (`Seen`) and what the Mutex guards (`Guarding`). `Within` mirrors the code: nobody has to believe
+//! it.
 #![tactic(auto)]
 
 mod answer_room;
@@ -23,14 +22,9 @@ pub mod closed;
 mod closing;
 pub mod gate;
 pub mod guarded;
-mod known;
-pub mod naming;
 mod parking;
 mod print_rooms;
-pub mod row;
 pub mod seat;
 mod seating;
-pub mod seen;
 pub mod shared;
 pub mod threads;
-mod values;

@@ -2,11 +2,11 @@
 
 ghost use Rattle.std.specs.Prelude.{◌≡◌, ◌<◌, [], IsTrue};
 ghost use Rattle.workers.specs.Seats.{new_seat};
-ghost use Rattle.workers.specs.Answers.{IsSound};
+ghost use Rattle.entry_copies.specs.Logs.{IsSound};
 
-use crate::naming::Naming;
+use entry_copies::naming::Naming;
 use crate::parking::Parking;
-use crate::seen::Seen;
+use entry_copies::seen::Seen;
 use core_lang::value::Outcome;
 use runner::states::Ready;
 use source::memory::NoMemory;

@@ -3,11 +3,11 @@
 ghost use Rattle.std.specs.Prelude.{◌≡◌, ◌<◌, ◌≤◌, ◌++◌, ◌∷◌, [], IfOk, OnOk};
 ghost use Rattle.workers.specs.Seats.{new_seat, new_seats};
 
-use crate::naming::Naming;
+use entry_copies::naming::Naming;
 use crate::parking::{Parking, Waking};
-use crate::row::Row;
+use entry_copies::row::Row;
 use crate::seat::Seat;
-use crate::seen::Seen;
+use entry_copies::seen::Seen;
 use lowering::compiled::Program;
 use source::memory::NoMemory;
 use std::alloc::Global;

@@ -8,8 +8,8 @@ ghost use Rattle.workers.specs.Within.{AreInOrder, HasCalls, NoCall, IsCall};
 
 use crate::closed::{Closed, Strange};
 use crate::gate::Gate;
-use crate::naming::Naming;
-use crate::row::Row;
+use entry_copies::naming::Naming;
+use entry_copies::row::Row;
 use crate::seat::{CallRefusal, Seat};
 use crate::shared::Shared;
 use core_lang::typed::Call;

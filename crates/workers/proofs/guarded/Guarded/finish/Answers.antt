@@ -5,7 +5,7 @@ use Rattle.runner.specs.Opens.{CanBeReleased}
 use Rattle.workers.specs.Guarding.{IsManagerOf}
 use Rattle.workers.specs.Within.{IsEntered}
 use Rattle.workers.proofs.Guarding.{released_manager, entered}
-use Rattle.workers.proofs.Rows.{own_at}
+use Rattle.workers.proofs.Copies.{own_at}
 use Rattle.workers.proofs.guarded.Guarded.finish.Goals as goal
 
 pub new-requires : goal.new-requires

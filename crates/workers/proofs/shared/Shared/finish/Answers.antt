@@ -1,7 +1,7 @@
 use Rattle.std.proofs.Common.{◌≡◌, ◌∙◌, sym, ap, subst, ℕ}
 use Rattle.history.specs.Commits.{Commit}
-use Rattle.workers.specs.Rows.{SeesOthers, SeesOwn}
-use Rattle.workers.proofs.Rows.{others_own, others_begin, begins-trans, gone_back}
+use Rattle.entry_copies.specs.Rows.{SeesOthers, SeesOwn}
+use Rattle.workers.proofs.Copies.{others_own, others_begin, begins-trans, gone_back}
 use Rattle.workers.proofs.shared.Shared.finish.Goals as goal
 
 pub returns-in-Ok-clause-own : goal.returns-in-Ok-clause-own

@@ -1,0 +1,3 @@
+pub mod Logs
+pub mod Rows
+pub mod NoPlan
