@@ -49,11 +49,7 @@ impl<'r, J: Naming> Seen<'r, J> {
     /// # Errors
     ///
     /// Want of memory.
-    pub fn none(
-        alloc: Global,
-        row: &'r Row<J>,
-        program: &Program,
-    ) -> Result<Seen<'r, J>, NoMemory>
+    pub fn none(alloc: Global, row: &'r Row<J>, program: &Program) -> Result<Seen<'r, J>, NoMemory>
         requires { program.now ≡ J.plan }
         ensures { IfOk result (λ s. s ≡ record { known = record { row = row.entry.now; chunks = [] }; log = [] }) }
     {
@@ -79,12 +75,7 @@ impl<'r, J: Naming> Seen<'r, J> {
     /// # Errors
     ///
     /// Want of memory; it has seen what it had.
-    pub fn make<R: Wait>(
-        &mut self,
-        rt: &R,
-        alloc: Global,
-        count: usize,
-    ) -> Result<(), NoMemory>
+    pub fn make<R: Wait>(&mut self, rt: &R, alloc: Global, count: usize) -> Result<(), NoMemory>
         ensures { IsSameSeen self.old self.new }
     {
         self.known.make(rt, alloc, count)

@@ -3,10 +3,10 @@
 ghost use Rattle.std.specs.Prelude.{◌≡◌};
 ghost use Rattle.core_lang.specs.Typing.{HasCells};
 
+use entry_copies::naming::Naming;
 use lowering::compiled::Program;
 use std::test::Fail;
 use workers::closed::Closed;
-use entry_copies::naming::Naming;
 use workers::seat::{CallRefusal, Done, Seat};
 use workers::shared::Shared;
 

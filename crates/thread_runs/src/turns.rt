@@ -7,12 +7,12 @@ ghost use Rattle.lowering.specs.contracts.compiled.Program as program;
 use crate::scene::Mark;
 use crate::stage::Stage;
 use core_lang::calls::can_call;
+use entry_copies::naming::Naming;
 use source::memory::NoMemory;
 use std::alloc::Global;
 use std::sync::Wait;
 use std::thread;
 use std::thread::Threads;
-use entry_copies::naming::Naming;
 use workers::seat::{CallRefusal, Done, Seat};
 use workers::shared::Shared;
 

@@ -6,8 +6,8 @@ ghost use Rattle.workers.specs.Answers.{IsSeated};
 ghost use Rattle.entry_copies.specs.Logs.{NoneOf};
 ghost use Rattle.workers.specs.Within.{IsIn};
 
-use entry_copies::naming::Naming;
 use crate::seat::Seat;
+use entry_copies::naming::Naming;
 use history::entries::History;
 use history::kept::Kept;
 

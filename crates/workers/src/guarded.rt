@@ -10,9 +10,9 @@ ghost use Rattle.entry_copies.specs.Logs.{IsSound};
 ghost use Rattle.workers.specs.Within.{IsBegun, IsEntered};
 ghost use Rattle.entry_copies.specs.Rows.{IsSameSeen, SeesMore, SeesOwn};
 
+use crate::seat::CallRefusal;
 use entry_copies::naming::Naming;
 use entry_copies::row::TrueCopy;
-use crate::seat::CallRefusal;
 use entry_copies::seen::Seen;
 use history::entry::Entry;
 use lock_manager::manager::Manager;

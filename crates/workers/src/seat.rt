@@ -4,10 +4,10 @@ ghost use Rattle.std.specs.Prelude.{◌≡◌, ◌<◌, [], IsTrue};
 ghost use Rattle.workers.specs.Seats.{new_seat};
 ghost use Rattle.entry_copies.specs.Logs.{IsSound};
 
-use entry_copies::naming::Naming;
 use crate::parking::Parking;
-use entry_copies::seen::Seen;
 use core_lang::value::Outcome;
+use entry_copies::naming::Naming;
+use entry_copies::seen::Seen;
 use runner::states::Ready;
 use source::memory::NoMemory;
 use std::alloc::AllocError;

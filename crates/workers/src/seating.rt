@@ -3,10 +3,10 @@
 ghost use Rattle.std.specs.Prelude.{◌≡◌, ◌<◌, ◌≤◌, ◌++◌, ◌∷◌, [], IfOk, OnOk};
 ghost use Rattle.workers.specs.Seats.{new_seat, new_seats};
 
-use entry_copies::naming::Naming;
 use crate::parking::{Parking, Waking};
-use entry_copies::row::Row;
 use crate::seat::Seat;
+use entry_copies::naming::Naming;
+use entry_copies::row::Row;
 use entry_copies::seen::Seen;
 use lowering::compiled::Program;
 use source::memory::NoMemory;

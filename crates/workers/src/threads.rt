@@ -8,11 +8,11 @@ ghost use Rattle.workers.specs.Within.{AreInOrder, HasCalls, NoCall, IsCall};
 
 use crate::closed::{Closed, Strange};
 use crate::gate::Gate;
-use entry_copies::naming::Naming;
-use entry_copies::row::Row;
 use crate::seat::{CallRefusal, Seat};
 use crate::shared::Shared;
 use core_lang::typed::Call;
+use entry_copies::naming::Naming;
+use entry_copies::row::Row;
 use lowering::compiled::Program;
 use source::memory::NoMemory;
 use std::alloc::Global;
