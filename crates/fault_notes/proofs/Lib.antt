@@ -18,3 +18,4 @@ pub mod VarsThere
 pub mod Telling
 pub mod InOrder
 pub mod TextTrees
+pub mod NearNames

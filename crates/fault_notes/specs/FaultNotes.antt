@@ -8,10 +8,11 @@ use Rattle.resolution.specs.Scopes.{member_name}
 use Rattle.resolution.specs.Where.{Has}
 use Rattle.resolution.specs.declared.init_target.InitTarget.{InitTarget}
 use Rattle.source.specs.declared.fault.Code.{Code}
-use Rattle.source.specs.declared.fault.Code.TheVariants.{DeclaredTwice, WrongType, NeitherFinalNorProtected, ProtectedByPassesNonFinal, UnstableBase, LimitExceeded, FinalWithoutOpeningValue, InitOutOfRangeOrRepeated, MisplacedReturn}
+use Rattle.source.specs.declared.fault.Code.TheVariants.{DeclaredTwice, UnknownName, WrongType, NeitherFinalNorProtected, ProtectedByPassesNonFinal, UnstableBase, LimitExceeded, FinalWithoutOpeningValue, InitOutOfRangeOrRepeated, MisplacedReturn}
 use Rattle.source.specs.Tokens.{Tok}
 use Rattle.syntax.specs.Trees.{Ident, Final, Init, Member, Pool, Decl, lock, init}
 use Rattle.name_notes.specs.TypeNotes.{IsTypeNote}
+use Rattle.near_names.specs.NearNames.{CouldStand, IsNear, IsNearestOf}
 use Rattle.fault_notes.specs.Inits.{IsGivenFirst}
 use Rattle.fault_notes.specs.LimitsPassed.{IsLimitPassed}
 use Rattle.fault_notes.specs.LocksAtHand.{IsAtHand}
@@ -19,6 +20,7 @@ use Rattle.fault_notes.specs.MissingInits.{IsGap, IsNullGiven}
 use Rattle.fault_notes.specs.MissingReturns.{IsLacking}
 use Rattle.fault_notes.specs.NameSpaces.{IsDeclaredAs}
 use Rattle.fault_notes.specs.PassedMembers.{passed_at}
+use Rattle.fault_notes.specs.TokensThere.{name_there}
 use Rattle.fault_notes.specs.Vars.{IsVarNote, IsVarThere}
 use Rattle.fault_notes.specs.Words.{name_note, note_on, note_of_all}
 
@@ -26,6 +28,9 @@ use Rattle.fault_notes.specs.Words.{name_note, note_on, note_of_all}
 
 abbrev pub declared_note : Ident → Note
 declared_note x = name_note x (codes " is declared here")
+
+abbrev pub near_note : Ident → Note
+near_note x = name_note x (codes " could be meant, and is declared here")
 
 abbrev pub lock_words : Ident → List ℕ
 lock_words x = codes " could protect it: protected_by(" ++ x.text ++ codes ")"
@@ -62,6 +67,14 @@ pub record IsDeclaredNote (decls : List Decl) (at : ℕ) (note : Note) : Type 0 
   pub name : Ident
   pub declared : IsDeclaredAs decls at name
   pub said : note ≡ declared_note name
+
+-- E06: of the names that could stand in the place of the unknown one the nearest
+pub record IsNearNote (tokens : List Tok) (decls : List Decl) (at : ℕ) (note : Note) : Type 0 where
+  pub unknown : List ℕ
+  pub there : name_there at tokens ≡ Some unknown
+  pub name : Ident
+  pub nearest : IsNearestOf (CouldStand decls at) unknown name
+  pub said : note ≡ near_note name
 
 -- E10: the lock that could protect it
 pub record IsLockNote (decls : List Decl) (at : ℕ) (note : Note) : Type 0 where
@@ -100,6 +113,7 @@ pub data IsReturnNote (decls : List Decl) (at : ℕ) : Note → Type 0 where
 -- of a fault of this code at this byte of the tokens and their tree, the note says what is so
 abbrev pub IsTrueNote : List Tok → List Decl → Code → ℕ → Note → Type 0
 IsTrueNote tokens decls DeclaredTwice at note = IsDeclaredNote decls at note
+IsTrueNote tokens decls UnknownName at note = IsNearNote tokens decls at note
 IsTrueNote tokens decls WrongType at note = IsTypeNote decls at note
 IsTrueNote tokens decls NeitherFinalNorProtected at note = IsLockNote decls at note
 IsTrueNote tokens decls ProtectedByPassesNonFinal at note = IsPassedNote decls at note
@@ -111,6 +125,14 @@ IsTrueNote tokens decls MisplacedReturn at note = IsReturnNote decls at note
 IsTrueNote tokens decls code at note = ⊥
 
 -- ---- where one must be told
+
+-- near the name there is one that could stand in its place
+pub record HasNearName (tokens : List Tok) (decls : List Decl) (at : ℕ) : Type 0 where
+  pub unknown : List ℕ
+  pub there : name_there at tokens ≡ Some unknown
+  pub name : Ident
+  pub could : CouldStand decls at name
+  pub near : IsNear unknown name.text
 
 -- something can be said of types there
 pub record HasTypeNote (decls : List Decl) (at : ℕ) : Type 0 where
@@ -131,6 +153,7 @@ pub data IsGivenAgain (decls : List Decl) : ℕ → Type 0 where
 
 abbrev pub IsTold : List Tok → List Decl → Code → ℕ → Type 0
 IsTold tokens decls DeclaredTwice at = IsDeclaredTwice decls at
+IsTold tokens decls UnknownName at = HasNearName tokens decls at
 IsTold tokens decls WrongType at = HasTypeNote decls at
 IsTold tokens decls NeitherFinalNorProtected at = IsLockWanted decls at
 IsTold tokens decls ProtectedByPassesNonFinal at = PassesNonFinal decls at

@@ -1,6 +1,6 @@
 -- The tokens at a place.
 use Rattle.std.specs.Prelude.{ℕ, ◌+◌, ◌==◌, ◌&&◌, Bool, true, false, List, slice_get, Option, Some, None}
-use Rattle.resolution.specs.Scopes.{place_from}
+use Rattle.resolution.specs.Scopes.{◌>>=◌, place_from}
 use Rattle.source.specs.Tokens.{Lexeme, Tok, name, mark}
 use Rattle.source.specs.declared.token.Sign.TheVariants.{Dot}
 
@@ -20,6 +20,10 @@ is_dot _ = false
 abbrev pub name_of : Option Tok → Option (List ℕ)
 name_of (Some t) = name_in t.kind
 name_of None = None
+
+-- the name that begins at a byte
+abbrev pub name_there : ℕ → List Tok → Option (List ℕ)
+name_there at tokens = token_at at tokens >>= λ i. name_of (slice_get tokens i)
 
 abbrev pub has_dot : Option Tok → Bool
 has_dot (Some t) = is_dot t.kind

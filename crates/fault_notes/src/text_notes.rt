@@ -62,9 +62,10 @@ fn notes_of_tokens(alloc: Global, text: &[u8], fault: &Fault) -> Result<Vec<Note
 }
 
 /// What is told of this fault of the text, beyond its line: all that could come in the place of an unexpected token, where a name is
-/// declared first, which type is wanted and which is there, a lock that could protect it, which member an annotation passes, which
-/// `var` a name is, which limit is passed, which `init` is missing or the first, which `return` is missing. Only an unexpected token
-/// and a fault of names, types, annotations, bases, limits, `init`s or returns has such notes.
+/// declared first, which declared name could be meant by an unknown one, which type is wanted and which is there, a lock that could
+/// protect it, which member an annotation passes, which `var` a name is, which limit is passed, which `init` is missing or the first,
+/// which `return` is missing. Only an unexpected token and a fault of names, types, annotations, bases, limits, `init`s or returns has
+/// such notes.
 ///
 /// # Errors
 ///

@@ -3,7 +3,7 @@
 ghost use Rattle.std.specs.Prelude.{◌≡◌, ◌<◌, IfSome, length, slice_get};
 ghost use Rattle.std.specs.Option.{option_map};
 ghost use Rattle.source.specs.Tokens.{seen};
-ghost use Rattle.fault_notes.specs.TokensThere.{has_dot, has_two_fields, name_of, token_at};
+ghost use Rattle.fault_notes.specs.TokensThere.{has_dot, has_two_fields, name_of, name_there, token_at};
 ghost use Rattle.fault_notes.specs.Values.{text_at, token_seen};
 
 use source::token::{Sign, Token};
@@ -46,6 +46,14 @@ pub fn token_of(i: usize, tokens: &[Token]) -> Option<&Token>
     } else {
         None
     }
+}
+
+/// The name that begins there.
+pub fn name_there(at: usize, tokens: &[Token]) -> Option<&str>
+    ensures { option_map text_at result ≡ name_there at (seen tokens.now) }
+{
+    let i = token_at(at, tokens)?;
+    name_of(token_of(i, tokens))
 }
 
 /// Whether at least two fields stand behind the name at a place among the tokens.

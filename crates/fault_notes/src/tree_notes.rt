@@ -3,7 +3,7 @@
 ghost use Rattle.std.specs.Prelude.{◌≡◌, IfOk, map};
 ghost use Rattle.std.specs.Option.{option_map};
 ghost use Rattle.explanation.specs.Notes.{note_of};
-ghost use Rattle.source.specs.declared.fault.Code.TheVariants.{FinalWithoutOpeningValue};
+ghost use Rattle.source.specs.declared.fault.Code.TheVariants.{FinalWithoutOpeningValue, UnknownName};
 ghost use Rattle.symbols.specs.{decls_of as decls_in};
 ghost use Rattle.syntax.specs.Views.{decl_of};
 ghost use Rattle.resolution.specs.Scopes.{has_body};
@@ -22,10 +22,11 @@ use crate::name_spaces::{inner_names_of, member_name, top_names_of};
 use crate::noted::{gap_note, init_note, lock_note, name_note};
 use crate::passed_members::passed_at;
 use crate::same_names::{first_of_others, first_of_same};
-use crate::tokens_there::{has_two_fields, name_of, token_at, token_of};
+use crate::tokens_there::{has_two_fields, name_of, name_there, token_at, token_of};
 use crate::vars::{all_of, section_there, some_assigns, var_named};
 use explanation::Note;
 use name_notes::type_note;
+use near_names::near_name;
 use source::fault::Code;
 use source::memory::NoMemory;
 use source::token::Token;
@@ -116,6 +117,21 @@ impl<'a> Faulty<'a> {
             return Ok(None);
         };
         let note = name_note(alloc, first, " is declared here")?;
+        Ok(Some(note))
+    }
+
+    // NAME could be meant, and is declared here.
+    fn near_note(&self, alloc: Global) -> Result<Option<Note>, NoMemory>
+        ensures { IfOk result (IsNoteIfTold self.now UnknownName) }
+    {
+        let Some(text) = name_there(self.at, self.tokens) else {
+            return Ok(None);
+        };
+        let symbols = self.symbols(alloc)?;
+        let Some(name) = near_name(alloc, &symbols, text, self.at)? else {
+            return Ok(None);
+        };
+        let note = name_note(alloc, name, " could be meant, and is declared here")?;
         Ok(Some(note))
     }
 
@@ -242,6 +258,7 @@ impl<'a> Faulty<'a> {
     {
         match code {
             Code::DeclaredTwice => self.declared_note(alloc),
+            Code::UnknownName => self.near_note(alloc),
             Code::WrongType => self.type_note(alloc),
             Code::NeitherFinalNorProtected => self.lock_note(alloc),
             Code::ProtectedByPassesNonFinal => self.passed_note(alloc),

@@ -1,4 +1,4 @@
-use Rattle.source.specs.declared.fault.Code.TheVariants.{DeclaredTwice, WrongType, NeitherFinalNorProtected, ProtectedByPassesNonFinal, UnstableBase, LimitExceeded, FinalWithoutOpeningValue, InitOutOfRangeOrRepeated}
+use Rattle.source.specs.declared.fault.Code.TheVariants.{DeclaredTwice, UnknownName, WrongType, NeitherFinalNorProtected, ProtectedByPassesNonFinal, UnstableBase, LimitExceeded, FinalWithoutOpeningValue, InitOutOfRangeOrRepeated}
 use Rattle.fault_notes.specs.Values.{decls_of}
 use Rattle.fault_notes.proofs.Telling.{told_as, told_so, twice_told, type_told, lock_told, passed_told, again_told, limit_told, var_told}
 use Rattle.fault_notes.proofs.tree_notes.Faulty.note.Goals as goal
@@ -7,6 +7,11 @@ pub returns-in-DeclaredTwice : goal.returns-in-DeclaredTwice
 returns-in-DeclaredTwice c =
     let x = c.args.self.now in
     told_as x c.args.code DeclaredTwice c.in-DeclaredTwice.is c.declared_note.result (twice_told (decls_of x) x.at) c.declared_note.ensures
+
+pub returns-in-UnknownName : goal.returns-in-UnknownName
+returns-in-UnknownName c =
+    let x = c.args.self.now in
+    told_so x c.args.code UnknownName c.in-UnknownName.is c.near_note.result c.near_note.ensures
 
 pub returns-in-WrongType : goal.returns-in-WrongType
 returns-in-WrongType c =

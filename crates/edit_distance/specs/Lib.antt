@@ -1,0 +1,3 @@
+pub mod Distance
+-- what the public clauses cite
+pub use Rattle.edit_distance.specs.Distance.{IsDistance}
