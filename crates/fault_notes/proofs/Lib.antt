@@ -9,6 +9,9 @@ pub mod FirstInits
 pub mod FirstBy
 pub mod Given
 pub mod LimitsPassed
+pub mod AmountsPassed
+pub mod HelperLimits
+pub mod PathsPassed
 pub mod LocksAtHand
 pub mod PassedMembers
 pub mod MissingInits

@@ -1,18 +1,17 @@
 -- The limit that is found is passed, and one is found where one is passed.
-use Rattle.std.proofs.Common.{◌≡◌, ◌∙◌, ℕ, ◌+◌, ◌-◌, ◌<◌, ◌≤◌, zero, suc, Bool, true, false, List, [], ◌∷◌, ◌++◌, length, map, Option, Some, None, refl, sym, ap, subst, arith, eq-eqb, lt-ltb}
-use Rattle.std.proofs.lemmas.Bool.{eqb-true, ltb-true, ltb-false, le-ltb}
+use Rattle.std.proofs.Common.{◌≡◌, ◌∙◌, ℕ, ◌≤◌, zero, suc, Bool, true, false, List, [], ◌∷◌, ◌++◌, length, map, Option, Some, None, refl, sym, ap, subst, arith, eq-eqb}
+use Rattle.std.proofs.lemmas.Bool.{eqb-true}
 use Rattle.std.specs.List.{filter_map, flat_map}
 use Rattle.std.specs.Option.{option_or}
-use Rattle.std.specs.Prelude.{◌==◌, ◌||◌, nat_lt, if◌then◌else◌, codes}
+use Rattle.std.specs.Prelude.{◌==◌, ◌||◌, codes}
 use Rattle.std.proofs.lemmas.Option.{same_Some}
-use Rattle.resolution.specs.Limits.{STRUCT_LIMIT, MEMBER_LIMIT, CLASS_LIMIT, OBJECT_LIMIT, SECTION_LIMIT, THREAD_LIMIT, PARAMETER_LIMIT, LOCAL_LIMIT}
+use Rattle.resolution.specs.Limits.{STRUCT_LIMIT, MEMBER_LIMIT, CLASS_LIMIT, SECTION_LIMIT, THREAD_LIMIT, PARAMETER_LIMIT, LOCAL_LIMIT}
 use Rattle.resolution.specs.Scopes.{member_name}
 use Rattle.resolution.specs.Where.{Has}
-use Rattle.resolution.specs.Numbers.{objects_of, total}
-use Rattle.syntax.specs.Trees.{Ident, Pool, Decl, lock, struct, global, array, pool, init, atomic, helper, thread}
+use Rattle.syntax.specs.Trees.{Ident, Decl, lock, struct, global, array, pool, init, atomic, helper, thread}
 use Rattle.fault_notes.specs.FirstBy.{first_by}
-use Rattle.fault_notes.specs.LimitsFound.{some_starts, is_past, objects_past, said_if, limit_of_all, limit_in, limit_passed}
-use Rattle.fault_notes.specs.LimitsPassed.{IsPast, AreObjectsPast, IsLimitPassed, structs, bodies, threads, classes, objects, members, parameters, locals, struct_name, body_name, thread_name, lock_names, parameter_names}
+use Rattle.fault_notes.specs.LimitsFound.{some_starts, is_past, said_if, limit_of_all, limit_in, limit_passed}
+use Rattle.fault_notes.specs.LimitsPassed.{IsPast, IsCountPassed, structs, bodies, threads, classes, members, parameters, locals, struct_name, body_name, thread_name, lock_names, parameter_names}
 use Rattle.fault_notes.specs.NameSpaces.{local_names}
 use Rattle.fault_notes.proofs.FirstBy.{some_first, first_from}
 
@@ -74,75 +73,6 @@ past_there at (suc limit) (y ∷ before) x after many starts = past_there at lim
 pub past_so : (at limit : ℕ) (names : List Ident) → IsPast at limit names → is_past at limit names ≡ true
 past_so at limit names p = ap (is_past at limit) p.parts ∙ past_there at limit p.before p.name p.after p.many p.starts
 
--- ---- objects past the limit
-
-of_no_pool : (at room : ℕ) (d : Decl) (ds : List Decl) → objects_of d ≡ 0 → AreObjectsPast ds at room → AreObjectsPast (d ∷ ds) at room
-of_no_pool at room d ds none p = record {
-  before = d ∷ p.before;
-  last = p.last;
-  behind = p.behind;
-  parts = ap (λ (l : List Decl). d ∷ l) p.parts;
-  few = omega (arith, none, p.few);
-  many = omega (arith, none, p.many);
-  starts = p.starts;
-}
-
-of_pool : (at room : ℕ) (q : Pool) (ds : List Decl) (b : Bool) → nat_lt room q.length.value ≡ b →
-    (if b then q.name.span.start == at else objects_past at (room - q.length.value) ds) ≡ true →
-    (objects_past at (room - q.length.value) ds ≡ true → AreObjectsPast ds at (room - q.length.value)) → AreObjectsPast (pool q ∷ ds) at room
-of_pool at room q ds true more is rest =
-    let over = ltb-true room q.length.value more in
-    record { before = []; last = q; behind = ds; parts = refl; few = omega arith; many = omega (arith, over); starts = eqb-true q.name.span.start at is }
-of_pool at room q ds false more is rest =
-    let within = ltb-false room q.length.value more in
-    let p = rest is in
-    record {
-      before = pool q ∷ p.before;
-      last = p.last;
-      behind = p.behind;
-      parts = ap (λ (l : List Decl). pool q ∷ l) p.parts;
-      few = omega (arith, within, p.few);
-      many = omega (arith, within, p.many);
-      starts = p.starts;
-    }
-
-pub objects_if : (at room : ℕ) (ds : List Decl) → objects_past at room ds ≡ true → AreObjectsPast ds at room
-objects_if at room [] is = absurd cc
-objects_if at room (pool q ∷ ds) is = of_pool at room q ds (nat_lt room q.length.value) refl is (objects_if at (room - q.length.value) ds)
-objects_if at room (lock x ∷ ds) is = of_no_pool at room (lock x) ds refl (objects_if at room ds is)
-objects_if at room (struct x ∷ ds) is = of_no_pool at room (struct x) ds refl (objects_if at room ds is)
-objects_if at room (global x ∷ ds) is = of_no_pool at room (global x) ds refl (objects_if at room ds is)
-objects_if at room (array x ∷ ds) is = of_no_pool at room (array x) ds refl (objects_if at room ds is)
-objects_if at room (init x ∷ ds) is = of_no_pool at room (init x) ds refl (objects_if at room ds is)
-objects_if at room (atomic x ∷ ds) is = of_no_pool at room (atomic x) ds refl (objects_if at room ds is)
-objects_if at room (helper x ∷ ds) is = of_no_pool at room (helper x) ds refl (objects_if at room ds is)
-objects_if at room (thread x ∷ ds) is = of_no_pool at room (thread x) ds refl (objects_if at room ds is)
-
-if_false : {A : Type 0} (b : Bool) (x y : A) → b ≡ false → (if b then x else y) ≡ y
-if_false b x y is = ap (λ (c : Bool). if c then x else y) is
-
-if_true : {A : Type 0} (b : Bool) (x y : A) → b ≡ true → (if b then x else y) ≡ x
-if_true b x y is = ap (λ (c : Bool). if c then x else y) is
-
-objects_there : (at room : ℕ) (before : List Decl) (q : Pool) (behind : List Decl) → total objects_of before ≤ room →
-    room < total objects_of before + q.length.value → q.name.span.start ≡ at → objects_past at room (before ++ pool q ∷ behind) ≡ true
-objects_there at room [] q behind few many starts =
-    if_true (nat_lt room q.length.value) _ _ (lt-ltb room q.length.value (omega (arith, many))) ∙ eq-eqb q.name.span.start at starts
-objects_there at room (pool p ∷ before) q behind few many starts =
-    if_false (nat_lt room p.length.value) _ _ (le-ltb room p.length.value (omega (arith, few)))
-    ∙ objects_there at (room - p.length.value) before q behind (omega (arith, few)) (omega (arith, few, many)) starts
-objects_there at room (lock x ∷ before) q behind few many starts = objects_there at room before q behind (omega (arith, few)) (omega (arith, many)) starts
-objects_there at room (struct x ∷ before) q behind few many starts = objects_there at room before q behind (omega (arith, few)) (omega (arith, many)) starts
-objects_there at room (global x ∷ before) q behind few many starts = objects_there at room before q behind (omega (arith, few)) (omega (arith, many)) starts
-objects_there at room (array x ∷ before) q behind few many starts = objects_there at room before q behind (omega (arith, few)) (omega (arith, many)) starts
-objects_there at room (init x ∷ before) q behind few many starts = objects_there at room before q behind (omega (arith, few)) (omega (arith, many)) starts
-objects_there at room (atomic x ∷ before) q behind few many starts = objects_there at room before q behind (omega (arith, few)) (omega (arith, many)) starts
-objects_there at room (helper x ∷ before) q behind few many starts = objects_there at room before q behind (omega (arith, few)) (omega (arith, many)) starts
-objects_there at room (thread x ∷ before) q behind few many starts = objects_there at room before q behind (omega (arith, few)) (omega (arith, many)) starts
-
-pub objects_so : (at room : ℕ) (ds : List Decl) → AreObjectsPast ds at room → objects_past at room ds ≡ true
-objects_so at room ds p = ap (objects_past at room) p.parts ∙ objects_there at room p.before p.last p.behind p.few p.many p.starts
-
 -- ---- the first that is said
 
 -- what is said is said of the first test, or of the others
@@ -183,20 +113,19 @@ either (Some w) p words P is mine others = mine is
 either None p words P is mine others = others is
 
 module _ (decls : List Decl) (at : ℕ) where
-  all_passed : (words : List ℕ) → limit_of_all at decls ≡ Some words → IsLimitPassed decls at words
+  all_passed : (words : List ℕ) → limit_of_all at decls ≡ Some words → IsCountPassed decls at words
   all_passed words is =
-      said_of (is_past at STRUCT_LIMIT (filter_map struct_name decls)) _ words _ (IsLimitPassed decls at) is (λ so. structs (past_if at STRUCT_LIMIT _ so)) (λ is.
-      said_of (is_past at SECTION_LIMIT (filter_map body_name decls)) _ words _ (IsLimitPassed decls at) is (λ so. bodies (past_if at SECTION_LIMIT _ so)) (λ is.
-      said_of (is_past at THREAD_LIMIT (filter_map thread_name decls)) _ words _ (IsLimitPassed decls at) is (λ so. threads (past_if at THREAD_LIMIT _ so)) (λ is.
-      said_of (is_past at CLASS_LIMIT (flat_map lock_names decls)) _ words _ (IsLimitPassed decls at) is (λ so. classes (past_if at CLASS_LIMIT _ so)) (λ is.
-      said_last (objects_past at OBJECT_LIMIT decls) _ words (IsLimitPassed decls at) is (λ so. objects (objects_if at OBJECT_LIMIT decls so))))))
+      said_of (is_past at STRUCT_LIMIT (filter_map struct_name decls)) _ words _ (IsCountPassed decls at) is (λ so. structs (past_if at STRUCT_LIMIT _ so)) (λ is.
+      said_of (is_past at SECTION_LIMIT (filter_map body_name decls)) _ words _ (IsCountPassed decls at) is (λ so. bodies (past_if at SECTION_LIMIT _ so)) (λ is.
+      said_of (is_past at THREAD_LIMIT (filter_map thread_name decls)) _ words _ (IsCountPassed decls at) is (λ so. threads (past_if at THREAD_LIMIT _ so)) (λ is.
+      said_last (is_past at CLASS_LIMIT (flat_map lock_names decls)) _ words (IsCountPassed decls at) is (λ so. classes (past_if at CLASS_LIMIT _ so)))))
 
-  in_passed : (d : Decl) (words : List ℕ) → Has decls d → limit_in at d ≡ Some words → IsLimitPassed decls at words
+  in_passed : (d : Decl) (words : List ℕ) → Has decls d → limit_in at d ≡ Some words → IsCountPassed decls at words
   in_passed (struct s) words has is =
-      said_last (is_past at MEMBER_LIMIT (map member_name s.members)) _ words (IsLimitPassed decls at) is (λ so. members has (past_if at MEMBER_LIMIT _ so))
+      said_last (is_past at MEMBER_LIMIT (map member_name s.members)) _ words (IsCountPassed decls at) is (λ so. members has (past_if at MEMBER_LIMIT _ so))
   in_passed (atomic s) words has is =
-      said_of (is_past at PARAMETER_LIMIT (parameter_names s.params)) _ words _ (IsLimitPassed decls at) is (λ so. parameters has (past_if at PARAMETER_LIMIT _ so)) (λ is.
-      said_last (is_past at LOCAL_LIMIT (local_names s)) _ words (IsLimitPassed decls at) is (λ so. locals has (past_if at LOCAL_LIMIT _ so)))
+      said_of (is_past at PARAMETER_LIMIT (parameter_names s.params)) _ words _ (IsCountPassed decls at) is (λ so. parameters has (past_if at PARAMETER_LIMIT _ so)) (λ is.
+      said_last (is_past at LOCAL_LIMIT (local_names s)) _ words (IsCountPassed decls at) is (λ so. locals has (past_if at LOCAL_LIMIT _ so)))
   in_passed (lock x) words has is = absurd cc
   in_passed (global x) words has is = absurd cc
   in_passed (array x) words has is = absurd cc
@@ -205,9 +134,9 @@ module _ (decls : List Decl) (at : ℕ) where
   in_passed (helper x) words has is = absurd cc
   in_passed (thread x) words has is = absurd cc
 
-  pub passed_if : (words : List ℕ) → limit_passed decls at ≡ Some words → IsLimitPassed decls at words
+  pub passed_if : (words : List ℕ) → limit_passed decls at ≡ Some words → IsCountPassed decls at words
   passed_if words is =
-      either (limit_of_all at decls) (first_by (limit_in at) decls) words (IsLimitPassed decls at words) is (all_passed words) (λ found.
+      either (limit_of_all at decls) (first_by (limit_in at) decls) words (IsCountPassed decls at words) is (all_passed words) (λ found.
       let from = first_from (limit_in at) decls words found in
       in_passed from.0 words from.1 from.2)
 
@@ -230,9 +159,6 @@ module _ (decls : List Decl) (at : ℕ) where
   abbrev BC : Bool
   BC = is_past at CLASS_LIMIT (flat_map lock_names decls)
 
-  abbrev BO : Bool
-  BO = objects_past at OBJECT_LIMIT decls
-
   abbrev WS : List ℕ
   WS = codes "a program has at most 64 structs"
 
@@ -245,14 +171,8 @@ module _ (decls : List Decl) (at : ℕ) where
   abbrev WC : List ℕ
   WC = codes "a program has at most 128 lock classes"
 
-  abbrev WO : List ℕ
-  WO = codes "a program has at most 65536 objects"
-
-  abbrev from_objects : Option (List ℕ)
-  from_objects = said_if BO WO
-
   abbrev from_classes : Option (List ℕ)
-  from_classes = option_or (said_if BC WC) from_objects
+  from_classes = said_if BC WC
 
   abbrev from_threads : Option (List ℕ)
   from_threads = option_or (said_if BT WT) from_classes
@@ -260,7 +180,7 @@ module _ (decls : List Decl) (at : ℕ) where
   abbrev from_bodies : Option (List ℕ)
   from_bodies = option_or (said_if BB WB) from_threads
 
-  pub passed_so : (words : List ℕ) → IsLimitPassed decls at words → IsSaid (limit_passed decls at)
+  pub passed_so : (words : List ℕ) → IsCountPassed decls at words → IsSaid (limit_passed decls at)
   passed_so words (structs p) = of_all (first_said BS WS from_bodies (past_so at STRUCT_LIMIT (filter_map struct_name decls) p))
   passed_so words (bodies p) =
       of_all (later_said BS WS from_bodies (first_said BB WB from_threads (past_so at SECTION_LIMIT (filter_map body_name decls) p)))
@@ -269,10 +189,7 @@ module _ (decls : List Decl) (at : ℕ) where
       (past_so at THREAD_LIMIT (filter_map thread_name decls) p))))
   passed_so words (classes p) =
       of_all (later_said BS WS from_bodies (later_said BB WB from_threads (later_said BT WT from_classes
-      (first_said BC WC from_objects (past_so at CLASS_LIMIT (flat_map lock_names decls) p)))))
-  passed_so words (objects p) =
-      of_all (later_said BS WS from_bodies (later_said BB WB from_threads (later_said BT WT from_classes (later_said BC WC from_objects
-      (only_said BO WO (objects_so at OBJECT_LIMIT decls p))))))
+      (only_said BC WC (past_so at CLASS_LIMIT (flat_map lock_names decls) p)))))
   passed_so words (members {s} has p) =
       of_one (struct s) has (only_said (is_past at MEMBER_LIMIT (map member_name s.members)) (codes "a struct has at most 32 members")
       (past_so at MEMBER_LIMIT (map member_name s.members) p))
@@ -285,5 +202,5 @@ module _ (decls : List Decl) (at : ℕ) where
       (said_if (is_past at LOCAL_LIMIT (local_names s)) (codes "a section has at most 64 locals, parameters included"))
       (only_said (is_past at LOCAL_LIMIT (local_names s)) (codes "a section has at most 64 locals, parameters included") (past_so at LOCAL_LIMIT (local_names s) p)))
 
-  pub none_passed : limit_passed decls at ≡ None → (words : List ℕ) → IsLimitPassed decls at words → ⊥
+  pub none_passed : limit_passed decls at ≡ None → (words : List ℕ) → IsCountPassed decls at words → ⊥
   none_passed none words is = let said = passed_so words is in let e : None ≡ Some said.0 = sym none ∙ said.1 in absurd cc

@@ -9,13 +9,16 @@ use Rattle.source.specs.declared.fault.Code.{Code}
 use Rattle.source.specs.declared.fault.Code.TheVariants.{UnstableBase}
 use Rattle.source.specs.declared.memory.NoMemory.{NoMemory}
 use Rattle.resolution.specs.Faults.{IsDeclaredTwice, PassesNonFinal}
+use Rattle.source.specs.Tokens.{Tok}
 use Rattle.syntax.specs.Trees.{Decl}
 use Rattle.name_notes.specs.TypeNotes.{IsTypeNote}
 use Rattle.fault_notes.specs.declared.tree_notes.Faulty.{Faulty}
-use Rattle.fault_notes.specs.FaultNotes.{IsTrueNote, IsTold, IsDeclaredNote, IsLimitNote, HasTypeNote, IsLockNote, IsLockWanted, IsPassedNote, IsGivenNote, IsGivenAgain, declared_note, lock_note, passed_note, given_note}
-use Rattle.fault_notes.specs.LimitsPassed.{IsLimitPassed}
+use Rattle.fault_notes.specs.FaultNotes.{IsTrueNote, IsTold, IsDeclaredNote, HasTypeNote, IsLockNote, IsLockWanted, IsPassedNote, IsGivenNote, IsGivenAgain, IsLimitTold, count_told, amount_told, helpers_told, paths_told, declared_note, lock_note, passed_note, given_note}
+use Rattle.fault_notes.specs.AmountsPassed.{IsAmountPassed}
+use Rattle.fault_notes.specs.HelperLimits.{IsFirstOfHelpers}
+use Rattle.fault_notes.specs.LimitsPassed.{IsCountPassed}
+use Rattle.fault_notes.specs.PathsPassed.{ArePathsFirst}
 use Rattle.fault_notes.specs.VarsFound.{var_noted}
-use Rattle.fault_notes.specs.Words.{note_of_all}
 use Rattle.fault_notes.specs.Values.{decls_of, tokens_of, FoundNote, IsNoteIfTold}
 use Rattle.fault_notes.proofs.Given.{first_of_given}
 use Rattle.fault_notes.proofs.LocksAtHand.{is_at_hand, lock_some}
@@ -68,8 +71,15 @@ module _ (decls : List Decl) (at : ℕ) where
       let f = first_of_given decls at again in
       (given_note f.0, record { first = f.0; given = f.1; said = refl })
 
-  pub limit_told : (words : List ℕ) × IsLimitPassed decls at words → (note : Note) × IsLimitNote decls at note
-  limit_told some = (note_of_all some.0, record { words = some.0; passed = some.1; said = refl })
+-- ---- limits
+
+pub none_of_limits : (tokens : List Tok) (decls : List Decl) (at : ℕ) → ((words : List ℕ) → IsCountPassed decls at words → ⊥) →
+    ((words : List ℕ) → IsAmountPassed decls at words → ⊥) → (IsFirstOfHelpers decls at → ⊥) → (ArePathsFirst tokens at → ⊥) →
+    IsLimitTold tokens decls at → ⊥
+none_of_limits tokens decls at count amount helpers paths (count_told {words = words} is) = count words is
+none_of_limits tokens decls at count amount helpers paths (amount_told {words = words} is) = amount words is
+none_of_limits tokens decls at count amount helpers paths (helpers_told is) = helpers is
+none_of_limits tokens decls at count amount helpers paths (paths_told is) = paths is
 
 -- ---- what is told of a var
 

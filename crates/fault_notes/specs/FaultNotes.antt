@@ -14,12 +14,15 @@ use Rattle.syntax.specs.Trees.{Ident, Final, Init, Member, Pool, Decl, lock, ini
 use Rattle.name_notes.specs.TypeNotes.{IsTypeNote}
 use Rattle.near_names.specs.NearNames.{CouldStand, IsNear, IsNearestOf}
 use Rattle.fault_notes.specs.Inits.{IsGivenFirst}
-use Rattle.fault_notes.specs.LimitsPassed.{IsLimitPassed}
+use Rattle.fault_notes.specs.AmountsPassed.{IsAmountPassed}
+use Rattle.fault_notes.specs.HelperLimits.{IsFirstOfHelpers, IsHelperLimit}
+use Rattle.fault_notes.specs.LimitsPassed.{IsCountPassed}
 use Rattle.fault_notes.specs.LocksAtHand.{IsAtHand}
 use Rattle.fault_notes.specs.MissingInits.{IsGap, IsNullGiven}
 use Rattle.fault_notes.specs.MissingReturns.{IsLacking}
 use Rattle.fault_notes.specs.NameSpaces.{IsDeclaredAs}
 use Rattle.fault_notes.specs.PassedMembers.{passed_at}
+use Rattle.fault_notes.specs.PathsPassed.{ArePathsFirst, ArePathsPast}
 use Rattle.fault_notes.specs.TokensThere.{name_there}
 use Rattle.fault_notes.specs.Vars.{IsVarNote, IsVarThere}
 use Rattle.fault_notes.specs.Words.{name_note, note_on, note_of_all}
@@ -60,6 +63,9 @@ missing_note x = name_note x (codes " has a result, and its body does not end in
 abbrev pub misplaced_note : Note
 misplaced_note = note_of_all (codes "this return is not the last statement of a body with a result")
 
+abbrev pub path_words : List ℕ
+path_words = codes "a section has at most 64 lock paths that differ"
+
 -- ---- truth, by the fault's code
 
 -- E05: where the name is declared that this one is the same as
@@ -89,9 +95,15 @@ pub record IsPassedNote (decls : List Decl) (at : ℕ) (note : Note) : Type 0 wh
   pub said : note ≡ passed_note member
 
 -- E15: which limit is passed
-pub record IsLimitNote (decls : List Decl) (at : ℕ) (note : Note) : Type 0 where
+pub data IsLimitPassed (tokens : List Tok) (decls : List Decl) (at : ℕ) : List ℕ → Type 0 where
+  of_count : {words : List ℕ} → IsCountPassed decls at words → IsLimitPassed tokens decls at words
+  of_amount : {words : List ℕ} → IsAmountPassed decls at words → IsLimitPassed tokens decls at words
+  of_helpers : {words : List ℕ} → IsHelperLimit decls at words → IsLimitPassed tokens decls at words
+  of_paths : ArePathsPast tokens at → IsLimitPassed tokens decls at path_words
+
+pub record IsLimitNote (tokens : List Tok) (decls : List Decl) (at : ℕ) (note : Note) : Type 0 where
   pub words : List ℕ
-  pub passed : IsLimitPassed decls at words
+  pub passed : IsLimitPassed tokens decls at words
   pub said : note ≡ note_of_all words
 
 -- E16: which `init` is missing; or the final reference that is given null
@@ -118,7 +130,7 @@ IsTrueNote tokens decls WrongType at note = IsTypeNote decls at note
 IsTrueNote tokens decls NeitherFinalNorProtected at note = IsLockNote decls at note
 IsTrueNote tokens decls ProtectedByPassesNonFinal at note = IsPassedNote decls at note
 IsTrueNote tokens decls UnstableBase at note = IsVarNote tokens decls at note
-IsTrueNote tokens decls LimitExceeded at note = IsLimitNote decls at note
+IsTrueNote tokens decls LimitExceeded at note = IsLimitNote tokens decls at note
 IsTrueNote tokens decls FinalWithoutOpeningValue at note = IsFinalNote decls at note
 IsTrueNote tokens decls InitOutOfRangeOrRepeated at note = IsGivenNote decls at note
 IsTrueNote tokens decls MisplacedReturn at note = IsReturnNote decls at note
@@ -151,6 +163,13 @@ pub data IsGivenAgain (decls : List Decl) : ℕ → Type 0 where
       decls ≡ before ++ init j ∷ behind → init_target_of decls j ≡ Some g → giver decls before g ≡ Some e →
       IsGivenAgain decls j.start.start
 
+-- a limit that is passed there; of those on helpers and on lock paths one that is the first fault of its kind
+pub data IsLimitTold (tokens : List Tok) (decls : List Decl) (at : ℕ) : Type 0 where
+  count_told : {words : List ℕ} → IsCountPassed decls at words → IsLimitTold tokens decls at
+  amount_told : {words : List ℕ} → IsAmountPassed decls at words → IsLimitTold tokens decls at
+  helpers_told : IsFirstOfHelpers decls at → IsLimitTold tokens decls at
+  paths_told : ArePathsFirst tokens at → IsLimitTold tokens decls at
+
 abbrev pub IsTold : List Tok → List Decl → Code → ℕ → Type 0
 IsTold tokens decls DeclaredTwice at = IsDeclaredTwice decls at
 IsTold tokens decls UnknownName at = HasNearName tokens decls at
@@ -158,7 +177,7 @@ IsTold tokens decls WrongType at = HasTypeNote decls at
 IsTold tokens decls NeitherFinalNorProtected at = IsLockWanted decls at
 IsTold tokens decls ProtectedByPassesNonFinal at = PassesNonFinal decls at
 IsTold tokens decls UnstableBase at = (x : Ident) × IsVarThere tokens decls at x
-IsTold tokens decls LimitExceeded at = (words : List ℕ) × IsLimitPassed decls at words
+IsTold tokens decls LimitExceeded at = IsLimitTold tokens decls at
 IsTold tokens decls FinalWithoutOpeningValue at = IsFinalMissing decls at
 IsTold tokens decls InitOutOfRangeOrRepeated at = IsGivenAgain decls at
 IsTold tokens decls MisplacedReturn at = Unit {0}

@@ -4,6 +4,11 @@ pub mod MissingReturns
 pub mod FirstBy
 pub mod LimitsPassed
 pub mod LimitsFound
+pub mod AmountsPassed
+pub mod AmountsFound
+pub mod HelperLimits
+pub mod HelpersFound
+pub mod PathsPassed
 pub mod TokensThere
 pub mod Vars
 pub mod VarsFound

@@ -1,10 +1,10 @@
 -- The limit that the code finds, of those that are passed: the first, in the order of its tests. Nobody has to believe this file.
 use Rattle.std.specs.List.{filter_map, flat_map}
 use Rattle.std.specs.Option.{option_or}
-use Rattle.std.specs.Prelude.{ℕ, ◌-◌, ◌==◌, ◌||◌, nat_lt, Bool, false, if◌then◌else◌, List, [], ◌∷◌, drop, map, Option, Some, None, codes}
-use Rattle.resolution.specs.Limits.{STRUCT_LIMIT, MEMBER_LIMIT, CLASS_LIMIT, OBJECT_LIMIT, SECTION_LIMIT, THREAD_LIMIT, PARAMETER_LIMIT, LOCAL_LIMIT}
+use Rattle.std.specs.Prelude.{ℕ, ◌==◌, ◌||◌, Bool, false, if◌then◌else◌, List, [], ◌∷◌, drop, map, Option, Some, None, codes}
+use Rattle.resolution.specs.Limits.{STRUCT_LIMIT, MEMBER_LIMIT, CLASS_LIMIT, SECTION_LIMIT, THREAD_LIMIT, PARAMETER_LIMIT, LOCAL_LIMIT}
 use Rattle.resolution.specs.Scopes.{member_name}
-use Rattle.syntax.specs.Trees.{Ident, Decl, struct, pool, atomic}
+use Rattle.syntax.specs.Trees.{Ident, Decl, struct, atomic}
 use Rattle.fault_notes.specs.FirstBy.{first_by}
 use Rattle.fault_notes.specs.LimitsPassed.{struct_name, body_name, thread_name, lock_names, parameter_names}
 use Rattle.fault_notes.specs.NameSpaces.{local_names}
@@ -17,12 +17,6 @@ some_starts at (x ∷ xs) = (x.span.start == at) || some_starts at xs
 abbrev pub is_past : ℕ → ℕ → List Ident → Bool
 is_past at limit names = some_starts at (drop limit names)
 
--- where there is room for so many objects: the pool for which there is too little starts there
-abbrev pub objects_past : ℕ → ℕ → List Decl → Bool
-objects_past at room [] = false
-objects_past at room (pool p ∷ ds) = if nat_lt room p.length.value then p.name.span.start == at else objects_past at (room - p.length.value) ds
-objects_past at room (d ∷ ds) = objects_past at room ds
-
 -- what is said, if it is so
 abbrev pub said_if : Bool → List ℕ → Option (List ℕ)
 said_if b words = if b then Some words else None
@@ -33,8 +27,7 @@ limit_of_all at decls =
     option_or (said_if (is_past at STRUCT_LIMIT (filter_map struct_name decls)) (codes "a program has at most 64 structs"))
     (option_or (said_if (is_past at SECTION_LIMIT (filter_map body_name decls)) (codes "a program has at most 256 sections and helpers"))
     (option_or (said_if (is_past at THREAD_LIMIT (filter_map thread_name decls)) (codes "a program has at most 64 threads"))
-    (option_or (said_if (is_past at CLASS_LIMIT (flat_map lock_names decls)) (codes "a program has at most 128 lock classes"))
-    (said_if (objects_past at OBJECT_LIMIT decls) (codes "a program has at most 65536 objects")))))
+    (said_if (is_past at CLASS_LIMIT (flat_map lock_names decls)) (codes "a program has at most 128 lock classes"))))
 
 -- of names inside a declaration
 abbrev pub limit_in : ℕ → Decl → Option (List ℕ)

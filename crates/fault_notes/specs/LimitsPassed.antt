@@ -1,11 +1,10 @@
--- Which limit is passed.
+-- Which limit on declarations, members or locals is passed.
 use Rattle.std.specs.List.{filter_map, flat_map}
-use Rattle.std.specs.Prelude.{◌≡◌, ◌+◌, ◌<◌, ◌≤◌, ℕ, List, [], ◌∷◌, ◌++◌, length, map, Option, Some, None, codes}
-use Rattle.resolution.specs.Limits.{STRUCT_LIMIT, MEMBER_LIMIT, CLASS_LIMIT, OBJECT_LIMIT, SECTION_LIMIT, THREAD_LIMIT, PARAMETER_LIMIT, LOCAL_LIMIT}
-use Rattle.resolution.specs.Numbers.{objects_of, total}
+use Rattle.std.specs.Prelude.{◌≡◌, ◌≤◌, ℕ, List, [], ◌∷◌, ◌++◌, length, map, Option, Some, None, codes}
+use Rattle.resolution.specs.Limits.{STRUCT_LIMIT, MEMBER_LIMIT, CLASS_LIMIT, SECTION_LIMIT, THREAD_LIMIT, PARAMETER_LIMIT, LOCAL_LIMIT}
 use Rattle.resolution.specs.Scopes.{member_name}
 use Rattle.resolution.specs.Where.{Has}
-use Rattle.syntax.specs.Trees.{Ident, Member, lock_member, Param, Struct, Pool, Section, Decl, lock, struct, pool, atomic, helper, thread}
+use Rattle.syntax.specs.Trees.{Ident, Member, lock_member, Param, Struct, Section, Decl, lock, struct, atomic, helper, thread}
 use Rattle.fault_notes.specs.NameSpaces.{local_names}
 
 -- ---- names of a kind
@@ -52,26 +51,15 @@ pub record IsPast (at limit : ℕ) (names : List Ident) : Type 0 where
   pub many : limit ≤ length before
   pub starts : name.span.start ≡ at
 
--- the pool whose name begins there is the one with which there are first more objects than there may be
-pub record AreObjectsPast (decls : List Decl) (at limit : ℕ) : Type 0 where
-  pub before : List Decl
-  pub last : Pool
-  pub behind : List Decl
-  pub parts : decls ≡ before ++ pool last ∷ behind
-  pub few : total objects_of before ≤ limit
-  pub many : limit < total objects_of before + last.length.value
-  pub starts : last.name.span.start ≡ at
-
--- what is said of a limit that is passed there
-pub data IsLimitPassed (decls : List Decl) (at : ℕ) : List ℕ → Type 0 where
-  structs : IsPast at STRUCT_LIMIT (filter_map struct_name decls) → IsLimitPassed decls at (codes "a program has at most 64 structs")
-  bodies : IsPast at SECTION_LIMIT (filter_map body_name decls) → IsLimitPassed decls at (codes "a program has at most 256 sections and helpers")
-  threads : IsPast at THREAD_LIMIT (filter_map thread_name decls) → IsLimitPassed decls at (codes "a program has at most 64 threads")
-  classes : IsPast at CLASS_LIMIT (flat_map lock_names decls) → IsLimitPassed decls at (codes "a program has at most 128 lock classes")
-  objects : AreObjectsPast decls at OBJECT_LIMIT → IsLimitPassed decls at (codes "a program has at most 65536 objects")
+-- what is said of such a limit that is passed there
+pub data IsCountPassed (decls : List Decl) (at : ℕ) : List ℕ → Type 0 where
+  structs : IsPast at STRUCT_LIMIT (filter_map struct_name decls) → IsCountPassed decls at (codes "a program has at most 64 structs")
+  bodies : IsPast at SECTION_LIMIT (filter_map body_name decls) → IsCountPassed decls at (codes "a program has at most 256 sections and helpers")
+  threads : IsPast at THREAD_LIMIT (filter_map thread_name decls) → IsCountPassed decls at (codes "a program has at most 64 threads")
+  classes : IsPast at CLASS_LIMIT (flat_map lock_names decls) → IsCountPassed decls at (codes "a program has at most 128 lock classes")
   members : {s : Struct} → Has decls (struct s) → IsPast at MEMBER_LIMIT (map member_name s.members) →
-      IsLimitPassed decls at (codes "a struct has at most 32 members")
+      IsCountPassed decls at (codes "a struct has at most 32 members")
   parameters : {s : Section} → Has decls (atomic s) → IsPast at PARAMETER_LIMIT (parameter_names s.params) →
-      IsLimitPassed decls at (codes "a section has at most 8 parameters")
+      IsCountPassed decls at (codes "a section has at most 8 parameters")
   locals : {s : Section} → Has decls (atomic s) → IsPast at LOCAL_LIMIT (local_names s) →
-      IsLimitPassed decls at (codes "a section has at most 64 locals, parameters included")
+      IsCountPassed decls at (codes "a section has at most 64 locals, parameters included")

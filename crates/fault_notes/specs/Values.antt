@@ -1,19 +1,25 @@
 -- What values of the code are, in the words of the notes.
-use Rattle.std.specs.Prelude.{◌≡◌, ◌<◌, ◌≤◌, ℕ, if◌then◌else◌, List, map, slice_get, length, Option, Some, None, IsSome}
+use Rattle.std.specs.Prelude.{◌≡◌, ◌<◌, ◌≤◌, ℕ, Bool, true, if◌then◌else◌, List, map, slice_get, length, Option, Some, None, IsSome}
 use denote.Ref.{Bor}
 use Rattle.std.specs.Option.{option_map}
+use Rattle.core_lang.specs.WellFormed.{IsWellFormed}
+use Rattle.core_lang.specs.declared.typed.Typed.{Typed}
 use Rattle.explanation.specs.Notes.{Note, note_of}
 use Rattle.explanation.specs.declared.note.Note as written_note
 use Rattle.resolution.specs.Constants.{members_of}
 use Rattle.resolution.specs.FaultLists.{is_at}
+use Rattle.resolution.specs.Faults.{HasNoFault}
 use Rattle.resolution.specs.Scopes.{declared, member_bears, member_name, place_of, the_member}
 use Rattle.source.specs.Texts.{HasTokens, SOURCE_LIMIT}
 use Rattle.source.specs.Tokens.{Tok, seen, seen_token}
 use Rattle.source.specs.declared.fault.Code.{Code}
+use Rattle.source.specs.declared.fault.Code.TheVariants.{LimitExceeded}
+use Rattle.source.specs.declared.fault.Fault.{Fault}
 use Rattle.source.specs.declared.token.Token.{Token}
 use Rattle.symbols.specs.Views.{decls_of as decls_in, members_seen}
 use Rattle.symbols.specs.declared.members.Structure.{Structure}
 use Rattle.symbols.specs.declared.table.SymbolTable.{SymbolTable}
+use Rattle.syntax.specs.Faults.{HasRightTree}
 use Rattle.syntax.specs.Trees.{Ident, Final, Init, Member, final_member, Param, Pool, Section, Stmt, Decl, pool}
 use Rattle.syntax.specs.Views.{ident, decl_of, final_of, init_of, member_of, param_of, pool_of, protection_of, section_of, stmt_of, tree_of}
 use Rattle.syntax.specs.declared.tree.Decl as written_decl
@@ -25,12 +31,14 @@ use Rattle.syntax.specs.declared.tree.Param as written_param
 use Rattle.syntax.specs.declared.tree.Protection.{Protection}
 use Rattle.syntax.specs.declared.tree.Section as written_section
 use Rattle.syntax.specs.declared.tree.Stmt as written_stmt
-use Rattle.fault_notes.specs.FaultNotes.{IsTrueNote, IsTold, gap_note}
+use Rattle.fault_notes.specs.FaultNotes.{IsLimitPassed, IsLimitTold, IsTrueNote, IsTold, gap_note}
 use Rattle.fault_notes.specs.FirstBy.{first_by}
+use Rattle.fault_notes.specs.HelperLimits.{IsFirstOfHelpers, IsHelperLimit}
 use Rattle.fault_notes.specs.LimitsPassed.{struct_name, body_name, thread_name}
 use Rattle.fault_notes.specs.MissingInits.{IsFirstWithout, IsGap, IsGapOf, IsMissing, value_given}
 use Rattle.fault_notes.specs.MissingReturns.{body_of}
 use Rattle.fault_notes.specs.PassedMembers.{passed_along, passed_for}
+use Rattle.fault_notes.specs.PathsPassed.{ArePathsFirst, ArePathsPast, IsMeantProgram}
 use Rattle.fault_notes.specs.TextNotes.{AreTrueTextNotes, HasTextTree, IsExpectedTold}
 use Rattle.fault_notes.specs.declared.limits_passed.Kind.{Kind}
 use Rattle.fault_notes.specs.declared.limits_passed.Kind.TheVariants.{Structs, Bodies, Threads}
@@ -115,6 +123,32 @@ abbrev pub stmt_at : Bor written_stmt.Stmt → Stmt
 stmt_at s = stmt_of s.now
 
 -- ---- limits
+
+-- the words that are said of a limit that is passed, if there is one
+abbrev pub FoundWords : (List ℕ → Type 0) → Option (Bor (List ℕ)) → Type 0
+FoundWords Is (Some words) = Is words.now
+FoundWords Is None = (words : List ℕ) → Is words → ⊥
+
+abbrev pub IsLimitIfTold : Faulty → Option (Bor (List ℕ)) → Type 0
+IsLimitIfTold x (Some words) = IsLimitPassed (tokens_of x) (decls_of x) x.at words.now
+IsLimitIfTold x None = IsLimitTold (tokens_of x) (decls_of x) x.at → ⊥
+
+-- the same of a limit on what helpers call
+abbrev pub IsHelperIfTold : List Decl → ℕ → Option (Bor (List ℕ)) → Type 0
+IsHelperIfTold decls at (Some words) = IsHelperLimit decls at words.now
+IsHelperIfTold decls at None = IsFirstOfHelpers decls at → ⊥
+
+-- a fault of a limit, there
+abbrev pub IsLimitAt : Fault → ℕ → Type 0
+IsLimitAt fault at = (fault.code ≡ LimitExceeded) × (fault.start ≡ at)
+
+-- the program that tokens mean, if it has no fault before its lock paths
+abbrev pub IsMeant : List Tok → Option Typed → Type 0
+IsMeant tokens (Some written) = IsMeantProgram tokens written × IsWellFormed written
+IsMeant tokens None = (tree : List Decl) → HasRightTree tokens tree → HasNoFault tree → ⊥
+
+abbrev pub TellsOfPaths : List Tok → ℕ → Bool → Type 0
+TellsOfPaths tokens at is = (is ≡ true → ArePathsPast tokens at) × (ArePathsFirst tokens at → is ≡ true)
 
 abbrev pub kind_name : Kind → Decl → Option Ident
 kind_name Structs d = struct_name d

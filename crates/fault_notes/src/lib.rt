@@ -4,14 +4,18 @@
 //!   must be one.
 //! - `specs/NameSpaces.antt`: which names must differ, and which of two is the first. `specs/LocksAtHand.antt`: a lock for what
 //!   has none. `specs/PassedMembers.antt`: what an annotation passes. `specs/MissingInits.antt`: which `init` is missing.
-//!   `specs/Vars.antt`: which `var` a name is. `specs/LimitsPassed.antt`: which limit is passed.
-//!   `specs/Inits.antt`: the first `init` of a field. `specs/MissingReturns.antt`: which section lacks its `return`.
-//! - What the code finds where several would do stands in `specs/LimitsFound.antt`, `LocksFound.antt`, `NullsFound.antt` and
-//!   `VarsFound.antt`; `proofs/` joins it to these.
+//!   `specs/Vars.antt`: which `var` a name is. `specs/LimitsPassed.antt`, `AmountsPassed.antt`, `HelperLimits.antt`
+//!   and `PathsPassed.antt`: which limit is passed. `specs/Inits.antt`: the first `init` of a field.
+//!   `specs/MissingReturns.antt`: which section lacks its `return`.
+//! - What the code finds where several would do stands in `specs/LimitsFound.antt`, `AmountsFound.antt`, `HelpersFound.antt`,
+//!   `LocksFound.antt`, `NullsFound.antt` and `VarsFound.antt`; `proofs/` joins it to these.
 #![tactic(auto)]
 
+mod amounts_passed;
 mod first_inits;
+mod helper_limits;
 mod limits_passed;
+mod lock_paths;
 mod locks_at_hand;
 mod missing_inits;
 mod missing_returns;

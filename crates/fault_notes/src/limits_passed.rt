@@ -1,11 +1,11 @@
-//! Which limit is passed.
+//! Which limit on declarations, members or locals is passed.
 
 ghost use Rattle.std.specs.Prelude.{◌≡◌, ◌++◌, IfOk, OnOk, map};
 ghost use Rattle.std.specs.List.{filter_map, flat_map};
 ghost use Rattle.std.specs.Option.{option_map};
 ghost use Rattle.syntax.specs.Trees.{atomic, struct};
 ghost use Rattle.syntax.specs.Views.{decl_of, member_of, section_of, struct_of};
-ghost use Rattle.fault_notes.specs.LimitsFound.{is_past, limit_in, limit_of_all, limit_passed, objects_past, some_starts};
+ghost use Rattle.fault_notes.specs.LimitsFound.{is_past, limit_in, limit_of_all, limit_passed, some_starts};
 ghost use Rattle.fault_notes.specs.LimitsPassed.{body_name, lock_names, own_lock_names, struct_name, thread_name};
 ghost use Rattle.fault_notes.specs.Values.{ident_at, idents, kind_name, text_at};
 
@@ -22,8 +22,6 @@ const SECTION_LIMIT: usize = 256;
 const THREAD_LIMIT: usize = 64;
 
 const CLASS_LIMIT: usize = 128;
-
-const OBJECT_LIMIT: u64 = 65536;
 
 const MEMBER_LIMIT: usize = 32;
 
@@ -176,22 +174,6 @@ fn is_past(at: usize, limit: usize, names: &[&Name]) -> bool
     some_starts(at, &names[limit..])
 }
 
-/// Whether the pool whose name starts there is the one with which there are first too many objects.
-fn are_objects_past(at: usize, decls: &[Decl]) -> bool
-    ensures { result ≡ objects_past at OBJECT_LIMIT (map decl_of decls.now) }
-{
-    let mut room = OBJECT_LIMIT;
-    for decl in decls {
-        if let Decl::Pool(pool) = decl {
-            if room < pool.length.value {
-                return pool.name.start as usize == at;
-            }
-            room -= pool.length.value;
-        }
-    }
-    false
-}
-
 /// The limit of the program that is passed there.
 fn limit_of_all(alloc: Global, at: usize, decls: &[Decl]) -> Result<Option<&'static str>, NoMemory>
     ensures { IfOk result (λ words. option_map text_at words ≡ limit_of_all at (map decl_of decls.now)) }
@@ -211,9 +193,6 @@ fn limit_of_all(alloc: Global, at: usize, decls: &[Decl]) -> Result<Option<&'sta
     let locks = all_locks(alloc, decls)?;
     if is_past(at, CLASS_LIMIT, &locks) {
         return Ok(Some("a program has at most 128 lock classes"));
-    }
-    if are_objects_past(at, decls) {
-        return Ok(Some("a program has at most 65536 objects"));
     }
     Ok(None)
 }

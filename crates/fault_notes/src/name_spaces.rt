@@ -11,7 +11,7 @@ use std::alloc::Global;
 use syntax::tree::{Block, Decl, Member, Name, Param, Section, Stmt};
 
 /// The name that is declared; an `init` declares none.
-fn declared(decl: &Decl) -> Option<&Name>
+pub fn declared(decl: &Decl) -> Option<&Name>
     ensures { IsNameOf decl.now result }
 {
     match decl {

@@ -3,18 +3,21 @@
 ghost use Rattle.std.specs.Prelude.{◌≡◌, IfOk, map};
 ghost use Rattle.std.specs.Option.{option_map};
 ghost use Rattle.explanation.specs.Notes.{note_of};
-ghost use Rattle.source.specs.declared.fault.Code.TheVariants.{FinalWithoutOpeningValue, UnknownName};
+ghost use Rattle.source.specs.declared.fault.Code.TheVariants.{FinalWithoutOpeningValue, LimitExceeded, UnknownName};
 ghost use Rattle.symbols.specs.{decls_of as decls_in};
 ghost use Rattle.syntax.specs.Views.{decl_of};
 ghost use Rattle.resolution.specs.Scopes.{has_body};
 ghost use Rattle.name_notes.specs.TypeNotes.{IsTypeNote};
-ghost use Rattle.fault_notes.specs.FaultNotes.{AreNotes, IsDeclaredNote, IsGivenNote, IsLimitNote, IsLockNote, IsPassedNote, IsReturnNote};
+ghost use Rattle.fault_notes.specs.FaultNotes.{AreNotes, IsDeclaredNote, IsGivenNote, IsLockNote, IsPassedNote, IsReturnNote};
 ghost use Rattle.fault_notes.specs.NameSpaces.{IsDeclaredAs, IsDeclaredIn};
 ghost use Rattle.fault_notes.specs.VarsFound.{note_of_var, var_noted};
-ghost use Rattle.fault_notes.specs.Values.{FoundName, FoundNote, IsNoteIfTold, decls_of, idents, stmt_at, tokens_of};
+ghost use Rattle.fault_notes.specs.Values.{FoundName, FoundNote, IsLimitIfTold, IsNoteIfTold, decls_of, idents, stmt_at, tokens_of};
 
+use crate::amounts_passed::amount_passed;
 use crate::first_inits::first_given;
+use crate::helper_limits::helper_limit;
 use crate::limits_passed::limit_passed;
+use crate::lock_paths::are_paths_past;
 use crate::locks_at_hand::lock_at_hand;
 use crate::missing_inits::{gap_at, null_given};
 use crate::missing_returns::lacking;
@@ -195,10 +198,30 @@ impl<'a> Faulty<'a> {
     }
 
     // Which limit is passed.
-    fn limit_note(&self, alloc: Global) -> Result<Option<Note>, NoMemory>
-        ensures { IfOk result (FoundNote (IsLimitNote (decls_of self.now) self.now.at)) }
+    fn limit(&self, alloc: Global) -> Result<Option<&'static str>, NoMemory>
+        ensures { IfOk result (IsLimitIfTold self.now) }
     {
-        let Some(words) = limit_passed(alloc, &self.tree.decls, self.at)? else {
+        if let Some(words) = limit_passed(alloc, &self.tree.decls, self.at)? {
+            return Ok(Some(words));
+        }
+        let symbols = self.symbols(alloc)?;
+        if let Some(words) = amount_passed(alloc, &symbols, self.at)? {
+            return Ok(Some(words));
+        }
+        if let Some(words) = helper_limit(alloc, &symbols, self.at)? {
+            return Ok(Some(words));
+        }
+        if are_paths_past(alloc, self.tokens, self.at)? {
+            return Ok(Some("a section has at most 64 lock paths that differ"));
+        }
+        Ok(None)
+    }
+
+    // Which limit is passed.
+    fn limit_note(&self, alloc: Global) -> Result<Option<Note>, NoMemory>
+        ensures { IfOk result (IsNoteIfTold self.now LimitExceeded) }
+    {
+        let Some(words) = self.limit(alloc)? else {
             return Ok(None);
         };
         Ok(Some(Note {

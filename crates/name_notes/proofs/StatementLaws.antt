@@ -14,7 +14,7 @@ use Rattle.resolution.specs.Scopes.{Scope, meaning, helper_meant, left}
 use Rattle.resolution.specs.Statements.{target_of, wanted_by, after, after_all}
 use Rattle.resolution.specs.Constants.{want_of}
 use Rattle.resolution.specs.Resolution.{entry}
-use Rattle.resolution.specs.Where.{Has, first, further, Among, here, later, in_then, in_else, in_while, IsArgument, for_parameter, for_nothing, Asks, of_let, of_owned, of_let_call, of_var, of_assign, of_index, of_if, of_while, of_print, of_return, of_call_alone, of_section, of_helper, HasStmt, in_body, HasExpr, in_stmt}
+use Rattle.resolution.specs.Where.{Has, first, further, Among, here, later, in_then, in_else, in_while, IsArgument, for_parameter, for_nothing, Asks, of_let, of_owned, of_let_call, of_var, of_assign, of_index, of_if, of_while, of_print, of_return, of_call_alone, of_section, of_helper, HasStmt, in_body, HasExpr, in_stmt, Within}
 use Rattle.name_notes.specs.Searches as search
 use Rattle.name_notes.specs.Searches.{in_place, of_expr, of_arguments, of_each, of_passed, of_call, in_blocks, of_stmts, in_decl, in_decls}
 use Rattle.name_notes.proofs.Lists as l
@@ -143,8 +143,9 @@ module _ (say : Scope → Want → Expr → List Note) (n : Note) where
   asked_has of_return h = h
   asked_has (of_call_alone {sc = sc} {c = c} {w = w} {e = e} a) h = passed_has sc (helper_meant (meaning sc c.helper.text)) c.arguments w e a h
 
-  pub each_expr : (decls : List Decl) {sc : Scope} {w : Want} {x : Expr} → HasExpr decls sc w x → Has (say sc w x) n → Has (in_decls (search.of_own say) decls decls) n
-  each_expr decls (in_stmt {sc = sc} b a i) h = each_stmt (search.of_own say) decls n b (asked_has a (each_within say sc n i h))
+  -- of an expression within one of a statement
+  pub within_has : {sc : Scope} {s : Stmt} {w v : Want} {e x : Expr} → Asks sc s w e → Within w e v x → Has (say sc v x) n → Has (search.of_own say sc s) n
+  within_has {sc = sc} a i h = asked_has a (each_within say sc n i h)
 
   -- ---- what is said of a statement's expressions is said of one of them
 
@@ -190,7 +191,7 @@ module _ (say : Scope → Want → Expr → List Note) (n : Note) where
     from_own sc (return_value start e) up h = up _ e of_return h
     from_own sc (call start c) up h = from_passed sc (helper_meant (meaning sc c.helper.text)) c.arguments (λ w e a. up w e (of_call_alone a)) h
 
-    pub from_expr : (decls : List Decl) → ((sc : Scope) (w : Want) (x : Expr) → HasExpr decls sc w x → Has (say sc w x) n → P) → Has (in_decls (search.of_own say) decls decls) n → P
-    from_expr decls up h =
-        from_stmt (search.of_own say) decls n P
-        (λ sc s b. from_own sc s (λ w e a. from_within say sc n P w e (λ v x i. up sc v x (in_stmt b a i)))) h
+    -- of an expression within one of them
+    pub from_exprs : (sc : Scope) (s : Stmt) → ((w v : Want) (e x : Expr) → Asks sc s w e → Within w e v x → Has (say sc v x) n → P) →
+        Has (search.of_own say sc s) n → P
+    from_exprs sc s up h = from_own sc s (λ w e a. from_within say sc n P w e (λ v x i. up w v e x a i)) h

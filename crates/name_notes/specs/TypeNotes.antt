@@ -1,18 +1,24 @@
--- What is said of an expression or a constant that isn't what is wanted: the type that is wanted, and the one that is there.
+-- What is said of what isn't what is wanted, be it an expression, a constant or the result of a helper: the type that is wanted, and
+-- the one that is there; and of the sides of a comparison that are unlike, what each is.
 use Rattle.std.specs.Prelude.{◌≡◌, ℕ, false, List, [], ◌++◌, Option, Some, None, codes}
 use Rattle.explanation.specs.Notes.{Note}
 use Rattle.core_lang.specs.declared.value.ValueType as core_type
 use Rattle.core_lang.specs.declared.value.ValueType.TheVariants.{Integer, Reference}
-use Rattle.syntax.specs.Trees.{Const, Expr, Struct, Decl}
+use Rattle.syntax.specs.declared.tree.Comparison as written
+use Rattle.syntax.specs.Trees.{Const, Expr, compare, Local, Owner, CalledLocal, let_owned, let_call, Struct, Section, Decl}
+use Rattle.resolution.specs.declared.owner_field.OwnerField.{OwnerField}
 use Rattle.resolution.specs.declared.wanted.Sort.{Sort}
 use Rattle.resolution.specs.declared.wanted.Sort.TheVariants as sort
 use Rattle.resolution.specs.declared.wanted.Want.{Want}
 use Rattle.resolution.specs.declared.wanted.Want.TheVariants.{Anything, Condition, Value}
-use Rattle.resolution.specs.Scopes.{Scope, the_struct}
-use Rattle.resolution.specs.Expressions.{ResolvedExpr, value, truth, fits, fits_sort, typed}
+use Rattle.resolution.specs.Core as core
+use Rattle.resolution.specs.Owners.{owner_field}
+use Rattle.resolution.specs.Scopes as local
+use Rattle.resolution.specs.Scopes.{Scope, a_local, helper_meant, meaning, result_of, the_struct, type_of}
+use Rattle.resolution.specs.Expressions.{ResolvedExpr, value, truth, fits, fits_sort, fits_type, typed}
 use Rattle.resolution.specs.Constants.{const_sort}
-use Rattle.resolution.specs.Faults.{start_of, const_start}
-use Rattle.resolution.specs.Where.{Has, HasExpr, HasConst}
+use Rattle.resolution.specs.Faults.{AreUnlike, IsEquality, start_of, const_start}
+use Rattle.resolution.specs.Where.{Has, HasExpr, HasConst, HasStmt}
 
 -- ---- types in words
 
@@ -42,9 +48,14 @@ want_words decls (Value t) = type_words decls t
 abbrev pub types_note : List ℕ → List ℕ → Note
 types_note wanted found = record { start = None; words = codes "wanted " ++ wanted ++ codes ", found " ++ found }
 
+-- the left side is A, the right side is B
+abbrev pub sides_note : List ℕ → List ℕ → Note
+sides_note left right = record { start = None; words = codes "the left side is " ++ left ++ codes ", the right side is " ++ right }
+
 -- ---- truth
 
--- an expression or a constant starts there that isn't what is wanted of it
+-- an expression, a constant or the name of a local starts there that isn't what is wanted of it, or that of a helper which gives back what
+-- isn't; or the right one of two sides of `==` or `!=` that are unlike, or the left one of two conditions
 pub data IsTypeNote (decls : List Decl) (at : ℕ) : Note → Type 0 where
   of_expression : {sc : Scope} {w : Want} {e : Expr} {s : ResolvedExpr} →
       HasExpr decls sc w e → typed sc e ≡ Some s → fits w s ≡ false → start_of e ≡ at →
@@ -52,6 +63,27 @@ pub data IsTypeNote (decls : List Decl) (at : ℕ) : Note → Type 0 where
   of_constant : {w : Want} {c : Const} {s : Sort} →
       HasConst decls w c → const_sort decls c ≡ Some s → fits_sort w s ≡ false → const_start c ≡ at →
       IsTypeNote decls at (types_note (want_words decls w) (sort_words decls s))
+  of_sides : {sc : Scope} {w : Want} {a b : Expr} {c : written.Comparison} {s t : ResolvedExpr} →
+      HasExpr decls sc w (compare a c b) → IsEquality c → typed sc a ≡ Some s → typed sc b ≡ Some t → AreUnlike s t → start_of b ≡ at →
+      IsTypeNote decls at (sides_note (found_words sc.decls s) (found_words sc.decls t))
+  of_conditions : {sc : Scope} {w : Want} {a b : Expr} {c : written.Comparison} {x y : core.Condition} →
+      HasExpr decls sc w (compare a c b) → IsEquality c → typed sc a ≡ Some (truth x) → typed sc b ≡ Some (truth y) → start_of a ≡ at →
+      IsTypeNote decls at (sides_note (codes "a condition") (codes "a condition"))
+  of_no_result : {sc : Scope} {l : CalledLocal} {t : core_type.ValueType} {i : ℕ} {s : Section} →
+      HasStmt decls sc (let_call l) → type_of sc l.value_type ≡ Some t → helper_meant (meaning sc l.call.helper.text) ≡ Some (i, s) →
+      s.result ≡ None → l.call.helper.span.start ≡ at → IsTypeNote decls at (types_note (type_words sc.decls t) (codes "no result"))
+  of_result : {sc : Scope} {l : CalledLocal} {t u : core_type.ValueType} {i : ℕ} {s : Section} →
+      HasStmt decls sc (let_call l) → type_of sc l.value_type ≡ Some t → helper_meant (meaning sc l.call.helper.text) ≡ Some (i, s) →
+      result_of sc.decls s ≡ Some u → fits_type t (sort.Of u) ≡ false → l.call.helper.span.start ≡ at →
+      IsTypeNote decls at (types_note (type_words sc.decls t) (type_words sc.decls u))
+  -- behind `where`
+  of_number_owned : {sc : Scope} {l : Local} {o : Owner} →
+      HasStmt decls sc (let_owned l o) → type_of sc l.value_type ≡ Some Integer → o.field.span.start ≡ at →
+      IsTypeNote decls at (types_note (codes "a reference") (codes "int"))
+  of_owner : {sc : Scope} {l : Local} {o : Owner} {f : OwnerField} {i : ℕ} {b : local.Local} {t : core_type.ValueType} →
+      HasStmt decls sc (let_owned l o) → owner_field sc.decls (type_of sc l.value_type) o.field ≡ Some f →
+      meaning sc o.local.text ≡ a_local i b → b.value_type ≡ Some t → fits_type f.value_type (sort.Of t) ≡ false → o.local.span.start ≡ at →
+      IsTypeNote decls at (types_note (type_words sc.decls f.value_type) (type_words sc.decls t))
 
 -- the notes are the true ones
 pub record AreTypeNotes (decls : List Decl) (at : ℕ) (notes : List Note) : Type 0 where

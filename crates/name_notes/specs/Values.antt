@@ -5,26 +5,30 @@ use Rattle.std.specs.Borrow.{Bor}
 use Rattle.core_lang.specs.declared.value.ValueType as core_type
 use Rattle.explanation.specs.Notes.{Note, note_of}
 use Rattle.explanation.specs.declared.note.Note as written_note
-use Rattle.core_lang.specs.declared.value.ValueType.TheVariants.{Integer}
+use Rattle.core_lang.specs.declared.value.ValueType.TheVariants.{Integer, Reference}
+use Rattle.syntax.specs.declared.tree.Comparison as written
+use Rattle.syntax.specs.declared.tree.Comparison.TheVariants as sign
 use Rattle.syntax.specs.declared.tree.Level.TheVariants.{Term, Sum}
 use Rattle.syntax.specs.declared.tree.Section as the_section
 use Rattle.syntax.specs.declared.tree.Member as the_member
-use Rattle.syntax.specs.Trees.{Const, Member, Expr, chain, Stmt, Section, Decl}
+use Rattle.syntax.specs.Trees.{ValueType, Const, Member, Expr, chain, compare, Ident, Local, Owner, CalledLocal, Stmt, let_owned, let_call, Section, Decl}
 use Rattle.syntax.specs.Views.{member_of, section_of}
+use Rattle.resolution.specs.declared.owner_field.OwnerField.{OwnerField}
 use Rattle.resolution.specs.declared.wanted.Sort.{Sort}
 use Rattle.resolution.specs.declared.wanted.Sort.TheVariants as sort
 use Rattle.resolution.specs.declared.wanted.Want.{Want}
-use Rattle.resolution.specs.Scopes.{Scope}
+use Rattle.resolution.specs.Owners.{owner_field}
+use Rattle.resolution.specs.Scopes.{Scope, Meaning, a_decl, a_local, nothing, helper_meant, meaning, result_of, type_of}
 use Rattle.resolution.specs.Core as core
 use Rattle.resolution.specs.declared.wanted.Want.TheVariants.{Anything, Condition, Value}
-use Rattle.resolution.specs.Expressions.{ResolvedExpr, value, truth, fits, fits_sort, typed, Walk, reached, at_lock, lost}
+use Rattle.resolution.specs.Expressions.{ResolvedExpr, value, truth, alike_sorts, fits, fits_sort, fits_type, typed, Walk, reached, at_lock, lost}
 use Rattle.resolution.specs.Statements.{Split, last_field}
 use Rattle.expressions.specs.declared.place.Indexed.{Indexed}
 use Rattle.expressions.specs.declared.place.Indexed.TheVariants.{Array, Pool}
 use Rattle.name_notes.specs.Searches.{of_own}
 use Rattle.resolution.specs.Faults.{start_of, const_start}
 use Rattle.resolution.specs.Constants.{const_sort}
-use Rattle.name_notes.specs.TypeNotes.{types_note, sort_words, want_words, found_words}
+use Rattle.name_notes.specs.TypeNotes.{types_note, sides_note, sort_words, type_words, want_words, found_words}
 use Rattle.name_notes.specs.declared.searches.Search.{Search}
 use Rattle.name_notes.specs.declared.kinds.Kind as the_kind
 use Rattle.name_notes.specs.declared.kinds.Kind.TheVariants as kind
@@ -81,12 +85,103 @@ said_of decls w None = []
 abbrev pub misfit_at : ℕ → Scope → Want → Expr → List Note
 misfit_at at sc w e = if start_of e == at then said_of sc.decls w (typed sc e) else []
 
-abbrev pub said_by : Search → Scope → Want → Expr → List Note
-said_by x sc w e = misfit_at x.at sc w e
+-- ---- what is said of the sides of `==` and `!=`
 
--- of a statement
+abbrev pub is_equality : written.Comparison → Bool
+is_equality sign.Equal = true
+is_equality sign.NotEqual = true
+is_equality sign.Less = false
+is_equality sign.LessOrEqual = false
+is_equality sign.Greater = false
+is_equality sign.GreaterOrEqual = false
+
+-- sides that start at these two bytes are unlike, and are blamed there
+abbrev pub is_blamed : ℕ → ℕ → ℕ → the_kind.Kind → the_kind.Kind → Bool
+is_blamed at left right (kind.Value s) (kind.Value t) = if alike_sorts s t then false else right == at
+is_blamed at left right (kind.Value s) kind.Condition = right == at
+is_blamed at left right kind.Condition (kind.Value t) = right == at
+is_blamed at left right kind.Condition kind.Condition = left == at
+
+abbrev pub sides_said : List Decl → Bool → the_kind.Kind → the_kind.Kind → List Note
+sides_said decls b left right = if b then sides_note (kind_words decls left) (kind_words decls right) ∷ [] else []
+
+abbrev pub sides_judged : ℕ → ℕ → ℕ → List Decl → Option the_kind.Kind → Option the_kind.Kind → List Note
+sides_judged at left right decls (Some a) (Some b) = sides_said decls (is_blamed at left right a b) a b
+sides_judged at left right decls (Some a) None = []
+sides_judged at left right decls None b = []
+
+abbrev pub equality_at : ℕ → Scope → Expr → Expr → List Note
+equality_at at sc a b = sides_judged at (start_of a) (start_of b) sc.decls (kind_if (typed sc a)) (kind_if (typed sc b))
+
+abbrev pub sides_at : ℕ → Scope → Expr → List Note
+sides_at at sc (compare a c b) = if is_equality c then equality_at at sc a b else []
+sides_at at sc _ = []
+
+-- of an expression both
+abbrev pub said_by : Search → Scope → Want → Expr → List Note
+said_by x sc w e = misfit_at x.at sc w e ++ sides_at x.at sc e
+
+-- ---- what is said of a `let` of what a helper gives back
+
+abbrev pub type_if : Bool → List Decl → core_type.ValueType → core_type.ValueType → List Note
+type_if fit decls t u = if fit then [] else types_note (type_words decls t) (type_words decls u) ∷ []
+
+abbrev pub given_said : List Decl → core_type.ValueType → Option ValueType → Option core_type.ValueType → List Note
+given_said decls t None u = types_note (type_words decls t) (codes "no result") ∷ []
+given_said decls t (Some r) (Some u) = type_if (fits_type t (sort.Of u)) decls t u
+given_said decls t (Some r) None = []
+
+abbrev pub given_by : List Decl → core_type.ValueType → Section → List Note
+given_by decls t s = given_said decls t s.result (result_of decls s)
+
+abbrev pub result_said : List Decl → Option core_type.ValueType → Option (ℕ × Section) → List Note
+result_said decls (Some t) (Some (i, s)) = given_by decls t s
+result_said decls (Some t) None = []
+result_said decls None o = []
+
+abbrev pub result_at : ℕ → Scope → CalledLocal → List Note
+result_at at sc l =
+    if l.call.helper.span.start == at then result_said sc.decls (type_of sc l.value_type) (helper_meant (meaning sc l.call.helper.text)) else []
+
+-- ---- what is said of what stands behind `where`
+
+abbrev pub owner_type : List Decl → Option core_type.ValueType → Ident → Option core_type.ValueType
+owner_type decls t f = option_map (λ (x : OwnerField). x.value_type) (owner_field decls t f)
+
+abbrev pub meant_type : Meaning → Option core_type.ValueType
+meant_type (a_local i l) = l.value_type
+meant_type (a_decl i d) = None
+meant_type nothing = None
+
+abbrev pub number_said : Option core_type.ValueType → List Note
+number_said (Some Integer) = types_note (codes "a reference") (codes "int") ∷ []
+number_said (Some (Reference k)) = []
+number_said None = []
+
+abbrev pub owner_said : List Decl → Option core_type.ValueType → Option core_type.ValueType → List Note
+owner_said decls (Some t) (Some u) = type_if (fits_type t (sort.Of u)) decls t u
+owner_said decls (Some t) None = []
+owner_said decls None o = []
+
+-- of the first name and of the second
+abbrev pub member_owned_at : ℕ → Option core_type.ValueType → Owner → List Note
+member_owned_at at t o = if o.field.span.start == at then number_said t else []
+
+abbrev pub local_owned_at : ℕ → Scope → Option core_type.ValueType → Owner → List Note
+local_owned_at at sc t o =
+    if o.local.span.start == at then owner_said sc.decls (owner_type sc.decls t o.field) (meant_type (meaning sc o.local.text)) else []
+
+abbrev pub owner_at : ℕ → Scope → Local → Owner → List Note
+owner_at at sc l o = member_owned_at at (type_of sc l.value_type) o ++ local_owned_at at sc (type_of sc l.value_type) o
+
+abbrev pub bound_at : ℕ → Scope → Stmt → List Note
+bound_at at sc (let_call l) = result_at at sc l
+bound_at at sc (let_owned l o) = owner_at at sc l o
+bound_at at sc _ = []
+
+-- ---- of a statement
 abbrev pub said_of_stmt : Search → Scope → Stmt → List Note
-said_of_stmt x sc s = of_own (said_by x) sc s
+said_of_stmt x sc s = of_own (said_by x) sc s ++ bound_at x.at sc s
 
 -- the helper that is found, and its place
 abbrev pub section_found : Option (ℕ × Bor the_section.Section) → Option (ℕ × Section)

@@ -141,7 +141,7 @@ impl Search {
         ensures scope { OnOk result (scope checker.new ≡ after_all (scope checker.old) (stmts_of stmts.now)) }
     {
         for s in stmts {
-            self.own(checker, s, notes)?;
+            self.said(checker, s, notes)?;
             self.behind(checker, s, notes)?;
         }
         Ok(())

@@ -1,12 +1,15 @@
 //! What is told of a fault of names and types beyond its line: types.
 //!
-//! - [`type_note`]: the type that is wanted, and the one that is there: `specs/TypeNotes.antt`.
+//! - [`type_note`]: the type that is wanted, and the one that is there; or what the sides of a comparison are: `specs/TypeNotes.antt`.
 #![tactic(auto)]
 
 mod bodies;
+mod bound;
 mod const_search;
 mod kinds;
+mod owners;
 mod searches;
+mod sides;
 mod statements;
 mod targets;
 mod types;

@@ -6,7 +6,7 @@ ghost use Rattle.resolution.specs.Faults.{start_of};
 ghost use Rattle.resolution.specs.Where.{operand_want, prefix_want};
 ghost use Rattle.expressions.specs.Checkers.{scope};
 ghost use Rattle.name_notes.specs.Searches.{in_links, inside, of_expr};
-ghost use Rattle.name_notes.specs.Values.{Adds, fits_kind, said_by};
+ghost use Rattle.name_notes.specs.Values.{Adds, fits_kind, misfit_at, said_by};
 
 use crate::kinds::{Kind, kind_of};
 use crate::words::types_note;
@@ -34,7 +34,7 @@ fn fits(w: Want, kind: Kind) -> bool
 }
 
 /// Where an expression starts.
-fn start_of(e: &Expr) -> usize
+pub fn start_of(e: &Expr) -> usize
     ensures { result ≡ start_of (expr_of e.now) }
 {
     match e {
@@ -83,15 +83,15 @@ pub struct Search {
 }
 
 impl Search {
-    // What is said of an expression of which something is wanted.
-    fn say(
+    // What is said of an expression that isn't what is wanted.
+    fn misfit(
         &self,
         checker: &Checker,
         w: Want,
         e: &Expr,
         notes: &mut Vec<Note>,
     ) -> Result<(), NoMemory>
-        ensures { OnOk result (Adds notes.old notes.new (said_by self.now (scope checker.now) w (expr_of e.now))) }
+        ensures { OnOk result (Adds notes.old notes.new (misfit_at self.now.at (scope checker.now) w (expr_of e.now))) }
     {
         if start_of(e) != self.at {
             return Ok(());
@@ -103,6 +103,20 @@ impl Search {
             notes.push(types_note(checker, w, kind)?)?;
         }
         Ok(())
+    }
+
+    // What is said of an expression of which something is wanted.
+    fn say(
+        &self,
+        checker: &Checker,
+        w: Want,
+        e: &Expr,
+        notes: &mut Vec<Note>,
+    ) -> Result<(), NoMemory>
+        ensures { OnOk result (Adds notes.old notes.new (said_by self.now (scope checker.now) w (expr_of e.now))) }
+    {
+        self.misfit(checker, w, e, notes)?;
+        self.sides_of(checker, e, notes)
     }
 
     /// What is said of an expression and of those in it.

@@ -29,7 +29,7 @@ fn want_of(checker: &Checker, p: &Param) -> Want
 }
 
 /// The helper that a call names, and its place.
-fn helper_named<'a>(checker: &'a Checker, c: &HelperCall) -> Option<(usize, &'a Section)>
+pub fn helper_named<'a>(checker: &'a Checker, c: &HelperCall) -> Option<(usize, &'a Section)>
     ensures { section_found result ≡ helper_meant (meaning (scope checker.now) (helper_call_of c.now).helper.text) }
 {
     let Meaning::Decl(place, d) = checker.meaning(&c.helper) else {

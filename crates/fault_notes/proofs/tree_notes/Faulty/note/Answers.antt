@@ -1,6 +1,6 @@
 use Rattle.source.specs.declared.fault.Code.TheVariants.{DeclaredTwice, UnknownName, WrongType, NeitherFinalNorProtected, ProtectedByPassesNonFinal, UnstableBase, LimitExceeded, FinalWithoutOpeningValue, InitOutOfRangeOrRepeated}
 use Rattle.fault_notes.specs.Values.{decls_of}
-use Rattle.fault_notes.proofs.Telling.{told_as, told_so, twice_told, type_told, lock_told, passed_told, again_told, limit_told, var_told}
+use Rattle.fault_notes.proofs.Telling.{told_as, told_so, twice_told, type_told, lock_told, passed_told, again_told, var_told}
 use Rattle.fault_notes.proofs.tree_notes.Faulty.note.Goals as goal
 
 pub returns-in-DeclaredTwice : goal.returns-in-DeclaredTwice
@@ -46,4 +46,4 @@ returns-in-UnstableBase c =
 pub returns-in-LimitExceeded : goal.returns-in-LimitExceeded
 returns-in-LimitExceeded c =
     let x = c.args.self.now in
-    told_as x c.args.code LimitExceeded c.in-LimitExceeded.is c.limit_note.result (limit_told (decls_of x) x.at) c.limit_note.ensures
+    told_so x c.args.code LimitExceeded c.in-LimitExceeded.is c.limit_note.result c.limit_note.ensures

@@ -1,0 +1,116 @@
+//! What is said of the sides of `==` and `!=`.
+
+ghost use Rattle.std.specs.Prelude.{◌≡◌, OnOk};
+ghost use Rattle.syntax.specs.Views.{expr_of};
+ghost use Rattle.resolution.specs.Expressions.{alike_sorts};
+ghost use Rattle.expressions.specs.Checkers.{scope};
+ghost use Rattle.name_notes.specs.Values.{Adds, equality_at, is_blamed, is_equality, sides_at, sides_said};
+
+use crate::kinds::{Kind, kind_of};
+use crate::searches::{Search, start_of};
+use crate::words::sides_note;
+use core_lang::value::ValueType;
+use explanation::Note;
+use expressions::checker::Checker;
+use resolution::wanted::Sort;
+use resolved_expressions::wanted::fits_type;
+use source::memory::NoMemory;
+use syntax::tree::{Comparison, Expr, Joined};
+
+fn is_equality(c: Comparison) -> bool
+    ensures { result ≡ is_equality c }
+{
+    match c {
+        Comparison::Equal | Comparison::NotEqual => true,
+        Comparison::Less
+        | Comparison::LessOrEqual
+        | Comparison::Greater
+        | Comparison::GreaterOrEqual => false,
+    }
+}
+
+/// Whether both are of one type, or one is null and the other a reference.
+fn alike_sorts(s: Sort, t: Sort) -> bool
+    ensures { result ≡ alike_sorts s t }
+{
+    match s {
+        Sort::Of(first) => fits_type(first, t),
+        Sort::Null => match t {
+            Sort::Null => true,
+            Sort::Of(ValueType::Integer) => false,
+            Sort::Of(ValueType::Reference(_)) => true,
+        },
+    }
+}
+
+impl Search {
+    // Whether sides that start at these two bytes are unlike, and are blamed at the byte that is looked for.
+    fn is_blamed(&self, left: usize, right: usize, first: Kind, second: Kind) -> bool
+        ensures { result ≡ is_blamed self.now.at left right first second }
+    {
+        match (first, second) {
+            (Kind::Value(s), Kind::Value(t)) => !alike_sorts(s, t) && right == self.at,
+            (Kind::Value(_), Kind::Condition) => right == self.at,
+            (Kind::Condition, Kind::Value(_)) => right == self.at,
+            (Kind::Condition, Kind::Condition) => left == self.at,
+        }
+    }
+
+    // What is said of two sides that are this.
+    fn sides(
+        &self,
+        checker: &Checker,
+        is_blamed: bool,
+        first: Kind,
+        second: Kind,
+        notes: &mut Vec<Note>,
+    ) -> Result<(), NoMemory>
+        ensures { OnOk result (Adds notes.old notes.new (sides_said (scope checker.now).decls is_blamed first second)) }
+    {
+        if is_blamed {
+            notes.push(sides_note(checker, first, second)?)?;
+        }
+        Ok(())
+    }
+
+    // What is said of two sides that are to be alike.
+    fn equality(
+        &self,
+        checker: &Checker,
+        left: &Expr,
+        right: &Expr,
+        notes: &mut Vec<Note>,
+    ) -> Result<(), NoMemory>
+        ensures { OnOk result (Adds notes.old notes.new (equality_at self.now.at (scope checker.now) (expr_of left.now) (expr_of right.now))) }
+    {
+        let Some(first) = kind_of(checker, left)? else {
+            return Ok(());
+        };
+        let Some(second) = kind_of(checker, right)? else {
+            return Ok(());
+        };
+        let is_blamed = self.is_blamed(start_of(left), start_of(right), first, second);
+        self.sides(checker, is_blamed, first, second, notes)
+    }
+
+    /// What is said of the sides of an expression, if these are to be alike.
+    pub fn sides_of(
+        &self,
+        checker: &Checker,
+        e: &Expr,
+        notes: &mut Vec<Note>,
+    ) -> Result<(), NoMemory>
+        ensures { OnOk result (Adds notes.old notes.new (sides_at self.now.at (scope checker.now) (expr_of e.now))) }
+    {
+        let Expr::Joined(joined) = e else {
+            return Ok(());
+        };
+        let Joined::Compare(c, left, right) = &**joined else {
+            return Ok(());
+        };
+        if !is_equality(*c) {
+            return Ok(());
+        }
+        self.equality(checker, left, right, notes)
+    }
+}
