@@ -1,2 +1,4 @@
 mod OneSeat
 mod Quiet
+mod Turns
+mod Simulated

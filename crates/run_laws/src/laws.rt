@@ -1,6 +1,6 @@
 //! The laws: functions that do nothing, and whose contracts are what holds.
 
-ghost use Rattle.run_laws.specs.Laws.{OneSeatIsSerial, QuietCallsStandAnywhere};
+ghost use Rattle.run_laws.specs.Laws.{OneSeatIsSerial, QuietCallsStandAnywhere, CallsEndAlone, ClosedRunsAreSimulated};
 
 /// A closed run in which one thread alone has called is what `serial` finds: its calls are that thread's script, in order,
 /// and whatever these calls answer, print and leave when they run whole, one after another, is what the history says.
@@ -15,3 +15,31 @@ pub fn one_seat_is_serial()
 pub fn quiet_calls_stand_anywhere()
     ensures { QuietCallsStandAnywhere }
 {}
+
+/// In a world of a program's threads in which no section is open, a thread's next call is run whole by some number of steps of
+/// that thread alone, where the call is over at all: it ends and prints as it does when it runs whole on the world's cells,
+/// leaves these cells, and its entry is the history's last.
+pub fn calls_end_alone()
+    ensures { CallsEndAlone }
+{
+    code::laws::steps_go_alike();
+    code::run_laws::sections_end_alike::<u8>();
+    history::laws::one_entry_more();
+    worlds::laws::steps_keep_sound();
+    worlds::laws::worlds_stay_ready();
+    worlds::laws::rising_sections_go_on();
+}
+
+/// A closed run of all scripts is also a run of the simulator: with a turn for each entry, in the history's order, in which
+/// steps of its thread alone run its call whole. The history of that run has the same calls of the same threads, with the
+/// same ends and prints, and each entry leaves the same cells.
+pub fn closed_runs_are_simulated()
+    ensures { ClosedRunsAreSimulated }
+{
+    code::laws::steps_go_alike();
+    code::run_laws::sections_end_alike::<u8>();
+    history::laws::one_entry_more();
+    worlds::laws::steps_keep_sound();
+    worlds::laws::worlds_stay_ready();
+    worlds::laws::rising_sections_go_on();
+}
