@@ -3,6 +3,7 @@
 ghost use Rattle.std.specs.Prelude.{◌≡◌, ◌<◌, ℕ, true, Some, IfOk, IfSome, OnOk, MatchOption, length, map};
 ghost use denote.Param.Send.{IsSend, IsSync};
 ghost use Rattle.lowering.specs.contracts.compiled.Program as program;
+ghost use Rattle.worlds.specs.Claims.{AreOfScripts};
 ghost use Rattle.workers.specs.Answers.{HasScript, IsHistoryOf, RunsAsAccepted, call_in, script_at};
 ghost use Rattle.workers.specs.Within.{AreInOrder, HasCalls, NoCall, IsCall};
 
@@ -37,6 +38,7 @@ pub fn run_threads<'p, R: Threads + Wait + Sync, G: Gate>(
     ensures accepted { IfOk result (λ c. RunsAsAccepted program.now c.history c.values) }
     ensures scripts { let count = length program.now.program.threads.items in
         IfOk result (λ c. (t : ℕ) → t < count → HasScript program.now c.history t) }
+    ensures nobody_else { IfOk result (λ c. AreOfScripts program.now c.history) }
 {
     run_named::<Brand, R, G>(rt, alloc, program, gate)
 }
@@ -53,6 +55,7 @@ fn run_named<'p, J: Naming + Send + Sync, R: Threads + Wait + Sync, G: Gate>(
     ensures accepted { IfOk result (λ c. RunsAsAccepted J.plan c.history c.values) }
     ensures scripts { let count = length program.now.program.threads.items in
         IfOk result (λ c. (t : ℕ) → t < count → HasScript J.plan c.history t) }
+    ensures nobody_else { IfOk result (λ c. AreOfScripts J.plan c.history) }
 {
     worlds::laws::of_scripts_run_alike();
     let _typed = program.typed();
