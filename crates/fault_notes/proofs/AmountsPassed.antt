@@ -123,11 +123,12 @@ pub ends_there : (decls : List Decl) (at : ℕ) (p : IsFirstOver calls_of decls 
 ends_there decls at p =
     let few = p.few in
     let many = p.many in
-    let next = total_more calls_of at decls p.place p.decl p.listed in
-    (ap (begins at) p.named ∙ eq-eqb p.name.span.start at p.starts,
+    let next = total_more calls_of at decls p.place p.decl p.listed in (
+      ap (begins at) p.named ∙ eq-eqb p.name.span.start at p.starts,
       ends_from (few_calls (take (p.place + 1) decls)) (few_calls (take p.place decls))
-      (lt-leb (total calls_of (take (p.place + 1) decls)) CALL_LIMIT (omega (arith, many, next)))
-      (le-leb (total calls_of (take p.place decls)) CALL_LIMIT few))
+          (lt-leb (total calls_of (take (p.place + 1) decls)) CALL_LIMIT (omega (arith, many, next)))
+          (le-leb (total calls_of (take p.place decls)) CALL_LIMIT few),
+    )
 
 -- ---- the cells of an object
 

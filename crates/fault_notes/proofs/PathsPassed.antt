@@ -39,9 +39,10 @@ module _ (written : Typed) (f : Fault) (at : ℕ) (given : paths.IsRefusal writt
 
   first_if : IsLimitAt f at → IsFirstOfPaths written at
   first_if is =
-      let same = same_found is in
-      (subst (λ (m : Mistake). IsFault written m.code m.start) same given.0,
-        λ code p h. ap (λ (m : Mistake). goes_before (record { code = code; start = p }) m) (sym same) ∙ least code p h)
+      let same = same_found is in (
+        subst (λ (m : Mistake). IsFault written m.code m.start) same given.0,
+        λ code p h. ap (λ (m : Mistake). goes_before (record { code = code; start = p }) m) (sym same) ∙ least code p h,
+      )
 
   limit_of : found ≡ wanted → IsLimitAt f at
   limit_of same = (ap (λ (m : Mistake). m.code) same, ap (λ (m : Mistake). m.start) same)

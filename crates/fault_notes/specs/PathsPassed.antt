@@ -31,7 +31,7 @@ abbrev pub IsFirstOfPaths : Typed → ℕ → Type 0
 IsFirstOfPaths written at =
     IsFault written LimitExceeded at
     × ((code : Code) (p : ℕ) → IsFault written code p →
-      goes_before (record { code = code; start = p }) (record { code = LimitExceeded; start = at }) ≡ false)
+    goes_before (record { code = code; start = p }) (record { code = LimitExceeded; start = at }) ≡ false)
 
 -- the tokens mean a program, and whichever this is, too many lock paths are its first fault
 pub record ArePathsFirst (tokens : List Tok) (at : ℕ) : Type 0 where

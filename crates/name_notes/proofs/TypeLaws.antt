@@ -349,7 +349,6 @@ module _ (x : Search) (decls : List Decl) where
       let said = types_note (type_words sc.decls t) (type_words sc.decls u) in
       result_told said b type_is meant at
       (given_has sc.decls t u s.result said is (misfit_has (fits_type t (sort.Of u)) said no_fit))
-
   each_told n (of_number_owned {sc = sc} {l = k} {o = o} b is at) =
       let said = types_note (codes "a reference") (codes "int") in
       bound_has said b

@@ -14,10 +14,11 @@ returns-then-branch c =
     let ds = c.args.decls.now in
     let k = c.loop-place.place in
     let d = c.index-decls-place.result in
-    let here = viewed_at decl_of ds ds k d refl c.index-decls-place.is c.loop-place-test.true in
-    (λ _. is_last (map decl_of ds) c.args.at k (decl_of d) here (sym c.begins_there.ensures ∙ c.if-begins_there.true)
-      (sym c.in_ok-ends_few_calls.ensures ∙ c.if-branch.true),
-      λ _. refl)
+    let here = viewed_at decl_of ds ds k d refl c.index-decls-place.is c.loop-place-test.true in (
+      λ _. is_last (map decl_of ds) c.args.at k (decl_of d) here (sym c.begins_there.ensures ∙ c.if-begins_there.true)
+          (sym c.in_ok-ends_few_calls.ensures ∙ c.if-branch.true),
+      λ _. refl,
+    )
 
 pub loop-place-preserved : goal.loop-place-preserved
 loop-place-preserved c =
@@ -39,9 +40,10 @@ loop-place-preserved c =
 
 pub returns : goal.returns
 returns c =
-    let ds = c.args.decls.now in
-    (λ e. absurd cc,
+    let ds = c.args.decls.now in (
+      λ e. absurd cc,
       λ p.
-        let is = ends_there (map decl_of ds) c.args.at p in
-        let within = within_view decl_of ds ds p.place p.decl refl p.listed in
-        absurd (c.loop-place.invariant p.place (omega (arith, within, c.loop-place-test.false)) p.decl p.listed is.0 is.1))
+          let is = ends_there (map decl_of ds) c.args.at p in
+          let within = within_view decl_of ds ds p.place p.decl refl p.listed in
+          absurd (c.loop-place.invariant p.place (omega (arith, within, c.loop-place-test.false)) p.decl p.listed is.0 is.1),
+    )
