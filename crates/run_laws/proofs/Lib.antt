@@ -2,3 +2,4 @@ mod OneSeat
 mod Quiet
 mod Turns
 mod Simulated
+mod Told

@@ -1,11 +1,12 @@
 -- Closed runs of real threads.
-use Rattle.std.specs.Prelude.{◌≡◌, ◌<◌, ℕ, List, [], ◌∷◌, ◌++◌, length, map, replicate, slice_get, Some, None, ⊤}
+use Rattle.std.specs.Prelude.{◌≡◌, ◌<◌, ℕ, List, [], ◌∷◌, ◌++◌, length, map, replicate, slice_get, Some, None, Any, ⊤}
 use Rattle.core_lang.specs.declared.value.Value.{Value}
 use Rattle.core_lang.specs.Whole.{Finished}
 use Rattle.core_lang.specs.Serial.{Invocation, Ended, Scheduled, WholeCall, SerialFromOpening, end_of}
 use Rattle.code.specs.Memory.{overwritten}
 use Rattle.history.specs.Commits.{Commit, call_of, script_call, answer_of, committed}
 use Rattle.lowering.specs.Plans.{Plan, IsCompiled}
+use Rattle.outcomes.specs.Ends.{Told, AreAllEnds}
 use Rattle.steps.specs.declared.turn.Turn.{Turn}
 use Rattle.steps.specs.Turns.{steps_of}
 use Rattle.worlds.specs.Claims.{AreOfScripts}
@@ -119,3 +120,10 @@ abbrev pub ClosedRunsAreSimulated : Type 0
 ClosedRunsAreSimulated =
     (plan : Plan) (log : List Commit) (values : List Value) → IsCompiled plan → IsHistoryOf plan log values →
     HasAllScripts plan log → IsSimulated plan log values
+
+-- so the cells that such a run leaves are those of an end that is told, where the ends of all orders are
+abbrev pub ClosedEndsAreTold : Type 0
+ClosedEndsAreTold =
+    (plan : Plan) (log : List Commit) (values : List Value) (n : ℕ) (told : List Told) → IsCompiled plan →
+    IsHistoryOf plan log values → RunsAsAccepted plan log values → HasAllScripts plan log →
+    AreAllEnds plan.accepted n told → Any (λ (e : Told). e.cells ≡ values) told

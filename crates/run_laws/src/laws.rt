@@ -1,6 +1,6 @@
 //! The laws: functions that do nothing, and whose contracts are what holds.
 
-ghost use Rattle.run_laws.specs.Laws.{OneSeatIsSerial, QuietCallsStandAnywhere, CallsEndAlone, ClosedRunsAreSimulated};
+ghost use Rattle.run_laws.specs.Laws.{OneSeatIsSerial, QuietCallsStandAnywhere, CallsEndAlone, ClosedRunsAreSimulated, ClosedEndsAreTold};
 
 /// A closed run in which one thread alone has called is what `serial` finds: its calls are that thread's script, in order,
 /// and whatever these calls answer, print and leave when they run whole, one after another, is what the history says.
@@ -42,4 +42,14 @@ pub fn closed_runs_are_simulated()
     worlds::laws::steps_keep_sound();
     worlds::laws::worlds_stay_ready();
     worlds::laws::rising_sections_go_on();
+}
+
+/// The cells that a closed run of all scripts leaves are those of an end that `outcomes` tells, where it tells the ends of all
+/// orders of the calls.
+pub fn closed_ends_are_told()
+    ensures { ClosedEndsAreTold }
+{
+    core_lang::laws::at_most_one_serial();
+    outcome_laws::laws::every_end_is_told();
+    closed_runs_are_simulated();
 }
