@@ -5,11 +5,12 @@
 
 `rt all check` does the same, but reads all sources at once before any proof, which takes three minutes and 9 GB, keeps
 13 GB of proofs, and has each crate load the proofs of all those below it. Here a library is left as its statements, as
-`rt ci` leaves it, which is all that a proof above it reads; and the crates go as those of `rt ci` do: first those with
-the longest chain of others above them, and with more than one job where a processor is idle, or where the crate is of the
-longest chains. A library that was built of the same files is taken as it is, so a run that was stopped goes on where it was. Writes a line for each crate that is
-done. The status is 5 where the toolchain has no such functions, as in another version: `rt all check` serves then.
+`rt ci` leaves it, which is all that a proof above it reads; and the crates go as those of `rt ci` do, but first those with
+the longest chain of others above them by measured seconds (the file proof_seconds here; of what isn't in it by its lines).
+A library that was built of the same files is taken as it is, so a run that was stopped goes on where it was. Writes a line
+for each crate that is done. The status is 5 where the toolchain has no such functions, as in another version: `rt all check` serves then.
 """
+import contextlib
 import importlib.machinery
 import importlib.util
 import os
@@ -124,12 +125,10 @@ class Build:
 
     def run(self):
         """Whether all are proved."""
-        tasks, works = {}, {it.name: work_of(it) for it in self.crates}
-        # Two jobs for each crate of the longest chains, also where no processor is idle: they decide the whole time.
-        least = {it: 2 for it in on_long_chains(self.crates, works)} if self.processors > 2 else {}
+        tasks, works = {}, works_of(self.crates)
         for crate in self.crates:
             waits = [(it.name, "proof") for it in crate.below()]
-            call = lambda given, jobs, it=crate: self.prove(it, given, max(jobs, least.get(it.name, 1)))
+            call = lambda given, jobs, it=crate: self.prove(it, given, jobs)
             tasks[crate.name, "proof"] = (waits, works[crate.name], self.need(crate), call)
         given = self.in_lanes(tasks)
         for it in self.held:
@@ -137,22 +136,15 @@ class Build:
         return all(given.values())
 
 
-def work_of(crate):
-    """About how long the proof takes beside the others: by its lines of code, and the lines below it that it reads."""
-    return 300 + crate.count(rb"\n")
-
-
-def on_long_chains(crates, works):
-    """The crates through which a chain of crates goes, each on the one before it, that is nearly as long as the longest."""
-    below, above = {}, {}
-    ordered = sorted(crates, key=lambda it: len(it.below()))
-    for crate in ordered:
-        below[crate.name] = works[crate.name] + max((below[it.name] for it in crate.below()), default=0)
-    for crate in reversed(ordered):
-        higher = [above[it.name] for it in ordered if it.name in above and crate in it.below()]
-        above[crate.name] = works[crate.name] + max(higher, default=0)
-    longest = max(below.values(), default=0)
-    return [it for it in works if below[it] + above[it] - works[it] >= 0.9 * longest]
+def works_of(crates):
+    """About how many seconds of one processor each proof takes: as was measured once, or by its lines, as the others do."""
+    measured = {}
+    with contextlib.suppress(OSError), open(f"{os.path.dirname(os.path.realpath(__file__))}/proof_seconds", encoding="utf-8") as it:
+        measured = {name: int(seconds) for name, seconds in map(str.split, it)}
+    lines = {it.name: 300 + it.count(b"\n") for it in crates}
+    known = [it for it in lines if it in measured]
+    a_line = sum(measured[it] for it in known) / sum(lines[it] for it in known) if known else 1
+    return {it: measured.get(it, 1 + int(a_line * lines[it])) for it in lines}
 
 
 def main(folder):

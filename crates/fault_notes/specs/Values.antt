@@ -1,4 +1,5 @@
 -- What values of the code are, in the words of the notes.
+use Rattle.std.proofs.Common.{Vec, Global}
 use Rattle.std.specs.Prelude.{◌≡◌, ◌<◌, ◌≤◌, ℕ, Bool, true, if◌then◌else◌, List, map, slice_get, length, Option, Some, None, IsSome}
 use denote.Ref.{Bor}
 use Rattle.std.specs.Option.{option_map}
@@ -39,11 +40,9 @@ use Rattle.fault_notes.specs.MissingInits.{IsFirstWithout, IsGap, IsGapOf, IsMis
 use Rattle.fault_notes.specs.MissingReturns.{body_of}
 use Rattle.fault_notes.specs.PassedMembers.{passed_along, passed_for}
 use Rattle.fault_notes.specs.PathsPassed.{ArePathsFirst, ArePathsPast, IsMeantProgram}
-use Rattle.fault_notes.specs.TextNotes.{AreTrueTextNotes, HasTextTree, IsExpectedTold}
 use Rattle.fault_notes.specs.declared.limits_passed.Kind.{Kind}
 use Rattle.fault_notes.specs.declared.limits_passed.Kind.TheVariants.{Structs, Bodies, Threads}
 use Rattle.fault_notes.specs.declared.missing_inits.Gap.{Gap}
-use Rattle.fault_notes.specs.declared.text_notes.Parsed.{Parsed}
 use Rattle.fault_notes.specs.declared.tree_notes.Faulty.{Faulty}
 
 -- the names that these are
@@ -97,19 +96,13 @@ section_at s = section_of s.now
 abbrev pub IsBodyOf : written_decl.Decl → Option (Bor written_section.Section) → Type 0
 IsBodyOf d s = option_map section_at s ≡ body_of (decl_of d)
 
--- the tokens of a text that is not too long, and their one tree, if it has them
-abbrev pub IsParsed : List ℕ → Option Parsed → Type 0
-IsParsed text (Some p) =
+-- the text is not too long, and these are its tokens; or it has none
+abbrev pub AreItsTokens : List ℕ → Option (Vec Token Global) → Type 0
+AreItsTokens text (Some tokens) =
     (length text ≤ SOURCE_LIMIT)
-    × HasTextTree text (seen p.tokens.items) (tree_of p.tree)
-    × ((ts : List Tok) → length text ≤ SOURCE_LIMIT → HasTokens text ts → ts ≡ seen p.tokens.items)
-    × ((ts : List Tok) (ds : List Decl) → length text ≤ SOURCE_LIMIT → HasTextTree text ts ds → (ts ≡ seen p.tokens.items) × (ds ≡ tree_of p.tree))
-IsParsed text None = (ts : List Tok) (ds : List Decl) → length text ≤ SOURCE_LIMIT → HasTextTree text ts ds → ⊥
-
--- what the tokens alone tell
-pub record AreNotesOfTokens (text : List ℕ) (code : Code) (at : ℕ) (notes : List Note) : Type 0 where
-  pub are_true : AreTrueTextNotes text code at notes
-  pub expected : IsExpectedTold text code at notes
+    × HasTokens text (seen tokens.items)
+    × ((ts : List Tok) → length text ≤ SOURCE_LIMIT → HasTokens text ts → ts ≡ seen tokens.items)
+AreItsTokens text None = (ts : List Tok) → length text ≤ SOURCE_LIMIT → HasTokens text ts → ⊥
 
 -- ---- tokens and statements
 
