@@ -72,7 +72,7 @@ build() {
     most=$(lanes)
     log=$(mktemp) || exit 3
     SECONDS=0
-    say "proving and building the program: $count crates, $most at a time; more than two hours of processor time in all where none is proved yet"
+    say "proving and building the program: $count crates, $most at a time; an hour and three quarters of processor time in all where none is proved yet"
     say "(./autolock --unproved WORDS.. runs it within two minutes, without any proof)"
     set -o pipefail
     if ! (cd -- "$top/crates/autolock" && prove_libraries) | tell_progress ||
