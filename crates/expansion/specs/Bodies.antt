@@ -29,6 +29,10 @@ HasBound local a b = (local ≡ a.own) × (b ≡ behind_bound a)
 abbrev pub WritesOne : Bodies → Action → At → Action → At → Type 0
 WritesOne helpers x a y b = (start : ℕ) → Writes helpers x start a (one start y) b
 
+-- one that binds nothing, wherever the next local is numbered
+abbrev pub WritesAnywhere : Bodies → Action → Scope → Action → Type 0
+WritesAnywhere helpers x scope y = (fresh : ℕ) → WritesOne helpers x (at_of scope fresh) y (at_of scope fresh)
+
 -- a `let` or `var` of a local
 abbrev pub WritesBound : ℕ → Expr → At → Action → At → Type 0
 WritesBound local e a y b = (e' : Expr) × Renames a.scope e e' × (y ≡ Bind a.fresh e') × HasBound local a b

@@ -1,8 +1,8 @@
 //! Statements, with what the helpers that they call do written out in their place.
 
-ghost use Rattle.std.specs.Prelude.{◌≡◌, ◌+◌, length, IfOk, OnOk};
+ghost use Rattle.std.specs.Prelude.{◌≡◌, ◌+◌, [], length, IfOk, OnOk};
 ghost use Rattle.core_lang.specs.WrittenLocals.{local_data};
-ghost use Rattle.expansion.specs.Bodies.{bodies, at, WritesOne, WritesBound, Wrote, WroteAll, WroteBlock, WroteBody, HasBound, HasReceived, IsCallee};
+ghost use Rattle.expansion.specs.Bodies.{bodies, at, WritesAnywhere, WritesOne, WritesBound, Wrote, WroteAll, WroteBlock, WroteBody, HasBound, HasReceived, IsCallee};
 ghost use Rattle.expansion.specs.Bodies.{HasMore, local_at, locals_of, locals_of_all, received, kept_parameters, taken_parameters};
 
 use crate::body::Body;
@@ -54,19 +54,12 @@ impl<'a> Body<'a> {
         })
     }
 
-    // An action other than a call.
-    #[cycle(write)]
-    fn action(
-        &self,
-        action: &Action,
-        scope: &mut Scope,
-        locals: &mut Vec<Local>,
-    ) -> Result<Action, Stop>
-        ensures written { IfOk result (λ y. WritesOne (bodies self.now) action.now (at scope.old locals.old.items) y (at scope.new locals.new.items)) }
-        ensures locals { OnOk result (HasMore locals.old.items locals.new.items (locals_of self.now action.now)) }
+    // What sets a local or a cell, or prints: it binds nothing.
+    fn plain(&self, action: &Action, scope: &Scope) -> Result<Action, Stop>
+        ensures written { IfOk result (λ y. WritesAnywhere (bodies self.now) action.now scope.now y) }
+        ensures locals { OnOk result (locals_of self.now action.now ≡ []) }
     {
         match action {
-            Action::Bind { local, value } => self.bound(*local, value, scope, locals),
             Action::SetLocal { local, value } => Ok(Action::SetLocal {
                 local: scope.find(*local)?,
                 value: scope.expr(value)?,
@@ -103,9 +96,25 @@ impl<'a> Body<'a> {
                     value,
                 })
             }
-            // A call is no single action: `statement` passes it to `call`.
-            Action::Call { .. } => Err(Stop::Astray),
             Action::Print(e) => Ok(Action::Print(scope.expr(e)?)),
+            // A call is no single action: `statement` passes it to `call`.
+            _ => Err(Stop::Astray),
+        }
+    }
+
+    // An action other than a call.
+    #[cycle(write)]
+    fn action(
+        &self,
+        action: &Action,
+        scope: &mut Scope,
+        locals: &mut Vec<Local>,
+    ) -> Result<Action, Stop>
+        ensures written { IfOk result (λ y. WritesOne (bodies self.now) action.now (at scope.old locals.old.items) y (at scope.new locals.new.items)) }
+        ensures locals { OnOk result (HasMore locals.old.items locals.new.items (locals_of self.now action.now)) }
+    {
+        match action {
+            Action::Bind { local, value } => self.bound(*local, value, scope, locals),
             Action::If { condition, block } => {
                 let condition = scope.condition(condition)?;
                 let block = self.block(block, scope, locals)?;
@@ -130,6 +139,7 @@ impl<'a> Body<'a> {
                 let body = self.block(body, scope, locals)?;
                 Ok(Action::While { condition, body })
             }
+            _ => self.plain(action, scope),
         }
     }
 

@@ -1,6 +1,6 @@
-use Rattle.std.proofs.Common.{◌++◌, ◌∙◌, ap, arith, subst, refl, sym}
-use Rattle.core_lang.specs.declared.tree.Action.{Action, Bind, SetField}
-use Rattle.core_lang.specs.Expansion.{Writes, one}
+use Rattle.std.proofs.Common.{◌++◌, ◌∙◌, ap, arith, refl}
+use Rattle.core_lang.specs.declared.tree.Action.{Bind}
+use Rattle.core_lang.specs.Expansion.{one}
 use Rattle.expansion.specs.Bodies.{bodies, at}
 use Rattle.expansion.proofs.Rows.{if_written, if_else_written, while_written}
 use Rattle.expansion.proofs.Steps.{wrote_one_more, block_written, body_written, call_written, result_written}
@@ -38,12 +38,6 @@ action-block-requires-in-While t c =
     let b = ap sizes c.deref-in-While.ensures.value in
     let d = c.decreases in
     (omega (arith, a, b, d), tt)
-
-pub action-returns-in_ok-value-in-SetField-clause-written : goal.action-returns-in_ok-value-in-SetField-clause-written
-action-returns-in_ok-value-in-SetField-clause-written t c start =
-    let a = at c.args.scope.now c.args.locals.now.items in
-    subst (λ (y : Action). Writes (bodies c.args.self.now) y start a (one start (SetField c.in_ok-base-in-SetField.base c.in-SetField.structure c.in-SetField.field c.in_ok-value-in-SetField.value)) a) (sym c.in-SetField.is)
-    (c.in_ok-base-in-SetField.base, c.in_ok-value-in-SetField.value, c.in_ok-base-in-SetField.ensures, c.in_ok-value-in-SetField.ensures, refl, refl)
 
 pub action-returns-in_ok-block-in-If-clause-written : goal.action-returns-in_ok-block-in-If-clause-written
 action-returns-in_ok-block-in-If-clause-written t c =
