@@ -37,15 +37,6 @@ truth_there c shape s locals heap r l h is = ap (λ x. truth_of c shape x s.heap
 pub with_both : {A B : Type 0} (x : Result A Failure) (a : A) (f : A → Result B Failure) (r : Result B Failure) → x ≡ Ok a → r ≡ f a → with x f ≡ r
 with_both x a f r e is = ap (λ y. with y f) e ∙ sym is
 
-with_split : {A B : Type 0} (x : Result A Failure) (f : A → Result B Failure) (b : B) → with x f ≡ Ok b → (a : A) × (x ≡ Ok a) × (f a ≡ Ok b)
-with_split (Ok a) f b e = (a, refl, e)
-with_split (Err x) f b e = cc
-
--- the same of a base that is found
-pub with_there : (path : Path) (shape : Shape) (s : State) (locals heap : List Value) (base : Value) → locals ≡ s.locals → heap ≡ s.heap →
-    with (place_of path shape locals heap) not_null ≡ Ok base → with (place_of path shape s.locals s.heap) not_null ≡ Ok base
-with_there path shape s locals heap base l h is = ap (λ p. with p not_null) (place_there path shape s locals heap (place_of path shape locals heap) l h refl) ∙ is
-
 -- ---- a failure
 
 pub stops : {A : Type 0} (r : Result (Unit {0}) Stop) (f : Failure) (s : State) (flow : Flow) (go : A → Flow) → IsErrAnd r (λ y. y ≡ stop_of f) →
@@ -79,12 +70,6 @@ module _ (call : Helpers) (x : Action) (shape : Shape) (n : ℕ) (s : State) whe
     pub element_value : (i : Value) (cell : ℕ) (r : Result Value Failure) → value_of index shape s.locals s.heap ≡ Ok i → element_cell shape array i ≡ Ok cell →
         value_of e shape s.locals s.heap ≡ r → effect_by call x shape n s ≡ given r s (λ v. written cell v s)
     element_value i cell r at there gives = element_at i (Ok cell) at there ∙ ap (λ y. given y s (λ v. written cell v s)) gives
-
-    pub element_found : (cell : ℕ) (r : Result Value Failure) → with (value_of index shape s.locals s.heap) (element_cell shape array) ≡ Ok cell →
-        value_of e shape s.locals s.heap ≡ r → effect_by call x shape n s ≡ given r s (λ v. written cell v s)
-    element_found cell r at gives =
-        let p = with_split (value_of index shape s.locals s.heap) (element_cell shape array) cell at in
-        element_value p.0 cell r p.1 p.2 gives
 
   module _ (path : Path) (structure field : ℕ) (e : Expr) (is : x ≡ SetField path structure field e) where
     pub field_base : (r : Result Value Failure) → with (place_of path shape s.locals s.heap) not_null ≡ r →

@@ -1,6 +1,6 @@
 -- A chain along the items of its list. Only proofs need it.
 use Rattle.std.proofs.Common.{◌≡◌, ℕ, ◌<◌, ◌+◌, List, ◌∷◌, length, get_or, drop, suc, drop-cons, Vec, Box, Global}
-use Rattle.std.proofs.Common.{refl, sym, ap, ◌∙◌, Result}
+use Rattle.std.proofs.Common.{sym, ap, ◌∙◌, Result}
 use Rattle.std.proofs.Math.Numerals.{add-one}
 use Rattle.core_lang.specs.declared.tree.Expr.{Expr, Chain}
 use Rattle.core_lang.specs.declared.tree.Operation.{Operation}

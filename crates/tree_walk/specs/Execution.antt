@@ -1,12 +1,10 @@
 -- The state of a section under way.
-use Rattle.std.specs.Prelude.{◌≡◌, ℕ, List, Result}
-use Rattle.core_lang.specs.declared.value.Failure.{Failure}
+use Rattle.std.specs.Prelude.{◌≡◌, ℕ, List}
 use Rattle.core_lang.specs.declared.shape.Shape.{Shape}
 use Rattle.core_lang.specs.declared.tree.Condition.{Condition}
 use Rattle.core_lang.specs.declared.tree.Expr.{Expr}
 use Rattle.core_lang.specs.declared.tree.Section.{Section}
 use Rattle.core_lang.specs.declared.tree.Stmt.{Stmt}
-use Rattle.core_lang.specs.Cells.{element_cell, with}
 use Rattle.core_lang.specs.Meaning.{State, Flow, given, sequence, stored, truth_of, turns, value_of}
 use Rattle.core_lang.specs.Whole.{Run, concluded}
 use Rattle.tree_walk.specs.declared.execution.Execution.{Execution}
@@ -17,10 +15,6 @@ state_of e = record { locals = e.locals.items; heap = e.draft.now; prints = e.pr
 -- where an assignment to a local leads
 abbrev pub assigned : ℕ → Expr → Shape → State → Flow
 assigned local e shape s = given (value_of e shape s.locals s.heap) s (λ v. stored local v s)
-
--- the cell of an array's element at the value of an expression
-abbrev pub cell_at : ℕ → Expr → Shape → State → Result ℕ Failure
-cell_at array index shape s = with (value_of index shape s.locals s.heap) (element_cell shape array)
 
 -- what a loop means, by the list of its statements
 abbrev pub while : Condition → List Stmt → Shape → ℕ → State → Flow

@@ -1,15 +1,14 @@
 //! A section under way.
 
-ghost use Rattle.std.specs.Prelude.{◌≡◌, Ok, IfSome};
+ghost use Rattle.std.specs.Prelude.{◌≡◌, Ok};
 ghost use Rattle.core_lang.specs.Meaning.{values_of, stored, written, printed, received};
 ghost use Rattle.tree_walk.specs.Stops.{Follows, Concludes, Gives};
-ghost use Rattle.tree_walk.specs.Execution.{state_of, assigned, cell_at, run_from, Keeps};
+ghost use Rattle.tree_walk.specs.Execution.{state_of, assigned, run_from, Keeps};
 ghost use Rattle.tree_walk.specs.Within.{effect_within, sequence_within, while_within, called, helped_within, run_within};
 
 use crate::draft::Draft;
 use crate::evaluate::{evaluate, is_true};
 use crate::opening::with_defaults;
-use crate::short;
 use core_lang::shape::Shape;
 use core_lang::tree::{Action, Condition, Expr, Section, Stmt};
 use core_lang::value::{Failure, Outcome, Trap, Value};
@@ -237,76 +236,9 @@ impl Execution {
         ensures keeps { Keeps self.old self.new }
     {
         for s in block {
-            self.step(&s.action, shape, bounds)?;
+            self.run(&s.action, shape, bounds)?;
         }
         Ok(())
-    }
-
-    // An assignment to a local is made here where it has a number, since a call costs as much as the rest.
-    #[inline(always)]
-    #[cycle(run)]
-    fn step(&mut self, action: &Action, shape: &Shape, bounds: &Bounds) -> Result<(), Stop>
-        ensures follows { Follows result (state_of self.new) (effect_within action.now shape.now bounds.now (state_of self.old)) }
-        ensures keeps { Keeps self.old self.new }
-    {
-        if let Action::SetLocal { local, value } = action {
-            if let Some(v) = short::value(value, shape, &self.locals, self.draft.cells()) {
-                return self.store(*local, v);
-            }
-            return self.set(*local, value, shape);
-        }
-        self.assign(action, shape, bounds)
-    }
-
-    // The cell of an array's element, if its index is found the short way.
-    #[inline(always)]
-    fn element(&self, array: usize, index: &Expr, shape: &Shape) -> Option<usize>
-        ensures { IfSome result (λ cell. cell_at array index.now shape.now (state_of self.now) ≡ Ok cell) }
-    {
-        short::cell(array, index, shape, &self.locals, self.draft.cells())
-    }
-
-    // A further assignment is made here where its parts have values: `run` has a large frame. The rest, with each trap,
-    // is told there.
-    #[inline(never)]
-    #[cycle(run)]
-    fn assign(&mut self, action: &Action, shape: &Shape, bounds: &Bounds) -> Result<(), Stop>
-        ensures follows { Follows result (state_of self.new) (effect_within action.now shape.now bounds.now (state_of self.old)) }
-        ensures keeps { Keeps self.old self.new }
-    {
-        if let Action::SetGlobal { cell, value } = action {
-            if let Some(v) = short::value(value, shape, &self.locals, self.draft.cells()) {
-                return self.write(*cell as usize, v);
-            }
-        }
-        if let Action::SetElement {
-            array,
-            index,
-            value,
-        } = action
-        {
-            if let Some(cell) = self.element(*array, index, shape) {
-                if let Some(v) = short::value(value, shape, &self.locals, self.draft.cells()) {
-                    return self.write(cell, v);
-                }
-            }
-        }
-        if let Action::SetField {
-            base,
-            field,
-            value,
-            ..
-        } = action
-        {
-            if let Some(base) = short::base(base, shape, &self.locals, self.draft.cells()) {
-                if let Some(v) = short::value(value, shape, &self.locals, self.draft.cells()) {
-                    if let Ok(cell) = cell_of_field(shape, base, *field) {
-                        return self.write(cell, v);
-                    }
-                }
-            }
-        }
-        self.run(action, shape, bounds)
     }
 
     // The values of arguments, from left to right.

@@ -12,4 +12,3 @@ mod evaluate;
 pub mod execution;
 pub mod heap;
 pub mod opening;
-mod short;

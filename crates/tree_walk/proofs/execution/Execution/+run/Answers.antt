@@ -1,5 +1,5 @@
 use Rattle.core_lang.specs.Cells.{not_null}
-use Rattle.tree_walk.proofs.Leads.{value_there, place_there, truth_there, with_both, with_there, stops, global_value, print_value, element_at, element_value, element_found, field_base, field_value, field_at, if_fails, if_else_fails, turns_fail, sequence_goes, sequence_ends, sequence_stops}
+use Rattle.tree_walk.proofs.Leads.{value_there, place_there, truth_there, with_both, stops, global_value, print_value, element_at, element_value, field_base, field_value, field_at, if_fails, if_else_fails, turns_fail, sequence_goes, sequence_ends, sequence_stops}
 use Rattle.std.proofs.Common.{◌∙◌, ◌++◌, refl, sym, ap, subst, arith, length, map, drop, Vec, Global}
 use Rattle.std.specs.Prelude.{slice_get}
 use Rattle.std.proofs.lemmas.Option.{slice_get_read}
@@ -129,18 +129,18 @@ repeat-returns-in_err-is_true-clause-follows t c =
 pub steps-loop-s-preserved : goal.steps-loop-s-preserved
 steps-loop-s-preserved t c = record {
   same = sequence_goes _ c.args.block.now c.loop-s.s-index c.s-item.result c.args.shape.now c.args.bounds.now.turns (state_of c.loop-s.self) _ c.loop-s-test.true c.s-item.is c.loop-s.invariant.same
-      (state_of c.step.new.self) c.in_ok-step.ensures.follows;
-  keeps = c.in_ok-step.ensures.keeps ∙ c.loop-s.invariant.keeps;
+      (state_of c.run.new.self) c.in_ok-run.ensures.follows;
+  keeps = c.in_ok-run.ensures.keeps ∙ c.loop-s.invariant.keeps;
 }
 
 pub steps-returns-clause-follows : goal.steps-returns-clause-follows
 steps-returns-clause-follows t c =
     sequence_ends _ c.args.block.now c.loop-s.s-index c.args.shape.now c.args.bounds.now.turns (state_of c.loop-s.self) _ c.loop-s-test.false c.loop-s.invariant.same
 
-pub steps-returns-in_err-step-clause-follows : goal.steps-returns-in_err-step-clause-follows
-steps-returns-in_err-step-clause-follows t c =
+pub steps-returns-in_err-run-clause-follows : goal.steps-returns-in_err-run-clause-follows
+steps-returns-in_err-run-clause-follows t c =
     sequence_stops _ c.args.block.now c.loop-s.s-index c.s-item.result c.args.shape.now c.args.bounds.now.turns (state_of c.loop-s.self) _ c.loop-s-test.true c.s-item.is c.loop-s.invariant.same
-    _ _ _ c.from_residual.ensures.1 c.in_err-step.ensures.follows
+    _ _ _ c.from_residual.ensures.1 c.in_err-run.ensures.follows
 
 pub run-returns-in_ok-cell-in-SetField-clause-keeps : goal.run-returns-in_ok-cell-in-SetField-clause-keeps
 run-returns-in_ok-cell-in-SetField-clause-keeps t c = c.write-in-SetField.ensures.keeps
@@ -162,21 +162,6 @@ run-returns-in_err-cell-in-SetField-clause-keeps t c = refl
 
 pub run-returns-in_err-v-in-SetField-clause-keeps : goal.run-returns-in_err-v-in-SetField-clause-keeps
 run-returns-in_err-v-in-SetField-clause-keeps t c = refl
-
-pub assign-returns-in-Ok-clause-follows : goal.assign-returns-in-Ok-clause-follows
-assign-returns-in-Ok-clause-follows t c =
-    subst (Follows c.write-in-Ok.result (state_of c.write-in-Ok.new.self))
-    (sym (field_at _ c.args.action.now c.args.shape.now c.args.bounds.now.turns (state_of c.args.self.now) _ _ _ _ c.in-SetField.is _ _ _
-    (with_there c.in-SetField.base c.args.shape.now (state_of c.args.self.now) _ _ _ c.deref-in-SetField.ensures.value c.cells-in-SetField.ensures c.in-Some-base.ensures)
-    (value_there c.in-SetField.value c.args.shape.now (state_of c.args.self.now) _ _ _ c.deref-in-Some-base.ensures.value c.cells-in-Some-base.ensures (sym c.in-Some-value-2.ensures)) (sym c.in-Ok.ensures)))
-    c.write-in-Ok.ensures.follows
-
-pub assign-returns-in-Some-value-clause-follows : goal.assign-returns-in-Some-value-clause-follows
-assign-returns-in-Some-value-clause-follows t c =
-    subst (Follows c.write-in-Some-value.result (state_of c.write-in-Some-value.new.self))
-    (sym (element_found _ c.args.action.now c.args.shape.now c.args.bounds.now.turns (state_of c.args.self.now) _ _ _ c.in-SetElement.is c.in-Some-element.cell _ c.in-Some-element.ensures
-    (value_there c.in-SetElement.value c.args.shape.now (state_of c.args.self.now) _ _ _ c.deref-in-Some-element.ensures.value c.cells-in-Some-element.ensures (sym c.in-Some-value.ensures))))
-    c.write-in-Some-value.ensures.follows
 
 pub finish-run_all-requires : goal.finish-run_all-requires
 finish-run_all-requires t c =

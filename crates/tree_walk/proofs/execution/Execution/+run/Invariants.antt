@@ -34,12 +34,6 @@ decreases-repeat l = l.bounds.now.depth * room l.shape.now + 8 * goal.size-repea
 abbrev pub decreases-run : goal.decreases-run
 decreases-run l = l.bounds.now.depth * room l.shape.now + 8 * goal.size-run l + 2
 
-abbrev pub decreases-assign : goal.decreases-assign
-decreases-assign l = l.bounds.now.depth * room l.shape.now + 8 * goal.size-assign l + 3
-
-abbrev pub decreases-step : goal.decreases-step
-decreases-step l = l.bounds.now.depth * room l.shape.now + 8 * goal.size-step l + 4
-
 abbrev pub decreases-call : goal.decreases-call
 decreases-call l = l.bounds.now.depth * room l.shape.now + 1
 

@@ -5,7 +5,7 @@ use Rattle.std.proofs.lemmas.Result.{err_from_is_err_and}
 use Rattle.core_lang.specs.Meaning.{joined}
 use Rattle.tree_walk.specs.Chains.{chain_starts}
 use Rattle.tree_walk.proofs.Steps.{chain_fails, chain_fails_first}
-use Rattle.tree_walk.proofs.evaluate.+walk.Goals as goal
+use Rattle.tree_walk.proofs.evaluate.+evaluate.Goals as goal
 
 pub loop-operation-init : goal.loop-operation-init
 loop-operation-init t c =

@@ -1,10 +1,10 @@
 use Rattle.std.proofs.Common.{◌≡◌, drop, Ok}
 use Rattle.core_lang.specs.Meaning.{value_of}
 use Rattle.core_lang.specs.Lists.{operations}
-use Rattle.tree_walk.proofs.evaluate.+walk.Given as goal
+use Rattle.tree_walk.proofs.evaluate.+evaluate.Given as goal
 
 abbrev pub invariant-loop-operation : goal.invariant-loop-operation
 invariant-loop-operation l = operations (drop l.operation-index l.operation-items) l.shape l.locals l.heap (Ok l.value) ≡ value_of l.e l.shape l.locals l.heap
 
-abbrev pub decreases-walk : goal.decreases-walk
-decreases-walk l = goal.size-walk l
+abbrev pub decreases-evaluate : goal.decreases-evaluate
+decreases-evaluate l = goal.size-evaluate l
