@@ -11,8 +11,17 @@ use entry_copies::naming::Naming;
 use history::entries::History;
 use history::kept::Kept;
 
-/// Whether what each seat has seen begins the entries, and none of those behind it is of the seat's thread.
-pub fn all_in<J: Naming>(seats: &[Seat<'_, J>], log: &History) -> bool
+/// Whether what each seat has seen begins the entries, none of those behind it is of the seat's thread, and each entry's
+/// thread has a seat.
+pub fn fit<J: Naming>(seats: &[Seat<'_, J>], log: &History) -> bool
+    ensures seen { IsTrue result → All (IsIn log.now.commits) seats.now }
+    ensures seated { IsTrue result → All (IsSeated seats.now) log.now.commits }
+{
+    all_in(seats, log) && are_seated(seats, log)
+}
+
+// Whether what each seat has seen begins the entries, and none of those behind it is of the seat's thread.
+fn all_in<J: Naming>(seats: &[Seat<'_, J>], log: &History) -> bool
     ensures { IsTrue result → All (IsIn log.now.commits) seats.now }
 {
     seats.iter().all(|s| is_in(s, log))
@@ -40,8 +49,8 @@ fn are_of_others(log: &History, from: usize, thread: u32) -> bool
     true
 }
 
-/// Whether each entry's thread has a seat.
-pub fn are_seated<J: Naming>(seats: &[Seat<'_, J>], log: &History) -> bool
+// Whether each entry's thread has a seat.
+fn are_seated<J: Naming>(seats: &[Seat<'_, J>], log: &History) -> bool
     ensures { IsTrue result → All (IsSeated seats.now) log.now.commits }
 {
     for position in 0..log.len() {

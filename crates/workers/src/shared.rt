@@ -15,7 +15,7 @@ ghost use Rattle.entry_copies.specs.Rows.{IsSameSeen, SeesOwn};
 
 use crate::answer_room::AnswerRoom;
 use crate::closed::{Closed, Strange};
-use crate::closing::{all_in, are_seated};
+use crate::closing::fit;
 use crate::gate::Gate;
 use crate::guarded::Guarded;
 use crate::parking::{Parking, Wakings};
@@ -70,14 +70,22 @@ impl<'p, J: Naming> Shared<'p, J> {
         requires few { count ≤ 64 }
         ensures { IfOk result (λ r. r.1.items ≡ new_seats row.entry.now count) }
     {
-        let guarded = Guarded::open(alloc, program)?;
+        let print_rooms = PrintRooms::of(alloc, program.code())?;
         let Seating { seats, wakings, .. } = Seating::of(row, alloc, program, count)?;
+        let guarded = match Guarded::open(alloc, program) {
+            Ok(guarded) => guarded,
+            Err(NoMemory) => {
+                drop(seats);
+                drop(wakings);
+                return Err(NoMemory);
+            }
+        };
         let shared = Shared {
             alloc,
             program,
             guarded: Mutex::new(guarded),
             wakings: Wakings::new(wakings),
-            print_rooms: PrintRooms::of(alloc, program.code())?,
+            print_rooms,
         };
         Ok((shared, seats))
     }
@@ -340,10 +348,10 @@ impl<'p, J: Naming> Shared<'p, J> {
         };
         manager.keeps_its_rules();
         let history = manager.history();
-        if !all_in(seats.as_slice(), history) {
-            return Err(Strange);
-        }
-        if !are_seated(seats.as_slice(), history) {
+        let fits = fit(seats.as_slice(), history);
+        drop(seats);
+        if !fits {
+            drop(manager);
             return Err(Strange);
         }
         Ok(Closed { manager })
