@@ -9,12 +9,12 @@ ghost use Rattle.resolution.specs.Faults.{const_start};
 ghost use Rattle.source.specs.Mistakes.{least_of};
 ghost use Rattle.resolution.specs.FaultLists.{own_faults, sort_misfit, const_faults, opening_faults};
 ghost use Rattle.symbols.specs.{decls_of};
-ghost use Rattle.resolved_expressions.specs.Parts.{pushed};
+ghost use Rattle.expressions.specs.Parts.{pushed};
 ghost use Rattle.constants.specs.Values.{arguments_of, argument_faults_of};
 
 use core_lang::value::{Value, ValueType};
+use expressions::wanted::{fits_sort, note_number, number, want};
 use resolution::wanted::{Sort, Want};
-use resolved_expressions::wanted::{fits_sort, note_number, number, want};
 use source::fault::Code;
 use source::mistake::{Mistake, note};
 use source::token::Number;

@@ -10,8 +10,8 @@ ghost use Rattle.constants.specs.Values.{member_found};
 
 use crate::constant::{note_const, note_index};
 use core_lang::value::ValueType;
+use expressions::wanted::want;
 use resolution::wanted::Want;
-use resolved_expressions::wanted::want;
 use source::fault::Code;
 use source::mistake::{Mistake, note};
 use symbols::first_inits::{initialised, structure_given};

@@ -6,9 +6,9 @@ ghost use Rattle.driver.specs.OrderGraphs.{IsOrderGraph};
 
 use crate::answer::Answer;
 use crate::status::Status;
+use check_report::Order;
 use lockorder::class_pairs;
 use lowering::compiled::Program;
-use order_report::Order;
 use source::memory::NoMemory;
 use std::alloc::Global;
 

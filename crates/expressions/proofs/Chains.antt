@@ -27,9 +27,9 @@ use Rattle.resolution.specs.Where.{side_want}
 use Rattle.resolution.specs.declared.wanted.Want.{Want}
 use Rattle.source.specs.Mistakes.{least_of}
 use Rattle.resolution.specs.FaultLists.{expr_faults, link_faults, operator_faults, misfit, side_faults, wanted_faults}
-use Rattle.resolved_expressions.specs.Parts.{pushed, operation_with, SoFar, so_far, tests_with, first_test}
-use Rattle.resolved_expressions.specs.ResolvedExprs.{tests_of, holds}
-use Rattle.resolved_expressions.specs.declared.resolved_expr.Tests as the_tests
+use Rattle.expressions.specs.Parts.{pushed, operation_with, SoFar, so_far, tests_with, first_test}
+use Rattle.expressions.specs.ResolvedExprs.{tests_of, holds}
+use Rattle.expressions.specs.declared.resolved_expr.Tests as the_tests
 use Rattle.core_lang.specs.declared.value.ValueType.TheVariants.{Integer}
 use Rattle.resolution.specs.declared.wanted.Want.TheVariants.{Condition, Value}
 use Rattle.source.specs.Leasts.{least_append}

@@ -1,2 +1,3 @@
+pub mod CoreRows
 pub mod Chains
 pub mod Indices

@@ -1,3 +1,6 @@
+pub mod ResolvedExprs
+pub mod Parts
+pub mod Zips
 pub mod Checkers
 pub mod Misplaced
 pub mod Indexing
@@ -6,6 +9,7 @@ pub mod Operands
 -- what the public clauses cite
 pub use Rattle.resolution.specs.CoreViews.{core_expr, core_condition, core_path}
 pub use Rattle.resolution.specs.Scopes.{meaning, outside, bound, hidden_from, number_at, the_struct, type_of}
-pub use Rattle.resolution.specs.Expressions.{cell_of, typed, fitting, as_value, number_resolved, test_resolved, named_value, local_path, path_value, walk_from}
-pub use Rattle.resolution.specs.FaultLists.{local_faults, type_faults, wanted_faults, no_value, no_elements}
-pub use Rattle.resolved_expressions.specs.ResolvedExprs.{resolved_expr_of}
+pub use Rattle.resolution.specs.Expressions.{cell_of, typed, fitting, as_value, number_resolved, test_resolved, named_value, local_path, path_value, walk_from, number_value, want, fits_type, fits_sort, literal, value_of, parenthesised, negated, not_so, operator_of, chained, compared}
+pub use Rattle.resolution.specs.FaultLists.{local_faults, type_faults, wanted_faults, no_value, no_elements, one, number_faults, misfit, operator_faults, side_faults}
+pub use Rattle.expressions.specs.ResolvedExprs.{resolved_expr_of}
+pub use Rattle.resolution.specs.Where.{side_want}

@@ -14,8 +14,8 @@ use Rattle.resolution.specs.Expressions.{ResolvedExpr, Tests, typed, typed_links
 use Rattle.resolution.specs.Faults.{start_of}
 use Rattle.resolution.specs.Where.{side_want}
 use Rattle.resolution.specs.FaultLists.{link_faults, side_faults, wanted_faults}
-use Rattle.resolved_expressions.specs.ResolvedExprs.{seen, holds}
-use Rattle.resolved_expressions.specs.declared.resolved_expr.Side as the_side
+use Rattle.expressions.specs.ResolvedExprs.{seen, holds}
+use Rattle.expressions.specs.declared.resolved_expr.Side as the_side
 
 -- one operator, and the operand behind it
 abbrev pub one_link : Op → Expr → Links

@@ -11,10 +11,10 @@ ghost use Rattle.symbols.specs.{decls_of, meaning_of, local_seen};
 ghost use Rattle.expressions.specs.Checkers.{scope};
 ghost use Rattle.expressions.specs.Misplaced.{misplaced, taken_name_faults};
 
+use crate::judged::Least;
 use core_lang::tree::LocalKind;
 use core_lang::value::ValueType;
 use resolution::body_limits::BodyLimits;
-use resolved_expressions::judged::Least;
 use source::fault::Code;
 use source::mistake::note;
 use std::alloc::{AllocError, Global};

@@ -12,19 +12,19 @@ ghost use Rattle.source.specs.Mistakes.{least_of};
 ghost use Rattle.resolution.specs.FaultLists.{expr_faults, place_faults, link_faults, wanted_faults};
 ghost use Rattle.expressions.specs.Checkers.{scope};
 ghost use Rattle.expressions.specs.Operands.{one_link, chain_from, tests_from, both_tests, second_faults, right_faults};
-ghost use Rattle.resolved_expressions.specs.ResolvedExprs.{resolved_expr_of, operations_of, seen, tests_of};
+ghost use Rattle.expressions.specs.ResolvedExprs.{resolved_expr_of, operations_of, seen, tests_of};
 
 use crate::checker::Checker;
+use crate::judged::{Judged, Least};
 use crate::place::{element_value, path_value};
-use core_lang::tree::{Condition, Expr, Operation};
-use core_lang::value::ValueType;
-use resolution::wanted::{Sort, Want};
-use resolved_expressions::judged::{Judged, Least};
-use resolved_expressions::resolved_expr::{
+use crate::resolved_expr::{
     ResolvedExpr, Side, Tests, chained, compared, literal, negated, not_so, note_misfit, number_in,
     one_test, operator, parenthesised, side_want, test_in, tested, value_in, with_operation,
     with_test,
 };
+use core_lang::tree::{Condition, Expr, Operation};
+use core_lang::value::ValueType;
+use resolution::wanted::{Sort, Want};
 use std::alloc::AllocError;
 use syntax::tree;
 use syntax::tree::{Element, Joined, Level, Link, Op, Path, Prefix};

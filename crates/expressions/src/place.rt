@@ -11,14 +11,14 @@ ghost use Rattle.symbols.specs.{meaning_of};
 ghost use Rattle.expressions.specs.Checkers.{scope};
 ghost use Rattle.expressions.specs.Indexing.{indexed_by, element_by};
 ghost use Rattle.expressions.specs.Walks.{walk_of, over_field, fields_faults, way_faults};
-ghost use Rattle.resolved_expressions.specs.ResolvedExprs.{resolved_expr_of};
+ghost use Rattle.expressions.specs.ResolvedExprs.{resolved_expr_of};
 
 use crate::checker::Checker;
+use crate::judged::{Judged, Least, faulty};
+use crate::resolved_expr::{ResolvedExpr, value_of};
 use core_lang::tree::{Expr, FieldStep, Path};
 use core_lang::value::ValueType;
 use resolution::wanted::Sort;
-use resolved_expressions::judged::{Judged, Least, faulty};
-use resolved_expressions::resolved_expr::{ResolvedExpr, value_of};
 use source::fault::Code;
 use source::mistake::note;
 use std::alloc::{AllocError, Global};

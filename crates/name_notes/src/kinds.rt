@@ -5,16 +5,16 @@ ghost use Rattle.core_lang.specs.declared.value.ValueType.TheVariants.{Integer};
 ghost use Rattle.syntax.specs.Trees.{lone};
 ghost use Rattle.syntax.specs.Views.{element_of, expr_of, ident, joined_of, path_of};
 ghost use Rattle.resolution.specs.Expressions.{number_resolved, test_resolved, typed, typed_place};
-ghost use Rattle.resolved_expressions.specs.ResolvedExprs.{resolved_expr_of};
+ghost use Rattle.expressions.specs.ResolvedExprs.{resolved_expr_of};
 ghost use Rattle.expressions.specs.Checkers.{scope};
 ghost use Rattle.name_notes.specs.Values.{is_of_numbers, kind_if, number_kind, test_kind};
 
 use core_lang::value::ValueType;
 use expressions::checker::Checker;
+use expressions::judged::Judged;
 use expressions::place::{element_value, path_value};
+use expressions::resolved_expr::ResolvedExpr;
 use resolution::wanted::Sort;
-use resolved_expressions::judged::Judged;
-use resolved_expressions::resolved_expr::ResolvedExpr;
 use syntax::tree::{Element, Expr, Joined, Level, Name, Path, Prefix};
 
 /// What an expression is, without its resolved form.

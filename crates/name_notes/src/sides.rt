@@ -12,8 +12,8 @@ use crate::words::sides_note;
 use core_lang::value::ValueType;
 use explanation::Note;
 use expressions::checker::Checker;
+use expressions::wanted::fits_type;
 use resolution::wanted::Sort;
-use resolved_expressions::wanted::fits_type;
 use source::memory::NoMemory;
 use syntax::tree::{Comparison, Expr, Joined};
 

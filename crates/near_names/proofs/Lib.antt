@@ -1,3 +1,6 @@
+pub mod Aligned
+pub mod Turned
+pub mod Table
 pub mod Lists
 pub mod Seen
 pub mod Scoping

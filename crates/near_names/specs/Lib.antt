@@ -1,3 +1,4 @@
+pub mod Distance
 pub mod Sought
 pub mod Locals
 pub mod Members
@@ -8,3 +9,4 @@ pub mod Values
 -- what the public clauses cite
 pub use Rattle.near_names.specs.NearNames.{CouldStand, IsNear, IsNearestOf}
 pub use Rattle.near_names.specs.Values.{FoundNearest, NoneIsNear}
+pub use Rattle.near_names.specs.Distance.{IsDistance}

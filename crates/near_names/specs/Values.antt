@@ -3,7 +3,7 @@ use Rattle.std.proofs.Common.{Vec, Global}
 use Rattle.std.specs.List.{filter_map}
 use Rattle.std.specs.Prelude.{◌≡◌, ◌++◌, ◌||◌, ℕ, Bool, List, map, option_map, Option, Some, None}
 use denote.Ref.{Bor}
-use Rattle.edit_distance.specs.Distance.{IsDistance}
+use Rattle.near_names.specs.Distance.{IsDistance}
 use Rattle.resolution.specs.Constants.{pool_members}
 use Rattle.resolution.specs.Scopes.{declared, the_decl}
 use Rattle.resolution.specs.Where.{Has}

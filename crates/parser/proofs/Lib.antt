@@ -1,3 +1,7 @@
+pub mod Rooms
+pub mod Closed
+pub mod StatementsDone
+pub mod Optional
 pub mod DeclarationLaws
 pub mod Turns
 pub mod Done

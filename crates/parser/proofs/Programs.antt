@@ -9,16 +9,16 @@ use Rattle.syntax.specs.Trees.{Decl}
 use Rattle.syntax.specs.Grammar.{tok, AreMany, IsDecl, Spells, spells, open_after, nesting, IsOpening, LIMIT, IsShallow, HasTree}
 use Rattle.syntax.specs.Returns.{IsFirstReturnFault}
 use Rattle.syntax.specs.Faults.{IsUnexpected, IsTooDeep, IsMisplaced, NoEnd}
-use Rattle.token_parts.specs.declared.stop.Stop.{Stop}
-use Rattle.token_parts.specs.declared.stop.Stop.TheVariants.{Unexpected, TooDeep, NoMemory}
-use Rattle.token_parts.specs.Reading.{◌>>=◌, Reader, Next, turn, many_at, same_kind, is_next, next_unless, next_until}
+use Rattle.parser.specs.declared.stop.Stop.{Stop}
+use Rattle.parser.specs.declared.stop.Stop.TheVariants.{Unexpected, TooDeep, NoMemory}
+use Rattle.parser.specs.Reading.{◌>>=◌, Reader, Next, turn, many_at, same_kind, is_next, next_unless, next_until}
 use Rattle.parser.specs.Declarations.{decl_at, decls_at, end_from, program_at, first_start}
-use Rattle.token_parts.specs.Theory.Readers.{OnValue, on_then, on_weaker}
-use Rattle.token_parts.specs.Theory.Many.{NextShortens, many_at-turn}
+use Rattle.parser.specs.Theory.Readers.{OnValue, on_then, on_weaker}
+use Rattle.parser.specs.Theory.Many.{NextShortens, many_at-turn}
 use Rattle.parser.proofs.Turns.{next_decl_shortens}
-use Rattle.token_parts.specs.Theory.Law.{ShallowFrom, ShallowFrom-append, Took, Deep, LawAt, Says}
+use Rattle.parser.specs.Theory.Law.{ShallowFrom, ShallowFrom-append, Took, Deep, LawAt, Says}
 use Rattle.parser.proofs.DeclarationLaws.{decls_law}
-use Rattle.token_parts.specs.Theory.Finding.{Finds, found, deep}
+use Rattle.parser.specs.Theory.Finding.{Finds, found, deep}
 use Rattle.parser.proofs.Spelled.{program_found}
 
 -- ---- nesting

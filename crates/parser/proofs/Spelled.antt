@@ -8,19 +8,19 @@ use Rattle.source.specs.declared.token.Number.{Number}
 use Rattle.syntax.specs.Trees as tree
 use Rattle.syntax.specs.Trees.{Ident, ValueType, Const, Stmts, Member, lock_member, final_member, field_member, Section, Items, no_items, Decl, lock, struct, global, array, pool, init, atomic, helper, thread}
 use Rattle.syntax.specs.Grammar.{tok, name_tok, int_tok, IsOptional, left_out, given, AreMany, no_more, one_more, IsAfter, after, AreListed, IsName, is_name, IsType, is_int_type, is_ref_type, IsConst, is_braced, is_block, IsIndex, is_index, IsProtection, is_protection, is_variable, is_array, is_final, is_field, IsMember, is_lock_member, is_final_member, is_field_member, IsStruct, is_struct, IsPool, is_pool, IsInit, is_init, IsSection, is_section, IsCall, is_call, IsItem, is_call_item, is_repeat, IsItems, are_no_items, are_items, IsThread, is_thread, IsDecl, is_lock, is_struct_decl, is_global, is_array_decl, is_pool_decl, is_init_decl, is_atomic, is_helper, is_thread_decl, Spells, spells}
-use Rattle.token_parts.specs.Reading.{◌>>=◌, sign_at, open_at, word_at, name_at, int_at, choose}
-use Rattle.token_parts.specs.Parts.{type_at, const_at}
+use Rattle.parser.specs.Reading.{◌>>=◌, sign_at, open_at, word_at, name_at, int_at, choose}
+use Rattle.parser.specs.Parts.{type_at, const_at}
 use Rattle.parser.specs.Declarations.{array_at, variable_at, global_at, section_at, consts_in, call_at, call_item, repeat_with, item_with, item_at, items_with, items_in, thread_at, lock_at, field_at, final_at, lock_member_at, member_at, members_with, members_in, struct_at, pool_at, init_at, decl_at, decls_at, end_from, program_at}
-use Rattle.token_parts.specs.Theory.Law.{IsTok, is_tok}
-use Rattle.token_parts.specs.Theory.Joined.{Done, done, Both, both}
-use Rattle.token_parts.specs.Theory.PartLaws.{IsParams, is_params}
+use Rattle.parser.specs.Theory.Law.{IsTok, is_tok}
+use Rattle.parser.specs.Theory.Joined.{Done, done, Both, both}
+use Rattle.parser.specs.Theory.PartLaws.{IsParams, is_params}
 use Rattle.parser.proofs.DeclarationLaws.{IsLock, is_lock_name}
-use Rattle.statement_parser.specs.Theory.StatementLaws.{IsBracedPair}
-use Rattle.token_parts.specs.Theory.Shorter.{next_const_shortens}
+use Rattle.parser.specs.Theory.StatementLaws.{IsBracedPair}
+use Rattle.parser.specs.Theory.Shorter.{next_const_shortens}
 use Rattle.parser.proofs.Turns.{next_item_shortens, next_decl_shortens, next_member_shortens}
-use Rattle.token_parts.specs.Theory.Finding.{Finds, found, deep, finds_then, FindsPart, Anything, ends_found, then_found, and_found, production_found, sign_found, open_then, name_found, NotNext, IsNext, maybe_found, Closes, listed_found, until_none, until_found, choose_left, choose_right}
-use Rattle.token_parts.specs.Theory.PartsFound.{type_found, index_found, const_found, close_closes, after_found, maybe_protection_found, const_begins, params_found}
-use Rattle.statement_parser.specs.Theory.StatementsFound.{block_found}
+use Rattle.parser.specs.Theory.Finding.{Finds, found, deep, finds_then, FindsPart, Anything, ends_found, then_found, and_found, production_found, sign_found, open_then, name_found, NotNext, IsNext, maybe_found, Closes, listed_found, until_none, until_found, choose_left, choose_right}
+use Rattle.parser.specs.Theory.PartsFound.{type_found, index_found, const_found, close_closes, after_found, maybe_protection_found, const_begins, params_found}
+use Rattle.parser.specs.Theory.StatementsFound.{block_found}
 
 -- a closing brace comes next
 brace_next : {A : Type 0} {R : Span → A → List Tok → List Tok → Type 0} {y : A} {ts rest : List Tok} → Both (IsTok (mark CloseBrace)) R y ts rest → IsNext (mark CloseBrace) ts

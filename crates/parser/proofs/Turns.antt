@@ -3,18 +3,18 @@ use Rattle.std.proofs.Common.{◌≡◌, ℕ, Ok, Result, ◌∷◌, List, [], t
 use Rattle.source.specs.declared.token.Sign.TheVariants.{CloseBrace}
 use Rattle.source.specs.Tokens.{Tok, mark, end}
 use Rattle.syntax.specs.Grammar.{IsMember, IsItem, IsDecl}
-use Rattle.token_parts.specs.declared.stop.Stop.{Stop}
-use Rattle.token_parts.specs.Reading.{next_until, Fails, is_next}
+use Rattle.parser.specs.declared.stop.Stop.{Stop}
+use Rattle.parser.specs.Reading.{next_until, Fails, is_next}
 use Rattle.parser.specs.Declarations.{member_at, item_at, decl_at, items_with, decls_at, members_with}
-use Rattle.token_parts.specs.Theory.Readers.{Shortens}
-use Rattle.token_parts.specs.Theory.Many.{NextShortens, with_front}
-use Rattle.token_parts.specs.Theory.Laws.{law_shortens, next_shortens}
-use Rattle.token_parts.specs.Theory.Joined.{until_law}
+use Rattle.parser.specs.Theory.Readers.{Shortens}
+use Rattle.parser.specs.Theory.Many.{NextShortens, with_front}
+use Rattle.parser.specs.Theory.Laws.{law_shortens, next_shortens}
+use Rattle.parser.specs.Theory.Joined.{until_law}
 use Rattle.parser.proofs.DeclarationLaws.{member_law, item_law, decl_law}
 use Rattle.syntax.specs.declared.tree.Item as the_item
 use Rattle.syntax.specs.Trees.{item, no_items, Items, Decl, Member}
 use Rattle.syntax.specs.Views.{item_of, items_of, decl_of, member_of}
-use Rattle.token_parts.specs.Theory.Loops.{before, before-map, until_goes_on, until_ends, until_stops}
+use Rattle.parser.specs.Theory.Loops.{before, before-map, until_goes_on, until_ends, until_stops}
 use Rattle.syntax.specs.declared.tree.Decl as the_decl
 use Rattle.syntax.specs.declared.tree.Member as the_member
 

@@ -6,8 +6,8 @@ use Rattle.syntax.specs.Trees.{Decl}
 use Rattle.syntax.specs.Grammar.{LIMIT, HasTree}
 use Rattle.syntax.specs.Returns.{ReturnsRight, IsFirstReturnFault}
 use Rattle.syntax.specs.Faults.{HasRightTree, IsMisplaced, IsFault, unended, unexpected, too_deep, misplaced}
-use Rattle.token_parts.specs.declared.stop.Stop.{Stop}
-use Rattle.token_parts.specs.declared.stop.Stop.TheVariants.{Unexpected, TooDeep}
+use Rattle.parser.specs.declared.stop.Stop.{Stop}
+use Rattle.parser.specs.declared.stop.Stop.TheVariants.{Unexpected, TooDeep}
 use Rattle.parser.specs.Declarations.{program_at, first_start}
 use Rattle.parser.specs.Returning.{least_fault}
 use Rattle.parser.proofs.Programs.{program_is, unexpected_at, too_deep_at, no_end_at, no_answer, only_tree}

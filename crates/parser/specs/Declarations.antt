@@ -6,11 +6,11 @@ use Rattle.source.specs.declared.token.Sign.TheVariants.{OpenBrace, CloseBrace, 
 use Rattle.source.specs.Tokens.{Lexeme, word, mark, end, Tok}
 use Rattle.syntax.specs.Trees as tree
 use Rattle.syntax.specs.Trees.{Ident, ValueType, Const, Member, lock_member, final_member, field_member, Section, Items, no_items, Decl, lock, struct, global, array, pool, init, atomic, helper, thread}
-use Rattle.token_parts.specs.declared.stop.Stop.{Stop}
-use Rattle.token_parts.specs.declared.stop.Stop.TheVariants.{Unexpected}
-use Rattle.token_parts.specs.Reading.{◌>>=◌, Reader, many_at, first_at, refused, sign_at, open_at, word_at, name_at, int_at, next_until, listed_at, maybe_at, after_at, choose}
-use Rattle.token_parts.specs.Parts.{type_at, index_at, const_at, maybe_protection, params_at}
-use Rattle.statement_parser.specs.Statements.{braced_at}
+use Rattle.parser.specs.declared.stop.Stop.{Stop}
+use Rattle.parser.specs.declared.stop.Stop.TheVariants.{Unexpected}
+use Rattle.parser.specs.Reading.{◌>>=◌, Reader, many_at, first_at, refused, sign_at, open_at, word_at, name_at, int_at, next_until, listed_at, maybe_at, after_at, choose}
+use Rattle.parser.specs.Parts.{type_at, index_at, const_at, maybe_protection, params_at}
+use Rattle.parser.specs.Statements.{braced_at}
 
 -- a global that is an array, and one that is none, behind its type and name
 unfoldable pub array_at : ℕ → ValueType → Ident → Reader Decl

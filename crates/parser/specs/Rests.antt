@@ -2,7 +2,7 @@
 use Rattle.std.specs.Prelude.{ℕ, Ok}
 use Rattle.source.specs.declared.span.Span.{Span}
 use Rattle.syntax.specs.Trees.{Decl, pool, init}
-use Rattle.token_parts.specs.Reading.{◌>>=◌, Reader}
+use Rattle.parser.specs.Reading.{◌>>=◌, Reader}
 use Rattle.parser.specs.Declarations.{pool_at, init_at}
 
 abbrev pub pool_decl : ℕ → Reader Decl

@@ -3,23 +3,21 @@
 ghost use Rattle.std.specs.Prelude.{◌≡◌, map};
 ghost use Rattle.source.specs.Tokens.{seen};
 ghost use Rattle.syntax.specs.Views.{ident, type_of, section_of, decl_of, tree_of};
-ghost use Rattle.token_parts.specs.Reading.{Gives};
+ghost use Rattle.parser.specs.Reading.{Gives};
 ghost use Rattle.parser.specs.Declarations.{array_at, variable_at, global_at, section_at, decl_at, decls_at, program_at};
 ghost use Rattle.parser.specs.Rests.{pool_decl, init_decl};
 
+use crate::growth::push;
 use crate::member::{lock, structure};
+use crate::parts::{constant, index, opening_value, params, protection, result_type, value_type};
+use crate::stmt::block;
+use crate::stop::Stop;
+use crate::take::{ended_by, is_end_next, is_sign_next, take_name};
 use crate::thread::thread;
 use source::span::Span;
 use source::token::{Keyword, Sign, Token};
-use statement_parser::block;
 use std::alloc::Global;
 use syntax::tree::{Array, Decl, Init, Name, Pool, Section, Tree, ValueType, Variable};
-use token_parts::growth::push;
-use token_parts::parts::{
-    constant, index, opening_value, params, protection, result_type, value_type,
-};
-use token_parts::stop::Stop;
-use token_parts::take::{ended_by, is_end_next, is_sign_next, take_name};
 
 /// A global that is an array, behind its type and name.
 fn array(
@@ -64,7 +62,7 @@ fn variable(
 }
 
 /// A global, behind its first word.
-#[tactic(auto, unfolding(crate::specs::Declarations::global_at, token_parts::specs::Reading::choose))]
+#[tactic(auto, unfolding(crate::specs::Declarations::global_at, crate::specs::Reading::choose))]
 fn global(alloc: Global, tokens: &[Token], room: u32) -> Result<(Decl, &[Token]), Stop>
     ensures { Gives (λ x. (decl_of x.0, seen x.1.now)) result (global_at room (seen tokens.now)) }
 {

@@ -7,13 +7,28 @@
 //!   `E18` at most, and never an `E03` and an `E04`.
 //!
 //! Which tokens spell which tree is the grammar of `syntax/specs/Grammar.antt`; what each fault
-//! means, `syntax/specs/Faults.antt`. Single tokens and small parts are read by `token_parts`, the blocks of
-//! sections by `statement_parser`.
+//! means, `syntax/specs/Faults.antt`.
+//!
+//! - `take`, `parts`: a token that has to come next, or may; types, constants, parameters, annotations, and lists of them.
+//! - `expr`, `local`, `call`, `stmt`: expressions and conditions; statements, first those that declare a local or call a helper.
+//! - `member`, `thread`, `decl`, `whole`: members of structs, what threads do, declarations, all of a text.
+//! - `returns`: the first misplaced `return`.
+//!
+//! What the functions compute stands in `specs/Reading.antt`, `Parts.antt`, `Expressions.antt`, `Statements.antt` and
+//! `Declarations.antt`, as functions on lists; the law of readers, which says that this is what the grammar says, in `specs/Theory`.
 #![tactic(auto)]
 
+mod call;
 mod decl;
+mod expr;
+mod growth;
+mod local;
 mod member;
+mod parts;
 mod returns;
+mod stmt;
+mod stop;
+mod take;
 mod thread;
 mod whole;
 

@@ -3,16 +3,16 @@
 ghost use Rattle.std.specs.Prelude.{◌≡◌, map};
 ghost use Rattle.source.specs.Tokens.{seen};
 ghost use Rattle.syntax.specs.Views.{ident, member_of, struct_of};
-ghost use Rattle.token_parts.specs.Reading.{Gives};
+ghost use Rattle.parser.specs.Reading.{Gives};
 ghost use Rattle.parser.specs.Declarations.{lock_at, lock_member_at, final_at, field_at, member_at, members_with, struct_at};
 
+use crate::growth::push;
+use crate::parts::{protection, value_type};
+use crate::stop::Stop;
+use crate::take::{ended_by, is_sign_next, is_word_next, take_name, take_open, take_word};
 use source::token::{Keyword, Sign, Token};
 use std::alloc::Global;
 use syntax::tree::{Field, Final, Member, Name, Struct};
-use token_parts::growth::push;
-use token_parts::parts::{protection, value_type};
-use token_parts::stop::Stop;
-use token_parts::take::{ended_by, is_sign_next, is_word_next, take_name, take_open, take_word};
 
 /// A lock, behind its first word.
 pub fn lock(tokens: &[Token]) -> Result<(Name, &[Token]), Stop>
@@ -57,7 +57,7 @@ fn field(alloc: Global, tokens: &[Token], room: u32) -> Result<(Member, &[Token]
 }
 
 /// A member of a struct.
-#[tactic(auto, unfolding(token_parts::specs::Reading::choose))]
+#[tactic(auto, unfolding(crate::specs::Reading::choose))]
 fn member(alloc: Global, tokens: &[Token], room: u32) -> Result<(Member, &[Token]), Stop>
     ensures { Gives (λ x. (member_of x.0, seen x.1.now)) result (member_at room (seen tokens.now)) }
 {

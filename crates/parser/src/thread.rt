@@ -3,18 +3,18 @@
 ghost use Rattle.std.specs.Prelude.{◌≡◌};
 ghost use Rattle.source.specs.Tokens.{seen};
 ghost use Rattle.syntax.specs.Views.{call_of, item_of, items_of, thread_of};
-ghost use Rattle.token_parts.specs.Reading.{Gives};
+ghost use Rattle.parser.specs.Reading.{Gives};
 ghost use Rattle.parser.specs.Declarations.{call_at, repeat_with, item_at, items_in, items_with, thread_at};
 
+use crate::growth::push;
+use crate::parts::constants;
+use crate::stop::Stop;
+use crate::take::{
+    ended_by, is_sign_next, is_word_next, take_int, take_name, take_open, take_sign, take_word,
+};
 use source::token::{Keyword, Sign, Token};
 use std::alloc::Global;
 use syntax::tree::{Call, Item, Thread};
-use token_parts::growth::push;
-use token_parts::parts::constants;
-use token_parts::stop::Stop;
-use token_parts::take::{
-    ended_by, is_sign_next, is_word_next, take_int, take_name, take_open, take_sign, take_word,
-};
 
 /// A call.
 fn call(alloc: Global, tokens: &[Token], room: u32) -> Result<(Call, &[Token]), Stop>
@@ -29,7 +29,7 @@ fn call(alloc: Global, tokens: &[Token], room: u32) -> Result<(Call, &[Token]), 
 
 /// What a thread does.
 #[cycle(item)]
-#[tactic(auto, unfolding(crate::specs::Declarations::item_with, token_parts::specs::Reading::choose))]
+#[tactic(auto, unfolding(crate::specs::Declarations::item_with, crate::specs::Reading::choose))]
 fn item(alloc: Global, tokens: &[Token], room: u32) -> Result<(Item, &[Token]), Stop>
     ensures { Gives (λ x. (item_of x.0, seen x.1.now)) result (item_at room (seen tokens.now)) }
 {

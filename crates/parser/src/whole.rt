@@ -9,12 +9,12 @@ ghost use Rattle.parser.specs.TreesFound.{IsTreeOf};
 
 use crate::decl::program;
 use crate::returns::return_fault;
+use crate::stop::Stop;
 use source::fault::{Code, Fault, Refusal};
 use source::memory::NoMemory;
 use source::token::Token;
 use std::alloc::Global;
 use syntax::tree::Tree;
-use token_parts::stop::Stop;
 
 /// How many signs may be open at a time.
 const MOST_OPEN: u32 = 64;

@@ -14,7 +14,7 @@ use Rattle.resolution.specs.Statements.{typed_values}
 use Rattle.resolution.specs.Resolution.{joined}
 use Rattle.source.specs.Mistakes.{least_of}
 use Rattle.resolution.specs.FaultLists.{wanted_faults}
-use Rattle.resolved_expressions.specs.Parts.{pushed}
+use Rattle.expressions.specs.Parts.{pushed}
 use Rattle.symbols.specs.Steps.{drop-here, noted_one}
 use Rattle.sections.specs.Calls.{numbered, values_of, values_blamed, values_passed}
 

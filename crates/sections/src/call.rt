@@ -8,15 +8,15 @@ ghost use Rattle.resolution.specs.Statements.{call_resolved};
 ghost use Rattle.source.specs.Mistakes.{least_of};
 ghost use Rattle.resolution.specs.FaultLists.{helper_call_faults};
 ghost use Rattle.expressions.specs.Checkers.{scope};
-ghost use Rattle.resolved_expressions.specs.Parts.{pushed};
+ghost use Rattle.expressions.specs.Parts.{pushed};
 ghost use Rattle.sections.specs.Calls.{helper_named, numbered, section_seen, values_seen, values_of, values_blamed, each_blamed, passed_seen, passed_blamed, name_blamed, called_with, takes_result, taking_blamed};
 
 use core_lang::tree::{Action, Expr};
 use core_lang::value::ValueType;
 use expressions::checker::Checker;
+use expressions::judged::{Judged, Least};
+use expressions::wanted::{fits_type, want};
 use resolution::wanted::{Sort, Want};
-use resolved_expressions::judged::{Judged, Least};
-use resolved_expressions::wanted::{fits_type, want};
 use source::fault::Code;
 use source::mistake::note;
 use std::alloc::AllocError;

@@ -15,10 +15,10 @@ ghost use Rattle.sections.specs.Targets.{tested_if, final_faults_in, owner_name_
 use core_lang::tree::Expr;
 use core_lang::value::ValueType;
 use expressions::checker::Checker;
+use expressions::judged::{Judged, Least, faulty};
+use expressions::wanted::fits_type;
 use resolution::owner_field::OwnerField;
 use resolution::wanted::Sort;
-use resolved_expressions::judged::{Judged, Least, faulty};
-use resolved_expressions::wanted::fits_type;
 use source::fault::Code;
 use std::alloc::AllocError;
 use symbols::note::note_if;

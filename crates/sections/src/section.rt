@@ -11,7 +11,7 @@ ghost use Rattle.source.specs.Mistakes.{least_of};
 ghost use Rattle.resolution.specs.FaultLists.{param_faults, result_faults, section_faults};
 ghost use Rattle.symbols.specs.{decls_of, local_seen};
 ghost use Rattle.expressions.specs.Checkers.{scope};
-ghost use Rattle.resolved_expressions.specs.Parts.{pushed};
+ghost use Rattle.expressions.specs.Parts.{pushed};
 ghost use Rattle.sections.specs.Whole.{locals_of, section_from, section_if, blamed_in};
 
 use crate::stmt::{Body, judge_body};
@@ -19,8 +19,8 @@ use core_lang::tree;
 use core_lang::tree::{LocalKind, Section};
 use core_lang::value::ValueType;
 use expressions::checker::Checker;
+use expressions::judged::{Judged, Least};
 use resolution::body_limits::BodyLimits;
-use resolved_expressions::judged::{Judged, Least};
 use source::fault::Code;
 use source::mistake::Mistake;
 use std::alloc::{AllocError, Global};

@@ -15,9 +15,9 @@ ghost use Rattle.sections.specs.Targets.{target_seen, assignee_of, assigned_at, 
 use core_lang::tree::{Expr, FieldStep, LocalKind, Path};
 use core_lang::value::ValueType;
 use expressions::checker::Checker;
+use expressions::judged::{Judged, Least, faulty};
 use expressions::place::{Indexed, Walk, local_path};
 use resolution::wanted::Want;
-use resolved_expressions::judged::{Judged, Least, faulty};
 use source::fault::Code;
 use source::mistake::note;
 use symbols::scope::Meaning;

@@ -5,7 +5,7 @@ use Rattle.resolution.specs.CoreViews.{core_expr}
 use Rattle.expressions.specs.Indexing.{element_by}
 use Rattle.expressions.specs.declared.place.Indexed.{Indexed}
 use Rattle.expressions.specs.declared.place.Indexed.TheVariants.{Array, Pool}
-use Rattle.resolved_expressions.specs.Zips.{zipped}
+use Rattle.expressions.specs.Zips.{zipped}
 use Rattle.expressions.proofs.place.element_value.Goals as goal
 
 pub returns-in-Array : goal.returns-in-Array

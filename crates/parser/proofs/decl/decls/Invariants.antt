@@ -2,8 +2,8 @@ use Rattle.std.proofs.Common.{◌≡◌, ◌∷◌, length}
 use Rattle.source.specs.Tokens.{seen}
 use Rattle.syntax.specs.Views.{decl_of}
 use Rattle.parser.specs.Declarations.{decls_at}
-use Rattle.token_parts.specs.Theory.Many.{with_front}
-use Rattle.token_parts.specs.Theory.Loops.{before}
+use Rattle.parser.specs.Theory.Many.{with_front}
+use Rattle.parser.specs.Theory.Loops.{before}
 use Rattle.parser.proofs.decl.decls.Given as goal
 
 abbrev pub invariant-items : goal.invariant-items

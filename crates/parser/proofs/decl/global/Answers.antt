@@ -1,5 +1,5 @@
 use Rattle.std.proofs.Common.{sym, ◌∙◌}
-use Rattle.token_parts.specs.Reading.{choose}
+use Rattle.parser.specs.Reading.{choose}
 use Rattle.parser.specs.Declarations.{global_at}
 use Rattle.parser.proofs.decl.global.Goals as goal
 

@@ -1,7 +1,7 @@
 use Rattle.source.specs.Tokens.{seen}
 use Rattle.std.proofs.lemmas.Result.{err_from_is_err_and}
 use Rattle.parser.specs.Declarations.{section_at}
-use Rattle.token_parts.specs.Theory.Readers.{fails_on}
+use Rattle.parser.specs.Theory.Readers.{fails_on}
 use Rattle.parser.proofs.Done.{section_done}
 use Rattle.parser.proofs.decl.section.Goals as goal
 

@@ -3,9 +3,9 @@ use Rattle.source.specs.declared.token.Sign.TheVariants.{Semicolon}
 use Rattle.source.specs.Tokens.{seen}
 use Rattle.syntax.specs.Views.{option_of, protection_of}
 use Rattle.parser.specs.Declarations.{field_at}
-use Rattle.token_parts.specs.Parts.{maybe_protection}
-use Rattle.token_parts.specs.Theory.Readers.{fails_on}
-use Rattle.token_parts.specs.Theory.Ended.{ended, unended}
+use Rattle.parser.specs.Parts.{maybe_protection}
+use Rattle.parser.specs.Theory.Readers.{fails_on}
+use Rattle.parser.specs.Theory.Ended.{ended, unended}
 use Rattle.parser.proofs.Done.{field_done}
 use Rattle.parser.proofs.member.field.Goals as goal
 

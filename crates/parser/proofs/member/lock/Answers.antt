@@ -1,9 +1,9 @@
 use Rattle.source.specs.declared.token.Sign.TheVariants.{Semicolon}
 use Rattle.source.specs.Tokens.{seen}
 use Rattle.syntax.specs.Views.{ident}
-use Rattle.token_parts.specs.Reading.{name_at}
+use Rattle.parser.specs.Reading.{name_at}
 use Rattle.parser.specs.Declarations.{lock_at}
-use Rattle.token_parts.specs.Theory.Ended.{ended_gives}
+use Rattle.parser.specs.Theory.Ended.{ended_gives}
 use Rattle.parser.proofs.member.lock.Goals as goal
 
 pub returns : goal.returns

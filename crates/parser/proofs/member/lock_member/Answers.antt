@@ -1,7 +1,7 @@
 use Rattle.std.proofs.Common.{refl}
 use Rattle.std.proofs.lemmas.Result.{err_from_is_err_and}
 use Rattle.parser.specs.Declarations.{lock_member_at}
-use Rattle.token_parts.specs.Theory.Readers.{fails_on}
+use Rattle.parser.specs.Theory.Readers.{fails_on}
 use Rattle.parser.proofs.member.lock_member.Goals as goal
 
 pub returns : goal.returns

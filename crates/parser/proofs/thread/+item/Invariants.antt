@@ -3,8 +3,8 @@ use Rattle.source.specs.Tokens.{seen}
 use Rattle.syntax.specs.Trees.{item}
 use Rattle.syntax.specs.Views.{item_of}
 use Rattle.parser.specs.Declarations.{item_at, items_with}
-use Rattle.token_parts.specs.Theory.Many.{with_front}
-use Rattle.token_parts.specs.Theory.Loops.{before}
+use Rattle.parser.specs.Theory.Many.{with_front}
+use Rattle.parser.specs.Theory.Loops.{before}
 use Rattle.parser.proofs.thread.+item.Given as goal
 
 abbrev pub decreases-repeat : goal.decreases-repeat

@@ -3,12 +3,12 @@ use Rattle.std.proofs.lemmas.Result.{err_from_is_err_and}
 use Rattle.source.specs.declared.token.Sign.TheVariants.{CloseParen}
 use Rattle.source.specs.Tokens.{seen}
 use Rattle.syntax.specs.Views.{const_of}
-use Rattle.token_parts.specs.Parts.{const_at}
-use Rattle.token_parts.specs.Reading.{listed_at}
+use Rattle.parser.specs.Parts.{const_at}
+use Rattle.parser.specs.Reading.{listed_at}
 use Rattle.parser.specs.Declarations.{call_at}
-use Rattle.token_parts.specs.Theory.Readers.{fails_on}
+use Rattle.parser.specs.Theory.Readers.{fails_on}
 use Rattle.parser.proofs.Done.{consts_in_some, call_done}
-use Rattle.token_parts.specs.Theory.Ended.{ended, unended}
+use Rattle.parser.specs.Theory.Ended.{ended, unended}
 use Rattle.parser.proofs.thread.call.Goals as goal
 
 pub returns : goal.returns

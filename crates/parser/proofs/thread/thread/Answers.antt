@@ -4,9 +4,9 @@ use Rattle.source.specs.declared.token.Sign.TheVariants.{CloseBrace}
 use Rattle.source.specs.Tokens.{seen}
 use Rattle.syntax.specs.Views.{items_of}
 use Rattle.parser.specs.Declarations.{item_at, items_with, thread_at}
-use Rattle.token_parts.specs.Theory.Readers.{fails_on}
+use Rattle.parser.specs.Theory.Readers.{fails_on}
 use Rattle.parser.proofs.Done.{items_in_some}
-use Rattle.token_parts.specs.Theory.Ended.{ended, unended}
+use Rattle.parser.specs.Theory.Ended.{ended, unended}
 use Rattle.parser.proofs.thread.thread.Goals as goal
 
 pub returns : goal.returns

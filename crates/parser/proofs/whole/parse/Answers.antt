@@ -2,7 +2,7 @@ use Rattle.std.proofs.Common.{◌≡◌, Err, Some, None, sym, ◌∙◌}
 use Rattle.source.specs.Tokens.{seen}
 use Rattle.syntax.specs.Views.{tree_of}
 use Rattle.syntax.specs.Grammar.{LIMIT}
-use Rattle.token_parts.specs.declared.stop.Stop.TheVariants.{Unexpected, TooDeep}
+use Rattle.parser.specs.declared.stop.Stop.TheVariants.{Unexpected, TooDeep}
 use Rattle.parser.specs.Declarations.{program_at}
 use Rattle.parser.specs.Returning.{least_fault}
 use Rattle.parser.proofs.Programs.{start_seen}

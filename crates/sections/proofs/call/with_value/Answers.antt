@@ -5,8 +5,8 @@ use Rattle.std.proofs.lemmas.List.{map-append}
 use Rattle.core_lang.specs.declared.tree.Expr as e
 use Rattle.resolution.specs.Core as core
 use Rattle.resolution.specs.CoreViews.{core_expr}
-use Rattle.resolved_expressions.specs.Parts.{pushed}
-use Rattle.resolved_expressions.specs.Zips.{zipped}
+use Rattle.expressions.specs.Parts.{pushed}
+use Rattle.expressions.specs.Zips.{zipped}
 use Rattle.sections.specs.Calls.{values_seen}
 use Rattle.sections.proofs.call.with_value.Goals as goal
 

@@ -4,8 +4,8 @@ use Rattle.std.specs.Prelude.{option_map}
 use Rattle.std.proofs.lemmas.List.{map-append}
 use Rattle.core_lang.specs.declared.tree.Local as l
 use Rattle.resolution.specs.CoreViews.{core_local, core_locals}
-use Rattle.resolved_expressions.specs.Parts.{pushed}
-use Rattle.resolved_expressions.specs.Zips.{zipped}
+use Rattle.expressions.specs.Parts.{pushed}
+use Rattle.expressions.specs.Zips.{zipped}
 use Rattle.sections.proofs.section.with_local.Goals as goal
 
 locals_made : (ls : Option (Vec l.Local Global)) (x : Option l.Local) (v : Vec l.Local Global) (y : l.Local) (items : List l.Local) →

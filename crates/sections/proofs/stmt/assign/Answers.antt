@@ -4,7 +4,7 @@ use Rattle.resolution.specs.CoreViews.{core_expr}
 use Rattle.resolution.specs.Statements.{acts, assigns, set_to}
 use Rattle.sections.specs.Targets.{assignee_of, target_seen}
 use Rattle.sections.specs.declared.target.Target.{Target}
-use Rattle.resolved_expressions.specs.Zips.{zipped}
+use Rattle.expressions.specs.Zips.{zipped}
 use Rattle.sections.proofs.stmt.assign.Goals as goal
 
 pub returns-in-Local : goal.returns-in-Local

@@ -15,8 +15,8 @@ use Rattle.resolution.specs.Faults.{start_of}
 use Rattle.resolution.specs.declared.wanted.Want.TheVariants.{Value}
 use Rattle.core_lang.specs.declared.value.ValueType.TheVariants.{Integer}
 use Rattle.expressions.specs.Checkers.{scope}
-use Rattle.resolved_expressions.specs.Parts.{so_far}
-use Rattle.resolved_expressions.specs.ResolvedExprs.{resolved_expr_of, seen, tests_of, holds}
+use Rattle.expressions.specs.Parts.{so_far}
+use Rattle.expressions.specs.ResolvedExprs.{resolved_expr_of, seen, tests_of, holds}
 use Rattle.symbols.specs.Steps.{on_ok, on_ok_by}
 use Rattle.expressions.proofs.Chains.{operations_joined, operations_end, tests_joined, tests_first, tests_end, link_step, link_fault_step, test_step, test_fault_step, chain_seen, pair_seen, one_operation, two_tests, one_link_faults, second_test_faults, numbers_value, tests_value, numbers_faults, tests_faults, sides_value, sides_faults, second_side, side_blamed}
 use Rattle.expressions.proofs.Indices.{element_seen, index_blamed}

@@ -7,7 +7,7 @@ use Rattle.resolution.specs.Expressions.{typed_links, typed_tests}
 use Rattle.source.specs.Mistakes.{least_of}
 use Rattle.resolution.specs.FaultLists.{link_faults}
 use Rattle.expressions.specs.Checkers.{scope}
-use Rattle.resolved_expressions.specs.Parts.{so_far}
+use Rattle.expressions.specs.Parts.{so_far}
 use Rattle.expressions.proofs.Chains.{operations_joined, tests_joined}
 use Rattle.expressions.proofs.checker.Checker.+exprs.Given as goal
 

@@ -1,3 +1,0 @@
-pub mod Aligned
-pub mod Turned
-pub mod Table

@@ -1,0 +1,208 @@
+//! Types, constants, parameters, and lists of them.
+
+ghost use Rattle.std.specs.Prelude.{◌≡◌, map};
+ghost use Rattle.source.specs.Tokens.{seen};
+ghost use Rattle.source.specs.declared.token.Sign.TheVariants.{Dot};
+ghost use Rattle.syntax.specs.Views.{ident, type_of, const_of, param_of, protection_of, option_of};
+ghost use Rattle.parser.specs.Reading.{Gives, name_at, listed_at, after_each};
+ghost use Rattle.parser.specs.Parts.{type_at, index_at, const_at, member_from, negative_from, param_at, params_at, protection_at, maybe_protection, maybe_value, maybe_result};
+
+use crate::growth::push;
+use crate::stop::Stop;
+use crate::take::{
+    after_sign, ended_by, is_same, is_sign_next, is_word_next, named, small, take_int, take_name,
+    take_open, take_word,
+};
+use source::span::Span;
+use source::token::{Keyword, Number, Sign, Token};
+use std::alloc::Global;
+use syntax::tree::{Const, Name, Param, Protection, ValueType};
+
+/// A type.
+#[tactic(auto, unfolding(crate::specs::Parts::type_at))]
+pub fn value_type(tokens: &[Token]) -> Result<(ValueType, &[Token]), Stop>
+    ensures { Gives (λ x. (type_of x.0, seen x.1.now)) result (type_at (seen tokens.now)) }
+{
+    let [first, rest @ ..] = tokens else {
+        return Err(Stop::Unexpected(0));
+    };
+    match first {
+        Token::Word(_, Keyword::Int) => Ok((ValueType::Int, rest)),
+        Token::Word(_, Keyword::Ref) => {
+            let (target, rest) = take_name(rest)?;
+            Ok((ValueType::Ref(target), rest))
+        }
+        _ => Err(Stop::Unexpected(tokens.len())),
+    }
+}
+
+/// A number in brackets.
+pub fn index(tokens: &[Token], room: u32) -> Result<(Number, &[Token]), Stop>
+    ensures { Gives (λ x. (x.0, seen x.1.now)) result (index_at room (seen tokens.now)) }
+{
+    let (_, rest) = take_open(tokens, Sign::OpenBracket, room)?;
+    ended_by(take_int(rest), Sign::CloseBracket)
+}
+
+/// A member of a pool, behind the pool's name.
+fn member(pool: Name, tokens: &[Token], room: u32) -> Result<(Const, &[Token]), Stop>
+    ensures { Gives (λ x. (const_of x.0, seen x.1.now)) result (member_from room (ident pool) (seen tokens.now)) }
+{
+    let (index, rest) = index(tokens, room)?;
+    Ok((Const::Member(pool, index), rest))
+}
+
+/// A negative number, behind its sign.
+fn negative(sign: Span, tokens: &[Token]) -> Result<(Const, &[Token]), Stop>
+    ensures { Gives (λ x. (const_of x.0, seen x.1.now)) result (negative_from sign (seen tokens.now)) }
+{
+    let (number, rest) = take_int(tokens)?;
+    Ok((Const::Negative(sign, number), rest))
+}
+
+/// A constant, in which `room` signs may be opened.
+#[tactic(auto, unfolding(crate::specs::Parts::const_at))]
+pub fn constant(alloc: Global, tokens: &[Token], room: u32) -> Result<(Const, &[Token]), Stop>
+    ensures { Gives (λ x. (const_of x.0, seen x.1.now)) result (const_at room (seen tokens.now)) }
+{
+    let [first, rest @ ..] = tokens else {
+        return Err(Stop::Unexpected(0));
+    };
+    match first {
+        Token::Int(span, value) => Ok((Const::Int(small(*span, *value)), rest)),
+        Token::Large(number) => Ok((Const::Int(**number), rest)),
+        Token::Name(start, text) => member(named(*start, text)?, rest, room),
+        Token::Word(span, Keyword::Null) => Ok((Const::Null(*span), rest)),
+        Token::Mark(span, mark) => {
+            if !is_same(*mark, Sign::Minus) {
+                return Err(Stop::Unexpected(tokens.len()));
+            }
+            negative(*span, rest)
+        }
+        _ => Err(Stop::Unexpected(tokens.len())),
+    }
+}
+
+/// A parameter.
+fn param(tokens: &[Token]) -> Result<(Param, &[Token]), Stop>
+    ensures { Gives (λ x. (param_of x.0, seen x.1.now)) result (param_at (seen tokens.now)) }
+{
+    let (value_type, rest) = value_type(tokens)?;
+    let (name, rest) = take_name(rest)?;
+    Ok((Param { name, value_type }, rest))
+}
+
+/// Parameters with commas between them, up to a closing parenthesis.
+fn param_list(alloc: Global, tokens: &[Token]) -> Result<(Vec<Param>, &[Token]), Stop>
+    ensures { Gives (λ x. (map param_of x.0.items, seen x.1.now)) result (listed_at param_at (seen tokens.now)) }
+{
+    let mut params = Vec::new(alloc);
+    if is_sign_next(tokens, Sign::CloseParen) {
+        return Ok((params, tokens));
+    }
+    let (first, mut rest) = param(tokens)?;
+    push(&mut params, first)?;
+    while let Some(after) = after_sign(rest, Sign::Comma) {
+        let (next, after) = param(after)?;
+        push(&mut params, next)?;
+        rest = after;
+    }
+    Ok((params, rest))
+}
+
+/// Parameters in parentheses.
+pub fn params(alloc: Global, tokens: &[Token], room: u32) -> Result<(Vec<Param>, &[Token]), Stop>
+    ensures { Gives (λ x. (map param_of x.0.items, seen x.1.now)) result (params_at room (seen tokens.now)) }
+{
+    let (_, rest) = take_open(tokens, Sign::OpenParen, room)?;
+    ended_by(param_list(alloc, rest), Sign::CloseParen)
+}
+
+/// Constants with commas between them, up to a closing parenthesis.
+pub fn constants(alloc: Global, tokens: &[Token], room: u32) -> Result<(Vec<Const>, &[Token]), Stop>
+    ensures { Gives (λ x. (map const_of x.0.items, seen x.1.now)) result (listed_at (const_at room) (seen tokens.now)) }
+{
+    let mut constants = Vec::new(alloc);
+    if is_sign_next(tokens, Sign::CloseParen) {
+        return Ok((constants, tokens));
+    }
+    let (first, mut rest) = constant(alloc, tokens, room)?;
+    push(&mut constants, first)?;
+    while let Some(after) = after_sign(rest, Sign::Comma) {
+        let (next, after) = constant(alloc, after, room)?;
+        push(&mut constants, next)?;
+        rest = after;
+    }
+    Ok((constants, rest))
+}
+
+/// Names, each behind a dot.
+pub fn names_after_dots(alloc: Global, tokens: &[Token]) -> Result<(Vec<Name>, &[Token]), Stop>
+    ensures { Gives (λ x. (map ident x.0.items, seen x.1.now)) result (after_each Dot name_at (seen tokens.now)) }
+{
+    let mut names = Vec::new(alloc);
+    let mut rest = tokens;
+    while let Some(after) = after_sign(rest, Sign::Dot) {
+        let (next, after) = take_name(after)?;
+        push(&mut names, next)?;
+        rest = after;
+    }
+    Ok((names, rest))
+}
+
+/// An annotation.
+fn some_protection(
+    alloc: Global,
+    tokens: &[Token],
+    room: u32,
+) -> Result<(Protection, &[Token]), Stop>
+    ensures { Gives (λ x. (protection_of x.0, seen x.1.now)) result (protection_at room (seen tokens.now)) }
+{
+    let (_, after) = take_word(tokens, Keyword::ProtectedBy)?;
+    let (_, after) = take_open(after, Sign::OpenParen, room)?;
+    let (first, after) = take_name(after)?;
+    let (rest, after) = ended_by(names_after_dots(alloc, after), Sign::CloseParen)?;
+    Ok((Protection { first, rest }, after))
+}
+
+/// An annotation, or nothing.
+#[tactic(auto, unfolding(crate::specs::Reading::maybe_at))]
+pub fn protection(
+    alloc: Global,
+    tokens: &[Token],
+    room: u32,
+) -> Result<(Option<Protection>, &[Token]), Stop>
+    ensures { Gives (λ x. (option_of protection_of x.0, seen x.1.now)) result (maybe_protection room (seen tokens.now)) }
+{
+    if !is_word_next(tokens, Keyword::ProtectedBy) {
+        return Ok((None, tokens));
+    }
+    let (protection, rest) = some_protection(alloc, tokens, room)?;
+    Ok((Some(protection), rest))
+}
+
+/// A constant behind `=`, or nothing.
+pub fn opening_value(
+    alloc: Global,
+    tokens: &[Token],
+    room: u32,
+) -> Result<(Option<Const>, &[Token]), Stop>
+    ensures { Gives (λ x. (option_of const_of x.0, seen x.1.now)) result (maybe_value room (seen tokens.now)) }
+{
+    let Some(rest) = after_sign(tokens, Sign::Equals) else {
+        return Ok((None, tokens));
+    };
+    let (value, rest) = constant(alloc, rest, room)?;
+    Ok((Some(value), rest))
+}
+
+/// A type behind `:`, or nothing.
+pub fn result_type(tokens: &[Token]) -> Result<(Option<ValueType>, &[Token]), Stop>
+    ensures { Gives (λ x. (option_of type_of x.0, seen x.1.now)) result (maybe_result (seen tokens.now)) }
+{
+    let Some(rest) = after_sign(tokens, Sign::Colon) else {
+        return Ok((None, tokens));
+    };
+    let (value_type, rest) = value_type(rest)?;
+    Ok((Some(value_type), rest))
+}

@@ -1,5 +1,0 @@
-use Rattle.std.proofs.Common.{refl}
-use Rattle.token_parts.proofs.take.ended_by.Goals as goal
-
-pub returns : goal.returns
-returns g c = rw (c.in_ok-value.was, c.in_ok-rest.ensures) refl
