@@ -3,7 +3,8 @@
 
     tests/explanations.py [--program BIN] [FILE..]
 
-FILE..    programs, by default those of examples/ and docs/LANGUAGE.md, and some whose names and bytes need escapes
+FILE..    programs, by default those of examples/ and docs/LANGUAGE.md, some whose names and bytes need escapes, and some at limits of the
+          language and past them, whose notes must say which limit that is
 
 The line must be one JSON object. From it and the program's bytes the script makes the text of `explain`, which must be the
 same byte for byte; where words end it finds by the rule of docs/FORMATS.md. The last line is 'N programs, M failed'; exit status 1 where M is
@@ -30,6 +31,25 @@ HARD = {
     "long.al": b"lock " + b"a" * 70 + b";\n",
     "end.al": b"lock G",
     "mark.al": b"\xef\xbb\xbflock G;\n",
+}
+SOURCE = "a source has at most 1048576 bytes"
+NAME = "a name has at most 64 bytes"
+FINALS = "an annotation goes over at most 3 final references"
+RING = b"struct Node { lock l; final ref Node up; int v protected_by(%s); }\npool Node ring[1];\ninit ring[0].up = ring[0];\nlock G;\n"
+# Programs at a limit and past it, with what a note says of the limit, if one does.
+LIMITED = {
+    "source_of_most.al": (b"lock G;\n" + b" " * (1048576 - 8), None),
+    "source_too_long.al": (b"lock G;\n" + b" " * (1048577 - 8), SOURCE),
+    "source_too_long_with_name.al": (b"lock " + b"a" * 1048576, SOURCE),
+    "name_of_most.al": (b"lock " + b"a" * 64 + b";\n", None),
+    "name_too_long.al": (b"lock G;\nlock " + b"a" * 65 + b";\n", NAME),
+    "name_too_long_behind.al": (b"lock G;\nlock #; lock " + b"a" * 65 + b";\n", None),
+    "three_finals.al": (RING % b"up.up.up.l", None),
+    "four_finals.al": (RING % b"up.up.up.up.l", FINALS),
+    "five_finals.al": (RING % b"up.up.up.up.up.l", FINALS),
+    "four_finals_of_global.al": (RING % b"l" + b"global int n protected_by(up.up.up.up.l);\n", None),
+    "four_finals_of_array.al": (RING % b"l" + b"global int n[2] protected_by(up.up.up.up.l);\n", None),
+    "three_finals_and_field.al": (RING % b"up.up.up.v.l", None),
 }
 
 
@@ -110,6 +130,9 @@ def judge(program, folder, name):
     assert told["file"] == name, f"the file is {told['file']!r}"
     assert told["accepted"] == (ended.returncode == 0), f"accepted is {told['accepted']}"
     assert text_of(text, name, told) == plain.stdout, "another text than explain's"
+    if name in LIMITED:
+        said = [note["text"] for note in told["notes"] if note["text"] in (SOURCE, NAME, FINALS)]
+        assert said == [words for words in LIMITED[name][1:] if words], f"of limits {said} is said"
 
 
 def programs_of(page):
@@ -126,6 +149,8 @@ def main():
     with tempfile.TemporaryDirectory() as work:
         work = pathlib.Path(work)
         for name, text in HARD.items() if not args.files else ():
+            (work / name).write_bytes(text)
+        for name, (text, _) in LIMITED.items() if not args.files else ():
             (work / name).write_bytes(text)
         for i, text in enumerate(programs_of(TOP / "docs/LANGUAGE.md") if not args.files else ()):
             (work / f"language{i}.al").write_bytes(text)

@@ -195,7 +195,7 @@ done
 {
     cat too_long_zero
     printf '  %s..\n' "$(printf '<00>%.0s' $(seq 60))"
-    printf '  ^\nhelp: split what is too large; the limits are fixed\n'
+    printf '  ^\nnote: a source has at most 1048576 bytes\nhelp: split what is too large; the limits are fixed\n'
 } >zeros
 run "a file without an end, of explain" 1 zeros none explain /dev/zero
 run "a file without an end, of simulate" 1 none too_long_zero simulate /dev/zero two_steps

@@ -1,8 +1,10 @@
 -- A text that is longer than a program may be is explained as its beginning is.
-use Rattle.std.proofs.Common.{Bool, true, false, ◌≡◌, ◌∙◌, ◌<◌, ◌≤◌, ◌+◌, ◌++◌, ℕ, List, [], ◌∷◌, take, length, Option, Some, None, refl, ap, arith, ⊎_elim}
+use Rattle.std.proofs.Common.{Bool, true, false, ◌≡◌, ◌∙◌, ◌<◌, ◌≤◌, ◌+◌, ◌++◌, ℕ, suc, List, [], ◌∷◌, take, length, Option, Some, None, refl, sym, ap, ap₂, arith, ⊎_elim}
 use Rattle.std.proofs.lemmas.Bool.{cases_lt}
 use Rattle.std.proofs.lemmas.List.{take_all, length-take}
-use Rattle.std.specs.Prelude.{IfSome}
+use Rattle.std.proofs.lemmas.List.Elements.{All-weaker}
+use Rattle.std.specs.List.{flat_map}
+use Rattle.std.specs.Prelude.{All, IfSome}
 use Rattle.code.specs.Listing.{line}
 use Rattle.explanation.specs.Explanation.{explanation_text}
 use Rattle.explanation.specs.Laws.{ShownByFirstBytes}
@@ -10,8 +12,8 @@ use Rattle.explanation.specs.Remedies.{remedy_text}
 use Rattle.explanation.specs.Shown.{shown_place}
 use Rattle.explanation_json.specs.Json.{fault_json}
 use Rattle.explanation_json.specs.Laws.{FaultByFirstBytes}
-use Rattle.explanation.specs.Notes.{Note}
-use Rattle.fault_notes.specs.TextNotes.{IsTrueTextNote, of_tree, of_tokens, AreTextNotes}
+use Rattle.explanation.specs.Notes.{Note, note_text, told_text}
+use Rattle.fault_notes.specs.TextNotes.{IsTextLimit, source, a_name, IsTrueTextNote, of_tree, of_tokens, of_limit as of_text_limit, AreTextNotes}
 use Rattle.core_lang.specs.declared.typed.Typed.{Typed}
 use Rattle.lockorder.specs.Faults.{IsFaultAtFirst, at_first}
 use Rattle.source.specs.declared.fault.Code.{Code}
@@ -26,40 +28,65 @@ use Rattle.driver.proofs.LongTexts.{IsLong, none_accepted, given_of_long, of_lim
 place_alike : (t u : List ℕ) (start : ℕ) → start ≡ 0 → shown_place t 0 ≡ shown_place u 0 → shown_place t start ≡ shown_place u start
 place_alike t u start first same = rw first same
 
-joined : (code : Code) (told other shown more : List ℕ) → told ≡ other → shown ≡ more →
-    line told ++ shown ++ [] ++ remedy_text code ≡ line other ++ more ++ [] ++ remedy_text code
-joined code told other shown more e g = rw (e, g) refl
+joined : (code : Code) (told other shown more notes rest : List ℕ) → told ≡ other → shown ≡ more → notes ≡ rest →
+    line told ++ shown ++ notes ++ remedy_text code ≡ line other ++ more ++ rest ++ remedy_text code
+joined code told other shown more notes rest e g h = rw (e, g, h) refl
 
-explained_alike : (file t u : List ℕ) (fault : Fault) → fault.start ≡ 0 → shown_place t 0 ≡ shown_place u 0 →
-    explanation_text file t fault [] ≡ explanation_text file u fault []
-explained_alike file t u fault first same =
-    joined fault.code (fault_text file t fault) (fault_text file u fault) (shown_place t fault.start) (shown_place u fault.start)
-    (told_alike file t u fault first) (place_alike t u fault.start first same)
+-- ---- notes on no place
+
+abbrev AreOfWhole : List Note → Type 0
+AreOfWhole notes = All (λ (note : Note). note.start ≡ None) notes
+
+note_alike : (file t u : List ℕ) (note : Note) → note.start ≡ None → note_text file t note ≡ note_text file u note
+note_alike file t u note none =
+    ap (λ (start : Option ℕ). told_text file t start note.words) none ∙ sym (ap (λ (start : Option ℕ). told_text file u start note.words) none)
+
+notes_alike : (file t u : List ℕ) (notes : List Note) → AreOfWhole notes → flat_map (note_text file t) notes ≡ flat_map (note_text file u) notes
+notes_alike file t u [] none = refl
+notes_alike file t u (note ∷ notes) none =
+    ap₂ (λ (a b : List ℕ). a ++ b) (note_alike file t u note (none 0 note (omega arith)))
+    (notes_alike file t u notes (λ k d lt. none (suc k) d (omega arith)))
+
+explained_alike : (file t u : List ℕ) (fault : Fault) (notes : List Note) → fault.start ≡ 0 → AreOfWhole notes → shown_place t 0 ≡ shown_place u 0 →
+    explanation_text file t fault notes ≡ explanation_text file u fault notes
+explained_alike file t u fault notes first whole same =
+    joined fault.code (fault_text file t fault) (fault_text file u fault) (shown_place t fault.start) (shown_place u fault.start) _ _
+    (told_alike file t u fault first) (place_alike t u fault.start first same) (notes_alike file t u notes whole)
 
 -- the texts tell faults at their beginning alike, as JSON too
 abbrev AreAlike : List ℕ → List ℕ → List ℕ → Type 0
 AreAlike file t u =
-    (shown_place t 0 ≡ shown_place u 0) × ((fault : Fault) → fault.start ≡ 0 → fault_json file t fault [] ≡ fault_json file u fault [])
+    (shown_place t 0 ≡ shown_place u 0)
+    × ((fault : Fault) (notes : List Note) → fault.start ≡ 0 → AreOfWhole notes → fault_json file t fault notes ≡ fault_json file u fault notes)
 
-told_of_start : (json : Bool) (file t u : List ℕ) (fault : Fault) → fault.start ≡ 0 → AreAlike file t u →
-    fault_told json file t fault [] ≡ fault_told json file u fault []
-told_of_start true file t u fault first are = are.1 fault first
-told_of_start false file t u fault first are = explained_alike file t u fault first are.0
+told_of_start : (json : Bool) (file t u : List ℕ) (fault : Fault) (notes : List Note) → fault.start ≡ 0 → AreOfWhole notes → AreAlike file t u →
+    fault_told json file t fault notes ≡ fault_told json file u fault notes
+told_of_start true file t u fault notes first whole are = are.1 fault notes first whole
+told_of_start false file t u fault notes first whole are = explained_alike file t u fault notes first whole are.0
 
--- such a text has no notes
-text_untold : {text : List ℕ} {code : Code} {at : ℕ} {note : Note} → IsTrueTextNote text code at note → IsLong text → ⊥
-text_untold (of_tree few has is) long = absurd (omega arith)
-text_untold (of_tokens few has is) long = absurd (omega arith)
+-- ---- texts that are too long
 
-no_notes : (text : List ℕ) (code : Code) (at : ℕ) (notes : List Note) → IsLong text → AreTextNotes text code at notes → notes ≡ []
-no_notes text code at [] long are = refl
-no_notes text code at (note ∷ notes) long are = absurd (text_untold (are.are_true 0 note (omega arith)) long)
+of_whole : {text : List ℕ} {code : Code} {at : ℕ} {note : Note} → IsLong text → IsTrueTextNote text code at note → note.start ≡ None
+of_whole long (of_tree few has is) = absurd (omega arith)
+of_whole long (of_tokens few has is) = absurd (omega arith)
+of_whole long (of_text_limit is limit said) = ap (λ (note : Note). note.start) said
 
-none_of_long : (text : List ℕ) (code : Code) (at : ℕ) → IsLong text → AreTextNotes text code at []
-none_of_long text code at long = record {
-  are_true = λ k d lt. absurd (omega arith);
+-- they pass the same limit
+limit_alike : {t u words : List ℕ} {at : ℕ} → IsLong t → IsLong u → IsTextLimit t at words → IsTextLimit u at words
+limit_alike long longer (source l) = source longer
+limit_alike long longer (a_name x few over) = absurd (omega arith)
+
+true_alike : {t u : List ℕ} {code : Code} {at : ℕ} {note : Note} → IsLong t → IsLong u → IsTrueTextNote t code at note → IsTrueTextNote u code at note
+true_alike long longer (of_tree few has is) = absurd (omega arith)
+true_alike long longer (of_tokens few has is) = absurd (omega arith)
+true_alike long longer (of_text_limit is limit said) = of_text_limit is (limit_alike long longer limit) said
+
+tell_alike : (t u : List ℕ) (code : Code) (at : ℕ) (notes : List Note) → IsLong t → IsLong u → AreTextNotes t code at notes → AreTextNotes u code at notes
+tell_alike t u code at notes long longer are = record {
+  are_true = All-weaker (IsTrueTextNote t code at) (IsTrueTextNote u code at) (λ note is. true_alike long longer is) notes are.are_true;
   told = λ tokens decls few has told. absurd (omega arith);
   expected = λ tokens few has unexpected told. absurd (omega arith);
+  limited = λ words is limit. are.limited words is (limit_alike longer long limit);
 }
 
 no_cycle : (program : Typed) (fault : Fault) → fault.code ≡ LimitExceeded → IsFaultAtFirst program fault → ⊥
@@ -73,12 +100,12 @@ explained_of_long json file t u status out err long longer same (explained is) =
       fault = is.fault;
       given = given_of_long t u is.fault long longer is.given;
       bare = is.bare;
-      notes = [];
-      tell = none_of_long u is.fault.code is.fault.start longer;
+      notes = is.notes;
+      tell = tell_alike t u is.fault.code is.fault.start is.notes long longer is.tell;
       ended = is.ended;
-      written = is.written
-          ∙ ap (fault_told json file t is.fault) (no_notes t is.fault.code is.fault.start is.notes long is.tell)
-          ∙ told_of_start json file t u is.fault (starts_at_0 t is.fault long is.given) same;
+      written = is.written ∙ told_of_start json file t u is.fault is.notes (starts_at_0 t is.fault long is.given)
+          (All-weaker (IsTrueTextNote t is.fault.code is.fault.start) (λ (note : Note). note.start ≡ None) (λ note true_note. of_whole long true_note)
+          is.notes is.tell.are_true) same;
       told = is.told;
     })
 explained_of_long json file t u status out err long longer same (cycle_explained is) =
@@ -94,8 +121,9 @@ explained_of_whole law by_first json file t (Some bytes) status out err read ans
     (λ (many : SOURCE_LIMIT < length bytes).
     let long : SOURCE_LIMIT < length t = rw read (omega (arith, length-take (SOURCE_LIMIT + 1) bytes)) in
     let same : shown_place t 0 ≡ shown_place bytes 0 = rw read (law (SOURCE_LIMIT + 1) bytes (omega arith)) in
-    let json_same : (fault : Fault) → fault.start ≡ 0 → fault_json file t fault [] ≡ fault_json file bytes fault [] =
-    λ fault first. rw read (by_first (SOURCE_LIMIT + 1) file bytes fault (omega arith) first) in
+    let json_same : (fault : Fault) (notes : List Note) → fault.start ≡ 0 → AreOfWhole notes → fault_json file t fault notes ≡ fault_json file bytes fault notes =
+    λ fault notes first whole.
+    ap (λ (x : List ℕ). fault_json file x fault notes) read ∙ by_first (SOURCE_LIMIT + 1) file bytes fault notes (omega arith) first whole in
     (bytes, refl, explained_of_long json file t bytes status out err long many (same, json_same) answers))
     (λ (few : length bytes ≤ SOURCE_LIMIT).
     let same : t ≡ bytes = read ∙ take_all (SOURCE_LIMIT + 1) bytes (omega arith) in (t, same, answers))

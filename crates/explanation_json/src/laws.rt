@@ -2,8 +2,8 @@
 
 ghost use Rattle.explanation_json.specs.Laws.{FaultByFirstBytes};
 
-/// The JSON of a fault at the beginning of a text, without notes, is that of each of the text's beginnings that are longer than
-/// what is looked at.
+/// The JSON of a fault at the beginning of a text, with notes on no place, is that of each of the text's beginnings that are longer
+/// than what is looked at.
 pub fn fault_by_first_bytes()
     ensures { FaultByFirstBytes }
 {}

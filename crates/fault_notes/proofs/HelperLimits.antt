@@ -1,5 +1,5 @@
 -- Limits on what helpers call.
-use Rattle.std.proofs.Common.{◌≡◌, ◌∙◌, ℕ, ◌+◌, ◌<◌, ◌≤◌, List, [], length, take, Option, Some, None, true, false, Bool, refl, sym, ap, subst, arith, lt-ltb, ⊎_elim}
+use Rattle.std.proofs.Common.{◌≡◌, ◌∙◌, ℕ, ◌+◌, ◌<◌, ◌≤◌, List, length, take, Option, Some, None, true, false, Bool, refl, sym, ap, subst, arith, lt-ltb, ⊎_elim}
 use Rattle.std.specs.Prelude.{◌&&◌, min, nat_le, nat_lt}
 use Rattle.std.proofs.lemmas.Bool.{cases_lt, le-leb, le-ltb, leb-true, ltb-false, ltb-true}
 use Rattle.std.proofs.lemmas.List.{length-map, take-map, take_all}
@@ -13,7 +13,7 @@ use Rattle.call_graph.specs.declared.graph.Body as code
 use Rattle.call_graph.specs.Laws.{FaultsAreListed, ListedAreFaults}
 use Rattle.resolution.specs.CallGraphs.{tree_graph}
 use Rattle.source.specs.Leasts.{IsAmong, least_in, least_none, neither_before, none_before}
-use Rattle.source.specs.Mistakes.{goes_before, least_of}
+use Rattle.source.specs.Mistakes.{least_of}
 use Rattle.source.specs.declared.fault.Code.TheVariants.{LimitExceeded}
 use Rattle.source.specs.declared.mistake.Mistake.{Mistake}
 use Rattle.syntax.specs.Trees.{Decl}

@@ -14,6 +14,7 @@ pub mod HelperLimits
 pub mod PathsPassed
 pub mod LocksAtHand
 pub mod PassedMembers
+pub mod FinalsPassed
 pub mod MissingInits
 pub mod Structs
 pub mod VarsNoted

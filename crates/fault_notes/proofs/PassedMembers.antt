@@ -35,7 +35,7 @@ pub record GoesOn (decls : List Decl) (at : ℕ) (y : Ident) (o : Option (ℕ ×
   pub passes_none : stopped_at at y o ≡ None
   pub leads : next_members decls o ≡ Some next.members
 
-gone_on : (decls : List Decl) (at : ℕ) (st next : AnnotationCursor) (y : Ident) (o : Option (ℕ × Member)) → through_member decls st o ≡ Some next → GoesOn decls at y o next
+pub gone_on : (decls : List Decl) (at : ℕ) (st next : AnnotationCursor) (y : Ident) (o : Option (ℕ × Member)) → through_member decls st o ≡ Some next → GoesOn decls at y o next
 gone_on decls at st next y None e = absurd cc
 gone_on decls at st next y (Some (i, lock_member x)) e = absurd cc
 gone_on decls at st next y (Some (i, field_member x)) e = absurd cc

@@ -1,6 +1,6 @@
 -- Too many lock paths.
 use Rattle.std.proofs.Common.{◌≡◌, ◌∙◌, ℕ, List, refl, sym, ap, subst}
-use Rattle.std.specs.Prelude.{Decides, Bool, true}
+use Rattle.std.specs.Prelude.{Decides, Bool}
 use Rattle.core_lang.specs.declared.typed.Typed.{Typed}
 use Rattle.locks.specs.Faults.{IsFault, IsOverLimit, over_limit}
 use Rattle.locks.specs.Faults as paths
@@ -11,7 +11,7 @@ use Rattle.source.specs.declared.fault.Code.TheVariants.{LimitExceeded}
 use Rattle.source.specs.declared.fault.Fault.{Fault}
 use Rattle.source.specs.declared.fault.Refusal.TheVariants as refusal
 use Rattle.source.specs.declared.mistake.Mistake.{Mistake}
-use Rattle.fault_notes.specs.PathsPassed.{ArePathsFirst, ArePathsPast, IsFirstOfPaths, IsMeantProgram}
+use Rattle.fault_notes.specs.PathsPassed.{ArePathsPast, IsFirstOfPaths, IsMeantProgram}
 use Rattle.fault_notes.specs.Values.{IsLimitAt, TellsOfPaths}
 
 past_of : (written : Typed) (at : ℕ) → IsFault written LimitExceeded at → IsOverLimit written at

@@ -13,10 +13,10 @@ use Rattle.source.specs.Tokens.{Tok}
 use Rattle.syntax.specs.Trees.{Decl}
 use Rattle.name_notes.specs.TypeNotes.{IsTypeNote}
 use Rattle.fault_notes.specs.declared.tree_notes.Faulty.{Faulty}
-use Rattle.fault_notes.specs.FaultNotes.{IsTrueNote, IsTold, IsDeclaredNote, HasTypeNote, IsLockNote, IsLockWanted, IsPassedNote, IsGivenNote, IsGivenAgain, IsLimitTold, count_told, amount_told, helpers_told, paths_told, declared_note, lock_note, passed_note, given_note}
+use Rattle.fault_notes.specs.FaultNotes.{IsTrueNote, IsTold, IsDeclaredNote, HasTypeNote, IsLockNote, IsLockWanted, IsPassedNote, IsGivenNote, IsGivenAgain, IsLimitTold, count_told, amount_told, finals_told, helpers_told, paths_told, declared_note, lock_note, passed_note, given_note}
 use Rattle.fault_notes.specs.AmountsPassed.{IsAmountPassed}
 use Rattle.fault_notes.specs.HelperLimits.{IsFirstOfHelpers}
-use Rattle.fault_notes.specs.LimitsPassed.{IsCountPassed}
+use Rattle.fault_notes.specs.LimitsPassed.{AreFinalsPassed, IsCountPassed}
 use Rattle.fault_notes.specs.PathsPassed.{ArePathsFirst}
 use Rattle.fault_notes.specs.VarsFound.{var_noted}
 use Rattle.fault_notes.specs.Values.{decls_of, tokens_of, FoundNote, IsNoteIfTold}
@@ -74,12 +74,14 @@ module _ (decls : List Decl) (at : ℕ) where
 -- ---- limits
 
 pub none_of_limits : (tokens : List Tok) (decls : List Decl) (at : ℕ) → ((words : List ℕ) → IsCountPassed decls at words → ⊥) →
-    ((words : List ℕ) → IsAmountPassed decls at words → ⊥) → (IsFirstOfHelpers decls at → ⊥) → (ArePathsFirst tokens at → ⊥) →
+    ((words : List ℕ) → IsAmountPassed decls at words → ⊥) → (AreFinalsPassed decls at → ⊥) → (IsFirstOfHelpers decls at → ⊥) →
+    (ArePathsFirst tokens at → ⊥) →
     IsLimitTold tokens decls at → ⊥
-none_of_limits tokens decls at count amount helpers paths (count_told {words = words} is) = count words is
-none_of_limits tokens decls at count amount helpers paths (amount_told {words = words} is) = amount words is
-none_of_limits tokens decls at count amount helpers paths (helpers_told is) = helpers is
-none_of_limits tokens decls at count amount helpers paths (paths_told is) = paths is
+none_of_limits tokens decls at count amount finals helpers paths (count_told {words = words} is) = count words is
+none_of_limits tokens decls at count amount finals helpers paths (amount_told {words = words} is) = amount words is
+none_of_limits tokens decls at count amount finals helpers paths (finals_told is) = finals is
+none_of_limits tokens decls at count amount finals helpers paths (helpers_told is) = helpers is
+none_of_limits tokens decls at count amount finals helpers paths (paths_told is) = paths is
 
 -- ---- what is told of a var
 

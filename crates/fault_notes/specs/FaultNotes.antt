@@ -16,7 +16,7 @@ use Rattle.near_names.specs.NearNames.{CouldStand, IsNear, IsNearestOf}
 use Rattle.fault_notes.specs.Inits.{IsGivenFirst}
 use Rattle.fault_notes.specs.AmountsPassed.{IsAmountPassed}
 use Rattle.fault_notes.specs.HelperLimits.{IsFirstOfHelpers, IsHelperLimit}
-use Rattle.fault_notes.specs.LimitsPassed.{IsCountPassed}
+use Rattle.fault_notes.specs.LimitsPassed.{AreFinalsPassed, IsCountPassed}
 use Rattle.fault_notes.specs.LocksAtHand.{IsAtHand}
 use Rattle.fault_notes.specs.MissingInits.{IsGap, IsNullGiven}
 use Rattle.fault_notes.specs.MissingReturns.{IsLacking}
@@ -63,6 +63,9 @@ missing_note x = name_note x (codes " has a result, and its body does not end in
 abbrev pub misplaced_note : Note
 misplaced_note = note_of_all (codes "this return is not the last statement of a body with a result")
 
+abbrev pub finals_words : List ℕ
+finals_words = codes "an annotation goes over at most 3 final references"
+
 abbrev pub path_words : List ℕ
 path_words = codes "a section has at most 64 lock paths that differ"
 
@@ -98,6 +101,7 @@ pub record IsPassedNote (decls : List Decl) (at : ℕ) (note : Note) : Type 0 wh
 pub data IsLimitPassed (tokens : List Tok) (decls : List Decl) (at : ℕ) : List ℕ → Type 0 where
   of_count : {words : List ℕ} → IsCountPassed decls at words → IsLimitPassed tokens decls at words
   of_amount : {words : List ℕ} → IsAmountPassed decls at words → IsLimitPassed tokens decls at words
+  of_finals : AreFinalsPassed decls at → IsLimitPassed tokens decls at finals_words
   of_helpers : {words : List ℕ} → IsHelperLimit decls at words → IsLimitPassed tokens decls at words
   of_paths : ArePathsPast tokens at → IsLimitPassed tokens decls at path_words
 
@@ -167,6 +171,7 @@ pub data IsGivenAgain (decls : List Decl) : ℕ → Type 0 where
 pub data IsLimitTold (tokens : List Tok) (decls : List Decl) (at : ℕ) : Type 0 where
   count_told : {words : List ℕ} → IsCountPassed decls at words → IsLimitTold tokens decls at
   amount_told : {words : List ℕ} → IsAmountPassed decls at words → IsLimitTold tokens decls at
+  finals_told : AreFinalsPassed decls at → IsLimitTold tokens decls at
   helpers_told : IsFirstOfHelpers decls at → IsLimitTold tokens decls at
   paths_told : ArePathsFirst tokens at → IsLimitTold tokens decls at
 

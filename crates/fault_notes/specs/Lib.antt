@@ -16,6 +16,7 @@ pub mod Words
 pub mod LocksAtHand
 pub mod LocksFound
 pub mod PassedMembers
+pub mod PassedFound
 pub mod MissingInits
 pub mod NullsFound
 pub mod FaultNotes

@@ -1,10 +1,12 @@
--- Which limit on declarations, members or locals is passed.
+-- Which limit on declarations, members, locals or the final references of an annotation is passed.
 use Rattle.std.specs.List.{filter_map, flat_map}
 use Rattle.std.specs.Prelude.{◌≡◌, ◌≤◌, ℕ, List, [], ◌∷◌, ◌++◌, length, map, Option, Some, None, codes}
-use Rattle.resolution.specs.Limits.{STRUCT_LIMIT, MEMBER_LIMIT, CLASS_LIMIT, SECTION_LIMIT, THREAD_LIMIT, PARAMETER_LIMIT, LOCAL_LIMIT}
-use Rattle.resolution.specs.Scopes.{member_name}
+use Rattle.resolution.specs.Annotations.{AnnotationCursor}
+use Rattle.resolution.specs.Faults.{Walks}
+use Rattle.resolution.specs.Limits.{STRUCT_LIMIT, MEMBER_LIMIT, FINAL_LIMIT, CLASS_LIMIT, SECTION_LIMIT, THREAD_LIMIT, PARAMETER_LIMIT, LOCAL_LIMIT}
+use Rattle.resolution.specs.Scopes.{member_name, the_member}
 use Rattle.resolution.specs.Where.{Has}
-use Rattle.syntax.specs.Trees.{Ident, Member, lock_member, Param, Struct, Section, Decl, lock, struct, atomic, helper, thread}
+use Rattle.syntax.specs.Trees.{Ident, Protection, Final, Member, lock_member, final_member, Param, Struct, Section, Decl, lock, struct, atomic, helper, thread}
 use Rattle.fault_notes.specs.NameSpaces.{local_names}
 
 -- ---- names of a kind
@@ -63,3 +65,9 @@ pub data IsCountPassed (decls : List Decl) (at : ℕ) : List ℕ → Type 0 wher
       IsCountPassed decls at (codes "a section has at most 8 parameters")
   locals : {s : Section} → Has decls (atomic s) → IsPast at LOCAL_LIMIT (local_names s) →
       IsCountPassed decls at (codes "a section has at most 64 locals, parameters included")
+
+-- a field's annotation that begins there goes over a final reference, and over as many as there may be ahead of it
+pub data AreFinalsPassed (decls : List Decl) : ℕ → Type 0 where
+  finals_passed : {p : Protection} {st : AnnotationCursor} {y z : Ident} {zs : List Ident} {i : ℕ} {f : Final} →
+      Walks decls p st y (z ∷ zs) → the_member st.members y.text ≡ Some (i, final_member f) → FINAL_LIMIT ≤ length st.through →
+      AreFinalsPassed decls p.first.span.start

@@ -1,5 +1,4 @@
 -- What values of the code are, in the words of the notes.
-use Rattle.std.proofs.Common.{Vec, Global}
 use Rattle.std.specs.Prelude.{◌≡◌, ◌<◌, ◌≤◌, ℕ, Bool, true, if◌then◌else◌, List, map, slice_get, length, Option, Some, None, IsSome}
 use denote.Ref.{Bor}
 use Rattle.std.specs.Option.{option_map}
@@ -11,7 +10,7 @@ use Rattle.resolution.specs.Constants.{members_of}
 use Rattle.resolution.specs.FaultLists.{is_at}
 use Rattle.resolution.specs.Faults.{HasNoFault}
 use Rattle.resolution.specs.Scopes.{declared, member_bears, member_name, place_of, the_member}
-use Rattle.source.specs.Texts.{HasTokens, SOURCE_LIMIT}
+use Rattle.source.specs.Texts.{HasTokens, IsFault, SOURCE_LIMIT}
 use Rattle.source.specs.Tokens.{Tok, seen, seen_token}
 use Rattle.source.specs.declared.fault.Code.{Code}
 use Rattle.source.specs.declared.fault.Code.TheVariants.{LimitExceeded}
@@ -21,8 +20,8 @@ use Rattle.symbols.specs.Views.{decls_of as decls_in, members_seen}
 use Rattle.symbols.specs.declared.members.Structure.{Structure}
 use Rattle.symbols.specs.declared.table.SymbolTable.{SymbolTable}
 use Rattle.syntax.specs.Faults.{HasRightTree}
-use Rattle.syntax.specs.Trees.{Ident, Final, Init, Member, final_member, Param, Pool, Section, Stmt, Decl, pool}
-use Rattle.syntax.specs.Views.{ident, decl_of, final_of, init_of, member_of, param_of, pool_of, protection_of, section_of, stmt_of, tree_of}
+use Rattle.syntax.specs.Trees.{Ident, Final, Init, Member, final_member, Param, Pool, Section, Stmt, let_local, let_owned, let_call, var_local, Decl, pool}
+use Rattle.syntax.specs.Views.{ident, decl_of, final_of, init_of, member_of, param_of, pool_of, protection_of, section_of, stmt_of}
 use Rattle.syntax.specs.declared.tree.Decl as written_decl
 use Rattle.syntax.specs.declared.tree.Final as written_final
 use Rattle.syntax.specs.declared.tree.Init as written_init
@@ -38,11 +37,13 @@ use Rattle.fault_notes.specs.HelperLimits.{IsFirstOfHelpers, IsHelperLimit}
 use Rattle.fault_notes.specs.LimitsPassed.{struct_name, body_name, thread_name}
 use Rattle.fault_notes.specs.MissingInits.{IsFirstWithout, IsGap, IsGapOf, IsMissing, value_given}
 use Rattle.fault_notes.specs.MissingReturns.{body_of}
-use Rattle.fault_notes.specs.PassedMembers.{passed_along, passed_for}
+use Rattle.fault_notes.specs.PassedFound.{met_along, met_for}
 use Rattle.fault_notes.specs.PathsPassed.{ArePathsFirst, ArePathsPast, IsMeantProgram}
+use Rattle.fault_notes.specs.TextNotes.{IsTextLimit}
 use Rattle.fault_notes.specs.declared.limits_passed.Kind.{Kind}
 use Rattle.fault_notes.specs.declared.limits_passed.Kind.TheVariants.{Structs, Bodies, Threads}
 use Rattle.fault_notes.specs.declared.missing_inits.Gap.{Gap}
+use Rattle.fault_notes.specs.declared.passed_members.Sought.{Sought}
 use Rattle.fault_notes.specs.declared.tree_notes.Faulty.{Faulty}
 
 -- the names that these are
@@ -70,7 +71,7 @@ abbrev pub param_names : List written_param.Param → List Ident
 param_names ps = map (λ (p : Param). p.name) (map param_of ps)
 
 abbrev pub decls_of : Faulty → List Decl
-decls_of x = tree_of x.tree.now
+decls_of x = decls_in x.symbols.now
 
 abbrev pub tokens_of : Faulty → List Tok
 tokens_of x = seen x.tokens.now
@@ -96,13 +97,17 @@ section_at s = section_of s.now
 abbrev pub IsBodyOf : written_decl.Decl → Option (Bor written_section.Section) → Type 0
 IsBodyOf d s = option_map section_at s ≡ body_of (decl_of d)
 
--- the text is not too long, and these are its tokens; or it has none
-abbrev pub AreItsTokens : List ℕ → Option (Vec Token Global) → Type 0
-AreItsTokens text (Some tokens) =
-    (length text ≤ SOURCE_LIMIT)
-    × HasTokens text (seen tokens.items)
-    × ((ts : List Tok) → length text ≤ SOURCE_LIMIT → HasTokens text ts → ts ≡ seen tokens.items)
-AreItsTokens text None = (ts : List Tok) → length text ≤ SOURCE_LIMIT → HasTokens text ts → ⊥
+-- the text has this fault and no other, and no tokens
+abbrev pub IsItsFault : List ℕ → Fault → Type 0
+IsItsFault text fault =
+    IsFault text fault.code fault.start
+    × ((code : Code) (start : ℕ) → IsFault text code start → (code ≡ fault.code) × (start ≡ fault.start))
+    × ((ts : List Tok) → length text ≤ SOURCE_LIMIT → HasTokens text ts → ⊥)
+
+-- the words that are said of the text's own limit that a fault passes, if it does
+abbrev pub FoundTextLimit : List ℕ → Fault → Option (Bor (List ℕ)) → Type 0
+FoundTextLimit text fault (Some words) = (fault.code ≡ LimitExceeded) × IsTextLimit text fault.start words.now
+FoundTextLimit text fault None = (words : List ℕ) → fault.code ≡ LimitExceeded → IsTextLimit text fault.start words → ⊥
 
 -- ---- tokens and statements
 
@@ -114,6 +119,14 @@ text_at text = text.now
 
 abbrev pub stmt_at : Bor written_stmt.Stmt → Stmt
 stmt_at s = stmt_of s.now
+
+-- the name that a statement itself binds
+abbrev pub bound_name : Stmt → Option Ident
+bound_name (let_local l) = Some l.name
+bound_name (let_owned l o) = Some l.name
+bound_name (let_call l) = Some l.name
+bound_name (var_local l) = Some l.name
+bound_name _ = None
 
 -- ---- limits
 
@@ -163,11 +176,12 @@ abbrev pub final_at : Bor written_final.Final → Final
 final_at f = final_of f.now
 
 -- along an annotation, from a struct on, if there is one; and of a struct's annotations
-abbrev pub passed_from : SymbolTable → ℕ → Option (Bor Structure) → Protection → Option Member
-passed_from symbols at s p = passed_along (decls_in symbols) at (option_map members_behind s) (protection_of p).first (protection_of p).rest
+abbrev pub met_from : SymbolTable → Sought → Option (Bor Structure) → Protection → Option Member
+met_from symbols sought s p =
+    met_along sought (decls_in symbols) (protection_of p).first 0 (option_map members_behind s) (protection_of p).first (protection_of p).rest
 
-abbrev pub passed_inside : SymbolTable → ℕ → Structure → Option Member
-passed_inside symbols at s = first_by (passed_for (decls_in symbols) at (members_seen s)) (members_seen s)
+abbrev pub met_inside : SymbolTable → Sought → Structure → Option Member
+met_inside symbols sought s = first_by (met_for sought (decls_in symbols) (members_seen s)) (members_seen s)
 
 -- the member at a place of a struct, if it is a final reference and the first of its name
 abbrev pub due_final : List Member → ℕ → Member → Option Final

@@ -8,7 +8,7 @@
 //!   and `PathsPassed.antt`: which limit is passed. `specs/Inits.antt`: the first `init` of a field.
 //!   `specs/MissingReturns.antt`: which section lacks its `return`.
 //! - What the code finds where several would do stands in `specs/LimitsFound.antt`, `AmountsFound.antt`, `HelpersFound.antt`,
-//!   `LocksFound.antt`, `NullsFound.antt` and `VarsFound.antt`; `proofs/` joins it to these.
+//!   `PassedFound.antt`, `LocksFound.antt`, `NullsFound.antt` and `VarsFound.antt`; `proofs/` joins it to these.
 #![tactic(auto)]
 
 mod amounts_passed;

@@ -6,7 +6,7 @@ ghost use Rattle.std.specs.Option.{option_map};
 ghost use Rattle.syntax.specs.Trees.{atomic, struct};
 ghost use Rattle.syntax.specs.Views.{decl_of, member_of, section_of, struct_of};
 ghost use Rattle.fault_notes.specs.LimitsFound.{is_past, limit_in, limit_of_all, limit_passed, some_starts};
-ghost use Rattle.fault_notes.specs.LimitsPassed.{body_name, lock_names, own_lock_names, struct_name, thread_name};
+ghost use Rattle.fault_notes.specs.LimitsPassed.{lock_names, own_lock_names};
 ghost use Rattle.fault_notes.specs.Values.{ident_at, idents, kind_name, text_at};
 
 use crate::locks_at_hand::own_lock_in;
@@ -40,62 +40,15 @@ pub enum Kind {
     Threads,
 }
 
-fn struct_name(decl: &Decl) -> Option<&Name>
-    ensures { option_map ident_at result ≡ struct_name (decl_of decl.now) }
-{
-    match decl {
-        Decl::Struct(structure) => Some(&structure.name),
-        Decl::Lock(_)
-        | Decl::Global(_)
-        | Decl::Array(_)
-        | Decl::Pool(_)
-        | Decl::Init(_)
-        | Decl::Atomic(_)
-        | Decl::Helper(_)
-        | Decl::Thread(_) => None,
-    }
-}
-
-fn body_name(decl: &Decl) -> Option<&Name>
-    ensures { option_map ident_at result ≡ body_name (decl_of decl.now) }
-{
-    match decl {
-        Decl::Atomic(section) => Some(&section.name),
-        Decl::Helper(section) => Some(&section.name),
-        Decl::Lock(_)
-        | Decl::Struct(_)
-        | Decl::Global(_)
-        | Decl::Array(_)
-        | Decl::Pool(_)
-        | Decl::Init(_)
-        | Decl::Thread(_) => None,
-    }
-}
-
-fn thread_name(decl: &Decl) -> Option<&Name>
-    ensures { option_map ident_at result ≡ thread_name (decl_of decl.now) }
-{
-    match decl {
-        Decl::Thread(thread) => Some(&thread.name),
-        Decl::Lock(_)
-        | Decl::Struct(_)
-        | Decl::Global(_)
-        | Decl::Array(_)
-        | Decl::Pool(_)
-        | Decl::Init(_)
-        | Decl::Atomic(_)
-        | Decl::Helper(_) => None,
-    }
-}
-
 /// The name of a declaration, if it is of this kind.
 fn kind_name(kind: Kind, decl: &Decl) -> Option<&Name>
     ensures { option_map ident_at result ≡ kind_name kind (decl_of decl.now) }
 {
-    match kind {
-        Kind::Structs => struct_name(decl),
-        Kind::Bodies => body_name(decl),
-        Kind::Threads => thread_name(decl),
+    match (kind, decl) {
+        (Kind::Structs, Decl::Struct(structure)) => Some(&structure.name),
+        (Kind::Bodies, Decl::Atomic(section) | Decl::Helper(section)) => Some(&section.name),
+        (Kind::Threads, Decl::Thread(thread)) => Some(&thread.name),
+        _ => None,
     }
 }
 
@@ -225,7 +178,7 @@ fn limit_of_section(
         return Ok(Some("a section has at most 8 parameters"));
     }
     let mut locals = Vec::new(alloc);
-    push_locals(section, &mut locals)?;
+    push_locals(alloc, section, &mut locals)?;
     if is_past(at, LOCAL_LIMIT, &locals) {
         return Ok(Some("a section has at most 64 locals, parameters included"));
     }

@@ -36,7 +36,7 @@ fn meant(alloc: Global, tokens: &[Token]) -> Result<Option<Typed>, NoMemory>
 }
 
 /// Whether a fault is one of a limit there.
-fn is_limit_at(fault: &Fault, at: usize) -> bool
+pub fn is_limit_at(fault: &Fault, at: usize) -> bool
     ensures { Decides result (IsLimitAt fault.now at) }
 {
     fault.code == Code::LimitExceeded && fault.start == at

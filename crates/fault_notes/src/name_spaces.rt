@@ -1,14 +1,16 @@
 //! The names that must differ from each other.
 
 ghost use Rattle.std.specs.Prelude.{◌≡◌, ◌++◌, IfOk, OnOk, map};
-ghost use Rattle.syntax.specs.Views.{decl_of, else_of, ident, section_of, stmt_of, stmts_of};
+ghost use Rattle.std.specs.List.{filter_map};
+ghost use Rattle.std.specs.Option.{option_map};
+ghost use Rattle.syntax.specs.Views.{decl_of, ident, section_of, stmt_of};
 ghost use Rattle.fault_notes.specs.NameSpaces.{inner_names, local_names, top_names};
-ghost use Rattle.fault_notes.specs.NameSpaces as space;
-ghost use Rattle.fault_notes.specs.Values.{idents, IsNameOf, member_names, name_of_member, param_names};
+ghost use Rattle.fault_notes.specs.Values.{IsNameOf, bound_name, ident_at, idents, member_names, name_of_member, param_names, stmt_at};
 
+use crate::vars::all_of;
 use source::memory::NoMemory;
 use std::alloc::Global;
-use syntax::tree::{Block, Decl, Member, Name, Param, Section, Stmt};
+use syntax::tree::{Decl, Member, Name, Param, Section, Stmt};
 
 /// The name that is declared; an `init` declares none.
 pub fn declared(decl: &Decl) -> Option<&Name>
@@ -61,44 +63,34 @@ pub fn push_members<'a>(members: &'a [Member], names: &mut Vec<&'a Name>) -> Res
     Ok(())
 }
 
-#[cycle(locals)]
-fn push_among<'a>(stmts: &'a [Stmt], names: &mut Vec<&'a Name>) -> Result<(), NoMemory>
-    ensures { OnOk result (idents names.new.items ≡ idents names.old.items ++ space.names_among (stmts_of stmts.now)) }
-{
-    for stmt in stmts {
-        push_bound(stmt, names)?;
-    }
-    Ok(())
-}
-
-// The names of the locals of a statement and of its blocks.
-#[cycle(locals)]
-fn push_bound<'a>(stmt: &'a Stmt, names: &mut Vec<&'a Name>) -> Result<(), NoMemory>
-    ensures { OnOk result (idents names.new.items ≡ idents names.old.items ++ space.bound_names (stmt_of stmt.now)) }
+/// The name that a statement itself binds.
+fn bound_name(stmt: &Stmt) -> Option<&Name>
+    ensures { option_map ident_at result ≡ bound_name (stmt_of stmt.now) }
 {
     match stmt {
-        Stmt::Let(local) => names.push(&local.name)?,
-        Stmt::LetOwned(owned) => names.push(&owned.local.name)?,
-        Stmt::LetCall(called) => names.push(&called.name)?,
-        Stmt::Var(local) => names.push(&local.name)?,
-        Stmt::If(choice) => {
-            push_among(&choice.block.stmts, names)?;
-            push_else(&choice.otherwise, names)?;
-        }
-        Stmt::While(repetition) => push_among(&repetition.block.stmts, names)?,
-        Stmt::Assign(_, _) | Stmt::Print(_, _) | Stmt::Return(_, _) | Stmt::Call(_, _) => {}
+        Stmt::Let(local) => Some(&local.name),
+        Stmt::LetOwned(owned) => Some(&owned.local.name),
+        Stmt::LetCall(called) => Some(&called.name),
+        Stmt::Var(local) => Some(&local.name),
+        Stmt::If(_) => None,
+        Stmt::While(_)
+        | Stmt::Assign(_, _)
+        | Stmt::Print(_, _)
+        | Stmt::Return(_, _)
+        | Stmt::Call(_, _) => None,
     }
-    Ok(())
 }
 
-#[cycle(locals)]
-fn push_else<'a>(other: &'a Option<Block>, names: &mut Vec<&'a Name>) -> Result<(), NoMemory>
-    ensures { OnOk result (idents names.new.items ≡ idents names.old.items ++ space.names_in_else (else_of other.now)) }
+/// The names that statements bind.
+fn push_bound<'a>(all: &[&'a Stmt], names: &mut Vec<&'a Name>) -> Result<(), NoMemory>
+    ensures { OnOk result (idents names.new.items ≡ idents names.old.items ++ filter_map bound_name (map stmt_at all.now)) }
 {
-    match other {
-        None => Ok(()),
-        Some(block) => push_among(&block.stmts, names),
+    for stmt in all {
+        if let Some(name) = bound_name(stmt) {
+            names.push(name)?;
+        }
     }
+    Ok(())
 }
 
 /// The names of parameters.
@@ -112,20 +104,25 @@ pub fn push_params<'a>(params: &'a [Param], names: &mut Vec<&'a Name>) -> Result
 }
 
 /// The names of the parameters and locals of a section.
-pub fn push_locals<'a>(section: &'a Section, names: &mut Vec<&'a Name>) -> Result<(), NoMemory>
+pub fn push_locals<'a>(
+    alloc: Global,
+    section: &'a Section,
+    names: &mut Vec<&'a Name>,
+) -> Result<(), NoMemory>
     ensures { OnOk result (idents names.new.items ≡ idents names.old.items ++ local_names (section_of section.now)) }
 {
     push_params(&section.params, names)?;
-    push_among(&section.body.stmts, names)
+    let all = all_of(alloc, section)?;
+    push_bound(&all, names)
 }
 
-fn push_inner<'a>(decl: &'a Decl, names: &mut Vec<&'a Name>) -> Result<(), NoMemory>
+fn push_inner<'a>(alloc: Global, decl: &'a Decl, names: &mut Vec<&'a Name>) -> Result<(), NoMemory>
     ensures { OnOk result (idents names.new.items ≡ idents names.old.items ++ inner_names (decl_of decl.now)) }
 {
     match decl {
         Decl::Struct(structure) => push_members(&structure.members, names),
-        Decl::Atomic(section) => push_locals(section, names),
-        Decl::Helper(section) => push_locals(section, names),
+        Decl::Atomic(section) => push_locals(alloc, section, names),
+        Decl::Helper(section) => push_locals(alloc, section, names),
         Decl::Lock(_)
         | Decl::Global(_)
         | Decl::Array(_)
@@ -140,6 +137,6 @@ pub fn inner_names_of<'a>(alloc: Global, decl: &'a Decl) -> Result<Vec<&'a Name>
     ensures { IfOk result (λ names. idents names.items ≡ inner_names (decl_of decl.now)) }
 {
     let mut names = Vec::new(alloc);
-    push_inner(decl, &mut names)?;
+    push_inner(alloc, decl, &mut names)?;
     Ok(names)
 }

@@ -1,29 +1,62 @@
-//! Which member an annotation passes that is no final reference.
+//! Which member an annotation passes that is no final reference, or is one too many.
 
 ghost use Rattle.std.specs.Prelude.{◌≡◌, Some, slice_get};
 ghost use Rattle.std.specs.Option.{option_map};
 ghost use Rattle.symbols.specs.{decls_of, members_seen};
 ghost use Rattle.syntax.specs.Views.{decl_of, ident, member_of};
-ghost use Rattle.fault_notes.specs.PassedMembers.{next_members, passed_at, passed_for, passed_of, stopped_at};
-ghost use Rattle.fault_notes.specs.Values.{member_at, member_found, members_behind, passed_from, passed_inside};
+ghost use Rattle.fault_notes.specs.PassedFound.{met, met_at, met_for, met_of};
+ghost use Rattle.fault_notes.specs.PassedMembers.{next_members};
+ghost use Rattle.fault_notes.specs.Values.{member_at, member_found, members_behind, met_from, met_inside};
 
 use symbols::members::Structure;
 use symbols::table::SymbolTable;
 use syntax::tree::{Decl, Member, Name, Protection, Struct};
 
-/// What is found, if it is no final reference and its name in the annotation stands there.
-fn stopped_at<'t>(at: usize, name: &Name, found: Option<(usize, &'t Member)>) -> Option<&'t Member>
-    ensures { option_map member_at result ≡ stopped_at at (ident name.now) (option_map member_found found.entry) }
-{
-    let (_, member) = found?;
-    match member {
-        Member::Final(_) => None,
-        Member::Lock(_) | Member::Field(_) => {
-            if name.start as usize == at {
-                Some(member)
-            } else {
-                None
-            }
+/// How many final references an annotation may go over.
+const FINAL_LIMIT: usize = 3;
+
+/// What is looked for along annotations.
+#[derive(Clone, Copy)]
+pub enum Sought {
+    /// A member that is no final reference, and whose name in the annotation stands there.
+    NonFinal(usize),
+    /// A final reference behind as many as there may be, of an annotation that begins there.
+    FinalTooMany(usize),
+}
+
+impl Sought {
+    // What is found of a name behind so many others, if it is what is looked for.
+    fn met<'t>(
+        self,
+        first: &Name,
+        passed: usize,
+        name: &Name,
+        found: Option<(usize, &'t Member)>,
+    ) -> Option<&'t Member>
+        ensures { option_map member_at result ≡ met self (ident first.now) passed (ident name.now) (option_map member_found found.entry) }
+    {
+        let (_, member) = found?;
+        match self {
+            Sought::NonFinal(at) => match member {
+                Member::Final(_) => None,
+                Member::Lock(_) | Member::Field(_) => {
+                    if name.start as usize == at {
+                        Some(member)
+                    } else {
+                        None
+                    }
+                }
+            },
+            Sought::FinalTooMany(at) => match member {
+                Member::Final(_) => {
+                    if FINAL_LIMIT <= passed && first.start as usize == at {
+                        Some(member)
+                    } else {
+                        None
+                    }
+                }
+                Member::Lock(_) | Member::Field(_) => None,
+            },
         }
     }
 }
@@ -47,20 +80,20 @@ fn next_structure<'a, 't>(
 /// The first such member on the way along names, from a struct on, if there is one. The last name is not passed.
 fn passed_along<'a, 't>(
     symbols: &'a SymbolTable<'t>,
-    at: usize,
+    sought: Sought,
     structure: Option<&'a Structure<'t>>,
     protection: &Protection,
 ) -> Option<&'t Member>
-    ensures { option_map member_at result ≡ passed_from symbols.now at structure.entry protection.now }
+    ensures { option_map member_at result ≡ met_from symbols.now sought structure.entry protection.now }
 {
     let mut structure = structure;
     let mut name = &protection.first;
-    for next in &protection.rest {
+    for (passed, next) in protection.rest.iter().enumerate() {
         let Some(here) = structure else {
             return None;
         };
         let found = here.find(name.text.as_str());
-        if let Some(member) = stopped_at(at, name, found) {
+        if let Some(member) = sought.met(&protection.first, passed, name, found) {
             return Some(member);
         }
         structure = next_structure(symbols, found);
@@ -72,17 +105,17 @@ fn passed_along<'a, 't>(
 /// The same of the annotation of a member of the struct, if it has one.
 fn passed_for<'a, 't>(
     symbols: &'a SymbolTable<'t>,
-    at: usize,
+    sought: Sought,
     structure: &'a Structure<'t>,
     member: &Member,
 ) -> Option<&'t Member>
-    ensures { option_map member_at result ≡ passed_for (decls_of symbols.now) at (members_seen structure.now) (member_of member.now) }
+    ensures { option_map member_at result ≡ met_for sought (decls_of symbols.now) (members_seen structure.now) (member_of member.now) }
 {
     let Member::Field(field) = member else {
         return None;
     };
     match &field.protection {
-        Some(protection) => passed_along(symbols, at, Some(structure), protection),
+        Some(protection) => passed_along(symbols, sought, Some(structure), protection),
         None => None,
     }
 }
@@ -90,14 +123,14 @@ fn passed_for<'a, 't>(
 /// The same of the annotations of the struct.
 fn passed_in<'a, 't>(
     symbols: &'a SymbolTable<'t>,
-    at: usize,
+    sought: Sought,
     structure: &'a Structure<'t>,
 ) -> Option<&'t Member>
-    ensures { option_map member_at result ≡ passed_inside symbols.now at structure.now }
+    ensures { option_map member_at result ≡ met_inside symbols.now sought structure.now }
 {
     let members = &structure.item().members;
     for member in members {
-        if let Some(passed) = passed_for(symbols, at, structure, member) {
+        if let Some(passed) = passed_for(symbols, sought, structure, member) {
             return Some(passed);
         }
     }
@@ -107,29 +140,29 @@ fn passed_in<'a, 't>(
 /// The same of the declaration at a place, if it is a struct.
 fn passed_of<'t>(
     symbols: &SymbolTable<'t>,
-    at: usize,
+    sought: Sought,
     place: usize,
     decl: &Decl,
 ) -> Option<&'t Member>
     requires { slice_get (decls_of symbols.now) place ≡ Some (decl_of decl.now) }
-    ensures { option_map member_at result ≡ passed_of (decls_of symbols.now) at (decl_of decl.now) }
+    ensures { option_map member_at result ≡ met_of sought (decls_of symbols.now) (decl_of decl.now) }
 {
     let Decl::Struct(_) = decl else {
         return None;
     };
     match symbols.structure(symbols.number(place, decl)) {
-        Some(structure) => passed_in(symbols, at, structure),
+        Some(structure) => passed_in(symbols, sought, structure),
         None => None,
     }
 }
 
-/// The first member that some annotation passes there, and that is no final reference.
-pub fn passed_at<'t>(symbols: &SymbolTable<'t>, at: usize) -> Option<&'t Member>
-    ensures { option_map member_at result ≡ passed_at (decls_of symbols.now) at }
+/// The first such member of the program.
+pub fn passed_member<'t>(symbols: &SymbolTable<'t>, sought: Sought) -> Option<&'t Member>
+    ensures { option_map member_at result ≡ met_at sought (decls_of symbols.now) }
 {
     let decls = symbols.items();
     for (place, decl) in decls.iter().enumerate() {
-        if let Some(member) = passed_of(symbols, at, place, decl) {
+        if let Some(member) = passed_of(symbols, sought, place, decl) {
             return Some(member);
         }
     }

@@ -3,33 +3,55 @@
 ghost use Rattle.std.specs.Prelude.{IfOk, map};
 ghost use Rattle.explanation.specs.Notes.{note_of};
 ghost use Rattle.fault_notes.specs.TextNotes.{AreTextNotes};
-ghost use Rattle.fault_notes.specs.Values.{AreItsTokens};
+ghost use Rattle.fault_notes.specs.Values.{FoundTextLimit, IsItsFault};
 
-use crate::tree_notes::Faulty;
+use crate::lock_paths::is_limit_at;
+use crate::tree_notes::tree_notes;
 use explanation::Note;
 use lexer::lex;
 use parser::{find_tree, one_tree};
 use source::fault::{Fault, Refusal};
 use source::memory::NoMemory;
-use source::token::Token;
 use std::alloc::Global;
+use symbols::table::SymbolTable;
 use token_notes::token_notes;
 
 /// How many bytes a source may have.
 const MOST_BYTES: usize = 1_048_576;
 
-/// The tokens of a text, if it has them and is not too long.
-fn tokens_of(alloc: Global, text: &[u8]) -> Result<Option<Vec<Token>>, NoMemory>
-    ensures { IfOk result (AreItsTokens text.now) }
+/// What is said of the limit of a text itself that this fault passes, if the one that is found is that.
+fn text_limit(text: &[u8], found: &Fault, fault: &Fault) -> Option<&'static str>
+    requires { IsItsFault text.now found.now }
+    ensures { FoundTextLimit text.now fault.now result }
 {
-    if text.len() > MOST_BYTES {
-        return Ok(None);
+    if is_limit_at(found, fault.start) && is_limit_at(fault, found.start) {
+        if text.len() > MOST_BYTES {
+            return Some("a source has at most 1048576 bytes");
+        }
+        return Some("a name has at most 64 bytes");
     }
-    match lex(alloc, text) {
-        Ok(tokens) => Ok(Some(tokens)),
-        Err(Refusal::Fault(_)) => Ok(None),
-        Err(Refusal::NoMemory) => Err(NoMemory),
-    }
+    None
+}
+
+/// What is told of this fault of a text without tokens, of which the one fault is found.
+fn limit_notes(
+    alloc: Global,
+    text: &[u8],
+    found: &Fault,
+    fault: &Fault,
+) -> Result<Vec<Note>, NoMemory>
+    requires { IsItsFault text.now found.now }
+    ensures { IfOk result (λ notes. AreTextNotes text.now fault.now.code fault.now.start (map note_of notes.items)) }
+{
+    let mut notes = Vec::new(alloc);
+    let Some(words) = text_limit(text, found, fault) else {
+        return Ok(notes);
+    };
+    notes.push(Note {
+        start: None,
+        words: String::from_str(alloc, words)?,
+    })?;
+    Ok(notes)
 }
 
 /// What is told of this fault of the text, beyond its line: all that could come in the place of an unexpected token, where a name is
@@ -45,17 +67,16 @@ pub fn fault_notes(alloc: Global, text: &[u8], fault: &Fault) -> Result<Vec<Note
     ensures { IfOk result (λ notes. AreTextNotes text.now fault.now.code fault.now.start (map note_of notes.items)) }
 {
     one_tree();
-    let Some(tokens) = tokens_of(alloc, text)? else {
-        return Ok(Vec::new(alloc));
+    let tokens = match lex(alloc, text) {
+        Ok(tokens) => tokens,
+        Err(Refusal::Fault(found)) => return limit_notes(alloc, text, &found, fault),
+        Err(Refusal::NoMemory) => return Err(NoMemory),
     };
     let Some(tree) = find_tree(alloc, &tokens)? else {
         let notes = token_notes(alloc, tokens, fault)?;
         return Ok(notes);
     };
-    let faulty = Faulty {
-        tokens: &tokens,
-        tree: &tree,
-        at: fault.start,
-    };
-    faulty.notes(alloc, fault.code)
+    let mut least = None;
+    let symbols = SymbolTable::new(alloc, &tree.decls, &mut least)?;
+    tree_notes(alloc, &tokens, &symbols, fault)
 }

@@ -4,6 +4,7 @@ ghost use Rattle.std.specs.Prelude.{◌≡◌, IfOk, map};
 ghost use Rattle.std.specs.Option.{option_map};
 ghost use Rattle.explanation.specs.Notes.{note_of};
 ghost use Rattle.source.specs.declared.fault.Code.TheVariants.{FinalWithoutOpeningValue, LimitExceeded, UnknownName};
+ghost use Rattle.source.specs.Tokens.{seen};
 ghost use Rattle.symbols.specs.{decls_of as decls_in};
 ghost use Rattle.syntax.specs.Views.{decl_of};
 ghost use Rattle.resolution.specs.Scopes.{has_body};
@@ -23,19 +24,19 @@ use crate::missing_inits::{gap_at, null_given};
 use crate::missing_returns::lacking;
 use crate::name_spaces::{inner_names_of, member_name, top_names_of};
 use crate::noted::{gap_note, init_note, lock_note, name_note};
-use crate::passed_members::passed_at;
+use crate::passed_members::{Sought, passed_member};
 use crate::same_names::{first_of_others, first_of_same};
 use crate::tokens_there::{has_two_fields, name_of, name_there, token_at, token_of};
 use crate::vars::{all_of, section_there, some_assigns, var_named};
 use explanation::Note;
 use name_notes::type_note;
 use near_names::near_name;
-use source::fault::Code;
+use source::fault::{Code, Fault};
 use source::memory::NoMemory;
 use source::token::Token;
 use std::alloc::Global;
 use symbols::table::SymbolTable;
-use syntax::tree::{Decl, Name, Stmt, Tree};
+use syntax::tree::{Decl, Name, Stmt};
 
 /// Whether a declaration is a section or a helper.
 fn is_body(decl: &Decl) -> bool
@@ -65,13 +66,13 @@ fn note_of_var(
     Ok(Some(note))
 }
 
-/// Tokens with their tree, and the place of its fault.
+/// Tokens with the declarations of their tree, and the place of its fault.
 #[derive(Drop)]
 pub struct Faulty<'a> {
     /// The tokens.
     pub tokens: &'a [Token],
-    /// Their tree.
-    pub tree: &'a Tree,
+    /// What is declared.
+    pub symbols: &'a SymbolTable<'a>,
     /// The byte at which the fault stands.
     pub at: usize,
 }
@@ -100,11 +101,12 @@ impl<'a> Faulty<'a> {
     fn declared_first(&self, alloc: Global) -> Result<Option<&'a Name>, NoMemory>
         ensures { IfOk result (FoundName (IsDeclaredAs (decls_of self.now) self.now.at)) }
     {
-        let top = top_names_of(alloc, &self.tree.decls)?;
+        let decls = self.symbols.items();
+        let top = top_names_of(alloc, decls)?;
         if let Some(first) = first_of_same(&top, self.at) {
             return Ok(Some(first));
         }
-        for decl in &self.tree.decls {
+        for decl in decls {
             if let Some(first) = self.declared_in(alloc, &top, decl)? {
                 return Ok(Some(first));
             }
@@ -130,8 +132,7 @@ impl<'a> Faulty<'a> {
         let Some(text) = name_there(self.at, self.tokens) else {
             return Ok(None);
         };
-        let symbols = self.symbols(alloc)?;
-        let Some(name) = near_name(alloc, &symbols, text, self.at)? else {
+        let Some(name) = near_name(alloc, self.symbols, text, self.at)? else {
             return Ok(None);
         };
         let note = name_note(alloc, name, " could be meant, and is declared here")?;
@@ -142,28 +143,18 @@ impl<'a> Faulty<'a> {
     fn lock_note(&self, alloc: Global) -> Result<Option<Note>, NoMemory>
         ensures { IfOk result (FoundNote (IsLockNote (decls_of self.now) self.now.at)) }
     {
-        let Some(name) = lock_at_hand(&self.tree.decls, self.at) else {
+        let Some(name) = lock_at_hand(self.symbols.items(), self.at) else {
             return Ok(None);
         };
         let note = lock_note(alloc, name)?;
         Ok(Some(note))
     }
 
-    // The declarations with their tables.
-    fn symbols(&self, alloc: Global) -> Result<SymbolTable<'a>, NoMemory>
-        ensures { IfOk result (λ symbols. decls_in symbols ≡ decls_of self.now) }
-    {
-        let mut least = None;
-        let symbols = SymbolTable::new(alloc, &self.tree.decls, &mut least)?;
-        Ok(symbols)
-    }
-
     // NAME is declared here, and is no final reference.
     fn passed_note(&self, alloc: Global) -> Result<Option<Note>, NoMemory>
         ensures { IfOk result (FoundNote (IsPassedNote (decls_of self.now) self.now.at)) }
     {
-        let symbols = self.symbols(alloc)?;
-        let Some(member) = passed_at(&symbols, self.at) else {
+        let Some(member) = passed_member(self.symbols, Sought::NonFinal(self.at)) else {
             return Ok(None);
         };
         let name = member_name(member);
@@ -175,8 +166,7 @@ impl<'a> Faulty<'a> {
     fn type_note(&self, alloc: Global) -> Result<Option<Note>, NoMemory>
         ensures { IfOk result (FoundNote (IsTypeNote (decls_of self.now) self.now.at)) }
     {
-        let symbols = self.symbols(alloc)?;
-        let note = type_note(alloc, &symbols, self.at)?;
+        let note = type_note(alloc, self.symbols, self.at)?;
         Ok(note)
     }
 
@@ -190,7 +180,7 @@ impl<'a> Faulty<'a> {
         let Some(text) = name_of(token_of(i, self.tokens)) else {
             return Ok(None);
         };
-        let Some(section) = section_there(&self.tree.decls, self.at) else {
+        let Some(section) = section_there(self.symbols.items(), self.at) else {
             return Ok(None);
         };
         let all = all_of(alloc, section)?;
@@ -201,14 +191,16 @@ impl<'a> Faulty<'a> {
     fn limit(&self, alloc: Global) -> Result<Option<&'static str>, NoMemory>
         ensures { IfOk result (IsLimitIfTold self.now) }
     {
-        if let Some(words) = limit_passed(alloc, &self.tree.decls, self.at)? {
+        if let Some(words) = limit_passed(alloc, self.symbols.items(), self.at)? {
             return Ok(Some(words));
         }
-        let symbols = self.symbols(alloc)?;
-        if let Some(words) = amount_passed(alloc, &symbols, self.at)? {
+        if let Some(words) = amount_passed(alloc, self.symbols, self.at)? {
             return Ok(Some(words));
         }
-        if let Some(words) = helper_limit(alloc, &symbols, self.at)? {
+        if let Some(_) = passed_member(self.symbols, Sought::FinalTooMany(self.at)) {
+            return Ok(Some("an annotation goes over at most 3 final references"));
+        }
+        if let Some(words) = helper_limit(alloc, self.symbols, self.at)? {
             return Ok(Some(words));
         }
         if are_paths_past(alloc, self.tokens, self.at)? {
@@ -234,12 +226,11 @@ impl<'a> Faulty<'a> {
     fn final_note(&self, alloc: Global) -> Result<Option<Note>, NoMemory>
         ensures { IfOk result (IsNoteIfTold self.now FinalWithoutOpeningValue) }
     {
-        let symbols = self.symbols(alloc)?;
-        if let Some(gap) = gap_at(&symbols, self.at) {
+        if let Some(gap) = gap_at(self.symbols, self.at) {
             let note = gap_note(alloc, &gap)?;
             return Ok(Some(note));
         }
-        if let Some(reference) = null_given(&symbols, self.at) {
+        if let Some(reference) = null_given(self.symbols, self.at) {
             let note = name_note(alloc, &reference.name, " is final, and is never null")?;
             return Ok(Some(note));
         }
@@ -250,7 +241,7 @@ impl<'a> Faulty<'a> {
     fn given_note(&self, alloc: Global) -> Result<Option<Note>, NoMemory>
         ensures { IfOk result (FoundNote (IsGivenNote (decls_of self.now) self.now.at)) }
     {
-        let Some(first) = first_given(&self.tree.decls, self.at) else {
+        let Some(first) = first_given(self.symbols.items(), self.at) else {
             return Ok(None);
         };
         let note = init_note(alloc, first)?;
@@ -261,7 +252,7 @@ impl<'a> Faulty<'a> {
     fn return_note(&self, alloc: Global) -> Result<Note, NoMemory>
         ensures { IfOk result (λ note. IsReturnNote (decls_of self.now) self.now.at (note_of note)) }
     {
-        let Some(name) = lacking(&self.tree.decls, self.at) else {
+        let Some(name) = lacking(self.symbols.items(), self.at) else {
             let words = "this return is not the last statement of a body with a result";
             return Ok(Note {
                 start: None,
@@ -296,15 +287,25 @@ impl<'a> Faulty<'a> {
             _ => Ok(None),
         }
     }
+}
 
-    /// What is told of the fault that is of this code.
-    pub fn notes(&self, alloc: Global, code: Code) -> Result<Vec<Note>, NoMemory>
-        ensures { IfOk result (λ notes. AreNotes (tokens_of self.now) (decls_of self.now) code self.now.at (map note_of notes.items)) }
-    {
-        let mut notes = Vec::new(alloc);
-        if let Some(note) = self.note(alloc, code)? {
-            notes.push(note)?;
-        }
-        Ok(notes)
+/// What is told of this fault by tokens and the declarations of their tree.
+pub fn tree_notes(
+    alloc: Global,
+    tokens: &[Token],
+    symbols: &SymbolTable<'_>,
+    fault: &Fault,
+) -> Result<Vec<Note>, NoMemory>
+    ensures { IfOk result (λ notes. AreNotes (seen tokens.now) (decls_in symbols.now) fault.now.code fault.now.start (map note_of notes.items)) }
+{
+    let faulty = Faulty {
+        tokens,
+        symbols,
+        at: fault.start,
+    };
+    let mut notes = Vec::new(alloc);
+    if let Some(note) = faulty.note(alloc, fault.code)? {
+        notes.push(note)?;
     }
+    Ok(notes)
 }

@@ -3,26 +3,21 @@ use Rattle.std.proofs.Common.{◌≡◌, ℕ, zero, suc, List, [], ◌∷◌, le
 use Rattle.std.specs.Prelude.{◌==◌, slice_get}
 use Rattle.std.proofs.lemmas.Bool.{eqb-true}
 use Rattle.std.proofs.lemmas.Bool.Decides.{nat_tests}
-use Rattle.explanation.specs.Notes.{Note}
+use Rattle.name_notes.specs.declared.clash.Clash.{Clash}
 use Rattle.syntax.specs.Trees.{Const, Variable, Param, Section, Call, Item, call, repeat, Items, no_items, item, Decl, lock, struct, global, array, pool, init, atomic, helper, thread}
 use Rattle.resolution.specs.declared.wanted.Want.{Want}
 use Rattle.resolution.specs.Scopes.{outside, the_decl, type_of}
 use Rattle.resolution.specs.Expressions.{want}
 use Rattle.resolution.specs.Constants.{want_of}
-use Rattle.resolution.specs.Where.{Has, first, further, InItems, this_call, in_repeat, later_call, HasCall, in_thread, HasConst, opening, initial, argument}
-use Rattle.name_notes.specs.Searches.{of_constants, of_taken, of_call_in_thread, in_item, in_items, of_opening, const_in, consts_in}
+use Rattle.resolution.specs.Where.{Has, InItems, this_call, in_repeat, later_call, HasCall, HasConst, opening, argument}
+use Rattle.name_notes.specs.Searches.{of_constants, of_taken, of_call_in_thread, in_item, in_items, of_opening}
 use Rattle.name_notes.proofs.Lists as l
 
 same_count : (i j : ℕ) → i ≡ j → (i == j) ≡ true
 same_count i j e = grind (arith, nat_tests)
 
-module _ (say : Want → Const → List Note) (decls : List Decl) (n : Note) where
+module _ (say : Want → Const → List Clash) (decls : List Decl) (n : Clash) where
   -- ---- what is said of one is said
-
-  decl_has : (ds : List Decl) (d : Decl) → Has ds d → Has (const_in say decls d) n → Has (consts_in say decls ds) n
-  decl_has [] d b h = elim b [ ]
-  decl_has (d ∷ ds) e first h = l.in_left (const_in say decls d) (consts_in say decls ds) h
-  decl_has (d ∷ ds) e (further b) h = l.in_right (const_in say decls d) _ (decl_has ds e b h)
 
   argument_has : (ps : List Param) (cs : List Const) (k : ℕ) (p : Param) (c : Const) → slice_get ps k ≡ Some p → slice_get cs k ≡ Some c → Has (say (want_of decls p) c) n → Has (of_constants say decls ps cs) n
   argument_has [] cs k p c a b h = cc
@@ -44,17 +39,14 @@ module _ (say : Want → Const → List Note) (decls : List Decl) (n : Note) whe
   items_has (in_repeat {n = k} {is = is} {rest = rest} b) h = l.in_left (in_items say decls is) (in_items say decls rest) (items_has b h)
   items_has (later_call {i = i} {rest = rest} b) h = l.in_right (in_item say decls i) _ (items_has b h)
 
-  pub each_const : {w : Want} {c : Const} → HasConst decls w c → Has (say w c) n → Has (consts_in say decls decls) n
-  each_const (opening {v = v} b is) h =
-      decl_has decls (global v) b (subst (λ (o : Option Const). Has (of_opening say (want (type_of (outside decls) v.value_type)) o) n) (sym is) h)
-  each_const (initial {i = i} b) h = decl_has decls (init i) b h
-  each_const (argument {c = c} {i = i} k {s = s} {p = p} {x = x} (in_thread {t = t} b m) is len a d) h =
-      decl_has decls (thread t) b (items_has m (call_has c i s is len (argument_has s.params c.arguments k p x a d h)))
+  pub passed_has : {is : Items} {c : Call} {i : ℕ} (k : ℕ) {s : Section} {p : Param} {x : Const} → InItems is c → the_decl decls c.section.text ≡ Some (i, atomic s) →
+      length c.arguments ≡ length s.params → slice_get s.params k ≡ Some p → slice_get c.arguments k ≡ Some x → Has (say (want_of decls p) x) n → Has (in_items say decls is) n
+  passed_has {c = c} {i = i} k {s = s} {p = p} {x = x} m is len a d h = items_has m (call_has c i s is len (argument_has s.params c.arguments k p x a d h))
 
   -- ---- what is said is said of one
 
   module _ (P : Type 0) (up : (w : Want) (c : Const) → HasConst decls w c → Has (say w c) n → P) where
-    from_opening : (v : Variable) → Has decls (global v) → (o : Option Const) → v.value ≡ o → Has (of_opening say (want (type_of (outside decls) v.value_type)) o) n → P
+    pub from_opening : (v : Variable) → Has decls (global v) → (o : Option Const) → v.value ≡ o → Has (of_opening say (want (type_of (outside decls) v.value_type)) o) n → P
     from_opening v b None is h = elim h [ ]
     from_opening v b (Some c) is h = up _ c (opening b is) h
 
@@ -88,24 +80,6 @@ module _ (say : Want → Const → List Note) (decls : List Decl) (n : Note) whe
       from_item (call c) rest calls h = from_taken c (calls c this_call) (the_decl decls c.section.text) refl h
       from_item (repeat k is) rest calls h = from_items is (λ c b. calls c (in_repeat b)) h
 
-      from_items : (is : Items) → ((c : Call) → InItems is c → HasCall decls c) → Has (in_items say decls is) n → P
+      pub from_items : (is : Items) → ((c : Call) → InItems is c → HasCall decls c) → Has (in_items say decls is) n → P
       from_items no_items calls h = elim h [ ]
       from_items (item i rest) calls h = l.either (in_item say decls i) (in_items say decls rest) (from_item i rest calls) (from_items rest (λ c b. calls c (later_call b))) h
-
-    from_decl : (d : Decl) → Has decls d → Has (const_in say decls d) n → P
-    from_decl (lock x) b h = elim h [ ]
-    from_decl (struct s) b h = elim h [ ]
-    from_decl (global v) b h = from_opening v b v.value refl h
-    from_decl (array a) b h = elim h [ ]
-    from_decl (pool p) b h = elim h [ ]
-    from_decl (init i) b h = up _ i.value (initial b) h
-    from_decl (atomic s) b h = elim h [ ]
-    from_decl (helper s) b h = elim h [ ]
-    from_decl (thread t) b h = from_items t.items (λ c m. in_thread b m) h
-
-    from_decls : (ds : List Decl) → ((d : Decl) → Has ds d → Has decls d) → Has (consts_in say decls ds) n → P
-    from_decls [] among h = elim h [ ]
-    from_decls (d ∷ ds) among h = l.either (const_in say decls d) (consts_in say decls ds) (from_decl d (among d first)) (from_decls ds (λ c b. among c (further b))) h
-
-    pub from_const : Has (consts_in say decls decls) n → P
-    from_const h = from_decls decls (λ d b. b) h

@@ -1,6 +1,6 @@
 -- What is said of an expression is what is said of one that stands within it, and of each.
 use Rattle.std.proofs.Common.{List}
-use Rattle.explanation.specs.Notes.{Note}
+use Rattle.name_notes.specs.declared.clash.Clash.{Clash}
 use Rattle.core_lang.specs.declared.value.ValueType.TheVariants.{Integer}
 use Rattle.syntax.specs.declared.tree.Op.{Op}
 use Rattle.syntax.specs.declared.tree.Level.{Level}
@@ -13,7 +13,7 @@ use Rattle.resolution.specs.Where.{Has, HasLink, this_link, later_link, Within, 
 use Rattle.name_notes.specs.Searches.{inside, in_place, in_links, of_expr}
 use Rattle.name_notes.proofs.Lists as l
 
-module _ (say : Scope → Want → Expr → List Note) (sc : Scope) (n : Note) where
+module _ (say : Scope → Want → Expr → List Clash) (sc : Scope) (n : Clash) where
   -- ---- what is said of one within is said
 
   link_has : (level : Level) {links : Links} {o : Op} {f : Expr} → HasLink links o f → Has (of_expr say sc (operand_want level) f) n → Has (in_links say sc level links) n

@@ -1,7 +1,7 @@
--- What an element is, and what operands with operators between them are.
-use Rattle.std.specs.Prelude.{Box}
-use Rattle.std.proofs.Common.{◌≡◌, Global, subst, ℕ, List, Option, Some, None, Bool, true, false, refl, sym, ap, ◌∙◌, if◌then◌else◌}
-use Rattle.syntax.specs.Trees.{Decl, array, pool, Expr, chain}
+-- What has operands is a number or a condition, if it has a type.
+use Rattle.std.specs.Prelude.{Box, IfOk}
+use Rattle.std.proofs.Common.{◌≡◌, Global, Result, Ok, Err, Option, Some, None, Bool, true, false, refl, sym, ap, ◌∙◌, if◌then◌else◌}
+use Rattle.syntax.specs.Trees.{Expr, Links, chain}
 use Rattle.syntax.specs.declared.tree.Level.{Level}
 use Rattle.syntax.specs.declared.tree.Level.TheVariants.{Term, Sum, Conjunction, Disjunction}
 use Rattle.syntax.specs.declared.tree.Comparison as written
@@ -12,92 +12,66 @@ use Rattle.syntax.specs.declared.tree.Joined as the_joined
 use Rattle.syntax.specs.Grammar.{level_of}
 use Rattle.syntax.specs.Views.{expr_of, joined_of, links_of_row}
 use Rattle.core_lang.specs.declared.tree.Comparison.{Comparison}
-use Rattle.core_lang.specs.declared.value.ValueType.{ValueType}
-use Rattle.core_lang.specs.declared.value.ValueType.TheVariants.{Reference}
 use Rattle.resolution.specs.Core as core
-use Rattle.resolution.specs.Scopes.{◌>>=◌, Scope, outside, Meaning, a_decl, number_at, type_of, struct_named}
-use Rattle.resolution.specs.Expressions.{ResolvedExpr, value, truth, Tests, alike_sorts, all_hold, one_holds, ordered, equated, compared, member_value, value_of, element_value, number_resolved, test_resolved, typed, typed_tests}
-use Rattle.expressions.specs.Indexing.{of_type, indexed_by, element_by}
-use Rattle.expressions.specs.declared.place.Indexed.{Indexed}
-use Rattle.expressions.specs.declared.place.Indexed.TheVariants.{Array, Pool}
-use Rattle.name_notes.specs.Values.{is_of_numbers, kind_if, test_kind}
+use Rattle.resolution.specs.Scopes.{Scope}
+use Rattle.resolution.specs.Expressions.{ResolvedExpr, value, truth, Tests, alike_sorts, all_hold, one_holds, chained, ordered, equated, compared, number_resolved, test_resolved, typed, typed_links, typed_tests}
+use Rattle.name_notes.specs.Values.{kind_if, whole_kind}
 
--- ---- elements
+abbrev IsWhole : Option ResolvedExpr → Type 0
+IsWhole r = whole_kind r ≡ kind_if r
 
-array_is : (start n : ℕ) (t : Option ValueType) (e : core.Expr) → element_by start (of_type (Array n) t) (Some e) ≡ value_of (core.element start n e) t
-array_is start n (Some t) e = refl
-array_is start n None e = refl
+sum_whole : (a : Option core.Expr) (os : Option core.Operations) → IsWhole (chained a os)
+sum_whole (Some a) (Some os) = refl
+sum_whole (Some a) None = refl
+sum_whole None os = refl
 
-pool_is : (start n : ℕ) (s : Option ℕ) (e : core.Expr) → element_by start (of_type (Pool n) (s >>= λ k. Some (Reference k))) (Some e) ≡ member_value n e s
-pool_is start n (Some s) e = refl
-pool_is start n None e = refl
+all_whole : (ts : Option Tests) → IsWhole (all_hold ts)
+all_whole (Some ts) = refl
+all_whole None = refl
 
-no_element : (start : ℕ) (x : Option Indexed) → element_by start x None ≡ None
-no_element start (Some x) = refl
-no_element start None = refl
+one_whole : (ts : Option Tests) → IsWhole (one_holds ts)
+one_whole (Some ts) = refl
+one_whole None = refl
 
-element_is : (decls : List Decl) (start : ℕ) (m : Meaning) (e : Option core.Expr) → element_by start (indexed_by decls m) e ≡ element_value decls start m e
-element_is decls start m None = no_element start (indexed_by decls m)
-element_is decls start (a_decl i (array a)) (Some e) = array_is start (number_at decls i (array a)) (type_of (outside decls) a.value_type) e
-element_is decls start (a_decl i (pool p)) (Some e) = pool_is start (number_at decls i (pool p)) (struct_named decls p.target) e
-element_is decls start _ (Some e) = refl
+ordered_whole : (c : Comparison) (a b : Option core.Expr) → IsWhole (ordered c a b)
+ordered_whole c (Some a) (Some b) = refl
+ordered_whole c (Some a) None = refl
+ordered_whole c None b = refl
 
--- by what each part is
-pub element_seen : (decls : List Decl) (start : ℕ) (m n : Meaning) (x : Option Indexed) (e f : Option core.Expr) → m ≡ n → x ≡ indexed_by decls m → e ≡ f → element_by start x e ≡ element_value decls start n f
-element_seen decls start m n x e f hm hx he =
-    ap (λ (y : Option Indexed). element_by start y e) hx ∙ ap (λ (k : Meaning). element_by start (indexed_by decls k) e) hm
-    ∙ ap (element_by start (indexed_by decls n)) he ∙ element_is decls start n f
+whole_if : (b : Bool) (c : core.Condition) → IsWhole (if b then Some (truth c) else None)
+whole_if true c = refl
+whole_if false c = refl
 
--- ---- conditions
+equated_whole : (c : Comparison) (a b : Option ResolvedExpr) → IsWhole (equated c a b)
+equated_whole c (Some (value a s)) (Some (value b t)) = whole_if (alike_sorts s t) (core.compare c a b)
+equated_whole c (Some (value a s)) (Some (truth d)) = refl
+equated_whole c (Some (value a s)) None = refl
+equated_whole c (Some (truth d)) b = refl
+equated_whole c None b = refl
 
-abbrev IsTest : Option ResolvedExpr → Type 0
-IsTest r = kind_if r ≡ test_kind (test_resolved r)
+compared_whole : (c : written.Comparison) (a b : Option ResolvedExpr) → IsWhole (compared c a b)
+compared_whole sign.Equal a b = equated_whole _ a b
+compared_whole sign.NotEqual a b = equated_whole _ a b
+compared_whole sign.Less a b = ordered_whole _ (number_resolved a) (number_resolved b)
+compared_whole sign.LessOrEqual a b = ordered_whole _ (number_resolved a) (number_resolved b)
+compared_whole sign.Greater a b = ordered_whole _ (number_resolved a) (number_resolved b)
+compared_whole sign.GreaterOrEqual a b = ordered_whole _ (number_resolved a) (number_resolved b)
 
-all_test : (ts : Option Tests) → IsTest (all_hold ts)
-all_test (Some ts) = refl
-all_test None = refl
+chain_whole : (sc : Scope) (level : Level) (e : Expr) (links : Links) → IsWhole (typed sc (chain level e links))
+chain_whole sc Term e links = sum_whole (number_resolved (typed sc e)) (typed_links sc links)
+chain_whole sc Sum e links = sum_whole (number_resolved (typed sc e)) (typed_links sc links)
+chain_whole sc Conjunction e links = all_whole (typed_tests sc (test_resolved (typed sc e)) links)
+chain_whole sc Disjunction e links = one_whole (typed_tests sc (test_resolved (typed sc e)) links)
 
-one_test : (ts : Option Tests) → IsTest (one_holds ts)
-one_test (Some ts) = refl
-one_test None = refl
+joined_whole : (sc : Scope) (j : the_joined.Joined) → IsWhole (typed sc (joined_of j))
+joined_whole sc (the_joined.Pair op left right) = chain_whole sc (level_of op) (expr_of left) _
+joined_whole sc (the_joined.Chain' level e _ links) = chain_whole sc level (expr_of e) (links_of_row links)
+joined_whole sc (the_joined.Compare c a b) = compared_whole c (typed sc (expr_of a)) (typed sc (expr_of b))
 
-ordered_test : (c : Comparison) (a b : Option core.Expr) → IsTest (ordered c a b)
-ordered_test c (Some a) (Some b) = refl
-ordered_test c (Some a) None = refl
-ordered_test c None b = refl
+pub joined_is : (sc : Scope) (e : the_expr.Expr) (b : Box the_joined.Joined Global) → e ≡ Joined b → whole_kind (typed sc (expr_of e)) ≡ kind_if (typed sc (expr_of e))
+joined_is sc e b is =
+    ap (λ (x : the_expr.Expr). whole_kind (typed sc (expr_of x))) is ∙ joined_whole sc b.value ∙ sym (ap (λ (x : the_expr.Expr). kind_if (typed sc (expr_of x))) is)
 
-test_if : (b : Bool) (c : core.Condition) → IsTest (if b then Some (truth c) else None)
-test_if true c = refl
-test_if false c = refl
-
-equated_test : (c : Comparison) (a b : Option ResolvedExpr) → IsTest (equated c a b)
-equated_test c (Some (value a s)) (Some (value b t)) = test_if (alike_sorts s t) (core.compare c a b)
-equated_test c (Some (value a s)) (Some (truth d)) = refl
-equated_test c (Some (value a s)) None = refl
-equated_test c (Some (truth d)) b = refl
-equated_test c None b = refl
-
-compared_test : (c : written.Comparison) (a b : Option ResolvedExpr) → IsTest (compared c a b)
-compared_test sign.Equal a b = equated_test _ a b
-compared_test sign.NotEqual a b = equated_test _ a b
-compared_test sign.Less a b = ordered_test _ (number_resolved a) (number_resolved b)
-compared_test sign.LessOrEqual a b = ordered_test _ (number_resolved a) (number_resolved b)
-compared_test sign.Greater a b = ordered_test _ (number_resolved a) (number_resolved b)
-compared_test sign.GreaterOrEqual a b = ordered_test _ (number_resolved a) (number_resolved b)
-
-chain_test : (sc : Scope) (level : Level) (e : Expr) (links : _) → is_of_numbers (chain level e links) ≡ false → IsTest (typed sc (chain level e links))
-chain_test sc Term e links other = cc
-chain_test sc Sum e links other = cc
-chain_test sc Conjunction e links other = all_test (typed_tests sc (test_resolved (typed sc e)) links)
-chain_test sc Disjunction e links other = one_test (typed_tests sc (test_resolved (typed sc e)) links)
-
-joined_test : (sc : Scope) (j : the_joined.Joined) → is_of_numbers (joined_of j) ≡ false → IsTest (typed sc (joined_of j))
-joined_test sc (the_joined.Pair op left right) other = chain_test sc (level_of op) (expr_of left) _ other
-joined_test sc (the_joined.Chain' level e _ links) other = chain_test sc level (expr_of e) (links_of_row links) other
-joined_test sc (the_joined.Compare c a b) other = compared_test c (typed sc (expr_of a)) (typed sc (expr_of b))
-
--- operands that are no numbers are a condition, if they have a type
-pub joined_seen : (sc : Scope) (e : the_expr.Expr) (b : Box the_joined.Joined Global) (j : the_joined.Joined) → e ≡ Joined b → j ≡ b.value → is_of_numbers (joined_of j) ≡ false →
-    test_kind (test_resolved (typed sc (expr_of e))) ≡ kind_if (typed sc (expr_of e))
-joined_seen sc e b j is here other =
-    sym (subst (λ (x : the_expr.Expr). IsTest (typed sc (expr_of x))) (sym is) (subst (λ (y : the_joined.Joined). IsTest (typed sc (joined_of y))) here (joined_test sc j other)))
+pub if_whole : {A E : Type 0} {x y : A} (r : Result A E) → x ≡ y → IfOk r (λ a. a ≡ x) → IfOk r (λ a. a ≡ y)
+if_whole (Ok a) same is = is ∙ same
+if_whole (Err e) same is = is

@@ -3,18 +3,15 @@ use Rattle.std.proofs.Common.{◌≡◌, ℕ, zero, suc, List, [], ◌∷◌, �
 use Rattle.std.specs.Prelude.{◌==◌, slice_get}
 use Rattle.std.proofs.lemmas.Bool.{eqb-true}
 use Rattle.std.proofs.lemmas.Bool.Decides.{nat_tests}
-use Rattle.explanation.specs.Notes.{Note}
+use Rattle.name_notes.specs.declared.clash.Clash.{Clash}
 use Rattle.core_lang.specs.declared.value.ValueType.TheVariants.{Integer}
-use Rattle.syntax.specs.Trees.{Place, lone, element, path, Expr, Stmt, let_local, let_owned, let_call, var_local, assign, if_then, while, print, return_value, call, Stmts, no_stmts, stmt, no_else, else_do, Param, Section, Decl, lock, struct, global, array, pool, init, atomic, helper, thread}
-use Rattle.resolution.specs.declared.body_limits.BodyLimits.{BodyLimits}
+use Rattle.syntax.specs.Trees.{Place, lone, element, path, Expr, Stmt, let_local, let_owned, let_call, var_local, assign, if_then, while, print, return_value, call, Stmts, no_stmts, stmt, no_else, else_do, Param, Section}
 use Rattle.resolution.specs.declared.wanted.Want.{Want}
 use Rattle.resolution.specs.declared.wanted.Want.TheVariants.{Anything, Value}
-use Rattle.resolution.specs.Limits.{section_limits, helper_limits}
 use Rattle.resolution.specs.Scopes.{Scope, meaning, helper_meant, left}
 use Rattle.resolution.specs.Statements.{target_of, wanted_by, after, after_all}
 use Rattle.resolution.specs.Constants.{want_of}
-use Rattle.resolution.specs.Resolution.{entry}
-use Rattle.resolution.specs.Where.{Has, first, further, Among, here, later, in_then, in_else, in_while, IsArgument, for_parameter, for_nothing, Asks, of_let, of_owned, of_let_call, of_var, of_assign, of_index, of_if, of_while, of_print, of_return, of_call_alone, of_section, of_helper, HasStmt, in_body, HasExpr, in_stmt, Within}
+use Rattle.resolution.specs.Where.{Has, first, further, Among, here, later, in_then, in_else, in_while, IsArgument, for_parameter, for_nothing, Asks, of_let, of_owned, of_let_call, of_var, of_assign, of_index, of_if, of_while, of_print, of_return, of_call_alone, Within}
 use Rattle.name_notes.specs.Searches as search
 use Rattle.name_notes.specs.Searches.{in_place, of_expr, of_arguments, of_each, of_passed, of_call, in_blocks, of_stmts, in_decl, in_decls}
 use Rattle.name_notes.proofs.Lists as l
@@ -22,7 +19,7 @@ use Rattle.name_notes.proofs.ExpressionLaws.{each_within, from_within}
 
 -- ---- the statements of blocks
 
-module _ (say : Scope → Stmt → List Note) (n : Note) where
+module _ (say : Scope → Stmt → List Clash) (n : Clash) where
   pub each_among : {sc sc' : Scope} {ss : Stmts} {s : Stmt} → Among sc ss sc' s → Has (say sc' s) n → Has (of_stmts say sc ss) n
   each_among (here {sc = sc} {s = s} {rest = rest}) h = l.in_left (say sc s ++ in_blocks say sc s) (of_stmts say (after sc s) rest) (l.in_left (say sc s) (in_blocks say sc s) h)
   each_among (later {sc = sc} {s = s} {rest = rest} a) h = l.in_right (say sc s ++ in_blocks say sc s) _ (each_among a h)
@@ -65,51 +62,12 @@ module _ (say : Scope → Stmt → List Note) (n : Note) where
     pub from_among : (sc : Scope) (ss : Stmts) → ((sc' : Scope) (t : Stmt) → Among sc ss sc' t → Has (say sc' t) n → P) → Has (of_stmts say sc ss) n → P
     from_among = from_stmts
 
--- ---- sections and helpers
-
-module _ (say : Scope → Stmt → List Note) (decls : List Decl) (n : Note) where
-  body_of : (limits : BodyLimits) (x : Section) {sc : Scope} {s : Stmt} → Among (entry decls limits x) x.body.stmts sc s → Has (say sc s) n → Has (search.of_body say decls limits x) n
-  body_of limits x a h = each_among say n a h
-
-  section_has : (ds : List Decl) (x : Section) {sc : Scope} {s : Stmt} → Has ds (atomic x) → Among (entry decls section_limits x) x.body.stmts sc s → Has (say sc s) n → Has (in_decls say decls ds) n
-  section_has [] x b a h = elim b [ ]
-  section_has (d ∷ ds) x first a h = l.in_left (in_decl say decls (atomic x)) (in_decls say decls ds) (body_of section_limits x a h)
-  section_has (d ∷ ds) x (further b) a h = l.in_right (in_decl say decls d) _ (section_has ds x b a h)
-
-  helper_has : (ds : List Decl) (x : Section) {sc : Scope} {s : Stmt} → Has ds (helper x) → Among (entry decls helper_limits x) x.body.stmts sc s → Has (say sc s) n → Has (in_decls say decls ds) n
-  helper_has [] x b a h = elim b [ ]
-  helper_has (d ∷ ds) x first a h = l.in_left (in_decl say decls (helper x)) (in_decls say decls ds) (body_of helper_limits x a h)
-  helper_has (d ∷ ds) x (further b) a h = l.in_right (in_decl say decls d) _ (helper_has ds x b a h)
-
-  pub each_stmt : {sc : Scope} {s : Stmt} → HasStmt decls sc s → Has (say sc s) n → Has (in_decls say decls decls) n
-  each_stmt (in_body (of_section {x = x} b) a) h = section_has decls x b a h
-  each_stmt (in_body (of_helper {x = x} b) a) h = helper_has decls x b a h
-
-  module _ (P : Type 0) (up : (sc : Scope) (s : Stmt) → HasStmt decls sc s → Has (say sc s) n → P) where
-    from_decl : (d : Decl) → Has decls d → Has (in_decl say decls d) n → P
-    from_decl (lock x) b h = elim h [ ]
-    from_decl (struct s) b h = elim h [ ]
-    from_decl (global v) b h = elim h [ ]
-    from_decl (array a) b h = elim h [ ]
-    from_decl (pool p) b h = elim h [ ]
-    from_decl (init j) b h = elim h [ ]
-    from_decl (atomic x) b h = from_among say n P (entry decls section_limits x) x.body.stmts (λ sc s a. up sc s (in_body (of_section b) a)) h
-    from_decl (helper x) b h = from_among say n P (entry decls helper_limits x) x.body.stmts (λ sc s a. up sc s (in_body (of_helper b) a)) h
-    from_decl (thread t) b h = elim h [ ]
-
-    from_decls : (ds : List Decl) → ((d : Decl) → Has ds d → Has decls d) → Has (in_decls say decls ds) n → P
-    from_decls [] among h = elim h [ ]
-    from_decls (d ∷ ds) among h = l.either (in_decl say decls d) (in_decls say decls ds) (from_decl d (among d first)) (from_decls ds (λ c b. among c (further b))) h
-
-    pub from_stmt : Has (in_decls say decls decls) n → P
-    from_stmt h = from_decls decls (λ d b. b) h
-
 -- ---- the expressions of a statement
 
 same_count : (i j : ℕ) → i ≡ j → (i == j) ≡ true
 same_count i j e = grind (arith, nat_tests)
 
-module _ (say : Scope → Want → Expr → List Note) (n : Note) where
+module _ (say : Scope → Want → Expr → List Clash) (n : Clash) where
   argument_has : (sc : Scope) (ps : List Param) (es : List Expr) (k : ℕ) (p : Param) (e : Expr) → slice_get ps k ≡ Some p → slice_get es k ≡ Some e → Has (of_expr say sc (want_of sc.decls p) e) n → Has (of_arguments say sc ps es) n
   argument_has sc [] es k p e a b h = cc
   argument_has sc (q ∷ ps) [] k p e a b h = cc
@@ -127,7 +85,7 @@ module _ (say : Scope → Want → Expr → List Note) (n : Note) where
 
   passed_has : (sc : Scope) (o : Option (ℕ × Section)) (es : List Expr) (w : Want) (e : Expr) → IsArgument sc.decls o es w e → Has (of_expr say sc w e) n → Has (of_passed say sc o es) n
   passed_has sc (Some (i, x)) es w e (for_parameter k {p = p} len a b) h =
-      subst (λ (ns : List Note). Has ns n) (sym (ap (λ (t : Bool). if t then of_arguments say sc x.params es else []) (same_count (length es) (length x.params) len))) (argument_has sc x.params es k p e a b h)
+      subst (λ (ns : List Clash). Has ns n) (sym (ap (λ (t : Bool). if t then of_arguments say sc x.params es else []) (same_count (length es) (length x.params) len))) (argument_has sc x.params es k p e a b h)
   passed_has sc None es w e (for_nothing b) h = each_has sc es e b h
 
   asked_has : {sc : Scope} {s : Stmt} {w : Want} {e : Expr} → Asks sc s w e → Has (of_expr say sc w e) n → Has (search.of_own say sc s) n

@@ -1,7 +1,7 @@
--- What is said of the parts of a program, one after another, by what is said of each. Only proofs read it: what a note says, and where
--- there is one, is said elsewhere.
+-- Which clashes of types the parts of a program have, one after another, by those that each has. Only proofs read it: what a note says,
+-- and where there is one, is said elsewhere.
 use Rattle.std.specs.Prelude.{ℕ, List, [], ◌∷◌, ◌++◌, length, ◌==◌, if◌then◌else◌, Option, Some, None}
-use Rattle.explanation.specs.Notes.{Note}
+use Rattle.name_notes.specs.declared.clash.Clash.{Clash}
 use Rattle.core_lang.specs.declared.value.ValueType.TheVariants.{Integer}
 use Rattle.syntax.specs.declared.tree.Level.{Level}
 use Rattle.syntax.specs.Trees.{Const, Call, Item, repeat, Items, no_items, item, Place, lone, element, path, Expr, int, null, place, paren, prefix, chain, compare, Links, no_links, link, HelperCall, Stmt, let_local, let_owned, let_call, var_local, assign, if_then, while, print, return_value, call, Stmts, no_stmts, stmt, Otherwise, no_else, else_do, Param, Section, Decl, global, init, atomic, helper, thread}
@@ -20,7 +20,7 @@ use Rattle.resolution.specs.Where.{operand_want, prefix_want, side_want}
 
 abbrev mutual
   -- of those in an expression
-  pub inside : (Scope → Want → Expr → List Note) → Scope → Expr → List Note
+  pub inside : (Scope → Want → Expr → List Clash) → Scope → Expr → List Clash
   inside say sc (int n) = []
   inside say sc (null at) = []
   inside say sc (place p) = in_place say sc p
@@ -29,43 +29,43 @@ abbrev mutual
   inside say sc (chain level e links) = (say sc (operand_want level) e ++ inside say sc e) ++ in_links say sc level links
   inside say sc (compare a c b) = (say sc (side_want c) a ++ inside say sc a) ++ (say sc (side_want c) b ++ inside say sc b)
 
-  pub in_place : (Scope → Want → Expr → List Note) → Scope → Place → List Note
+  pub in_place : (Scope → Want → Expr → List Clash) → Scope → Place → List Clash
   in_place say sc (lone x) = []
   in_place say sc (element x e) = say sc (Value Integer) e ++ inside say sc e
   in_place say sc (path x fs) = []
 
-  pub in_links : (Scope → Want → Expr → List Note) → Scope → Level → Links → List Note
+  pub in_links : (Scope → Want → Expr → List Clash) → Scope → Level → Links → List Clash
   in_links say sc level no_links = []
   in_links say sc level (link o e rest) = (say sc (operand_want level) e ++ inside say sc e) ++ in_links say sc level rest
 
 -- of an expression and of those in it
-abbrev pub of_expr : (Scope → Want → Expr → List Note) → Scope → Want → Expr → List Note
+abbrev pub of_expr : (Scope → Want → Expr → List Clash) → Scope → Want → Expr → List Clash
 of_expr say sc w e = say sc w e ++ inside say sc e
 
 -- ---- statements
 
 -- of arguments, each for its parameter
-abbrev pub of_arguments : (Scope → Want → Expr → List Note) → Scope → List Param → List Expr → List Note
+abbrev pub of_arguments : (Scope → Want → Expr → List Clash) → Scope → List Param → List Expr → List Clash
 of_arguments say sc [] [] = []
 of_arguments say sc [] (e ∷ es) = []
 of_arguments say sc (p ∷ ps) [] = []
 of_arguments say sc (p ∷ ps) (e ∷ es) = of_expr say sc (want_of sc.decls p) e ++ of_arguments say sc ps es
 
 -- of arguments, each by itself
-abbrev pub of_each : (Scope → Want → Expr → List Note) → Scope → List Expr → List Note
+abbrev pub of_each : (Scope → Want → Expr → List Clash) → Scope → List Expr → List Clash
 of_each say sc [] = []
 of_each say sc (e ∷ es) = of_expr say sc Anything e ++ of_each say sc es
 
 -- the arguments for the helper that is meant
-abbrev pub of_passed : (Scope → Want → Expr → List Note) → Scope → Option (ℕ × Section) → List Expr → List Note
+abbrev pub of_passed : (Scope → Want → Expr → List Clash) → Scope → Option (ℕ × Section) → List Expr → List Clash
 of_passed say sc (Some (i, s)) es = if length es == length s.params then of_arguments say sc s.params es else []
 of_passed say sc None es = of_each say sc es
 
-abbrev pub of_call : (Scope → Want → Expr → List Note) → Scope → HelperCall → List Note
+abbrev pub of_call : (Scope → Want → Expr → List Clash) → Scope → HelperCall → List Clash
 of_call say sc c = of_passed say sc (helper_meant (meaning sc c.helper.text)) c.arguments
 
 -- of the expressions of a statement, without those of its blocks
-abbrev pub of_own : (Scope → Want → Expr → List Note) → Scope → Stmt → List Note
+abbrev pub of_own : (Scope → Want → Expr → List Clash) → Scope → Stmt → List Clash
 of_own say sc (let_local l) = of_expr say sc (want (type_of sc l.value_type)) l.value
 of_own say sc (let_owned l o) = of_expr say sc (want (type_of sc l.value_type)) l.value
 of_own say sc (let_call l) = of_call say sc l.call
@@ -79,7 +79,7 @@ of_own say sc (call start c) = of_call say sc c
 
 abbrev mutual
   -- of the statements of a statement's blocks
-  pub in_blocks : (Scope → Stmt → List Note) → Scope → Stmt → List Note
+  pub in_blocks : (Scope → Stmt → List Clash) → Scope → Stmt → List Clash
   in_blocks say sc (let_local l) = []
   in_blocks say sc (let_owned l o) = []
   in_blocks say sc (let_call l) = []
@@ -91,67 +91,60 @@ abbrev mutual
   in_blocks say sc (return_value start e) = []
   in_blocks say sc (call start c) = []
 
-  pub in_else : (Scope → Stmt → List Note) → Scope → Otherwise → List Note
+  pub in_else : (Scope → Stmt → List Clash) → Scope → Otherwise → List Clash
   in_else say sc no_else = []
   in_else say sc (else_do body close) = of_stmts say sc body
 
   -- of statements and those of their blocks, from the scope at the first
-  pub of_stmts : (Scope → Stmt → List Note) → Scope → Stmts → List Note
+  pub of_stmts : (Scope → Stmt → List Clash) → Scope → Stmts → List Clash
   of_stmts say sc no_stmts = []
   of_stmts say sc (stmt s rest) = (say sc s ++ in_blocks say sc s) ++ of_stmts say (after sc s) rest
 
--- ---- declarations
-
 -- of the statements of a section or a helper
-abbrev pub of_body : (Scope → Stmt → List Note) → List Decl → BodyLimits → Section → List Note
+abbrev pub of_body : (Scope → Stmt → List Clash) → List Decl → BodyLimits → Section → List Clash
 of_body say decls limits s = of_stmts say (entry decls limits s) s.body.stmts
-
-abbrev pub in_decl : (Scope → Stmt → List Note) → List Decl → Decl → List Note
-in_decl say decls (atomic s) = of_body say decls section_limits s
-in_decl say decls (helper s) = of_body say decls helper_limits s
-in_decl say decls _ = []
-
--- of the statements of those among these
-abbrev pub in_decls : (Scope → Stmt → List Note) → List Decl → List Decl → List Note
-in_decls say decls [] = []
-in_decls say decls (d ∷ ds) = in_decl say decls d ++ in_decls say decls ds
 
 -- ---- constants
 
 -- of arguments, each for its parameter
-abbrev pub of_constants : (Want → Const → List Note) → List Decl → List Param → List Const → List Note
+abbrev pub of_constants : (Want → Const → List Clash) → List Decl → List Param → List Const → List Clash
 of_constants say decls [] [] = []
 of_constants say decls [] (c ∷ cs) = []
 of_constants say decls (p ∷ ps) [] = []
 of_constants say decls (p ∷ ps) (c ∷ cs) = say (want_of decls p) c ++ of_constants say decls ps cs
 
 -- for the section that is called
-abbrev pub of_taken : (Want → Const → List Note) → List Decl → Option (ℕ × Decl) → List Const → List Note
+abbrev pub of_taken : (Want → Const → List Clash) → List Decl → Option (ℕ × Decl) → List Const → List Clash
 of_taken say decls (Some (i, atomic s)) cs = if length cs == length s.params then of_constants say decls s.params cs else []
 of_taken say decls _ cs = []
 
-abbrev pub of_call_in_thread : (Want → Const → List Note) → List Decl → Call → List Note
+abbrev pub of_call_in_thread : (Want → Const → List Clash) → List Decl → Call → List Clash
 of_call_in_thread say decls c = of_taken say decls (the_decl decls c.section.text) c.arguments
 
 abbrev mutual
-  pub in_item : (Want → Const → List Note) → List Decl → Item → List Note
+  pub in_item : (Want → Const → List Clash) → List Decl → Item → List Clash
   in_item say decls (call c) = of_call_in_thread say decls c
   in_item say decls (repeat n is) = in_items say decls is
 
-  pub in_items : (Want → Const → List Note) → List Decl → Items → List Note
+  pub in_items : (Want → Const → List Clash) → List Decl → Items → List Clash
   in_items say decls no_items = []
   in_items say decls (item i rest) = in_item say decls i ++ in_items say decls rest
 
-abbrev pub of_opening : (Want → Const → List Note) → Want → Option Const → List Note
+abbrev pub of_opening : (Want → Const → List Clash) → Want → Option Const → List Clash
 of_opening say w (Some c) = say w c
 of_opening say w None = []
 
-abbrev pub const_in : (Want → Const → List Note) → List Decl → Decl → List Note
-const_in say decls (global v) = of_opening say (want (type_of (outside decls) v.value_type)) v.value
-const_in say decls (init i) = say (member_want decls (initialised decls i)) i.value
-const_in say decls (thread t) = in_items say decls t.items
-const_in say decls _ = []
+-- ---- declarations
 
-abbrev pub consts_in : (Want → Const → List Note) → List Decl → List Decl → List Note
-consts_in say decls [] = []
-consts_in say decls (d ∷ ds) = const_in say decls d ++ consts_in say decls ds
+-- of the statements or the constants of a declaration
+abbrev pub in_decl : (Scope → Stmt → List Clash) → (Want → Const → List Clash) → List Decl → Decl → List Clash
+in_decl say tell decls (atomic s) = of_body say decls section_limits s
+in_decl say tell decls (helper s) = of_body say decls helper_limits s
+in_decl say tell decls (global v) = of_opening tell (want (type_of (outside decls) v.value_type)) v.value
+in_decl say tell decls (init i) = tell (member_want decls (initialised decls i)) i.value
+in_decl say tell decls (thread t) = in_items tell decls t.items
+in_decl say tell decls _ = []
+
+abbrev pub in_decls : (Scope → Stmt → List Clash) → (Want → Const → List Clash) → List Decl → List Decl → List Clash
+in_decls say tell decls [] = []
+in_decls say tell decls (d ∷ ds) = in_decl say tell decls d ++ in_decls say tell decls ds

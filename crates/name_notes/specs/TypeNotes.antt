@@ -84,8 +84,3 @@ pub data IsTypeNote (decls : List Decl) (at : ℕ) : Note → Type 0 where
       HasStmt decls sc (let_owned l o) → owner_field sc.decls (type_of sc l.value_type) o.field ≡ Some f →
       meaning sc o.local.text ≡ a_local i b → b.value_type ≡ Some t → fits_type f.value_type (sort.Of t) ≡ false → o.local.span.start ≡ at →
       IsTypeNote decls at (types_note (type_words sc.decls f.value_type) (type_words sc.decls t))
-
--- the notes are the true ones
-pub record AreTypeNotes (decls : List Decl) (at : ℕ) (notes : List Note) : Type 0 where
-  pub are_true : (note : Note) → Has notes note → IsTypeNote decls at note
-  pub told : (note : Note) → IsTypeNote decls at note → Has notes note

@@ -1,6 +1,6 @@
--- What values of the code are, in the words of the notes.
+-- What values of the code are, and which clashes of types are found, in the words of the notes.
 use Rattle.std.proofs.Common.{Vec, Global}
-use Rattle.std.specs.Prelude.{◌≡◌, ◌++◌, ℕ, ◌==◌, Bool, true, false, if◌then◌else◌, List, [], ◌∷◌, map, option_map, Option, Some, None, codes}
+use Rattle.std.specs.Prelude.{◌≡◌, ◌++◌, ℕ, ◌==◌, Bool, true, false, is_some, if◌then◌else◌, List, [], ◌∷◌, map, option_map, Option, Some, None, codes}
 use Rattle.std.specs.Borrow.{Bor}
 use Rattle.core_lang.specs.declared.value.ValueType as core_type
 use Rattle.explanation.specs.Notes.{Note, note_of}
@@ -8,37 +8,76 @@ use Rattle.explanation.specs.declared.note.Note as written_note
 use Rattle.core_lang.specs.declared.value.ValueType.TheVariants.{Integer, Reference}
 use Rattle.syntax.specs.declared.tree.Comparison as written
 use Rattle.syntax.specs.declared.tree.Comparison.TheVariants as sign
-use Rattle.syntax.specs.declared.tree.Level.TheVariants.{Term, Sum}
+use Rattle.syntax.specs.declared.tree.Level.{Level}
+use Rattle.syntax.specs.declared.tree.Const as the_const
+use Rattle.syntax.specs.declared.tree.Expr as the_expr
+use Rattle.syntax.specs.declared.tree.Param as the_param
+use Rattle.syntax.specs.declared.tree.Stmt as the_stmt
 use Rattle.syntax.specs.declared.tree.Section as the_section
 use Rattle.syntax.specs.declared.tree.Member as the_member
-use Rattle.syntax.specs.Trees.{ValueType, Const, Member, Expr, chain, compare, Ident, Local, Owner, CalledLocal, Stmt, let_owned, let_call, Section, Decl}
-use Rattle.syntax.specs.Views.{member_of, section_of}
+use Rattle.syntax.specs.Trees.{ValueType, Const, Member, Call, Item, Items, Place, Expr, compare, Links, Ident, Local, Owner, HelperCall, CalledLocal, Stmt, Stmts, Otherwise, let_owned, let_call, assign, Section, Decl}
+use Rattle.syntax.specs.Views.{const_of, expr_of, member_of, param_of, section_of, stmts_of}
+use Rattle.resolution.specs.declared.body_limits.BodyLimits.{BodyLimits}
 use Rattle.resolution.specs.declared.owner_field.OwnerField.{OwnerField}
 use Rattle.resolution.specs.declared.wanted.Sort.{Sort}
 use Rattle.resolution.specs.declared.wanted.Sort.TheVariants as sort
 use Rattle.resolution.specs.declared.wanted.Want.{Want}
 use Rattle.resolution.specs.Owners.{owner_field}
-use Rattle.resolution.specs.Scopes.{Scope, Meaning, a_decl, a_local, nothing, helper_meant, meaning, result_of, type_of}
+use Rattle.resolution.specs.Scopes.{Scope, Meaning, a_decl, a_local, nothing, entered, helper_meant, meaning, result_of, type_of}
 use Rattle.resolution.specs.Core as core
 use Rattle.resolution.specs.declared.wanted.Want.TheVariants.{Anything, Condition, Value}
-use Rattle.resolution.specs.Expressions.{ResolvedExpr, value, truth, alike_sorts, fits, fits_sort, fits_type, typed, Walk, reached, at_lock, lost}
-use Rattle.resolution.specs.Statements.{Split, last_field}
-use Rattle.expressions.specs.declared.place.Indexed.{Indexed}
-use Rattle.expressions.specs.declared.place.Indexed.TheVariants.{Array, Pool}
-use Rattle.name_notes.specs.Searches.{of_own}
+use Rattle.resolution.specs.Expressions.{ResolvedExpr, value, truth, alike_sorts, fits_sort, want, number_resolved, test_resolved, typed, typed_place, Walk, reached, at_lock, lost}
+use Rattle.resolution.specs.Statements.{last_field, target_of, wanted_by}
+use Rattle.name_notes.specs.Searches.{inside, in_links, of_expr, of_arguments, of_each, of_call, of_own, in_blocks, in_else, of_stmts, of_body, of_constants, of_call_in_thread, in_item, in_items, in_decl, in_decls}
 use Rattle.resolution.specs.Faults.{start_of, const_start}
 use Rattle.resolution.specs.Constants.{const_sort}
-use Rattle.name_notes.specs.TypeNotes.{types_note, sides_note, sort_words, type_words, want_words, found_words}
-use Rattle.name_notes.specs.declared.searches.Search.{Search}
-use Rattle.name_notes.specs.declared.kinds.Kind as the_kind
-use Rattle.name_notes.specs.declared.kinds.Kind.TheVariants as kind
+use Rattle.name_notes.specs.TypeNotes.{types_note, sides_note, sort_words, want_words}
+use Rattle.name_notes.specs.declared.clash.Clash.{Clash}
+use Rattle.name_notes.specs.declared.clash.Kind as the_kind
+use Rattle.name_notes.specs.declared.clash.Kind.TheVariants as kind
+use Rattle.name_notes.specs.declared.clash.Told as the_told
+use Rattle.name_notes.specs.declared.clash.Told.TheVariants as told
+use Rattle.name_notes.specs.declared.places.Spot.{Spot}
 
-abbrev pub notes_seen : List written_note.Note → List Note
-notes_seen notes = map note_of notes
+-- the clashes are those that there were, and these
+abbrev pub Adds : Vec Clash Global → Vec Clash Global → List Clash → Type 0
+Adds before after more = after.items ≡ before.items ++ more
 
--- the notes are those that there were, and these
-abbrev pub Adds : Vec written_note.Note Global → Vec written_note.Note Global → List Note → Type 0
-Adds before after more = notes_seen after.items ≡ notes_seen before.items ++ more
+-- ---- clashes
+
+abbrev pub types_clash : Want → the_kind.Kind → Clash
+types_clash w k = record { is_of_sides = false; one = told.Wanted w; other = told.Found k }
+
+abbrev pub sides_clash : the_kind.Kind → the_kind.Kind → Clash
+sides_clash k l = record { is_of_sides = true; one = told.Found k; other = told.Found l }
+
+abbrev pub no_result_clash : core_type.ValueType → Clash
+no_result_clash t = record { is_of_sides = false; one = told.Wanted (Value t); other = told.NoResult }
+
+abbrev pub no_reference_clash : Clash
+no_reference_clash = record { is_of_sides = false; one = told.Reference; other = told.Found (kind.Value (sort.Of Integer)) }
+
+-- ---- their words
+
+abbrev pub kind_words : List Decl → the_kind.Kind → List ℕ
+kind_words decls (kind.Value s) = sort_words decls s
+kind_words decls kind.Condition = codes "a condition"
+
+abbrev pub told_words : List Decl → the_told.Told → List ℕ
+told_words decls (told.Wanted w) = want_words decls w
+told_words decls (told.Found k) = kind_words decls k
+told_words decls told.NoResult = codes "no result"
+told_words decls told.Reference = codes "a reference"
+
+abbrev pub framed_by : List ℕ → List ℕ → List ℕ → List ℕ → Note
+framed_by ahead between one other = record { start = None; words = ahead ++ one ++ between ++ other }
+
+abbrev pub framed : Bool → List ℕ → List ℕ → Note
+framed true = sides_note
+framed false = types_note
+
+abbrev pub clash_note : List Decl → Clash → Note
+clash_note decls c = framed c.is_of_sides (told_words decls c.one) (told_words decls c.other)
 
 -- ---- what an expression is
 
@@ -51,23 +90,33 @@ kind_if (Some s) = Some (kind_of s)
 kind_if None = None
 
 -- a number, or a condition, if it is one
-abbrev pub number_kind : Option core.Expr → Option the_kind.Kind
-number_kind (Some e) = Some (kind.Value (sort.Of Integer))
-number_kind None = None
+abbrev pub kind_by : Bool → Option core.Condition → Option the_kind.Kind
+kind_by true c = Some (kind.Value (sort.Of Integer))
+kind_by false (Some c) = Some kind.Condition
+kind_by false None = None
 
-abbrev pub test_kind : Option core.Condition → Option the_kind.Kind
-test_kind (Some c) = Some kind.Condition
-test_kind None = None
+abbrev pub whole_kind : Option ResolvedExpr → Option the_kind.Kind
+whole_kind r = kind_by (is_some (number_resolved r)) (test_resolved r)
 
--- a sum or a product
-abbrev pub is_of_numbers : Expr → Bool
-is_of_numbers (chain Term e links) = true
-is_of_numbers (chain Sum e links) = true
-is_of_numbers _ = false
+-- ---- places
 
-abbrev pub kind_words : List Decl → the_kind.Kind → List ℕ
-kind_words decls (kind.Value s) = sort_words decls s
-kind_words decls kind.Condition = codes "a condition"
+-- a value of a type, and whether it can be assigned
+abbrev pub spot_of : Option core_type.ValueType → Bool → Spot
+spot_of (Some t) true = record { found = Some (kind.Value (sort.Of t)); wanted = Value t }
+spot_of (Some t) false = record { found = Some (kind.Value (sort.Of t)); wanted = Anything }
+spot_of None b = record { found = None; wanted = Anything }
+
+-- where fields lead
+abbrev pub spot_reached : Walk → Spot
+spot_reached (reached steps t) = spot_of (Some t) (is_some (last_field steps))
+spot_reached at_lock = spot_of None false
+spot_reached lost = spot_of None false
+
+-- what a place is, and what is wanted of what is assigned to it
+abbrev pub spot_at : Scope → Place → Spot
+spot_at sc p = record { found = kind_if (typed_place sc p); wanted = wanted_by (target_of sc p) }
+
+-- ---- what isn't what is wanted
 
 abbrev pub fits_kind : Want → the_kind.Kind → Bool
 fits_kind w (kind.Value s) = fits_sort w s
@@ -75,17 +124,15 @@ fits_kind Anything kind.Condition = true
 fits_kind Condition kind.Condition = true
 fits_kind (Value t) kind.Condition = false
 
--- ---- what is said of an expression that isn't what is wanted
+abbrev pub unfit : Want → Option the_kind.Kind → List Clash
+unfit w (Some k) = if fits_kind w k then [] else types_clash w k ∷ []
+unfit w None = []
 
-abbrev pub said_of : List Decl → Want → Option ResolvedExpr → List Note
-said_of decls w (Some s) = if fits w s then [] else types_note (want_words decls w) (found_words decls s) ∷ []
-said_of decls w None = []
+-- an expression, if it starts there
+abbrev pub misfit_at : ℕ → Scope → Want → Expr → List Clash
+misfit_at at sc w e = if start_of e == at then unfit w (kind_if (typed sc e)) else []
 
--- if it starts there
-abbrev pub misfit_at : ℕ → Scope → Want → Expr → List Note
-misfit_at at sc w e = if start_of e == at then said_of sc.decls w (typed sc e) else []
-
--- ---- what is said of the sides of `==` and `!=`
+-- ---- the sides of `==` and `!=`
 
 abbrev pub is_equality : written.Comparison → Bool
 is_equality sign.Equal = true
@@ -102,48 +149,47 @@ is_blamed at left right (kind.Value s) kind.Condition = right == at
 is_blamed at left right kind.Condition (kind.Value t) = right == at
 is_blamed at left right kind.Condition kind.Condition = left == at
 
-abbrev pub sides_said : List Decl → Bool → the_kind.Kind → the_kind.Kind → List Note
-sides_said decls b left right = if b then sides_note (kind_words decls left) (kind_words decls right) ∷ [] else []
+abbrev pub sides_if : Bool → the_kind.Kind → the_kind.Kind → List Clash
+sides_if b left right = if b then sides_clash left right ∷ [] else []
 
-abbrev pub sides_judged : ℕ → ℕ → ℕ → List Decl → Option the_kind.Kind → Option the_kind.Kind → List Note
-sides_judged at left right decls (Some a) (Some b) = sides_said decls (is_blamed at left right a b) a b
-sides_judged at left right decls (Some a) None = []
-sides_judged at left right decls None b = []
+abbrev pub sides_judged : ℕ → ℕ → ℕ → Option the_kind.Kind → Option the_kind.Kind → List Clash
+sides_judged at left right (Some a) (Some b) = sides_if (is_blamed at left right a b) a b
+sides_judged at left right (Some a) None = []
+sides_judged at left right None b = []
 
-abbrev pub equality_at : ℕ → Scope → Expr → Expr → List Note
-equality_at at sc a b = sides_judged at (start_of a) (start_of b) sc.decls (kind_if (typed sc a)) (kind_if (typed sc b))
+abbrev pub equality_at : ℕ → Scope → Expr → Expr → List Clash
+equality_at at sc a b = sides_judged at (start_of a) (start_of b) (kind_if (typed sc a)) (kind_if (typed sc b))
 
-abbrev pub sides_at : ℕ → Scope → Expr → List Note
+abbrev pub sides_at : ℕ → Scope → Expr → List Clash
 sides_at at sc (compare a c b) = if is_equality c then equality_at at sc a b else []
 sides_at at sc _ = []
 
 -- of an expression both
-abbrev pub said_by : Search → Scope → Want → Expr → List Note
-said_by x sc w e = misfit_at x.at sc w e ++ sides_at x.at sc e
+abbrev pub said_by : ℕ → Scope → Want → Expr → List Clash
+said_by at sc w e = misfit_at at sc w e ++ sides_at at sc e
 
--- ---- what is said of a `let` of what a helper gives back
+-- ---- a `let` of what a helper gives back
 
-abbrev pub type_if : Bool → List Decl → core_type.ValueType → core_type.ValueType → List Note
-type_if fit decls t u = if fit then [] else types_note (type_words decls t) (type_words decls u) ∷ []
+abbrev pub type_unfit : core_type.ValueType → Option core_type.ValueType → List Clash
+type_unfit t (Some u) = unfit (Value t) (Some (kind.Value (sort.Of u)))
+type_unfit t None = []
 
-abbrev pub given_said : List Decl → core_type.ValueType → Option ValueType → Option core_type.ValueType → List Note
-given_said decls t None u = types_note (type_words decls t) (codes "no result") ∷ []
-given_said decls t (Some r) (Some u) = type_if (fits_type t (sort.Of u)) decls t u
-given_said decls t (Some r) None = []
+abbrev pub given_said : core_type.ValueType → Option ValueType → Option core_type.ValueType → List Clash
+given_said t None u = no_result_clash t ∷ []
+given_said t (Some r) u = type_unfit t u
 
-abbrev pub given_by : List Decl → core_type.ValueType → Section → List Note
-given_by decls t s = given_said decls t s.result (result_of decls s)
-
-abbrev pub result_said : List Decl → Option core_type.ValueType → Option (ℕ × Section) → List Note
-result_said decls (Some t) (Some (i, s)) = given_by decls t s
+abbrev pub result_said : List Decl → Option core_type.ValueType → Option (ℕ × Section) → List Clash
+result_said decls (Some t) (Some (i, s)) = given_said t s.result (result_of decls s)
 result_said decls (Some t) None = []
 result_said decls None o = []
 
-abbrev pub result_at : ℕ → Scope → CalledLocal → List Note
-result_at at sc l =
-    if l.call.helper.span.start == at then result_said sc.decls (type_of sc l.value_type) (helper_meant (meaning sc l.call.helper.text)) else []
+abbrev pub result_of_local : Scope → CalledLocal → List Clash
+result_of_local sc l = result_said sc.decls (type_of sc l.value_type) (helper_meant (meaning sc l.call.helper.text))
 
--- ---- what is said of what stands behind `where`
+abbrev pub result_at : ℕ → Scope → CalledLocal → List Clash
+result_at at sc l = if l.call.helper.span.start == at then result_of_local sc l else []
+
+-- ---- what stands behind `where`
 
 abbrev pub owner_type : List Decl → Option core_type.ValueType → Ident → Option core_type.ValueType
 owner_type decls t f = option_map (λ (x : OwnerField). x.value_type) (owner_field decls t f)
@@ -153,71 +199,111 @@ meant_type (a_local i l) = l.value_type
 meant_type (a_decl i d) = None
 meant_type nothing = None
 
-abbrev pub number_said : Option core_type.ValueType → List Note
-number_said (Some Integer) = types_note (codes "a reference") (codes "int") ∷ []
+abbrev pub number_said : Option core_type.ValueType → List Clash
+number_said (Some Integer) = no_reference_clash ∷ []
 number_said (Some (Reference k)) = []
 number_said None = []
 
-abbrev pub owner_said : List Decl → Option core_type.ValueType → Option core_type.ValueType → List Note
-owner_said decls (Some t) (Some u) = type_if (fits_type t (sort.Of u)) decls t u
-owner_said decls (Some t) None = []
-owner_said decls None o = []
+abbrev pub owner_said : Option core_type.ValueType → Option core_type.ValueType → List Clash
+owner_said (Some t) u = type_unfit t u
+owner_said None u = []
 
 -- of the first name and of the second
-abbrev pub member_owned_at : ℕ → Option core_type.ValueType → Owner → List Note
+abbrev pub member_owned_at : ℕ → Option core_type.ValueType → Owner → List Clash
 member_owned_at at t o = if o.field.span.start == at then number_said t else []
 
-abbrev pub local_owned_at : ℕ → Scope → Option core_type.ValueType → Owner → List Note
-local_owned_at at sc t o =
-    if o.local.span.start == at then owner_said sc.decls (owner_type sc.decls t o.field) (meant_type (meaning sc o.local.text)) else []
+abbrev pub local_owned : Scope → Option core_type.ValueType → Owner → List Clash
+local_owned sc t o = owner_said (owner_type sc.decls t o.field) (meant_type (meaning sc o.local.text))
 
-abbrev pub owner_at : ℕ → Scope → Local → Owner → List Note
+abbrev pub local_owned_at : ℕ → Scope → Option core_type.ValueType → Owner → List Clash
+local_owned_at at sc t o = if o.local.span.start == at then local_owned sc t o else []
+
+abbrev pub owner_at : ℕ → Scope → Local → Owner → List Clash
 owner_at at sc l o = member_owned_at at (type_of sc l.value_type) o ++ local_owned_at at sc (type_of sc l.value_type) o
 
-abbrev pub bound_at : ℕ → Scope → Stmt → List Note
-bound_at at sc (let_call l) = result_at at sc l
-bound_at at sc (let_owned l o) = owner_at at sc l o
-bound_at at sc _ = []
+-- ---- a statement
 
--- ---- of a statement
-abbrev pub said_of_stmt : Search → Scope → Stmt → List Note
-said_of_stmt x sc s = of_own (said_by x) sc s ++ bound_at x.at sc s
+-- of its expressions, and of what it binds
+abbrev pub said_of_stmt : ℕ → Scope → Stmt → List Clash
+said_of_stmt at sc (let_owned l o) = of_own (said_by at) sc (let_owned l o) ++ owner_at at sc l o
+said_of_stmt at sc (let_call l) = of_call (said_by at) sc l.call ++ result_at at sc l
+said_of_stmt at sc s = of_own (said_by at) sc s
+
+-- of an expression and of those in it, of operands, and of what a call takes
+abbrev pub expr_clashes : ℕ → Scope → Want → Expr → List Clash
+expr_clashes at sc w e = of_expr (said_by at) sc w e
+
+abbrev pub inner_clashes : ℕ → Scope → Expr → List Clash
+inner_clashes at sc e = inside (said_by at) sc e
+
+abbrev pub link_clashes : ℕ → Scope → Level → Links → List Clash
+link_clashes at sc level links = in_links (said_by at) sc level links
+
+abbrev pub argument_clashes : ℕ → Scope → List the_param.Param → List the_expr.Expr → List Clash
+argument_clashes at sc ps es = of_arguments (said_by at) sc (map param_of ps) (map expr_of es)
+
+abbrev pub each_clashes : ℕ → Scope → List the_expr.Expr → List Clash
+each_clashes at sc es = of_each (said_by at) sc (map expr_of es)
+
+abbrev pub call_clashes : ℕ → Scope → HelperCall → List Clash
+call_clashes at sc c = of_call (said_by at) sc c
+
+-- of the first value of a local, and of an assignment
+abbrev pub value_clashes : ℕ → Scope → Local → List Clash
+value_clashes at sc l = expr_clashes at sc (want (type_of sc l.value_type)) l.value
+
+abbrev pub assign_clashes : ℕ → Scope → Place → Expr → List Clash
+assign_clashes at sc p e = of_own (said_by at) sc (assign p e)
+
+-- of statements and those of their blocks
+abbrev pub block_clashes : ℕ → Scope → Stmt → List Clash
+block_clashes at sc s = in_blocks (said_of_stmt at) sc s
+
+abbrev pub else_clashes : ℕ → Scope → Otherwise → List Clash
+else_clashes at sc o = in_else (said_of_stmt at) sc o
+
+abbrev pub stmts_clashes : ℕ → Scope → Stmts → List Clash
+stmts_clashes at sc ss = of_stmts (said_of_stmt at) sc ss
+
+abbrev pub entered_clashes : ℕ → Scope → List the_param.Param → List the_stmt.Stmt → List Clash
+entered_clashes at sc ps ss = stmts_clashes at (entered sc (map param_of ps)) (stmts_of ss)
+
+abbrev pub body_clashes : ℕ → List Decl → BodyLimits → Section → List Clash
+body_clashes at decls limits s = of_body (said_of_stmt at) decls limits s
 
 -- the helper that is found, and its place
 abbrev pub section_found : Option (ℕ × Bor the_section.Section) → Option (ℕ × Section)
 section_found f = option_map (λ h. (h.0, section_of h.1.now)) f
 
--- ---- what is wanted of what is assigned
+-- ---- a constant
 
--- to what stands at an index
-abbrev pub element_want : Option Indexed → Option core.Expr → Want
-element_want (Some (Array n t)) (Some index) = Value t
-element_want (Some (Pool n t)) (Some index) = Anything
-element_want (Some x) None = Anything
-element_want None index = Anything
+abbrev pub const_kind : Option Sort → Option the_kind.Kind
+const_kind (Some s) = Some (kind.Value s)
+const_kind None = None
 
--- to a field that isn't final
-abbrev pub last_want : Option Split → core_type.ValueType → Want
-last_want (Some s) t = Value t
-last_want None t = Anything
+abbrev pub said_of_const : ℕ → List Decl → Want → Const → List Clash
+said_of_const at decls w c = if const_start c == at then unfit w (const_kind (const_sort decls c)) else []
 
-abbrev pub field_want : Walk → Want
-field_want (reached steps t) = last_want (last_field steps) t
-field_want at_lock = Anything
-field_want lost = Anything
+abbrev pub constant_clashes : ℕ → List Decl → List the_param.Param → List the_const.Const → List Clash
+constant_clashes at decls ps cs = of_constants (said_of_const at decls) decls (map param_of ps) (map const_of cs)
 
--- ---- what is said of a constant that isn't what is wanted
+abbrev pub item_clashes : ℕ → List Decl → Item → List Clash
+item_clashes at decls i = in_item (said_of_const at decls) decls i
 
-abbrev pub const_said : List Decl → Want → Option Sort → List Note
-const_said decls w (Some s) = if fits_sort w s then [] else types_note (want_words decls w) (sort_words decls s) ∷ []
-const_said decls w None = []
-
-abbrev pub said_of_const : Search → List Decl → Want → Const → List Note
-said_of_const x decls w c = if const_start c == x.at then const_said decls w (const_sort decls c) else []
+abbrev pub items_clashes : ℕ → List Decl → Items → List Clash
+items_clashes at decls is = in_items (said_of_const at decls) decls is
 
 -- the member that is found, and its place
 abbrev pub member_seen : Option (ℕ × Bor the_member.Member) → Option (ℕ × Member)
 member_seen f = option_map (λ m. (m.0, member_of m.1.now)) f
+
+-- ---- a program
+
+abbrev pub decl_clashes : ℕ → List Decl → Decl → List Clash
+decl_clashes at decls d = in_decl (said_of_stmt at) (said_of_const at decls) decls d
+
+abbrev pub all_clashes : ℕ → List Decl → List Clash
+all_clashes at decls = in_decls (said_of_stmt at) (said_of_const at decls) decls decls
 
 -- ---- what is found
 

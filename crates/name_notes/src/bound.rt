@@ -1,93 +1,98 @@
-//! What is said of a statement: of its expressions, and of what it binds.
+//! The clashes of what a statement binds: what a helper gives back, and what stands behind `where`.
 
 ghost use Rattle.std.specs.Prelude.{◌≡◌, OnOk};
-ghost use Rattle.syntax.specs.Views.{called_local_of, section_of, stmt_of};
-ghost use Rattle.resolution.specs.Scopes.{result_of};
+ghost use Rattle.std.specs.Option.{option_to_list};
+ghost use Rattle.syntax.specs.Views.{called_local_of, ident, local_of, owner_of};
 ghost use Rattle.expressions.specs.Checkers.{scope};
-ghost use Rattle.name_notes.specs.Values.{Adds, bound_at, given_by, result_at, said_of_stmt};
+ghost use Rattle.name_notes.specs.Values.{Adds, local_owned_at, owner_at, owner_type, result_at};
 
+use crate::clash::{Clash, Kind, Told, add, unfit};
 use crate::searches::Search;
 use crate::statements::helper_named;
-use crate::words::{no_result_note, other_note};
 use core_lang::value::ValueType;
-use explanation::Note;
 use expressions::checker::Checker;
-use expressions::wanted::fits_type;
-use resolution::wanted::Sort;
-use source::memory::NoMemory;
-use syntax::tree::{CalledLocal, Section, Stmt};
+use resolution::wanted::{Sort, Want};
+use std::alloc::AllocError;
+use symbols::scope::Meaning;
+use syntax::tree::{CalledLocal, Local, Member, Name, Owner};
 
-/// The type of a helper's result, if it has one without a fault.
-fn result_of(checker: &Checker, s: &Section) -> Option<ValueType>
-    ensures { result ≡ result_of (scope checker.now).decls (section_of s.now) }
+/// The type of the final reference that the name means, for a value of this type.
+fn owner_type(checker: &Checker, t: Option<ValueType>, f: &Name) -> Option<ValueType>
+    ensures { result ≡ owner_type (scope checker.now).decls t (ident f.now) }
 {
-    match &s.result {
-        Some(t) => checker.type_outside(t),
-        None => None,
-    }
-}
-
-/// What is said of a helper that is to give back a value of this type.
-fn push_given(
-    checker: &Checker,
-    t: ValueType,
-    helper: &Section,
-    notes: &mut Vec<Note>,
-) -> Result<(), NoMemory>
-    ensures { OnOk result (Adds notes.old notes.new (given_by (scope checker.now).decls t (section_of helper.now))) }
-{
-    if helper.result.is_none() {
-        notes.push(no_result_note(checker, t)?)?;
-        return Ok(());
-    }
-    let Some(u) = result_of(checker, helper) else {
-        return Ok(());
+    let ValueType::Reference(number) = t? else {
+        return None;
     };
-    if !fits_type(t, Sort::Of(u)) {
-        notes.push(other_note(checker, t, u)?)?;
+    let structure = checker.structure(number)?;
+    let (_, m) = structure.find(f.text.as_str())?;
+    match m {
+        Member::Final(reference) => checker.reference_to(&reference.target),
+        Member::Lock(_) | Member::Field(_) => None,
     }
-    Ok(())
 }
 
 impl Search {
-    // What is said of a `let` of what a helper gives back.
-    fn result(
-        &self,
-        checker: &Checker,
-        local: &CalledLocal,
-        notes: &mut Vec<Note>,
-    ) -> Result<(), NoMemory>
-        ensures { OnOk result (Adds notes.old notes.new (result_at self.now.at (scope checker.now) (called_local_of local.now))) }
+    /// The clash of a `let` of what a helper gives back.
+    pub fn given(&self, checker: &Checker, local: &CalledLocal) -> Option<Clash>
+        ensures { option_to_list result ≡ result_at self.now.at (scope checker.now) (called_local_of local.now) }
     {
         if local.call.helper.start as usize != self.at {
-            return Ok(());
+            return None;
         }
         let mut least = None;
-        let Some(t) = checker.local_type(&local.value_type, &mut least) else {
-            return Ok(());
-        };
-        let Some((_, helper)) = helper_named(checker, &local.call) else {
-            return Ok(());
-        };
-        push_given(checker, t, helper, notes)
-    }
-
-    // What is said of what a statement binds.
-    fn bound(&self, checker: &Checker, s: &Stmt, notes: &mut Vec<Note>) -> Result<(), NoMemory>
-        ensures { OnOk result (Adds notes.old notes.new (bound_at self.now.at (scope checker.now) (stmt_of s.now))) }
-    {
-        match s {
-            Stmt::LetCall(local) => self.result(checker, local, notes),
-            Stmt::LetOwned(owned) => self.owner(checker, &owned.local, &owned.owner, notes),
-            _ => Ok(()),
+        let t = checker.local_type(&local.value_type, &mut least)?;
+        let (_, helper) = helper_named(checker, &local.call)?;
+        match &helper.result {
+            Some(written) => {
+                let u = checker.type_outside(written)?;
+                unfit(Want::Value(t), Some(Kind::Value(Sort::Of(u))))
+            }
+            None => Some(Clash {
+                is_of_sides: false,
+                one: Told::Wanted(Want::Value(t)),
+                other: Told::NoResult,
+            }),
         }
     }
 
-    /// What is said of a statement, without those of its blocks.
-    pub fn said(&self, checker: &Checker, s: &Stmt, notes: &mut Vec<Note>) -> Result<(), NoMemory>
-        ensures { OnOk result (Adds notes.old notes.new (said_of_stmt self.now (scope checker.now) (stmt_of s.now))) }
+    // The clash of the second name behind `where`, for a local of this type.
+    fn local_owned(&self, checker: &Checker, t: Option<ValueType>, owner: &Owner) -> Option<Clash>
+        ensures { option_to_list result ≡ local_owned_at self.now.at (scope checker.now) t (owner_of owner.now) }
     {
-        self.own(checker, s, notes)?;
-        self.bound(checker, s, notes)
+        if owner.local.start as usize != self.at {
+            return None;
+        }
+        let wanted = owner_type(checker, t, &owner.field)?;
+        match checker.meaning(&owner.local) {
+            Meaning::Local(_, local) => {
+                let t = local.value_type?;
+                unfit(Want::Value(wanted), Some(Kind::Value(Sort::Of(t))))
+            }
+            Meaning::Decl(_, _) | Meaning::Nothing => None,
+        }
+    }
+
+    /// Adds the clashes of the two names behind `where`.
+    pub fn owner(
+        &self,
+        checker: &Checker,
+        local: &Local,
+        owner: &Owner,
+        found: &mut Vec<Clash>,
+    ) -> Result<(), AllocError>
+        ensures { OnOk result (Adds found.old found.new (owner_at self.now.at (scope checker.now) (local_of local.now) (owner_of owner.now))) }
+    {
+        let mut least = None;
+        let t = checker.local_type(&local.value_type, &mut least);
+        if owner.field.start as usize == self.at {
+            if let Some(ValueType::Integer) = t {
+                found.push(Clash {
+                    is_of_sides: false,
+                    one: Told::Reference,
+                    other: Told::Found(Kind::Value(Sort::Of(ValueType::Integer))),
+                })?;
+            }
+        }
+        add(found, self.local_owned(checker, t, owner))
     }
 }

@@ -5,13 +5,13 @@
 
 mod bodies;
 mod bound;
+mod clash;
 mod const_search;
 mod kinds;
-mod owners;
+mod places;
 mod searches;
 mod sides;
 mod statements;
-mod targets;
 mod types;
 mod words;
 

@@ -1,37 +1,20 @@
-//! What is said of the expressions of a program, one after another.
+//! The clashes of expressions, one after another.
 
 ghost use Rattle.std.specs.Prelude.{◌≡◌, OnOk};
 ghost use Rattle.syntax.specs.Views.{expr_of, joined_of, links_of};
 ghost use Rattle.resolution.specs.Faults.{start_of};
-ghost use Rattle.resolution.specs.Where.{operand_want, prefix_want};
+ghost use Rattle.resolution.specs.Where.{operand_want};
 ghost use Rattle.expressions.specs.Checkers.{scope};
-ghost use Rattle.name_notes.specs.Searches.{in_links, inside, of_expr};
-ghost use Rattle.name_notes.specs.Values.{Adds, fits_kind, misfit_at, said_by};
+ghost use Rattle.name_notes.specs.Values.{Adds, expr_clashes, inner_clashes, link_clashes, misfit_at};
 
-use crate::kinds::{Kind, kind_of};
-use crate::words::types_note;
+use crate::clash::{Clash, add, unfit};
+use crate::kinds::kind_of;
 use core_lang::value::ValueType;
-use explanation::Note;
 use expressions::checker::Checker;
 use expressions::resolved_expr::side_want;
-use expressions::wanted::fits_sort;
 use resolution::wanted::Want;
-use source::memory::NoMemory;
-use std::alloc::Global;
+use std::alloc::{AllocError, Global};
 use syntax::tree::{Expr, Joined, Level, Link, Prefix};
-
-/// Whether it is what is wanted.
-fn fits(w: Want, kind: Kind) -> bool
-    ensures { result ≡ fits_kind w kind }
-{
-    match kind {
-        Kind::Value(sort) => fits_sort(w, sort),
-        Kind::Condition => match w {
-            Want::Anything | Want::Condition => true,
-            Want::Value(_) => false,
-        },
-    }
-}
 
 /// Where an expression starts.
 pub fn start_of(e: &Expr) -> usize
@@ -63,17 +46,7 @@ fn operand_want(level: Level) -> Want
     }
 }
 
-/// What the operand behind a prefix sign is to be.
-fn prefix_want(sign: Prefix) -> Want
-    ensures { result ≡ prefix_want sign }
-{
-    match sign {
-        Prefix::Negate => Want::Value(ValueType::Integer),
-        Prefix::Not => Want::Condition,
-    }
-}
-
-/// What is looked for: what is to be said of a fault at a byte.
+/// What is looked for: the clash that is told of a fault at a byte.
 #[derive(Clone, Copy)]
 pub struct Search {
     /// Where memory is taken.
@@ -83,116 +56,102 @@ pub struct Search {
 }
 
 impl Search {
-    // What is said of an expression that isn't what is wanted.
+    // Adds what is wanted of an expression and what it is, if that isn't what is wanted.
     fn misfit(
         &self,
         checker: &Checker,
         w: Want,
         e: &Expr,
-        notes: &mut Vec<Note>,
-    ) -> Result<(), NoMemory>
-        ensures { OnOk result (Adds notes.old notes.new (misfit_at self.now.at (scope checker.now) w (expr_of e.now))) }
+        found: &mut Vec<Clash>,
+    ) -> Result<(), AllocError>
+        ensures { OnOk result (Adds found.old found.new (misfit_at self.now.at (scope checker.now) w (expr_of e.now))) }
     {
         if start_of(e) != self.at {
             return Ok(());
         }
-        let Some(kind) = kind_of(checker, e)? else {
-            return Ok(());
-        };
-        if !fits(w, kind) {
-            notes.push(types_note(checker, w, kind)?)?;
-        }
-        Ok(())
+        let kind = kind_of(checker, e)?;
+        add(found, unfit(w, kind))
     }
 
-    // What is said of an expression of which something is wanted.
-    fn say(
-        &self,
-        checker: &Checker,
-        w: Want,
-        e: &Expr,
-        notes: &mut Vec<Note>,
-    ) -> Result<(), NoMemory>
-        ensures { OnOk result (Adds notes.old notes.new (said_by self.now (scope checker.now) w (expr_of e.now))) }
-    {
-        self.misfit(checker, w, e, notes)?;
-        self.sides_of(checker, e, notes)
-    }
-
-    /// What is said of an expression and of those in it.
+    /// Adds the clashes of an expression and of those in it.
     #[cycle(exprs)]
     pub fn asked(
         &self,
         checker: &Checker,
         w: Want,
         e: &Expr,
-        notes: &mut Vec<Note>,
-    ) -> Result<(), NoMemory>
-        ensures { OnOk result (Adds notes.old notes.new (of_expr (said_by self.now) (scope checker.now) w (expr_of e.now))) }
+        found: &mut Vec<Clash>,
+    ) -> Result<(), AllocError>
+        ensures { OnOk result (Adds found.old found.new (expr_clashes self.now.at (scope checker.now) w (expr_of e.now))) }
     {
-        self.say(checker, w, e, notes)?;
-        self.inside(checker, e, notes)
+        self.misfit(checker, w, e, found)?;
+        self.sides(checker, e, found)?;
+        self.inside(checker, e, found)
     }
 
-    // What is said of those in an expression.
+    // Adds the clashes of those in an expression.
     #[cycle(exprs)]
-    fn inside(&self, checker: &Checker, e: &Expr, notes: &mut Vec<Note>) -> Result<(), NoMemory>
-        ensures { OnOk result (Adds notes.old notes.new (inside (said_by self.now) (scope checker.now) (expr_of e.now))) }
+    fn inside(&self, checker: &Checker, e: &Expr, found: &mut Vec<Clash>) -> Result<(), AllocError>
+        ensures { OnOk result (Adds found.old found.new (inner_clashes self.now.at (scope checker.now) (expr_of e.now))) }
     {
         match e {
             Expr::Int(_) | Expr::Null(_) | Expr::Name(_) | Expr::Path(_) => Ok(()),
             Expr::Element(element) => {
                 let number = Want::Value(ValueType::Integer);
-                self.asked(checker, number, &element.index, notes)
+                self.asked(checker, number, &element.index, found)
             }
-            Expr::Paren(_, inner) => self.asked(checker, Want::Anything, inner, notes),
-            Expr::Prefix(sign, _, operand) => {
-                self.asked(checker, prefix_want(*sign), operand, notes)
+            Expr::Paren(_, inner) => self.asked(checker, Want::Anything, inner, found),
+            Expr::Prefix(Prefix::Negate, _, operand) => {
+                let number = Want::Value(ValueType::Integer);
+                self.asked(checker, number, operand, found)
             }
-            Expr::Joined(joined) => self.inside_joined(checker, joined, notes),
+            Expr::Prefix(Prefix::Not, _, operand) => {
+                self.asked(checker, Want::Condition, operand, found)
+            }
+            Expr::Joined(joined) => self.inside_joined(checker, joined, found),
         }
     }
 
-    // What is said of operands.
+    // Adds the clashes of operands.
     #[cycle(exprs)]
     fn inside_joined(
         &self,
         checker: &Checker,
         joined: &Joined,
-        notes: &mut Vec<Note>,
-    ) -> Result<(), NoMemory>
-        ensures { OnOk result (Adds notes.old notes.new (inside (said_by self.now) (scope checker.now) (joined_of joined.now))) }
+        found: &mut Vec<Clash>,
+    ) -> Result<(), AllocError>
+        ensures { OnOk result (Adds found.old found.new (inner_clashes self.now.at (scope checker.now) (joined_of joined.now))) }
     {
         match joined {
             Joined::Pair(op, left, right) => {
                 let wanted = operand_want(op.level());
-                self.asked(checker, wanted, left, notes)?;
-                self.asked(checker, wanted, right, notes)
+                self.asked(checker, wanted, left, found)?;
+                self.asked(checker, wanted, right, found)
             }
             Joined::Chain(level, first, links) => {
-                self.asked(checker, operand_want(*level), first, notes)?;
-                self.in_links(checker, *level, links, notes)
+                self.asked(checker, operand_want(*level), first, found)?;
+                self.in_links(checker, *level, links, found)
             }
             Joined::Compare(c, left, right) => {
-                self.asked(checker, side_want(*c), left, notes)?;
-                self.asked(checker, side_want(*c), right, notes)
+                self.asked(checker, side_want(*c), left, found)?;
+                self.asked(checker, side_want(*c), right, found)
             }
         }
     }
 
-    // What is said of the further operands of a chain.
+    // Adds the clashes of the further operands of a chain.
     #[cycle(exprs)]
     fn in_links(
         &self,
         checker: &Checker,
         level: Level,
         links: &[Link],
-        notes: &mut Vec<Note>,
-    ) -> Result<(), NoMemory>
-        ensures { OnOk result (Adds notes.old notes.new (in_links (said_by self.now) (scope checker.now) level (links_of links.now))) }
+        found: &mut Vec<Clash>,
+    ) -> Result<(), AllocError>
+        ensures { OnOk result (Adds found.old found.new (link_clashes self.now.at (scope checker.now) level (links_of links.now))) }
     {
         for link in links {
-            self.asked(checker, operand_want(level), &link.operand, notes)?;
+            self.asked(checker, operand_want(level), &link.operand, found)?;
         }
         Ok(())
     }

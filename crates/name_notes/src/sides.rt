@@ -1,20 +1,19 @@
-//! What is said of the sides of `==` and `!=`.
+//! The sides of `==` and `!=`.
 
 ghost use Rattle.std.specs.Prelude.{◌≡◌, OnOk};
 ghost use Rattle.syntax.specs.Views.{expr_of};
 ghost use Rattle.resolution.specs.Expressions.{alike_sorts};
 ghost use Rattle.expressions.specs.Checkers.{scope};
-ghost use Rattle.name_notes.specs.Values.{Adds, equality_at, is_blamed, is_equality, sides_at, sides_said};
+ghost use Rattle.name_notes.specs.Values.{Adds, equality_at, is_blamed, is_equality, sides_at};
 
-use crate::kinds::{Kind, kind_of};
+use crate::clash::{Clash, Kind, Told};
+use crate::kinds::kind_of;
 use crate::searches::{Search, start_of};
-use crate::words::sides_note;
 use core_lang::value::ValueType;
-use explanation::Note;
 use expressions::checker::Checker;
 use expressions::wanted::fits_type;
 use resolution::wanted::Sort;
-use source::memory::NoMemory;
+use std::alloc::AllocError;
 use syntax::tree::{Comparison, Expr, Joined};
 
 fn is_equality(c: Comparison) -> bool
@@ -56,32 +55,15 @@ impl Search {
         }
     }
 
-    // What is said of two sides that are this.
-    fn sides(
-        &self,
-        checker: &Checker,
-        is_blamed: bool,
-        first: Kind,
-        second: Kind,
-        notes: &mut Vec<Note>,
-    ) -> Result<(), NoMemory>
-        ensures { OnOk result (Adds notes.old notes.new (sides_said (scope checker.now).decls is_blamed first second)) }
-    {
-        if is_blamed {
-            notes.push(sides_note(checker, first, second)?)?;
-        }
-        Ok(())
-    }
-
-    // What is said of two sides that are to be alike.
+    // Adds what two sides are that are to be alike.
     fn equality(
         &self,
         checker: &Checker,
         left: &Expr,
         right: &Expr,
-        notes: &mut Vec<Note>,
-    ) -> Result<(), NoMemory>
-        ensures { OnOk result (Adds notes.old notes.new (equality_at self.now.at (scope checker.now) (expr_of left.now) (expr_of right.now))) }
+        found: &mut Vec<Clash>,
+    ) -> Result<(), AllocError>
+        ensures { OnOk result (Adds found.old found.new (equality_at self.now.at (scope checker.now) (expr_of left.now) (expr_of right.now))) }
     {
         let Some(first) = kind_of(checker, left)? else {
             return Ok(());
@@ -89,18 +71,24 @@ impl Search {
         let Some(second) = kind_of(checker, right)? else {
             return Ok(());
         };
-        let is_blamed = self.is_blamed(start_of(left), start_of(right), first, second);
-        self.sides(checker, is_blamed, first, second, notes)
+        if !self.is_blamed(start_of(left), start_of(right), first, second) {
+            return Ok(());
+        }
+        found.push(Clash {
+            is_of_sides: true,
+            one: Told::Found(first),
+            other: Told::Found(second),
+        })?;
+        Ok(())
     }
-
-    /// What is said of the sides of an expression, if these are to be alike.
-    pub fn sides_of(
+    /// Adds what the sides of an expression are, if they are to be alike.
+    pub fn sides(
         &self,
         checker: &Checker,
         e: &Expr,
-        notes: &mut Vec<Note>,
-    ) -> Result<(), NoMemory>
-        ensures { OnOk result (Adds notes.old notes.new (sides_at self.now.at (scope checker.now) (expr_of e.now))) }
+        found: &mut Vec<Clash>,
+    ) -> Result<(), AllocError>
+        ensures { OnOk result (Adds found.old found.new (sides_at self.now.at (scope checker.now) (expr_of e.now))) }
     {
         let Expr::Joined(joined) = e else {
             return Ok(());
@@ -111,6 +99,6 @@ impl Search {
         if !is_equality(*c) {
             return Ok(());
         }
-        self.equality(checker, left, right, notes)
+        self.equality(checker, left, right, found)
     }
 }

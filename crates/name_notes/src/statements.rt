@@ -1,32 +1,21 @@
-//! What is said of the expressions of a statement.
+//! The clashes of a statement.
 
-ghost use Rattle.std.specs.Prelude.{◌≡◌, OnOk, length, map};
-ghost use Rattle.syntax.specs.Trees.{assign};
-ghost use Rattle.syntax.specs.Views.{expr_of, helper_call_of, local_of, param_of, place_of, stmt_of};
-ghost use Rattle.resolution.specs.Constants.{want_of};
-ghost use Rattle.resolution.specs.Expressions.{want};
-ghost use Rattle.resolution.specs.Scopes.{helper_meant, meaning, type_of};
+ghost use Rattle.std.specs.Prelude.{◌≡◌, OnOk, length};
+ghost use Rattle.syntax.specs.Views.{expr_of, helper_call_of, local_of, place_of, stmt_of};
+ghost use Rattle.resolution.specs.Scopes.{helper_meant, meaning};
 ghost use Rattle.expressions.specs.Checkers.{scope};
-ghost use Rattle.name_notes.specs.Searches.{in_place, of_arguments, of_call, of_each, of_expr, of_own};
-ghost use Rattle.name_notes.specs.Values.{Adds, said_by, section_found};
+ghost use Rattle.name_notes.specs.Values.{Adds, argument_clashes, assign_clashes, call_clashes, each_clashes, said_of_stmt, section_found, value_clashes};
 
+use crate::clash::{Clash, add};
+use crate::places::place_spot;
 use crate::searches::Search;
-use crate::targets::place_want;
 use core_lang::value::ValueType;
-use explanation::Note;
 use expressions::checker::Checker;
 use expressions::wanted::want;
 use resolution::wanted::Want;
-use source::memory::NoMemory;
+use std::alloc::AllocError;
 use symbols::scope::Meaning;
 use syntax::tree::{Decl, Expr, HelperCall, Local, Param, Place, Section, Stmt};
-
-/// What a parameter wants of its argument.
-fn want_of(checker: &Checker, p: &Param) -> Want
-    ensures { result ≡ want_of (scope checker.now).decls (param_of p.now) }
-{
-    want(checker.type_outside(&p.value_type))
-}
 
 /// The helper that a call names, and its place.
 pub fn helper_named<'a>(checker: &'a Checker, c: &HelperCall) -> Option<(usize, &'a Section)>
@@ -42,106 +31,117 @@ pub fn helper_named<'a>(checker: &'a Checker, c: &HelperCall) -> Option<(usize, 
 }
 
 impl Search {
-    // What is said of arguments, each for its parameter.
+    // Adds the clashes of arguments, each for its parameter.
     fn arguments(
         &self,
         checker: &Checker,
         params: &[Param],
         arguments: &[Expr],
-        notes: &mut Vec<Note>,
-    ) -> Result<(), NoMemory>
+        found: &mut Vec<Clash>,
+    ) -> Result<(), AllocError>
         requires { length params.now ≡ length arguments.now }
-        ensures { OnOk result (Adds notes.old notes.new (of_arguments (said_by self.now) (scope checker.now) (map param_of params.now) (map expr_of arguments.now))) }
+        ensures { OnOk result (Adds found.old found.new (argument_clashes self.now.at (scope checker.now) params.now arguments.now)) }
     {
         for i in 0..params.len() {
-            let wanted = want_of(checker, &params[i]);
-            self.asked(checker, wanted, &arguments[i], notes)?;
+            let wanted = want(checker.type_outside(&params[i].value_type));
+            self.asked(checker, wanted, &arguments[i], found)?;
         }
         Ok(())
     }
 
-    // What is said of arguments, each by itself.
+    // Adds the clashes of arguments, each by itself.
     fn each(
         &self,
         checker: &Checker,
         arguments: &[Expr],
-        notes: &mut Vec<Note>,
-    ) -> Result<(), NoMemory>
-        ensures { OnOk result (Adds notes.old notes.new (of_each (said_by self.now) (scope checker.now) (map expr_of arguments.now))) }
+        found: &mut Vec<Clash>,
+    ) -> Result<(), AllocError>
+        ensures { OnOk result (Adds found.old found.new (each_clashes self.now.at (scope checker.now) arguments.now)) }
     {
         for e in arguments {
-            self.asked(checker, Want::Anything, e, notes)?;
+            self.asked(checker, Want::Anything, e, found)?;
         }
         Ok(())
     }
 
-    // What is said of the arguments of a call.
-    fn call(&self, checker: &Checker, c: &HelperCall, notes: &mut Vec<Note>) -> Result<(), NoMemory>
-        ensures { OnOk result (Adds notes.old notes.new (of_call (said_by self.now) (scope checker.now) (helper_call_of c.now))) }
+    // Adds the clashes of the arguments of a call.
+    fn call(
+        &self,
+        checker: &Checker,
+        c: &HelperCall,
+        found: &mut Vec<Clash>,
+    ) -> Result<(), AllocError>
+        ensures { OnOk result (Adds found.old found.new (call_clashes self.now.at (scope checker.now) (helper_call_of c.now))) }
     {
         let Some((_, helper)) = helper_named(checker, c) else {
-            return self.each(checker, &c.arguments, notes);
+            return self.each(checker, &c.arguments, found);
         };
         if helper.params.len() != c.arguments.len() {
             return Ok(());
         }
-        self.arguments(checker, &helper.params, &c.arguments, notes)
+        self.arguments(checker, &helper.params, &c.arguments, found)
     }
 
-    // What is said of the first value of a local.
-    fn value(&self, checker: &Checker, local: &Local, notes: &mut Vec<Note>) -> Result<(), NoMemory>
-        ensures { OnOk result (Adds notes.old notes.new (of_expr (said_by self.now) (scope checker.now) (want (type_of (scope checker.now) (local_of local.now).value_type)) (local_of local.now).value)) }
+    // Adds the clashes of the first value of a local.
+    fn value(
+        &self,
+        checker: &Checker,
+        local: &Local,
+        found: &mut Vec<Clash>,
+    ) -> Result<(), AllocError>
+        ensures { OnOk result (Adds found.old found.new (value_clashes self.now.at (scope checker.now) (local_of local.now))) }
     {
         let mut least = None;
         let wanted = want(checker.local_type(&local.value_type, &mut least));
-        self.asked(checker, wanted, &local.value, notes)
+        self.asked(checker, wanted, &local.value, found)
     }
 
-    // What is said of what stands in a place.
-    fn in_place(&self, checker: &Checker, p: &Place, notes: &mut Vec<Note>) -> Result<(), NoMemory>
-        ensures { OnOk result (Adds notes.old notes.new (in_place (said_by self.now) (scope checker.now) (place_of p.now))) }
-    {
-        match p {
-            Place::Element(element) => {
-                let number = Want::Value(ValueType::Integer);
-                self.asked(checker, number, &element.index, notes)
-            }
-            Place::Name(_) | Place::Path(_) => Ok(()),
-        }
-    }
-
-    // What is said of an assignment.
+    // Adds the clashes of an assignment.
     fn assignment(
         &self,
         checker: &Checker,
         p: &Place,
         e: &Expr,
-        notes: &mut Vec<Note>,
-    ) -> Result<(), NoMemory>
-        ensures { OnOk result (Adds notes.old notes.new (of_own (said_by self.now) (scope checker.now) (assign (place_of p.now) (expr_of e.now)))) }
+        found: &mut Vec<Clash>,
+    ) -> Result<(), AllocError>
+        ensures { OnOk result (Adds found.old found.new (assign_clashes self.now.at (scope checker.now) (place_of p.now) (expr_of e.now))) }
     {
-        self.in_place(checker, p, notes)?;
-        let wanted = place_want(checker, p)?;
-        self.asked(checker, wanted, e, notes)
+        if let Place::Element(element) = p {
+            let number = Want::Value(ValueType::Integer);
+            self.asked(checker, number, &element.index, found)?;
+        }
+        let spot = place_spot(checker, p)?;
+        self.asked(checker, spot.wanted, e, found)
     }
 
-    /// What is said of the expressions of a statement, without those of its blocks.
-    pub fn own(&self, checker: &Checker, s: &Stmt, notes: &mut Vec<Note>) -> Result<(), NoMemory>
-        ensures { OnOk result (Adds notes.old notes.new (of_own (said_by self.now) (scope checker.now) (stmt_of s.now))) }
+    /// Adds the clashes of a statement, without those of its blocks.
+    pub fn said(
+        &self,
+        checker: &Checker,
+        s: &Stmt,
+        found: &mut Vec<Clash>,
+    ) -> Result<(), AllocError>
+        ensures { OnOk result (Adds found.old found.new (said_of_stmt self.now.at (scope checker.now) (stmt_of s.now))) }
     {
         match s {
-            Stmt::Let(local) => self.value(checker, local, notes),
-            Stmt::LetOwned(owned) => self.value(checker, &owned.local, notes),
-            Stmt::LetCall(local) => self.call(checker, &local.call, notes),
-            Stmt::Var(local) => self.value(checker, local, notes),
-            Stmt::Assign(place, e) => self.assignment(checker, place, e, notes),
-            Stmt::If(choice) => self.asked(checker, Want::Condition, &choice.condition, notes),
-            Stmt::While(repetition) => {
-                self.asked(checker, Want::Condition, &repetition.condition, notes)
+            Stmt::Let(local) => self.value(checker, local, found),
+            Stmt::LetOwned(owned) => {
+                self.value(checker, &owned.local, found)?;
+                self.owner(checker, &owned.local, &owned.owner, found)
             }
-            Stmt::Print(_, e) => { self.asked(checker, Want::Value(ValueType::Integer), e, notes) }
-            Stmt::Return(_, e) => self.asked(checker, want(checker.result()), e, notes),
-            Stmt::Call(_, call) => self.call(checker, call, notes),
+            Stmt::LetCall(local) => {
+                self.call(checker, &local.call, found)?;
+                add(found, self.given(checker, local))
+            }
+            Stmt::Var(local) => self.value(checker, local, found),
+            Stmt::Assign(place, e) => self.assignment(checker, place, e, found),
+            Stmt::If(choice) => self.asked(checker, Want::Condition, &choice.condition, found),
+            Stmt::While(repetition) => {
+                self.asked(checker, Want::Condition, &repetition.condition, found)
+            }
+            Stmt::Print(_, e) => { self.asked(checker, Want::Value(ValueType::Integer), e, found) }
+            Stmt::Return(_, e) => self.asked(checker, want(checker.result()), e, found),
+            Stmt::Call(_, call) => self.call(checker, call, found),
         }
     }
 }

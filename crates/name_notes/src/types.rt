@@ -1,26 +1,29 @@
 //! What is told of a fault of types.
 
-ghost use Rattle.std.specs.Prelude.{IfOk};
+ghost use Rattle.std.specs.Prelude.{◌≡◌, IfOk};
 ghost use Rattle.symbols.specs.{decls_of};
-ghost use Rattle.name_notes.specs.TypeNotes.{AreTypeNotes, IsTypeNote};
-ghost use Rattle.name_notes.specs.Values.{FoundNote, notes_seen};
+ghost use Rattle.name_notes.specs.TypeNotes.{IsTypeNote};
+ghost use Rattle.name_notes.specs.Values.{FoundNote, all_clashes};
 
+use crate::clash::Clash;
 use crate::searches::Search;
+use crate::words::clash_note;
 use explanation::Note;
 use source::memory::NoMemory;
-use std::alloc::Global;
+use std::alloc::{AllocError, Global};
 use symbols::table::SymbolTable;
 
-/// What is to be told of the types at a byte.
-fn type_notes(alloc: Global, symbols: &SymbolTable, at: usize) -> Result<Vec<Note>, NoMemory>
-    ensures { IfOk result (λ notes. AreTypeNotes (decls_of symbols.now) at (notes_seen notes.items)) }
+/// The clashes at a byte.
+fn all_clashes(alloc: Global, symbols: &SymbolTable, at: usize) -> Result<Vec<Clash>, AllocError>
+    ensures { IfOk result (λ found. found.items ≡ all_clashes at (decls_of symbols.now)) }
 {
     let search = Search { alloc, at };
+    let mut found = Vec::new(alloc);
     let decls = symbols.items();
-    let mut notes = Vec::new(alloc);
-    search.bodies(symbols, decls, &mut notes)?;
-    search.constants_in(symbols, decls, &mut notes)?;
-    Ok(notes)
+    for decl in decls {
+        search.in_decl(symbols, decl, &mut found)?;
+    }
+    Ok(found)
 }
 
 /// Which type is wanted of the expression or the constant that starts at a byte, and which is there, if that isn't what is wanted.
@@ -31,8 +34,11 @@ fn type_notes(alloc: Global, symbols: &SymbolTable, at: usize) -> Result<Vec<Not
 pub fn type_note(alloc: Global, symbols: &SymbolTable, at: usize) -> Result<Option<Note>, NoMemory>
     ensures { IfOk result (FoundNote (IsTypeNote (decls_of symbols.now) at)) }
 {
-    let mut notes = type_notes(alloc, symbols, at)?;
-    let note = notes.pop();
-    drop(notes);
-    Ok(note)
+    let mut found = all_clashes(alloc, symbols, at)?;
+    let last = found.pop();
+    drop(found);
+    match last {
+        Some(clash) => Ok(Some(clash_note(alloc, symbols, clash)?)),
+        None => Ok(None),
+    }
 }

@@ -3,7 +3,8 @@ pub mod Turned
 pub mod Table
 pub mod Lists
 pub mod Seen
-pub mod Scoping
-pub mod MembersFound
-pub mod Standing
+pub mod Added
+pub mod UsesAre
+pub mod Meant
 pub mod Choice
+pub mod Unknown

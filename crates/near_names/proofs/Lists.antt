@@ -1,7 +1,6 @@
 -- What is in lists that stand one after another.
-use Rattle.std.proofs.Common.{◌≡◌, ◌∙◌, List, [], ◌∷◌, ◌++◌, ◌⊎◌, inl, inr, Bool, true, false, Option, Some, None, if◌then◌else◌, Result, Ok, Err, OnOk, take, length, refl, ap, append_assoc}
-use Rattle.std.specs.Prelude.{◌||◌}
-use Rattle.std.specs.List.{cons_option, filter_map}
+use Rattle.std.proofs.Common.{◌≡◌, List, [], ◌∷◌, ◌++◌, ◌⊎◌, inl, inr, Bool, true, false, Option, Some, None, if◌then◌else◌, Result, Ok, Err, OnOk, take, length, map, refl, ap}
+use Rattle.std.specs.List.{cons_option, filter_map, flat_map}
 use Rattle.resolution.specs.Where.{Has, first, further}
 
 pub in_left : {A : Type 0} (xs ys : List A) {x : A} → Has xs x → Has (xs ++ ys) x
@@ -60,10 +59,6 @@ module _ {A B : Type 0} (f : A → Option B) {y : B} where
   from_given [] up h = elim h [ ]
   from_given (x ∷ xs) up h = from_front (f x) (filter_map f xs) (up x first) (from_given xs (λ z has. up z (further has))) h
 
--- two, one after the other
-pub two : {A : Type 0} (xs ys zs a b : List A) → ys ≡ xs ++ a → zs ≡ ys ++ b → zs ≡ xs ++ (a ++ b)
-two xs ys zs a b one other = other ∙ ap (λ l. l ++ b) one ∙ append_assoc xs a b
-
 -- the front of what stands one after another
 pub front : {A : Type 0} (xs ys : List A) → take (length xs) (xs ++ ys) ≡ xs
 front [] ys = refl
@@ -73,11 +68,22 @@ pub on_ok_by : {A E : Type 0} {P Q : Type 0} (r : Result A E) → (P → Q) → 
 on_ok_by (Ok x) f p = f p
 on_ok_by (Err e) f p = tt
 
--- one of two tests that has failed or not
-pub or_first : (p q : Bool) → p ≡ true → p ≡ p || q
-or_first true q is = refl
-or_first false q is = absurd cc
+-- in what stands one after another for each of a list, and in what a function makes of each
+module _ {A B : Type 0} {y : B} where
+  pub flat_in : (f : A → List B) (xs : List A) {x : A} → Has xs x → Has (f x) y → Has (flat_map f xs) y
+  flat_in f [] has h = elim has [ ]
+  flat_in f (x ∷ xs) first h = in_left (f x) (flat_map f xs) h
+  flat_in f (x ∷ xs) (further has) h = in_right (f x) (flat_map f xs) (flat_in f xs has h)
 
-pub or_second : (p q : Bool) → p ≡ false → q ≡ p || q
-or_second false q is = refl
-or_second true q is = absurd cc
+  pub flat_from : {P : Type 0} (f : A → List B) (xs : List A) → ((x : A) → Has xs x → Has (f x) y → P) → Has (flat_map f xs) y → P
+  flat_from f [] up h = elim h [ ]
+  flat_from f (x ∷ xs) up h = either (f x) (flat_map f xs) (up x first) (flat_from f xs (λ z has. up z (further has))) h
+
+  pub map_from : {P : Type 0} (f : A → B) (xs : List A) → ((x : A) → Has xs x → f x ≡ y → P) → Has (map f xs) y → P
+  map_from f [] up h = elim h [ ]
+  map_from f (x ∷ xs) up h = either (f x ∷ []) (map f xs) (λ one. up x first (the_one one)) (map_from f xs (λ z has. up z (further has))) h
+
+pub map_in : {A B : Type 0} (f : A → B) (xs : List A) {x : A} → Has xs x → Has (map f xs) (f x)
+map_in f [] has = elim has [ ]
+map_in f (x ∷ xs) first = first
+map_in f (x ∷ xs) (further has) = further (map_in f xs has)

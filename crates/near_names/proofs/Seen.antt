@@ -1,9 +1,7 @@
 -- Loops, choices and chains, read through what holds them.
-use Rattle.std.proofs.Common.{◌≡◌, ◌∙◌, ℕ, Global, Vec, List, [], ◌++◌, length, take, None, sym, ap}
-use Rattle.std.specs.Prelude.{Box, ◌||◌}
+use Rattle.std.proofs.Common.{◌≡◌, ◌∙◌, Global, Vec, List, [], ◌++◌, length, take, sym, ap, ℕ}
+use Rattle.std.specs.Prelude.{Box}
 use Rattle.std.proofs.lemmas.List.{length-map, take-map}
-use denote.Ref.{Bor}
-use Rattle.syntax.specs.declared.tree.Name.{Name}
 use Rattle.syntax.specs.declared.tree.Joined as the_joined
 use Rattle.syntax.specs.declared.tree.Joined.{Chain}
 use Rattle.syntax.specs.declared.tree.Expr as the_expr
@@ -14,21 +12,21 @@ use Rattle.syntax.specs.declared.tree.Stmt.{While, If}
 use Rattle.syntax.specs.declared.tree.If as the_if
 use Rattle.syntax.specs.declared.tree.If.{out-If}
 use Rattle.syntax.specs.declared.tree.While as the_while
-use Rattle.syntax.specs.Rows.{while_of, stmt_of-While, if_of-out, joined_of-Chain}
-use Rattle.syntax.specs.Trees.{Ident, Decl, chain, if_then}
-use Rattle.syntax.specs.Views.{expr_of, joined_of, links_of, stmt_of, if_of, stmts_of, else_of}
-use Rattle.near_names.specs.declared.sought.Sought.{Sought}
-use Rattle.near_names.specs.Found.{locals_in, locals_in_blocks, locals_in_else}
-use Rattle.near_names.specs.FieldsFound.{owners_by}
-use Rattle.near_names.specs.Locals.{declared_by}
-use Rattle.near_names.specs.Members.{all_of, behind, typed_by, within}
-use Rattle.near_names.specs.Sought.{in_blocks, in_else, in_stmts}
-use Rattle.near_names.specs.Values.{ident_at, idents}
-use Rattle.near_names.proofs.Lists.{front, two}
+use Rattle.syntax.specs.declared.tree.Item as the_item
+use Rattle.syntax.specs.declared.tree.Item.{Repeat}
+use Rattle.source.specs.declared.token.Number.{Number}
+use Rattle.syntax.specs.Rows.{while_of, stmt_of-While, if_of-out, joined_of-Chain, item_of_Repeat}
+use Rattle.syntax.specs.Trees.{chain, if_then}
+use Rattle.syntax.specs.Views.{expr_of, item_of, items_of, joined_of, links_of, stmt_of, if_of, stmts_of, else_of}
+use Rattle.near_names.specs.declared.search.Typed as the_typed
+use Rattle.near_names.specs.Locals.{Typed, declared_by}
+use Rattle.near_names.specs.UsesFound.{uses_in_blocks, uses_in_else, uses_in_stmts, uses_of_item, uses_of_items}
+use Rattle.near_names.specs.Values.{typed_of, typed_seen}
+use Rattle.near_names.proofs.Lists.{front}
 
 pub chain_seen : (e : the_joined.Joined) (k : Level) (first : the_expr.Expr) (links : Vec the_link.Link Global) (ls : List the_link.Link) → e ≡ Chain k first links → ls ≡ links.items →
-    joined_of e ≡ chain k (expr_of first) (links_of ls)
-chain_seen e k first links ls is here = ap joined_of is ∙ joined_of-Chain k first links ∙ ap (λ l. chain k (expr_of first) (links_of l)) (sym here)
+    chain k (expr_of first) (links_of ls) ≡ joined_of e
+chain_seen e k first links ls is here = sym (ap joined_of is ∙ joined_of-Chain k first links ∙ ap (λ l. chain k (expr_of first) (links_of l)) (sym here))
 
 pub while_seen : (s : the_stmt.Stmt) (b : Box the_while.While Global) (x : the_while.While) → s ≡ While b → x ≡ b.value → while_of x ≡ stmt_of s
 while_seen s b x is here = ap while_of here ∙ sym (ap stmt_of is ∙ stmt_of-While b)
@@ -37,43 +35,27 @@ pub if_seen : (s : the_stmt.Stmt) (b : Box the_if.If Global) (x : the_if.If) →
     if_then (out-If x).start (expr_of (out-If x).condition) (stmts_of (out-If x).block.stmts.items) (out-If x).block.close (else_of (out-If x).otherwise) ≡ stmt_of s
 if_seen s b x is here = sym (if_of-out x) ∙ ap if_of here ∙ sym (ap stmt_of is)
 
--- a choice by its parts
-module _ (s : the_stmt.Stmt) (b : Box the_if.If Global) (x y : the_if.If) (is : s ≡ If b) (here : x ≡ b.value) (there : y ≡ b.value) where
-  pub if_sought : (k : Sought) (at : ℕ) → in_stmts k at (stmts_of (out-If x).block.stmts.items) || in_else k at (else_of (out-If y).otherwise) ≡ in_blocks k at (stmt_of s)
-  if_sought k at =
-      ap (λ (z : the_if.If). in_stmts k at (stmts_of (out-If x).block.stmts.items) || in_else k at (else_of (out-If z).otherwise)) (there ∙ sym here)
-      ∙ ap (in_blocks k at) (if_seen s b x is here)
+-- the two blocks of a choice, each seen through what holds it
+pub blocks_seen : (xs ys : List Typed) (s : the_stmt.Stmt) (b : Box the_if.If Global) (x y : the_if.If) → s ≡ If b → x ≡ b.value → y ≡ b.value → ys ≡ xs →
+    uses_in_stmts xs (stmts_of (out-If x).block.stmts.items) ++ uses_in_else ys (else_of (out-If y).otherwise) ≡ uses_in_blocks xs (stmt_of s)
+blocks_seen xs ys s b x y is here there same =
+    ap (λ (zs : List Typed). uses_in_stmts xs (stmts_of (out-If x).block.stmts.items) ++ uses_in_else zs (else_of (out-If y).otherwise)) same
+    ∙ ap (λ (z : the_if.If). uses_in_stmts xs (stmts_of (out-If x).block.stmts.items) ++ uses_in_else xs (else_of (out-If z).otherwise)) (there ∙ sym here)
+    ∙ ap (uses_in_blocks xs) (if_seen s b x is here)
 
-  pub if_locals : (at : ℕ) (xs ys : List Ident) (before between after : List Ident) → ys ≡ xs →
-      between ≡ before ++ locals_in at xs (stmts_of (out-If x).block.stmts.items) → after ≡ between ++ locals_in_else at ys (else_of (out-If y).otherwise) →
-      after ≡ before ++ locals_in_blocks at xs (stmt_of s)
-  if_locals at xs ys before between after same ahead behind =
-      two before between after (locals_in at xs (stmts_of (out-If x).block.stmts.items)) (locals_in_else at xs (else_of (out-If x).otherwise)) ahead
-      (behind ∙ ap (λ (zs : List Ident). between ++ locals_in_else at zs (else_of (out-If y).otherwise)) same
-      ∙ ap (λ (z : the_if.If). between ++ locals_in_else at xs (else_of (out-If z).otherwise)) (there ∙ sym here))
-      ∙ ap (λ t. before ++ locals_in_blocks at xs t) (if_seen s b x is here)
-
--- names behind others, taken off again
-pub taken_off : (old new : List (Bor Name)) (n : ℕ) (more : List Ident) → n ≡ length old → idents new ≡ idents old ++ more → idents (take n new) ≡ idents old
+-- locals behind others, taken off again
+pub taken_off : (old new : List the_typed.Typed) (n : ℕ) (more : List Typed) → n ≡ length old → typed_seen new ≡ typed_seen old ++ more → typed_seen (take n new) ≡ typed_seen old
 taken_off old new n more count made =
-    sym (take-map ident_at n new) ∙ ap (take n) made
-    ∙ ap (λ (k : ℕ). take k (idents old ++ more)) (count ∙ sym (length-map old ident_at))
-    ∙ front (idents old) more
+    sym (take-map typed_of n new) ∙ ap (take n) made
+    ∙ ap (λ (k : ℕ). take k (typed_seen old ++ more)) (count ∙ sym (length-map old typed_of))
+    ∙ front (typed_seen old) more
 
 -- a choice declares no local of its own
 pub none_declared : (s : the_stmt.Stmt) (b : Box the_if.If Global) → s ≡ If b → declared_by (stmt_of s) ≡ []
 none_declared s b is = ap (λ (s : the_stmt.Stmt). declared_by (stmt_of s)) is ∙ ap declared_by (if_of-out b.value)
 
-pub none_typed : (s : the_stmt.Stmt) (b : Box the_if.If Global) → s ≡ If b → typed_by (stmt_of s) ≡ None
-none_typed s b is = ap (λ (s : the_stmt.Stmt). typed_by (stmt_of s)) is ∙ ap typed_by (if_of-out b.value)
-
-pub no_owner : (decls : List Decl) (at : ℕ) (s : the_stmt.Stmt) (b : Box the_if.If Global) → s ≡ If b → owners_by decls at (stmt_of s) ≡ []
-no_owner decls at s b is = ap (λ (s : the_stmt.Stmt). owners_by decls at (stmt_of s)) is ∙ ap (owners_by decls at) (if_of-out b.value)
-
--- the statements of the blocks of a loop and of a choice
-pub within_while : (s : the_stmt.Stmt) (b : Box the_while.While Global) → s ≡ While b → within (stmt_of s) ≡ all_of (stmts_of b.value.block.stmts.items)
-within_while s b e = ap (λ (s : the_stmt.Stmt). within (stmt_of s)) e ∙ ap within (stmt_of-While b)
-
-pub within_if : (s : the_stmt.Stmt) (b : Box the_if.If Global) → s ≡ If b → within (stmt_of s)
-    ≡ all_of (stmts_of (out-If b.value).block.stmts.items) ++ behind (else_of (out-If b.value).otherwise)
-within_if s b e = ap (λ (s : the_stmt.Stmt). within (stmt_of s)) e ∙ ap within (if_of-out b.value)
+-- what is repeated
+pub repeat_seen : (xs : List Typed) (x : the_item.Item) (n : Number) (items : Vec the_item.Item Global) (is : List the_item.Item) → x ≡ Repeat n items → is ≡ items.items →
+    uses_of_items xs (items_of is) ≡ uses_of_item xs (item_of x)
+repeat_seen xs x n items is shape here =
+    ap (λ l. uses_of_items xs (items_of l)) here ∙ sym (ap (uses_of_item xs) (ap item_of shape ∙ item_of_Repeat n items))

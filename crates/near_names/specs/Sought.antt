@@ -1,187 +1,104 @@
--- What is looked for by a name of a program: whether one begins at a byte by which a thing of some kind is looked for.
-use Rattle.std.specs.Prelude.{ℕ, ◌==◌, Bool, true, false, ◌&&◌, ◌||◌, List, [], ◌∷◌, Option, Some, None}
-use Rattle.syntax.specs.Trees.{Ident, ValueType, int_type, ref_type, Const, int_const, negative, null_const, member_const, Expr, int, null, place, paren, prefix, chain, compare, Place, lone, element, path, Links, no_links, link, HelperCall, Stmt, let_local, let_owned, let_call, var_local, assign, if_then, while, print, return_value, Stmts, no_stmts, stmt, Otherwise, no_else, else_do, Protection, Member, lock_member, final_member, field_member, Param, Section, Item, call, repeat, Items, no_items, item, Decl, lock, struct, global, array, pool, init, atomic, helper, thread}
+-- What is looked for by the names of a program.
+use Rattle.std.specs.Prelude.{◌≡◌, List, [], Some}
+use Rattle.resolution.specs.declared.wanted.Want.{Want}
+use Rattle.resolution.specs.Where.{Has, Within, HasCall, HasLock}
+use Rattle.source.specs.declared.span.Span.{Span}
+use Rattle.source.specs.declared.token.Number.{Number}
+use Rattle.syntax.specs.Trees.{Ident, ValueType, ref_type, Const, member_const, Place, lone, element, path, Expr, place, Local, Owner, HelperCall, CalledLocal, Stmt, let_local, let_owned, let_call, var_local, assign, if_then, while, print, return_value, Stmts, Otherwise, Protection, Final, Field, final_member, field_member, Struct, Variable, Array, Pool, Init, Param, Section, Call, Decl, struct, global, array, pool, init}
 use Rattle.syntax.specs.Trees as tree
 use Rattle.near_names.specs.declared.sought.Sought.{Sought}
 use Rattle.near_names.specs.declared.sought.Sought.TheVariants as kind
+use Rattle.near_names.specs.Locals.{Typed, HasBody, HasStmt, declared_by}
 
--- ---- kinds
+-- what is looked for by a name: a thing of a kind, with these locals in scope; or a member of a struct, by the names behind
+-- a local's, by the field that an `init` gives, by those of an annotation in a struct, or by the one behind `where` at a
+-- local of this type
+pub data Use : Type 0 where
+  of_kind : Sought → List Typed → (name : Ident) → Use
+  by_dots : List Typed → (local : Ident) → (fields : List Ident) → Use
+  by_init : (pool field : Ident) → Use
+  by_annotation : (structure : Ident) → Protection → Use
+  by_owner : ValueType → (field : Ident) → Use
 
-abbrev pub is_value : Sought → Bool
-is_value kind.Value = true
-is_value _ = false
+-- a call of a helper
+pub data HasHelperCall (decls : List Decl) : List Typed → HelperCall → Type 0 where
+  by_let : {xs : List Typed} {l : CalledLocal} → HasStmt decls xs (let_call l) → HasHelperCall decls xs l.call
+  by_itself : {xs : List Typed} {start : Span} {c : HelperCall} →
+      HasStmt decls xs (tree.call start c) → HasHelperCall decls xs c
 
-abbrev pub is_indexed : Sought → Bool
-is_indexed kind.Indexed = true
-is_indexed _ = false
+-- an expression that is no part of another
+pub data HasExpr (decls : List Decl) : List Typed → Expr → Type 0 where
+  of_let : {xs : List Typed} {l : Local} → HasStmt decls xs (let_local l) → HasExpr decls xs l.value
+  of_owned : {xs : List Typed} {l : Local} {o : Owner} → HasStmt decls xs (let_owned l o) → HasExpr decls xs l.value
+  of_var : {xs : List Typed} {l : Local} → HasStmt decls xs (var_local l) → HasExpr decls xs l.value
+  of_assign : {xs : List Typed} {p : Place} {e : Expr} → HasStmt decls xs (assign p e) → HasExpr decls xs e
+  of_index : {xs : List Typed} {x : Ident} {i e : Expr} → HasStmt decls xs (assign (element x i) e) → HasExpr decls xs i
+  of_if : {xs : List Typed} {start close : Span} {e : Expr} {body : Stmts} {other : Otherwise} →
+      HasStmt decls xs (if_then start e body close other) → HasExpr decls xs e
+  of_while : {xs : List Typed} {start close : Span} {e : Expr} {body : Stmts} →
+      HasStmt decls xs (while start e body close) → HasExpr decls xs e
+  of_print : {xs : List Typed} {start : Span} {e : Expr} → HasStmt decls xs (print start e) → HasExpr decls xs e
+  of_return : {xs : List Typed} {start : Span} {e : Expr} → HasStmt decls xs (return_value start e) → HasExpr decls xs e
+  of_argument : {xs : List Typed} {c : HelperCall} {e : Expr} →
+      HasHelperCall decls xs c → Has c.arguments e → HasExpr decls xs e
 
-abbrev pub is_local : Sought → Bool
-is_local kind.Local = true
-is_local _ = false
+-- a place that is read or written
+pub data HasPlace (decls : List Decl) : List Typed → Place → Type 0 where
+  is_read : {xs : List Typed} {w v : Want} {e : Expr} {p : Place} →
+      HasExpr decls xs e → Within w e v (place p) → HasPlace decls xs p
+  is_written : {xs : List Typed} {p : Place} {e : Expr} → HasStmt decls xs (assign p e) → HasPlace decls xs p
 
-abbrev pub is_struct : Sought → Bool
-is_struct kind.Struct = true
-is_struct _ = false
+-- a type
+pub data HasType (decls : List Decl) : List Typed → ValueType → Type 0 where
+  of_global : {v : Variable} → Has decls (global v) → HasType decls [] v.value_type
+  of_array : {a : Array} → Has decls (array a) → HasType decls [] a.value_type
+  of_pool : {p : Pool} → Has decls (pool p) → HasType decls [] (ref_type p.target)
+  of_final : {s : Struct} {f : Final} →
+      Has decls (struct s) → Has s.members (final_member f) → HasType decls [] (ref_type f.target)
+  of_field : {s : Struct} {f : Field} →
+      Has decls (struct s) → Has s.members (field_member f) → HasType decls [] f.value_type
+  of_parameter : {s : Section} {p : Param} → HasBody decls s → Has s.params p → HasType decls [] p.value_type
+  of_result : {s : Section} {t : ValueType} → HasBody decls s → s.result ≡ Some t → HasType decls [] t
+  of_local : {xs : List Typed} {s : Stmt} {l : Typed} →
+      HasStmt decls xs s → Has (declared_by s) l → HasType decls xs l.value_type
 
-abbrev pub is_pool : Sought → Bool
-is_pool kind.Pool = true
-is_pool _ = false
+-- a constant
+pub data HasConst (decls : List Decl) : Const → Type 0 where
+  opening : {v : Variable} {c : Const} → Has decls (global v) → v.value ≡ Some c → HasConst decls c
+  initial : {i : Init} → Has decls (init i) → HasConst decls i.value
+  argument : {c : Call} {x : Const} → HasCall decls c → Has c.arguments x → HasConst decls x
 
-abbrev pub is_section : Sought → Bool
-is_section kind.Section = true
-is_section _ = false
+-- the annotation of a field of a struct
+pub data Guards (decls : List Decl) : Struct → Protection → Type 0 where
+  guards : {s : Struct} {f : Field} {p : Protection} →
+      Has decls (struct s) → Has s.members (field_member f) → f.protection ≡ Some p → Guards decls s p
 
-abbrev pub is_helper : Sought → Bool
-is_helper kind.Helper = true
-is_helper _ = false
-
-abbrev pub is_lock : Sought → Bool
-is_lock kind.Lock = true
-is_lock _ = false
-
--- the declaration is of this kind: a global is a value, and arrays and pools have an index
-abbrev pub declares : Sought → Decl → Bool
-declares k (lock x) = is_lock k
-declares k (struct s) = is_struct k
-declares k (global v) = is_value k
-declares k (array a) = is_indexed k
-declares k (pool p) = is_indexed k || is_pool k
-declares k (init i) = false
-declares k (atomic s) = is_section k
-declares k (helper s) = is_helper k
-declares k (thread t) = false
-
--- ---- where they are looked for
-
-abbrev pub begins : ℕ → Ident → Bool
-begins at x = x.span.start == at
-
-module _ (k : Sought) (at : ℕ) where
-  -- in an expression: a value by a name alone, what has an index by a name ahead of one, a local by a name ahead of a dot
-  abbrev mutual
-    pub in_expr : Expr → Bool
-    in_expr (int n) = false
-    in_expr (null s) = false
-    in_expr (place p) = in_place p
-    in_expr (paren s e) = in_expr e
-    in_expr (prefix o s e) = in_expr e
-    in_expr (chain level e links) = in_expr e || in_links links
-    in_expr (compare a c b) = in_expr a || in_expr b
-
-    pub in_place : Place → Bool
-    in_place (lone x) = is_value k && begins at x
-    in_place (element x e) = (is_indexed k && begins at x) || in_expr e
-    in_place (path x fs) = is_local k && begins at x
-
-    pub in_links : Links → Bool
-    in_links no_links = false
-    in_links (link o e rest) = in_expr e || in_links rest
-
-  abbrev pub in_exprs : List Expr → Bool
-  in_exprs [] = false
-  in_exprs (e ∷ es) = in_expr e || in_exprs es
-
-  abbrev pub in_type : ValueType → Bool
-  in_type int_type = false
-  in_type (ref_type x) = is_struct k && begins at x
-
-  abbrev pub in_call : HelperCall → Bool
-  in_call c = (is_helper k && begins at c.helper) || in_exprs c.arguments
-
-  -- in a statement, but not in its blocks
-  abbrev pub in_own : Stmt → Bool
-  in_own (let_local l) = in_type l.value_type || in_expr l.value
-  in_own (let_owned l o) = (in_type l.value_type || in_expr l.value) || (is_local k && begins at o.local)
-  in_own (let_call l) = in_type l.value_type || in_call l.call
-  in_own (var_local l) = in_type l.value_type || in_expr l.value
-  in_own (assign p e) = in_place p || in_expr e
-  in_own (if_then start e body close other) = in_expr e
-  in_own (while start e body close) = in_expr e
-  in_own (print start e) = in_expr e
-  in_own (return_value start e) = in_expr e
-  in_own (tree.call start c) = in_call c
-
-  abbrev mutual
-    pub in_blocks : Stmt → Bool
-    in_blocks (let_local l) = false
-    in_blocks (let_owned l o) = false
-    in_blocks (let_call l) = false
-    in_blocks (var_local l) = false
-    in_blocks (assign p e) = false
-    in_blocks (if_then start e body close other) = in_stmts body || in_else other
-    in_blocks (while start e body close) = in_stmts body
-    in_blocks (print start e) = false
-    in_blocks (return_value start e) = false
-    in_blocks (tree.call start c) = false
-
-    pub in_else : Otherwise → Bool
-    in_else no_else = false
-    in_else (else_do body close) = in_stmts body
-
-    pub in_stmts : Stmts → Bool
-    in_stmts no_stmts = false
-    in_stmts (stmt s rest) = (in_own s || in_blocks s) || in_stmts rest
-
-  -- in constants and in what a thread does
-  abbrev pub in_const : Const → Bool
-  in_const (int_const n) = false
-  in_const (negative sign n) = false
-  in_const (null_const s) = false
-  in_const (member_const p n) = is_pool k && begins at p
-
-  abbrev pub in_value : Option Const → Bool
-  in_value (Some c) = in_const c
-  in_value None = false
-
-  abbrev pub in_consts : List Const → Bool
-  in_consts [] = false
-  in_consts (c ∷ cs) = in_const c || in_consts cs
-
-  abbrev mutual
-    pub in_item : Item → Bool
-    in_item (call c) = (is_section k && begins at c.section) || in_consts c.arguments
-    in_item (repeat n is) = in_items is
-
-    pub in_items : Items → Bool
-    in_items no_items = false
-    in_items (item i rest) = in_item i || in_items rest
-
-  -- in a declaration. The first name of an annotation looks for a lock
-  abbrev pub in_annotation : Option Protection → Bool
-  in_annotation (Some p) = is_lock k && begins at p.first
-  in_annotation None = false
-
-  abbrev pub in_member : Member → Bool
-  in_member (lock_member x) = false
-  in_member (final_member f) = is_struct k && begins at f.target
-  in_member (field_member f) = in_type f.value_type || in_annotation f.protection
-
-  abbrev pub in_members : List Member → Bool
-  in_members [] = false
-  in_members (m ∷ ms) = in_member m || in_members ms
-
-  abbrev pub in_params : List Param → Bool
-  in_params [] = false
-  in_params (p ∷ ps) = in_type p.value_type || in_params ps
-
-  abbrev pub in_result : Option ValueType → Bool
-  in_result (Some t) = in_type t
-  in_result None = false
-
-  abbrev pub in_section : Section → Bool
-  in_section s = (in_params s.params || in_result s.result) || in_stmts s.body.stmts
-
-  abbrev pub in_decl : Decl → Bool
-  in_decl (lock x) = false
-  in_decl (struct s) = in_members s.members
-  in_decl (global v) = (in_type v.value_type || in_annotation v.protection) || in_value v.value
-  in_decl (array a) = in_type a.value_type || in_annotation a.protection
-  in_decl (pool p) = is_struct k && begins at p.target
-  in_decl (init i) = (is_pool k && begins at i.pool) || in_const i.value
-  in_decl (atomic s) = in_section s
-  in_decl (helper s) = in_section s
-  in_decl (thread t) = in_items t.items
-
-  abbrev pub in_decls : List Decl → Bool
-  in_decls [] = false
-  in_decls (d ∷ ds) = in_decl d || in_decls ds
+-- so names are used in the program
+pub data Uses (decls : List Decl) : Use → Type 0 where
+  -- by a name alone a global or a local; ahead of an index an array or a pool; ahead of a dot a local, and behind it a
+  -- member
+  a_value : {xs : List Typed} {x : Ident} → HasPlace decls xs (lone x) → Uses decls (of_kind kind.Value xs x)
+  an_element : {xs : List Typed} {x : Ident} {e : Expr} →
+      HasPlace decls xs (element x e) → Uses decls (of_kind kind.Indexed xs x)
+  a_base : {xs : List Typed} {x : Ident} {fs : List Ident} →
+      HasPlace decls xs (path x fs) → Uses decls (of_kind kind.Local xs x)
+  a_way : {xs : List Typed} {x : Ident} {fs : List Ident} → HasPlace decls xs (path x fs) → Uses decls (by_dots xs x fs)
+  -- behind `where` a final reference, and a local
+  an_owner : {xs : List Typed} {l : Local} {o : Owner} →
+      HasStmt decls xs (let_owned l o) → Uses decls (by_owner l.value_type o.field)
+  an_owner_local : {xs : List Typed} {l : Local} {o : Owner} →
+      HasStmt decls xs (let_owned l o) → Uses decls (of_kind kind.Local xs o.local)
+  -- in a type a struct
+  a_struct : {xs : List Typed} {x : Ident} → HasType decls xs (ref_type x) → Uses decls (of_kind kind.Struct xs x)
+  -- in calls a helper, and a section
+  a_helper : {xs : List Typed} {c : HelperCall} →
+      HasHelperCall decls xs c → Uses decls (of_kind kind.Helper xs c.helper)
+  a_section : {c : Call} → HasCall decls c → Uses decls (of_kind kind.Section [] c.section)
+  -- in a constant a pool; in an `init` a pool and a member
+  a_pool : {p : Ident} {n : Number} → HasConst decls (member_const p n) → Uses decls (of_kind kind.Pool [] p)
+  a_pool_given : {i : Init} → Has decls (init i) → Uses decls (of_kind kind.Pool [] i.pool)
+  a_field_given : {i : Init} → Has decls (init i) → Uses decls (by_init i.pool i.field)
+  -- in an annotation a lock by the first name; in a struct a member by each
+  a_lock : {p : Protection} → HasLock decls p → Uses decls (of_kind kind.Lock [] p.first)
+  a_guard : {s : Struct} {p : Protection} → Guards decls s p → Uses decls (of_kind kind.Lock [] p.first)
+  a_guard_way : {s : Struct} {p : Protection} → Guards decls s p → Uses decls (by_annotation s.name p)

@@ -1,39 +1,31 @@
 -- What values of the code are, in the words of the definitions.
 use Rattle.std.proofs.Common.{Vec, Global}
-use Rattle.std.specs.List.{filter_map}
-use Rattle.std.specs.Prelude.{◌≡◌, ◌++◌, ◌||◌, ℕ, Bool, List, map, option_map, Option, Some, None}
+use Rattle.std.specs.List.{flat_map}
+use Rattle.std.specs.Option.{option_map}
+use Rattle.std.specs.Prelude.{◌≡◌, ◌++◌, [], ◌∷◌, ℕ, false, List, map, Option, Some, None}
 use denote.Ref.{Bor}
 use Rattle.near_names.specs.Distance.{IsDistance}
 use Rattle.resolution.specs.Constants.{pool_members}
-use Rattle.resolution.specs.Scopes.{declared, the_decl}
+use Rattle.resolution.specs.Scopes.{the_decl}
 use Rattle.resolution.specs.Where.{Has}
 use Rattle.symbols.specs.Views.{decls_of as decls_in, members_seen}
 use Rattle.symbols.specs.declared.members.Structure.{Structure}
 use Rattle.symbols.specs.declared.table.SymbolTable.{SymbolTable}
-use Rattle.syntax.specs.Trees.{Ident, Member, Param, Stmt}
-use Rattle.syntax.specs.Views.{decl_of, else_of, expr_of, ident, member_of, param_of, place_of, protection_of, section_of, stmt_of, stmts_of, type_of}
-use Rattle.syntax.specs.declared.tree.Block as written_block
-use Rattle.syntax.specs.declared.tree.Decl as written_decl
-use Rattle.syntax.specs.declared.tree.Expr as written_expr
-use Rattle.syntax.specs.declared.tree.Local as written_local
+use Rattle.syntax.specs.Trees.{Decl, Ident, Member}
+use Rattle.syntax.specs.Views.{ident, member_of, type_of}
 use Rattle.syntax.specs.declared.tree.Member as written_member
 use Rattle.syntax.specs.declared.tree.Name.{Name}
 use Rattle.syntax.specs.declared.tree.Path as written_path
-use Rattle.syntax.specs.declared.tree.Place as written_place
-use Rattle.syntax.specs.declared.tree.Protection as written_protection
-use Rattle.syntax.specs.declared.tree.Section as written_section
-use Rattle.syntax.specs.declared.tree.Stmt as written_stmt
-use Rattle.syntax.specs.declared.tree.Param as written_param
-use Rattle.near_names.specs.declared.bodies.Typed as written_typed
-use Rattle.near_names.specs.declared.dotted.Way.{Way}
-use Rattle.near_names.specs.declared.expressions.Search.{Search}
-use Rattle.near_names.specs.declared.members.Role.{Role}
+use Rattle.near_names.specs.declared.found.Found.{Found}
 use Rattle.near_names.specs.declared.nearest.Near.{Near}
-use Rattle.near_names.specs.FieldsFound.{along, along_annotation, along_each, along_one, fields_of_section, guards_of, said_at, said_in}
-use Rattle.near_names.specs.Members.{Dotted, Typed, typed_by, typed_params}
-use Rattle.near_names.specs.Found.{Candidate, locals_in, locals_in_else}
+use Rattle.near_names.specs.declared.search.Search.{Search}
+use Rattle.near_names.specs.declared.search.Typed as written_typed
+use Rattle.near_names.specs.declared.members.Role.{Role}
+use Rattle.near_names.specs.Found.{Candidate, along, along_one, meant_by, next}
+use Rattle.near_names.specs.Locals.{Typed}
 use Rattle.near_names.specs.NearNames.{AreFew, IsNear, GoesFirst, IsNearestOf}
-use Rattle.near_names.specs.Sought.{in_expr, in_type}
+use Rattle.near_names.specs.Sought.{Use, by_dots}
+use Rattle.near_names.specs.UsesFound.{uses_of_member}
 
 abbrev pub ident_at : Bor Name → Ident
 ident_at name = ident name.now
@@ -41,17 +33,16 @@ ident_at name = ident name.now
 abbrev pub idents : List (Bor Name) → List Ident
 idents names = map ident_at names
 
--- the names are those that there were, and these
-abbrev pub Adds : Vec (Bor Name) Global → Vec (Bor Name) Global → List Ident → Type 0
-Adds before after more = idents after.items ≡ idents before.items ++ more
+abbrev pub option_list : {A : Type 0} → Option A → List A
+option_list (Some x) = x ∷ []
+option_list None = []
 
-abbrev pub param_names : List written_param.Param → List Ident
-param_names ps = map (λ (p : Param). p.name) (map param_of ps)
+-- where no growth was refused up to the end, none was at the start, and the names are those that there were, and these
+pub record Adds (before after : Found) (more : List Ident) : Type 0 where
+  pub unrefused : after.is_refused ≡ false → before.is_refused ≡ false
+  pub names : after.is_refused ≡ false → idents after.names.items ≡ idents before.names.items ++ more
 
--- ---- statements, locals and members
-
-abbrev pub stmt_at : Bor written_stmt.Stmt → Stmt
-stmt_at s = stmt_of s.now
+-- ---- locals and members
 
 abbrev pub typed_of : written_typed.Typed → Typed
 typed_of x = record { name = ident x.name.now; value_type = type_of x.value_type.now }
@@ -59,65 +50,54 @@ typed_of x = record { name = ident x.name.now; value_type = type_of x.value_type
 abbrev pub typed_seen : List written_typed.Typed → List Typed
 typed_seen xs = map typed_of xs
 
-abbrev pub AddsTyped : Vec written_typed.Typed Global → Vec written_typed.Typed Global → List Typed → Type 0
-AddsTyped before after more = typed_seen after.items ≡ typed_seen before.items ++ more
+-- where no growth was refused up to the end, the locals are those that there were, and these
+abbrev pub Grows : Found → Vec written_typed.Typed Global → Vec written_typed.Typed Global → List Typed → Type 0
+Grows end before after more = end.is_refused ≡ false → typed_seen after.items ≡ typed_seen before.items ++ more
+
+abbrev pub Keeps : Found → Vec written_typed.Typed Global → Vec written_typed.Typed Global → Type 0
+Keeps end before after = end.is_refused ≡ false → typed_seen after.items ≡ typed_seen before.items
+
+-- these locals are in scope besides, and no name is found
+pub record Binds (before after : Vec written_typed.Typed Global) (start end : Found) (more : List Typed) : Type 0 where
+  pub adds : Adds start end []
+  pub scope : Grows end before after more
 
 abbrev pub members_at : Bor Structure → List Member
 members_at s = members_seen s.now
 
-abbrev pub member_found : ℕ × Bor written_member.Member → ℕ × Member
-member_found f = (f.0, member_of f.1.now)
-
-abbrev pub dotted_seen : written_path.Path → Dotted
-dotted_seen p = record { first = ident p.first; fields = map ident p.fields.items }
-
--- the members that are found on the way along names
-abbrev pub said_along : Way → Dotted → List Ident
-said_along w p = along_each (decls_in w.symbols.now) w.at (typed_seen w.locals.now) p
-
--- ---- declarations
-
--- the name of a declaration, if it has one
-abbrev pub IsNameOf : written_decl.Decl → Option (Bor Name) → Type 0
-IsNameOf d name = option_map ident_at name ≡ declared (decl_of d)
-
--- ---- clauses in short
-
--- what is looked for in the type and the value of a local
-abbrev pub local_seeks : Search → written_local.Local → Bool
-local_seeks x l = in_type x.sought x.at (type_of l.value_type) || in_expr x.sought x.at (expr_of l.value)
-
-abbrev pub locals_in_block : ℕ → List Ident → written_block.Block → List Ident
-locals_in_block at xs b = locals_in at xs (stmts_of b.stmts.items)
-
-abbrev pub locals_if_else : ℕ → List Ident → Option written_block.Block → List Ident
-locals_if_else at xs other = locals_in_else at xs (else_of other)
-
--- the locals of a section, with these statements
-abbrev pub typed_among : written_section.Section → List (Bor written_stmt.Stmt) → List Typed
-typed_among s all = typed_params (section_of s).params ++ filter_map typed_by (map stmt_at all)
-
--- along names and annotations, from a struct on, if there is one
-abbrev pub along_from : Role → SymbolTable → ℕ → Option (Bor Structure) → List Name → List Ident
-along_from r symbols at s names = along r (decls_in symbols) at (option_map members_at s) (map ident names)
-
-abbrev pub annotation_from : SymbolTable → ℕ → Option (Bor Structure) → written_protection.Protection → List Ident
-annotation_from symbols at s p = along_annotation (decls_in symbols) at (option_map members_at s) (Some (protection_of p))
-
-abbrev pub guards_from : SymbolTable → ℕ → Option (Bor Structure) → written_member.Member → List Ident
-guards_from symbols at s m = guards_of (decls_in symbols) at (option_map members_at s) (member_of m)
-
 abbrev pub members_in_pool : SymbolTable → Name → Option (List Member)
 members_in_pool symbols x = pool_members (decls_in symbols) (the_decl (decls_in symbols) (ident x).text)
 
-abbrev pub said_behind_one : Way → written_path.Path → written_typed.Typed → List Ident
-said_behind_one w p x = along_one (decls_in w.symbols.now) w.at (dotted_seen p) (typed_of x)
+-- ---- a search
 
-abbrev pub said_in_assignment : Way → written_place.Place → written_expr.Expr → List Ident
-said_in_assignment w p e = said_at (said_along w) (place_of p) ++ said_in (said_along w) (expr_of e)
+abbrev pub decls_at : Search → List Decl
+decls_at s = decls_in s.symbols.now
 
-abbrev pub section_fields : SymbolTable → ℕ → written_section.Section → List Ident
-section_fields symbols at s = fields_of_section (decls_in symbols) at (section_of s)
+abbrev pub locals_at : Search → List Typed
+locals_at s = typed_seen s.locals.now
+
+abbrev pub meant_for : Search → List Use → List Ident
+meant_for s us = flat_map (meant_by (decls_at s) s.at) us
+
+-- what could be meant by these uses of names is found
+pub record Says (s : Search) (before after : Found) (us : List Use) : Type 0 where
+  pub found : Adds before after (meant_for s us)
+
+abbrev pub uses_of_members : Search → Name → List written_member.Member → List Use
+uses_of_members s structure ms = flat_map (uses_of_member (locals_at s) (ident structure)) (map member_of ms)
+
+-- the uses of the names behind dots
+abbrev pub dots_at : Search → written_path.Path → List Use
+dots_at s p = by_dots (locals_at s) (ident p.first) (map ident p.fields.items) ∷ []
+
+abbrev pub along_from : Search → Role → Option (Bor Structure) → List Name → List Ident
+along_from s r o names = along r (decls_at s) s.at (option_map members_at o) (map ident names)
+
+abbrev pub next_from : SymbolTable → Option (Bor Structure) → Name → Option (List Member)
+next_from symbols o name = next (decls_in symbols) (option_map members_at o) (ident name)
+
+abbrev pub behind_one : Search → written_path.Path → written_typed.Typed → List Ident
+behind_one s p l = along_one (decls_at s) s.at (ident p.first) (map ident p.fields.items) (typed_of l)
 
 -- ---- the choice
 
@@ -137,6 +117,12 @@ NoneIsNear Could q = (y : Ident) → Could y → IsNear q y.text → ⊥
 abbrev pub BestOf : List Ident → List ℕ → Option Candidate → Type 0
 BestOf names q (Some c) = IsBest names q c
 BestOf names q None = NoneIsNear (Has names) q
+
+-- where the one was the best of some names, the other is the best of these and x
+abbrev pub IsBestWith : List ℕ → Ident → Option Near → Option Near → Type 0
+IsBestWith q x before after =
+    (names : List Ident) → BestOf names q (option_map candidate_of before) →
+    BestOf (names ++ x ∷ []) q (option_map candidate_of after)
 
 -- the nearest of these names, if one is near
 abbrev pub FoundNearest : (Ident → Type 0) → List ℕ → Option (Bor Name) → Type 0

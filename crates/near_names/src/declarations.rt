@@ -1,133 +1,144 @@
 //! What is looked for in declarations.
 
-ghost use Rattle.std.specs.Prelude.{◌≡◌, map};
-ghost use Rattle.syntax.specs.Views.{const_of, decl_of, item_of, items_of, member_of, option_of, protection_of};
-ghost use Rattle.near_names.specs.Sought.{in_annotation, in_const, in_consts, in_decl, in_decls, in_item, in_items, in_member, in_members, in_value};
+ghost use Rattle.std.specs.List.{flat_map};
+ghost use Rattle.std.specs.Prelude.{map};
+ghost use Rattle.syntax.specs.Views.{const_of, decl_of, ident, item_of, items_of, member_of, option_of, param_of, protection_of, section_of};
+ghost use Rattle.near_names.specs.UsesFound.{uses_of_annotation, uses_of_const, uses_of_decl, uses_of_item, uses_of_items, uses_of_member, uses_of_param, uses_of_section};
+ghost use Rattle.near_names.specs.Values.{Says, locals_at, uses_of_members};
 
-use crate::expressions::Search;
-use crate::sought::begins;
-use syntax::tree::{Const, Decl, Item, Member, Protection};
+use crate::found::Found;
+use crate::search::Search;
+use crate::sought::Sought;
+use crate::statements::push_params;
+use syntax::tree::{Const, Decl, Item, Member, Name, Param, Protection, Section};
 
-impl Search {
-    fn in_const(self, c: &Const) -> bool
-        ensures { result ≡ in_const self.sought self.at (const_of c.now) }
+impl<'s, 't> Search<'s, 't> {
+    fn in_const(&self, c: &Const, found: &mut Found<'t>)
+        ensures { Says self.now found.old found.new (uses_of_const (locals_at self.now) (const_of c.now)) }
     {
         match c {
-            Const::Member(pool, _) => begins(self.sought.is_pool(), self.at, pool),
-            Const::Int(_) | Const::Negative(_, _) | Const::Null(_) => false,
+            Const::Member(pool, _) => self.of_kind(Sought::Pool, pool, found),
+            Const::Int(_) | Const::Negative(_, _) | Const::Null(_) => {}
         }
     }
 
-    fn in_value(self, c: &Option<Const>) -> bool
-        ensures { result ≡ in_value self.sought self.at (option_of const_of c.now) }
-    {
-        match c {
-            Some(c) => self.in_const(c),
-            None => false,
-        }
-    }
-
-    fn in_consts(self, constants: &[Const]) -> bool
-        ensures { result ≡ in_consts self.sought self.at (map const_of constants.now) }
+    fn in_consts(&self, constants: &[Const], found: &mut Found<'t>)
+        ensures { Says self.now found.old found.new (flat_map (uses_of_const (locals_at self.now)) (map const_of constants.now)) }
     {
         for c in constants {
-            if self.in_const(c) {
-                return true;
-            }
+            self.in_const(c, found);
         }
-        false
     }
 
     #[cycle(items)]
-    fn in_item(self, item: &Item) -> bool
-        ensures { result ≡ in_item self.sought self.at (item_of item.now) }
+    fn in_item(&self, item: &Item, found: &mut Found<'t>)
+        ensures { Says self.now found.old found.new (uses_of_item (locals_at self.now) (item_of item.now)) }
     {
         match item {
-            Item::Call(c) => {
-                begins(self.sought.is_section(), self.at, &c.section)
-                    || self.in_consts(&c.arguments)
+            Item::Call(call) => {
+                self.of_kind(Sought::Section, &call.section, found);
+                self.in_consts(&call.arguments, found);
             }
-            Item::Repeat(_, items) => self.in_items(items),
+            Item::Repeat(_, items) => self.in_items(items, found),
         }
     }
 
     #[cycle(items)]
-    fn in_items(self, items: &[Item]) -> bool
-        ensures { result ≡ in_items self.sought self.at (items_of items.now) }
+    fn in_items(&self, items: &[Item], found: &mut Found<'t>)
+        ensures { Says self.now found.old found.new (uses_of_items (locals_at self.now) (items_of items.now)) }
     {
-        for item in items {
-            if self.in_item(item) {
-                return true;
-            }
-        }
-        false
-    }
-
-    fn in_annotation(self, protection: &Option<Protection>) -> bool
-        ensures { result ≡ in_annotation self.sought self.at (option_of protection_of protection.now) }
-    {
-        match protection {
-            Some(p) => begins(self.sought.is_lock(), self.at, &p.first),
-            None => false,
+        'items: for item in items {
+            self.in_item(item, found);
         }
     }
 
-    fn in_member(self, member: &Member) -> bool
-        ensures { result ≡ in_member self.sought self.at (member_of member.now) }
+    fn in_annotation(&self, protection: &Option<Protection>, found: &mut Found<'t>)
+        ensures { Says self.now found.old found.new (uses_of_annotation (locals_at self.now) (option_of protection_of protection.now)) }
+    {
+        if let Some(protection) = protection {
+            self.of_kind(Sought::Lock, &protection.first, found);
+        }
+    }
+
+    fn in_member(&self, structure: &Name, member: &Member, found: &mut Found<'t>)
+        ensures { Says self.now found.old found.new (uses_of_member (locals_at self.now) (ident structure.now) (member_of member.now)) }
     {
         match member {
-            Member::Lock(_) => false,
-            Member::Final(reference) => {
-                begins(self.sought.is_struct(), self.at, &reference.target)
-            }
+            Member::Lock(_) => {}
+            Member::Final(reference) => self.of_kind(Sought::Struct, &reference.target, found),
             Member::Field(field) => {
-                self.in_type(&field.value_type) || self.in_annotation(&field.protection)
+                self.in_type(&field.value_type, found);
+                if let Some(protection) = &field.protection {
+                    self.of_kind(Sought::Lock, &protection.first, found);
+                    self.by_annotation(structure, protection, found);
+                }
             }
         }
     }
 
-    fn in_members(self, members: &[Member]) -> bool
-        ensures { result ≡ in_members self.sought self.at (map member_of members.now) }
+    fn in_members(&self, structure: &Name, members: &[Member], found: &mut Found<'t>)
+        ensures { Says self.now found.old found.new (uses_of_members self.now structure.now members.now) }
     {
         for member in members {
-            if self.in_member(member) {
-                return true;
-            }
+            self.in_member(structure, member, found);
         }
-        false
     }
 
-    fn in_decl(self, decl: &Decl) -> bool
-        ensures { result ≡ in_decl self.sought self.at (decl_of decl.now) }
+    fn in_params(&self, params: &[Param], found: &mut Found<'t>)
+        ensures { Says self.now found.old found.new (flat_map (uses_of_param (locals_at self.now)) (map param_of params.now)) }
+    {
+        for param in params {
+            self.in_type(&param.value_type, found);
+        }
+    }
+
+    fn in_section(&self, section: &'t Section, found: &mut Found<'t>)
+        ensures { Says self.now found.old found.new (uses_of_section (locals_at self.now) (section_of section.now)) }
+    {
+        let mut scope = Vec::new(self.alloc);
+        push_params(&section.params, &mut scope, found);
+        self.in_stmts(&section.body.stmts, &mut scope, found);
+        self.in_params(&section.params, found);
+        if let Some(t) = &section.result {
+            self.in_type(t, found);
+        }
+    }
+
+    fn in_decl(&self, decl: &'t Decl, found: &mut Found<'t>)
+        ensures { Says self.now found.old found.new (uses_of_decl (locals_at self.now) (decl_of decl.now)) }
     {
         match decl {
-            Decl::Lock(_) => false,
-            Decl::Struct(structure) => self.in_members(&structure.members),
-            Decl::Global(v) => {
-                self.in_type(&v.value_type)
-                    || self.in_annotation(&v.protection)
-                    || self.in_value(&v.value)
+            Decl::Lock(_) => {}
+            Decl::Struct(structure) => self.in_members(&structure.name, &structure.members, found),
+            Decl::Global(variable) => {
+                self.in_type(&variable.value_type, found);
+                self.in_annotation(&variable.protection, found);
+                if let Some(value) = &variable.value {
+                    self.in_const(value, found);
+                }
             }
-            Decl::Array(a) => self.in_type(&a.value_type) || self.in_annotation(&a.protection),
-            Decl::Pool(pool) => begins(self.sought.is_struct(), self.at, &pool.target),
+            Decl::Array(array) => {
+                self.in_type(&array.value_type, found);
+                self.in_annotation(&array.protection, found);
+            }
+            Decl::Pool(pool) => self.of_kind(Sought::Struct, &pool.target, found),
             Decl::Init(init) => {
-                begins(self.sought.is_pool(), self.at, &init.pool) || self.in_const(&init.value)
+                self.of_kind(Sought::Pool, &init.pool, found);
+                self.by_init(init, found);
+                self.in_const(&init.value, found);
             }
-            Decl::Atomic(section) => self.in_section(section),
-            Decl::Helper(section) => self.in_section(section),
-            Decl::Thread(thread) => self.in_items(&thread.items),
+            Decl::Atomic(section) => self.in_section(section, found),
+            Decl::Helper(section) => self.in_section(section, found),
+            Decl::Thread(thread) => self.in_items(&thread.items, found),
         }
     }
 
     /// In the declarations of a program.
-    pub fn in_decls(self, decls: &[Decl]) -> bool
-        ensures { result ≡ in_decls self.sought self.at (map decl_of decls.now) }
+    pub fn in_decls(&self, decls: &'t [Decl], found: &mut Found<'t>)
+        ensures { Says self.now found.old found.new (flat_map (uses_of_decl (locals_at self.now)) (map decl_of decls.now)) }
     {
         for decl in decls {
-            if self.in_decl(decl) {
-                return true;
-            }
+            self.in_decl(decl, found);
         }
-        false
     }
 }

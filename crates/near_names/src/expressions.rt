@@ -1,130 +1,149 @@
-//! What is looked for in the expressions of a statement.
+//! What is looked for in expressions and in statements, but not in their blocks.
 
+ghost use Rattle.std.specs.List.{flat_map};
 ghost use Rattle.std.specs.Prelude.{◌≡◌, map};
-ghost use Rattle.syntax.specs.Views.{element_of, expr_of, helper_call_of, joined_of, links_of, place_of, stmt_of, type_of};
-ghost use Rattle.near_names.specs.Values.{local_seeks};
-ghost use Rattle.near_names.specs.Sought.{in_call, in_expr, in_exprs, in_links, in_own, in_place, in_type};
+ghost use Rattle.syntax.specs.Views.{element_of, expr_of, helper_call_of, joined_of, links_of, local_of, owned_local_of, path_of, place_of, stmt_of, type_of};
+ghost use Rattle.near_names.specs.UsesFound.{uses_at, uses_behind, uses_by, uses_in, uses_of_call, uses_of_local, uses_of_type};
+ghost use Rattle.near_names.specs.Values.{Says, locals_at};
 
-use crate::sought::{Sought, begins};
-use syntax::tree::{Element, Expr, HelperCall, Joined, Link, Local, Place, Stmt, ValueType};
+use crate::found::Found;
+use crate::search::Search;
+use crate::sought::Sought;
+use syntax::tree::{
+    Element, Expr, HelperCall, Joined, Link, Local, OwnedLocal, Path, Place, Stmt, ValueType,
+};
 
-/// What is looked for, and at which byte.
-#[derive(Clone, Copy)]
-pub struct Search {
-    /// The kind of things.
-    pub sought: Sought,
-    /// The byte.
-    pub at: usize,
-}
-
-impl Search {
-    #[cycle(exprs)]
-    fn in_element(self, element: &Element) -> bool
-        ensures { result ≡ in_place self.sought self.at (element_of element.now) }
+impl<'s, 't> Search<'s, 't> {
+    fn in_path(&self, path: &Path, found: &mut Found<'t>)
+        ensures { Says self.now found.old found.new (uses_at (locals_at self.now) (path_of path.now)) }
     {
-        begins(self.sought.is_indexed(), self.at, &element.name) || self.in_expr(&element.index)
+        self.of_kind(Sought::Local, &path.first, found);
+        self.by_dots(path, found);
     }
 
-    /// In an expression.
     #[cycle(exprs)]
-    pub fn in_expr(self, e: &Expr) -> bool
-        ensures { result ≡ in_expr self.sought self.at (expr_of e.now) }
+    fn in_element(&self, element: &Element, found: &mut Found<'t>)
+        ensures { Says self.now found.old found.new (uses_at (locals_at self.now) (element_of element.now)) }
+    {
+        self.of_kind(Sought::Indexed, &element.name, found);
+        self.in_expr(&element.index, found);
+    }
+
+    #[cycle(exprs)]
+    fn in_expr(&self, e: &Expr, found: &mut Found<'t>)
+        ensures { Says self.now found.old found.new (uses_in (locals_at self.now) (expr_of e.now)) }
     {
         match e {
-            Expr::Int(_) | Expr::Null(_) => false,
-            Expr::Name(name) => begins(self.sought.is_value(), self.at, name),
-            Expr::Element(element) => self.in_element(element),
-            Expr::Path(path) => begins(self.sought.is_local(), self.at, &path.first),
-            Expr::Paren(_, inner) => self.in_expr(inner),
-            Expr::Prefix(_, _, operand) => self.in_expr(operand),
-            Expr::Joined(joined) => self.in_joined(joined),
+            Expr::Int(_) | Expr::Null(_) => {}
+            Expr::Name(name) => self.of_kind(Sought::Value, name, found),
+            Expr::Element(element) => self.in_element(element, found),
+            Expr::Path(path) => self.in_path(path, found),
+            Expr::Paren(_, inner) => self.in_expr(inner, found),
+            Expr::Prefix(_, _, operand) => self.in_expr(operand, found),
+            Expr::Joined(joined) => self.in_joined(joined, found),
         }
     }
 
     #[cycle(exprs)]
-    fn in_joined(self, joined: &Joined) -> bool
-        ensures { result ≡ in_expr self.sought self.at (joined_of joined.now) }
+    fn in_joined(&self, joined: &Joined, found: &mut Found<'t>)
+        ensures { Says self.now found.old found.new (uses_in (locals_at self.now) (joined_of joined.now)) }
     {
         match joined {
-            Joined::Pair(_, left, right) => self.in_expr(left) || self.in_expr(right),
-            Joined::Chain(_, first, links) => self.in_expr(first) || self.in_links(links),
-            Joined::Compare(_, left, right) => self.in_expr(left) || self.in_expr(right),
+            Joined::Pair(_, left, right) => {
+                self.in_expr(left, found);
+                self.in_expr(right, found);
+            }
+            Joined::Chain(_, first, links) => {
+                self.in_expr(first, found);
+                self.in_links(links, found);
+            }
+            Joined::Compare(_, left, right) => {
+                self.in_expr(left, found);
+                self.in_expr(right, found);
+            }
         }
     }
 
     #[cycle(exprs)]
-    fn in_links(self, links: &[Link]) -> bool
-        ensures { result ≡ in_links self.sought self.at (links_of links.now) }
+    fn in_links(&self, links: &[Link], found: &mut Found<'t>)
+        ensures { Says self.now found.old found.new (uses_behind (locals_at self.now) (links_of links.now)) }
     {
-        for link in links {
-            if self.in_expr(&link.operand) {
-                return true;
-            }
+        'links: for link in links {
+            self.in_expr(&link.operand, found);
         }
-        false
     }
 
-    fn in_exprs(self, exprs: &[Expr]) -> bool
-        ensures { result ≡ in_exprs self.sought self.at (map expr_of exprs.now) }
-    {
-        for e in exprs {
-            if self.in_expr(e) {
-                return true;
-            }
-        }
-        false
-    }
-
-    fn in_place(self, place: &Place) -> bool
-        ensures { result ≡ in_place self.sought self.at (place_of place.now) }
+    fn in_place(&self, place: &Place, found: &mut Found<'t>)
+        ensures { Says self.now found.old found.new (uses_at (locals_at self.now) (place_of place.now)) }
     {
         match place {
-            Place::Name(name) => begins(self.sought.is_value(), self.at, name),
-            Place::Element(element) => self.in_element(element),
-            Place::Path(path) => begins(self.sought.is_local(), self.at, &path.first),
+            Place::Name(name) => self.of_kind(Sought::Value, name, found),
+            Place::Element(element) => self.in_element(element, found),
+            Place::Path(path) => self.in_path(path, found),
+        }
+    }
+
+    fn in_exprs(&self, exprs: &[Expr], found: &mut Found<'t>)
+        ensures { Says self.now found.old found.new (flat_map (uses_in (locals_at self.now)) (map expr_of exprs.now)) }
+    {
+        for e in exprs {
+            self.in_expr(e, found);
         }
     }
 
     /// In a type that is written.
-    pub fn in_type(self, t: &ValueType) -> bool
-        ensures { result ≡ in_type self.sought self.at (type_of t.now) }
+    pub fn in_type(&self, t: &ValueType, found: &mut Found<'t>)
+        ensures { Says self.now found.old found.new (uses_of_type (locals_at self.now) (type_of t.now)) }
     {
         match t {
-            ValueType::Int => false,
-            ValueType::Ref(target) => begins(self.sought.is_struct(), self.at, target),
+            ValueType::Int => {}
+            ValueType::Ref(target) => self.of_kind(Sought::Struct, target, found),
         }
     }
 
-    fn in_call(self, call: &HelperCall) -> bool
-        ensures { result ≡ in_call self.sought self.at (helper_call_of call.now) }
+    fn in_call(&self, call: &HelperCall, found: &mut Found<'t>)
+        ensures { Says self.now found.old found.new (uses_of_call (locals_at self.now) (helper_call_of call.now)) }
     {
-        begins(self.sought.is_helper(), self.at, &call.helper) || self.in_exprs(&call.arguments)
+        self.of_kind(Sought::Helper, &call.helper, found);
+        self.in_exprs(&call.arguments, found);
     }
 
-    fn in_local(self, local: &Local) -> bool
-        ensures { result ≡ local_seeks self local.now }
+    fn in_local(&self, local: &Local, found: &mut Found<'t>)
+        ensures { Says self.now found.old found.new (uses_of_local (locals_at self.now) (local_of local.now)) }
     {
-        self.in_type(&local.value_type) || self.in_expr(&local.value)
+        self.in_type(&local.value_type, found);
+        self.in_expr(&local.value, found);
+    }
+
+    fn in_owned(&self, owned: &OwnedLocal, found: &mut Found<'t>)
+        ensures { Says self.now found.old found.new (uses_by (locals_at self.now) (owned_local_of owned.now)) }
+    {
+        self.in_local(&owned.local, found);
+        self.by_owner(&owned.local.value_type, &owned.owner.field, found);
+        self.of_kind(Sought::Local, &owned.owner.local, found);
     }
 
     /// In a statement, but not in its blocks.
-    pub fn in_own(self, s: &Stmt) -> bool
-        ensures { result ≡ in_own self.sought self.at (stmt_of s.now) }
+    pub fn in_own(&self, s: &Stmt, found: &mut Found<'t>)
+        ensures { Says self.now found.old found.new (uses_by (locals_at self.now) (stmt_of s.now)) }
     {
         match s {
-            Stmt::Let(local) => self.in_local(local),
-            Stmt::LetOwned(owned) => {
-                self.in_local(&owned.local)
-                    || begins(self.sought.is_local(), self.at, &owned.owner.local)
+            Stmt::Let(local) => self.in_local(local, found),
+            Stmt::LetOwned(owned) => self.in_owned(owned, found),
+            Stmt::LetCall(called) => {
+                self.in_type(&called.value_type, found);
+                self.in_call(&called.call, found);
             }
-            Stmt::LetCall(local) => self.in_type(&local.value_type) || self.in_call(&local.call),
-            Stmt::Var(local) => self.in_local(local),
-            Stmt::Assign(place, e) => self.in_place(place) || self.in_expr(e),
-            Stmt::If(choice) => self.in_expr(&choice.condition),
-            Stmt::While(repetition) => self.in_expr(&repetition.condition),
-            Stmt::Print(_, e) => self.in_expr(e),
-            Stmt::Return(_, e) => self.in_expr(e),
-            Stmt::Call(_, call) => self.in_call(call),
+            Stmt::Var(local) => self.in_local(local, found),
+            Stmt::Assign(place, e) => {
+                self.in_place(place, found);
+                self.in_expr(e, found);
+            }
+            Stmt::If(choice) => self.in_expr(&choice.condition, found),
+            Stmt::While(repetition) => self.in_expr(&repetition.condition, found),
+            Stmt::Print(_, e) => self.in_expr(e, found),
+            Stmt::Return(_, e) => self.in_expr(e, found),
+            Stmt::Call(_, call) => self.in_call(call, found),
         }
     }
 }

@@ -1,19 +1,21 @@
-//! The members of the struct to which names behind dots lead.
+//! The members of a struct among which one is looked for.
 
+ghost use Rattle.std.specs.List.{filter_map};
 ghost use Rattle.std.specs.Option.{option_map};
-ghost use Rattle.std.specs.Prelude.{◌≡◌, OnOk, map};
+ghost use Rattle.std.specs.Prelude.{◌≡◌, ◌∷◌, [], map};
 ghost use Rattle.resolution.specs.Constants.{members_of};
 ghost use Rattle.symbols.specs.{decls_of};
-ghost use Rattle.syntax.specs.Views.{ident, init_of, member_of, stmt_of, struct_of, type_of};
-ghost use Rattle.near_names.specs.FieldsFound.{fields_of_init, fields_of_struct, names_among, names_as, names_if, owners_by};
-ghost use Rattle.near_names.specs.Members.{members_behind, name_as, over};
-ghost use Rattle.near_names.specs.Values.{Adds, along_from, annotation_from, guards_from, ident_at, member_found, members_at, members_in_pool};
+ghost use Rattle.syntax.specs.Views.{ident, init_of, member_of, protection_of, type_of};
+ghost use Rattle.near_names.specs.Found.{names_if, some_begin};
+ghost use Rattle.near_names.specs.Members.{members_behind, name_as};
+ghost use Rattle.near_names.specs.Sought.{by_annotation, by_init, by_owner};
+ghost use Rattle.near_names.specs.Values.{Adds, Says, along_from, behind_one, dots_at, ident_at, members_at, members_in_pool, next_from};
 
-use crate::sought::begins;
-use source::memory::NoMemory;
+use crate::found::Found;
+use crate::search::{Search, Typed, begins};
 use symbols::members::Structure;
 use symbols::table::SymbolTable;
-use syntax::tree::{Decl, Init, Member, Name, Protection, Stmt, Struct, ValueType};
+use syntax::tree::{Decl, Init, Member, Name, Path, Protection, ValueType};
 
 /// What a member of a struct could be.
 #[derive(Clone, Copy)]
@@ -35,10 +37,7 @@ fn struct_named<'a, 't>(symbols: &'a SymbolTable<'t>, name: &Name) -> Option<&'a
 }
 
 /// The struct to which a type refers.
-pub fn struct_behind<'a, 't>(
-    symbols: &'a SymbolTable<'t>,
-    t: &ValueType,
-) -> Option<&'a Structure<'t>>
+fn struct_behind<'a, 't>(symbols: &'a SymbolTable<'t>, t: &ValueType) -> Option<&'a Structure<'t>>
     ensures { option_map members_at result ≡ members_behind (decls_of symbols.now) (type_of t.now) }
 {
     match t {
@@ -47,18 +46,29 @@ pub fn struct_behind<'a, 't>(
     }
 }
 
-/// The struct to which a member refers.
-fn over<'a, 't>(
+/// The struct to which the member of this name refers.
+fn next<'a, 't>(
     symbols: &'a SymbolTable<'t>,
-    found: Option<(usize, &'t Member)>,
+    structure: Option<&'a Structure<'t>>,
+    name: &Name,
 ) -> Option<&'a Structure<'t>>
-    ensures { option_map members_at result ≡ over (decls_of symbols.now) (option_map member_found found.entry) }
+    ensures { option_map members_at result ≡ next_from symbols.now structure.entry name.now }
 {
-    let (_, member) = found?;
+    let (_, member) = structure?.find(name.text.as_str())?;
     match member {
         Member::Lock(_) => None,
         Member::Final(reference) => struct_named(symbols, &reference.target),
         Member::Field(field) => struct_behind(symbols, &field.value_type),
+    }
+}
+
+/// The struct of a pool's members.
+fn struct_in_pool<'a, 't>(symbols: &'a SymbolTable<'t>, name: &Name) -> Option<&'a Structure<'t>>
+    ensures { option_map members_at result ≡ members_in_pool symbols.now name.now }
+{
+    match symbols.find(name.text.as_str()) {
+        Some((_, Decl::Pool(pool))) => struct_named(symbols, &pool.target),
+        _ => None,
     }
 }
 
@@ -84,179 +94,110 @@ fn name_as(role: Role, member: &Member) -> Option<&Name>
 }
 
 /// The names of members that can be in this role.
-fn push_names<'t>(
-    role: Role,
-    members: &'t [Member],
-    found: &mut Vec<&'t Name>,
-) -> Result<(), NoMemory>
-    ensures { OnOk result (Adds found.old found.new (names_as role (map member_of members.now))) }
+fn push_members<'t>(role: Role, members: &'t [Member], found: &mut Found<'t>)
+    ensures { Adds found.old found.new (filter_map (name_as role) (map member_of members.now)) }
 {
     for member in members {
-        if let Some(name) = name_as(role, member) {
-            found.push(name)?;
-        }
+        found.push_some(name_as(role, member));
     }
-    Ok(())
 }
 
-fn push_names_if<'t>(
+/// Those of a struct, if one of them is looked for.
+fn push_if<'a, 't>(
     role: Role,
-    is_there: bool,
-    members: &'t [Member],
-    found: &mut Vec<&'t Name>,
-) -> Result<(), NoMemory>
-    ensures { OnOk result (Adds found.old found.new (names_if role is_there (map member_of members.now))) }
-{
-    if !is_there {
-        return Ok(());
-    }
-    push_names(role, members, found)
-}
-
-/// Those of a struct, if there is one.
-pub fn push_among<'a, 't>(
-    role: Role,
+    is_sought: bool,
     structure: Option<&'a Structure<'t>>,
-    found: &mut Vec<&'t Name>,
-) -> Result<(), NoMemory>
-    ensures { OnOk result (Adds found.old found.new (names_among role (option_map members_at structure.entry))) }
+    found: &mut Found<'t>,
+)
+    ensures { Adds found.old found.new (names_if role is_sought (option_map members_at structure.entry)) }
 {
-    match structure {
-        Some(structure) => push_names(role, &structure.item().members, found),
-        None => Ok(()),
+    if !is_sought {
+        return;
+    }
+    if let Some(structure) = structure {
+        push_members(role, &structure.item().members, found);
     }
 }
 
-/// On the way along names, from a struct on, if there is one: the members among which one is looked for.
-pub fn push_along<'a, 't>(
-    role: Role,
-    symbols: &'a SymbolTable<'t>,
-    at: usize,
-    structure: Option<&'a Structure<'t>>,
-    names: &[Name],
-    found: &mut Vec<&'t Name>,
-) -> Result<(), NoMemory>
-    ensures { OnOk result (Adds found.old found.new (along_from role symbols.now at structure.entry names.now)) }
+/// Whether one of the names begins there.
+fn some_begin(at: usize, names: &[Name]) -> bool
+    ensures { result ≡ some_begin at (map ident names.now) }
 {
-    let mut structure = structure;
     for name in names {
-        let Some(here) = structure else {
-            return Ok(());
-        };
-        push_names_if(role, begins(true, at, name), &here.item().members, found)?;
-        structure = over(symbols, here.find(name.text.as_str()));
-    }
-    Ok(())
-}
-
-/// The same along an annotation.
-fn push_annotation<'a, 't>(
-    symbols: &'a SymbolTable<'t>,
-    at: usize,
-    structure: Option<&'a Structure<'t>>,
-    protection: &Protection,
-    found: &mut Vec<&'t Name>,
-) -> Result<(), NoMemory>
-    ensures { OnOk result (Adds found.old found.new (annotation_from symbols.now at structure.entry protection.now)) }
-{
-    let Some(here) = structure else {
-        return Ok(());
-    };
-    let first = &protection.first;
-    push_names_if(
-        Role::Lock,
-        begins(true, at, first),
-        &here.item().members,
-        found,
-    )?;
-    let next = over(symbols, here.find(first.text.as_str()));
-    push_along(Role::Lock, symbols, at, next, &protection.rest, found)
-}
-
-fn push_guards_of<'a, 't>(
-    symbols: &'a SymbolTable<'t>,
-    at: usize,
-    structure: Option<&'a Structure<'t>>,
-    member: &Member,
-    found: &mut Vec<&'t Name>,
-) -> Result<(), NoMemory>
-    ensures { OnOk result (Adds found.old found.new (guards_from symbols.now at structure.entry member.now)) }
-{
-    match member {
-        Member::Field(field) => match &field.protection {
-            Some(protection) => push_annotation(symbols, at, structure, protection, found),
-            None => Ok(()),
-        },
-        Member::Lock(_) | Member::Final(_) => Ok(()),
-    }
-}
-
-/// The members that the annotations of a struct's fields could name there.
-pub fn push_guards<'t>(
-    symbols: &SymbolTable<'t>,
-    at: usize,
-    item: &Struct,
-    found: &mut Vec<&'t Name>,
-) -> Result<(), NoMemory>
-    ensures { OnOk result (Adds found.old found.new (fields_of_struct (decls_of symbols.now) at (struct_of item.now))) }
-{
-    let structure = struct_named(symbols, &item.name);
-    for member in &item.members {
-        push_guards_of(symbols, at, structure, member, found)?;
-    }
-    Ok(())
-}
-
-/// The final references that could stand behind `where`, if a name begins there.
-pub fn push_owners<'t>(
-    symbols: &SymbolTable<'t>,
-    at: usize,
-    s: &Stmt,
-    found: &mut Vec<&'t Name>,
-) -> Result<(), NoMemory>
-    ensures { OnOk result (Adds found.old found.new (owners_by (decls_of symbols.now) at (stmt_of s.now))) }
-{
-    match s {
-        Stmt::LetOwned(owned) => {
-            if !begins(true, at, &owned.owner.field) {
-                return Ok(());
-            }
-            let structure = struct_behind(symbols, &owned.local.value_type);
-            push_among(Role::Owner, structure, found)
+        if begins(at, name) {
+            return true;
         }
-        Stmt::If(_) => Ok(()),
-        Stmt::Let(_)
-        | Stmt::LetCall(_)
-        | Stmt::Var(_)
-        | Stmt::Assign(_, _)
-        | Stmt::While(_)
-        | Stmt::Print(_, _)
-        | Stmt::Return(_, _)
-        | Stmt::Call(_, _) => Ok(()),
     }
+    false
 }
 
-/// The struct of a pool's members.
-fn struct_in_pool<'a, 't>(symbols: &'a SymbolTable<'t>, name: &Name) -> Option<&'a Structure<'t>>
-    ensures { option_map members_at result ≡ members_in_pool symbols.now name.now }
-{
-    match symbols.find(name.text.as_str()) {
-        Some((_, Decl::Pool(pool))) => struct_named(symbols, &pool.target),
-        _ => None,
+impl<'s, 't> Search<'s, 't> {
+    // On the way along names, from a struct on, if there is one: the members among which one is looked for.
+    fn along<'a>(
+        &self,
+        role: Role,
+        structure: Option<&'a Structure<'t>>,
+        names: &[Name],
+        found: &mut Found<'t>,
+    )
+    where
+        's: 'a,
+        ensures { Adds found.old found.new (along_from self.now role structure.entry names.now) }
+    {
+        let mut structure = structure;
+        for name in names {
+            push_if(role, begins(self.at, name), structure, found);
+            structure = next(self.symbols, structure, name);
+        }
     }
-}
 
-/// Those that an `init` could give, if its member's name begins there.
-pub fn push_init_fields<'t>(
-    symbols: &SymbolTable<'t>,
-    at: usize,
-    init: &Init,
-    found: &mut Vec<&'t Name>,
-) -> Result<(), NoMemory>
-    ensures { OnOk result (Adds found.old found.new (fields_of_init (decls_of symbols.now) at (init_of init.now))) }
-{
-    if !begins(true, at, &init.field) {
-        return Ok(());
+    // Behind a local, if it is the one that is named.
+    fn behind_one(&self, path: &Path, local: Typed<'t>, found: &mut Found<'t>)
+        ensures { Adds found.old found.new (behind_one self.now path.now local.entry) }
+    {
+        if local.name.text.as_str() != path.first.text.as_str() {
+            return;
+        }
+        let structure = struct_behind(self.symbols, local.value_type);
+        self.along(Role::Value, structure, &path.fields, found);
     }
-    push_among(Role::Value, struct_in_pool(symbols, &init.pool), found)
+
+    /// Members are looked for by names behind dots.
+    pub fn by_dots(&self, path: &Path, found: &mut Found<'t>)
+        ensures { Says self.now found.old found.new (dots_at self.now path.now) }
+    {
+        if !some_begin(self.at, &path.fields) {
+            return;
+        }
+        for local in self.locals {
+            self.behind_one(path, *local, found);
+        }
+    }
+
+    /// A member is looked for by the field of an `init`.
+    pub fn by_init(&self, init: &Init, found: &mut Found<'t>)
+        ensures { Says self.now found.old found.new (by_init (init_of init.now).pool (init_of init.now).field ∷ []) }
+    {
+        let structure = struct_in_pool(self.symbols, &init.pool);
+        push_if(Role::Value, begins(self.at, &init.field), structure, found);
+    }
+
+    /// Members are looked for by an annotation in the struct of this name.
+    pub fn by_annotation(&self, structure: &Name, protection: &Protection, found: &mut Found<'t>)
+        ensures { Says self.now found.old found.new (by_annotation (ident structure.now) (protection_of protection.now) ∷ []) }
+    {
+        let first = &protection.first;
+        let here = struct_named(self.symbols, structure);
+        push_if(Role::Lock, begins(self.at, first), here, found);
+        let behind = next(self.symbols, here, first);
+        self.along(Role::Lock, behind, &protection.rest, found);
+    }
+
+    /// A final reference is looked for behind `where`, at a local of this type.
+    pub fn by_owner(&self, t: &ValueType, field: &Name, found: &mut Found<'t>)
+        ensures { Says self.now found.old found.new (by_owner (type_of t.now) (ident field.now) ∷ []) }
+    {
+        let structure = struct_behind(self.symbols, t);
+        push_if(Role::Owner, begins(self.at, field), structure, found);
+    }
 }

@@ -1,8 +1,12 @@
 //! What is looked for by a name.
 
-ghost use Rattle.std.specs.Prelude.{◌≡◌, ◌&&◌};
-ghost use Rattle.syntax.specs.Views.{decl_of, ident};
-ghost use Rattle.near_names.specs.Sought.{begins, declares, is_helper, is_indexed, is_local, is_lock, is_pool, is_section, is_struct, is_value};
+ghost use Rattle.std.specs.Option.{option_map};
+ghost use Rattle.std.specs.Prelude.{◌≡◌};
+ghost use Rattle.resolution.specs.Scopes.{declared};
+ghost use Rattle.syntax.specs.Views.{decl_of};
+ghost use Rattle.near_names.specs.Found.{declared_as};
+ghost use Rattle.near_names.specs.NearNames.{can_be_local, declares};
+ghost use Rattle.near_names.specs.Values.{ident_at};
 
 use syntax::tree::{Decl, Name};
 
@@ -28,74 +32,54 @@ pub enum Sought {
 }
 
 impl Sought {
-    pub fn is_value(self) -> bool
-        ensures { result ≡ is_value self }
+    /// Whether a local is of this kind.
+    pub fn can_be_local(self) -> bool
+        ensures { result ≡ can_be_local self }
     {
-        matches!(self, Sought::Value)
-    }
-
-    pub fn is_indexed(self) -> bool
-        ensures { result ≡ is_indexed self }
-    {
-        matches!(self, Sought::Indexed)
-    }
-
-    pub fn is_local(self) -> bool
-        ensures { result ≡ is_local self }
-    {
-        matches!(self, Sought::Local)
-    }
-
-    pub fn is_struct(self) -> bool
-        ensures { result ≡ is_struct self }
-    {
-        matches!(self, Sought::Struct)
-    }
-
-    pub fn is_pool(self) -> bool
-        ensures { result ≡ is_pool self }
-    {
-        matches!(self, Sought::Pool)
-    }
-
-    pub fn is_section(self) -> bool
-        ensures { result ≡ is_section self }
-    {
-        matches!(self, Sought::Section)
-    }
-
-    pub fn is_helper(self) -> bool
-        ensures { result ≡ is_helper self }
-    {
-        matches!(self, Sought::Helper)
-    }
-
-    pub fn is_lock(self) -> bool
-        ensures { result ≡ is_lock self }
-    {
-        matches!(self, Sought::Lock)
+        matches!(self, Sought::Value | Sought::Local)
     }
 
     /// Whether a declaration is of this kind.
-    pub fn declares(self, decl: &Decl) -> bool
-        ensures { result ≡ declares self (decl_of decl.now) }
+    fn is_of(self, decl: &Decl) -> bool
+        ensures { result ≡ declares (decl_of decl.now) self }
     {
         match decl {
-            Decl::Lock(_) => self.is_lock(),
-            Decl::Struct(_) => self.is_struct(),
-            Decl::Global(_) => self.is_value(),
-            Decl::Array(_) => self.is_indexed(),
-            Decl::Pool(_) => self.is_indexed() || self.is_pool(),
-            Decl::Atomic(_) => self.is_section(),
-            Decl::Helper(_) => self.is_helper(),
+            Decl::Lock(_) => matches!(self, Sought::Lock),
+            Decl::Struct(_) => matches!(self, Sought::Struct),
+            Decl::Global(_) => matches!(self, Sought::Value),
+            Decl::Array(_) => matches!(self, Sought::Indexed),
+            Decl::Pool(_) => matches!(self, Sought::Indexed | Sought::Pool),
+            Decl::Atomic(_) => matches!(self, Sought::Section),
+            Decl::Helper(_) => matches!(self, Sought::Helper),
             Decl::Init(_) | Decl::Thread(_) => false,
+        }
+    }
+
+    /// The name that is declared, if the declaration is of this kind.
+    pub fn declared_as(self, decl: &Decl) -> Option<&Name>
+        ensures { option_map ident_at result ≡ declared_as self (decl_of decl.now) }
+    {
+        if self.is_of(decl) {
+            declared(decl)
+        } else {
+            None
         }
     }
 }
 
-/// Whether a name that is looked for begins there.
-pub fn begins(is_sought: bool, at: usize, name: &Name) -> bool
-    ensures { result ≡ is_sought && begins at (ident name.now) }
+/// The name that is declared; an `init` declares none.
+fn declared(decl: &Decl) -> Option<&Name>
+    ensures { option_map ident_at result ≡ declared (decl_of decl.now) }
 {
-    is_sought && name.start as usize == at
+    match decl {
+        Decl::Lock(name) => Some(name),
+        Decl::Struct(structure) => Some(&structure.name),
+        Decl::Global(variable) => Some(&variable.name),
+        Decl::Array(array) => Some(&array.name),
+        Decl::Pool(pool) => Some(&pool.name),
+        Decl::Init(_) => None,
+        Decl::Atomic(section) => Some(&section.name),
+        Decl::Helper(section) => Some(&section.name),
+        Decl::Thread(thread) => Some(&thread.name),
+    }
 }

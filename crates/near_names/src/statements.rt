@@ -1,34 +1,101 @@
-//! What is looked for in statements, with those of their blocks.
+//! What is looked for in statements and in those of their blocks, with the locals in scope at each.
 
+ghost use Rattle.std.specs.Option.{option_map};
 ghost use Rattle.std.specs.Prelude.{◌≡◌, map};
-ghost use Rattle.syntax.specs.Views.{else_of, option_of, param_of, section_of, stmt_of, stmts_of, type_of};
-ghost use Rattle.near_names.specs.Sought.{in_blocks, in_else, in_params, in_result, in_section, in_stmts};
+ghost use Rattle.syntax.specs.Views.{else_of, param_of, stmt_of, stmts_of};
+ghost use Rattle.near_names.specs.Locals.{declared_by, typed_param};
+ghost use Rattle.near_names.specs.UsesFound.{all_declared, uses_in_blocks, uses_in_else, uses_in_stmts};
+ghost use Rattle.near_names.specs.Values.{Binds, Grows, Keeps, Says, option_list, typed_of, typed_seen};
 
-use crate::expressions::Search;
-use syntax::tree::{Block, Param, Section, Stmt, ValueType};
+use crate::found::Found;
+use crate::search::{Search, Typed};
+use syntax::tree::{Block, Param, Stmt};
 
-impl Search {
+/// The local that a statement declares, if it does.
+fn declared_by(s: &Stmt) -> Option<Typed<'_>>
+    ensures { option_list (option_map typed_of result) ≡ declared_by (stmt_of s.now) }
+{
+    match s {
+        Stmt::Let(local) => Some(Typed {
+            name: &local.name,
+            value_type: &local.value_type,
+        }),
+        Stmt::LetOwned(owned) => Some(Typed {
+            name: &owned.local.name,
+            value_type: &owned.local.value_type,
+        }),
+        Stmt::LetCall(called) => Some(Typed {
+            name: &called.name,
+            value_type: &called.value_type,
+        }),
+        Stmt::Var(local) => Some(Typed {
+            name: &local.name,
+            value_type: &local.value_type,
+        }),
+        Stmt::If(_) => None,
+        Stmt::Assign(_, _)
+        | Stmt::While(_)
+        | Stmt::Print(_, _)
+        | Stmt::Return(_, _)
+        | Stmt::Call(_, _) => None,
+    }
+}
+
+/// One more local is in scope, if there is one.
+fn bind<'t>(local: Option<Typed<'t>>, scope: &mut Vec<Typed<'t>>, found: &mut Found<'t>)
+    ensures { Binds scope.old scope.new found.old found.new (option_list (option_map typed_of local.entry)) }
+{
+    if let Some(local) = local {
+        if scope.push(local).is_err() {
+            found.is_refused = true;
+        }
+    }
+}
+
+/// Parameters are in scope.
+pub fn push_params<'t>(params: &'t [Param], scope: &mut Vec<Typed<'t>>, found: &mut Found<'t>)
+    ensures { Binds scope.old scope.new found.old found.new (map typed_param (map param_of params.now)) }
+{
+    for param in params {
+        let local = Typed {
+            name: &param.name,
+            value_type: &param.value_type,
+        };
+        bind(Some(local), scope, found);
+    }
+}
+
+impl<'s, 't> Search<'s, 't> {
+    /// In statements ahead of which these locals are in scope, behind which their own are.
     #[cycle(stmts)]
-    fn in_stmts(self, stmts: &[Stmt]) -> bool
-        ensures { result ≡ in_stmts self.sought self.at (stmts_of stmts.now) }
+    pub fn in_stmts(&self, stmts: &'t [Stmt], scope: &mut Vec<Typed<'t>>, found: &mut Found<'t>)
+        ensures found { Says self.now found.old found.new (uses_in_stmts (typed_seen scope.old.items) (stmts_of stmts.now)) }
+        ensures scope { Grows found.new scope.old scope.new (all_declared (stmts_of stmts.now)) }
     {
         for s in stmts {
-            if self.in_own(s) || self.in_blocks(s) {
-                return true;
-            }
+            let here = Search {
+                alloc: self.alloc,
+                symbols: self.symbols,
+                at: self.at,
+                locals: scope.as_slice(),
+            };
+            here.in_own(s, found);
+            self.in_blocks(s, scope, found);
+            bind(declared_by(s), scope, found);
         }
-        false
     }
 
     #[cycle(stmts)]
-    fn in_blocks(self, s: &Stmt) -> bool
-        ensures { result ≡ in_blocks self.sought self.at (stmt_of s.now) }
+    fn in_blocks(&self, s: &'t Stmt, scope: &mut Vec<Typed<'t>>, found: &mut Found<'t>)
+        ensures found { Says self.now found.old found.new (uses_in_blocks (typed_seen scope.old.items) (stmt_of s.now)) }
+        ensures scope { Keeps found.new scope.old scope.new }
     {
         match s {
             Stmt::If(choice) => {
-                self.in_stmts(&choice.block.stmts) || self.in_else(&choice.otherwise)
+                self.in_block(&choice.block, scope, found);
+                self.in_else(&choice.otherwise, scope, found);
             }
-            Stmt::While(repetition) => self.in_stmts(&repetition.block.stmts),
+            Stmt::While(repetition) => self.in_block(&repetition.block, scope, found),
             Stmt::Let(_)
             | Stmt::LetOwned(_)
             | Stmt::LetCall(_)
@@ -36,46 +103,28 @@ impl Search {
             | Stmt::Assign(_, _)
             | Stmt::Print(_, _)
             | Stmt::Return(_, _)
-            | Stmt::Call(_, _) => false,
+            | Stmt::Call(_, _) => {}
         }
+    }
+
+    // The locals of a block are out of scope behind it.
+    #[cycle(stmts)]
+    fn in_block(&self, block: &'t Block, scope: &mut Vec<Typed<'t>>, found: &mut Found<'t>)
+        ensures found { Says self.now found.old found.new (uses_in_stmts (typed_seen scope.old.items) (stmts_of block.now.stmts.items)) }
+        ensures scope { Keeps found.new scope.old scope.new }
+    {
+        let ahead = scope.len();
+        self.in_stmts(&block.stmts, scope, found);
+        scope.truncate(ahead);
     }
 
     #[cycle(stmts)]
-    fn in_else(self, other: &Option<Block>) -> bool
-        ensures { result ≡ in_else self.sought self.at (else_of other.now) }
+    fn in_else(&self, other: &'t Option<Block>, scope: &mut Vec<Typed<'t>>, found: &mut Found<'t>)
+        ensures found { Says self.now found.old found.new (uses_in_else (typed_seen scope.old.items) (else_of other.now)) }
+        ensures scope { Keeps found.new scope.old scope.new }
     {
-        match other {
-            None => false,
-            Some(block) => self.in_stmts(&block.stmts),
+        if let Some(block) = other {
+            self.in_block(block, scope, found);
         }
-    }
-
-    fn in_params(self, params: &[Param]) -> bool
-        ensures { result ≡ in_params self.sought self.at (map param_of params.now) }
-    {
-        for param in params {
-            if self.in_type(&param.value_type) {
-                return true;
-            }
-        }
-        false
-    }
-
-    fn in_result(self, t: &Option<ValueType>) -> bool
-        ensures { result ≡ in_result self.sought self.at (option_of type_of t.now) }
-    {
-        match t {
-            Some(t) => self.in_type(t),
-            None => false,
-        }
-    }
-
-    /// In a section or a helper.
-    pub fn in_section(self, section: &Section) -> bool
-        ensures { result ≡ in_section self.sought self.at (section_of section.now) }
-    {
-        self.in_params(&section.params)
-            || self.in_result(&section.result)
-            || self.in_stmts(&section.body.stmts)
     }
 }

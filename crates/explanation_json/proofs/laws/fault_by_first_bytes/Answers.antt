@@ -1,18 +1,20 @@
-use Rattle.std.proofs.Common.{◌≡◌, ◌∙◌, ◌<◌, ◌≤◌, ◌+◌, ℕ, List, [], take, drop, length, max, min, refl, sym, ap, ap₂, subst, arith, ⊎_elim}
+use Rattle.std.proofs.Common.{◌≡◌, ◌∙◌, ◌<◌, ◌≤◌, ◌+◌, ℕ, suc, List, [], ◌∷◌, Option, None, map, take, drop, length, max, min, refl, sym, ap, ap₂, subst, arith, ⊎_elim}
 use Rattle.std.specs.List.{prefix_len}
-use Rattle.std.specs.Prelude.{◌++◌, false, codes, string_bytes}
+use Rattle.std.specs.Prelude.{◌++◌, All, false, codes, string_bytes}
 use Rattle.std.proofs.lemmas.Bool.{cases_lt}
 use Rattle.std.proofs.lemmas.List.{take-take, take_all, length-take}
 use Rattle.std.proofs.lemmas.List.Sums.{prefix_len-le-length}
 use Rattle.code.specs.Listing.{line}
+use Rattle.explanation.specs.Notes.{Note}
 use Rattle.explanation.specs.Remedies.{remedy}
-use Rattle.serde_json.specs.Data.{Data, array, boolean, object, string, member, no_members, no_items}
+use Rattle.serde_json.specs.Data.{Data, array, boolean, object, string, member, no_members}
+use Rattle.serde_json.specs.View.{items_of}
 use Rattle.serde_json.specs.Written.{compact_text}
 use Rattle.source.specs.Codes.{code_name, code_text}
 use Rattle.source.specs.declared.fault.Fault.{Fault}
 use Rattle.source.specs.Faults.{detail_text}
 use Rattle.source.specs.Texts.{is_name_byte}
-use Rattle.explanation_json.specs.Json.{WORD, word_length, end_of, position_data, fault_json}
+use Rattle.explanation_json.specs.Json.{WORD, word_length, end_of, position_data, told_data, note_data, fault_json}
 use Rattle.explanation_json.proofs.laws.fault_by_first_bytes.Goals as goal
 
 zero_first : (n : ℕ) → min 0 n ≡ 0
@@ -45,27 +47,42 @@ module _ (n : ℕ) (text : List ℕ) (far : WORD < n) (long : n ≤ length text)
   same_last : position_data (take n text) (end_of (take n text) 0) ≡ position_data text (end_of text 0)
   same_last = ap (position_data (take n text)) same_end ∙ same_position (end_of text 0) near
 
+-- ---- notes on no place
+
+told_same : (t u : List ℕ) (note : Note) → note.start ≡ None → note_data t note ≡ note_data u note
+told_same t u note none =
+    ap (λ (start : Option ℕ). told_data t start note.words) none ∙ sym (ap (λ (start : Option ℕ). told_data u start note.words) none)
+
+all_same : (t u : List ℕ) (notes : List Note) → All (λ (note : Note). note.start ≡ None) notes → map (note_data t) notes ≡ map (note_data u) notes
+all_same t u [] none = refl
+all_same t u (note ∷ notes) none =
+    ap₂ (λ (d : Data) (ds : List Data). d ∷ ds) (told_same t u note (none 0 note (omega arith))) (all_same t u notes (λ k d lt. none (suc k) d (omega arith)))
+
 -- the object, by where the fault begins and ends
-alike : (file t u : List ℕ) (fault : Fault) → fault.start ≡ 0 → position_data t 0 ≡ position_data u 0 →
-    position_data t (end_of t 0) ≡ position_data u (end_of u 0) → fault_json file t fault [] ≡ fault_json file u fault []
-alike file t u fault first begin finish =
-    let whole = λ (start last : Data).
+alike : (file t u : List ℕ) (fault : Fault) (notes : List Note) → fault.start ≡ 0 → map (note_data t) notes ≡ map (note_data u) notes →
+    position_data t 0 ≡ position_data u 0 → position_data t (end_of t 0) ≡ position_data u (end_of u 0) →
+    fault_json file t fault notes ≡ fault_json file u fault notes
+alike file t u fault notes first said begin finish =
+    let whole = λ (told : List Data) (start last : Data).
     line (compact_text (object (member (codes "accepted") (boolean false)
     (member (codes "code") (string (code_name fault.code))
     (member (codes "end") last
     (member (codes "file") (string file)
-    (member (codes "notes") (array no_items)
+    (member (codes "notes") (array (items_of told))
     (member (codes "remedy") (string (remedy fault.code))
     (member (codes "start") start
     (member (codes "text") (string (code_text fault.code ++ detail_text (string_bytes fault.detail))) no_members)))))))))) in
-    ap (λ (k : ℕ). whole (position_data t k) (position_data t (end_of t k))) first ∙ ap₂ whole begin finish
-    ∙ sym (ap (λ (k : ℕ). whole (position_data u k) (position_data u (end_of u k))) first)
+    ap (λ (k : ℕ). whole (map (note_data t) notes) (position_data t k) (position_data t (end_of t k))) first
+    ∙ ap₂ (whole (map (note_data t) notes)) begin finish
+    ∙ ap (λ (told : List Data). whole told (position_data u 0) (position_data u (end_of u 0))) said
+    ∙ sym (ap (λ (k : ℕ). whole (map (note_data u) notes) (position_data u k) (position_data u (end_of u k))) first)
 
 pub returns : goal.returns
-returns c count file text fault far first =
+returns c count file text fault notes far first none =
     ⊎_elim
     (λ (few : length text < count).
-    ap (λ (t : List ℕ). fault_json file t fault []) (take_all count text (omega arith)))
+    ap (λ (t : List ℕ). fault_json file t fault notes) (take_all count text (omega arith)))
     (λ (many : count ≤ length text).
-    alike file (take count text) text fault first (same_first count text far many) (same_last count text far many))
+    alike file (take count text) text fault notes first (all_same (take count text) text notes none) (same_first count text far many)
+    (same_last count text far many))
     (cases_lt (length text) count)

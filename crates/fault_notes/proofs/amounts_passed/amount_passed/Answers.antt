@@ -1,6 +1,6 @@
 use Rattle.std.proofs.Common.{◌≡◌, ◌∙◌, true, false, sym}
-use Rattle.resolution.specs.Limits.{OBJECT_LIMIT, CELL_LIMIT, CALL_LIMIT}
-use Rattle.resolution.specs.Numbers.{objects_of, cells_of, calls_of}
+use Rattle.resolution.specs.Limits.{OBJECT_LIMIT, CELL_LIMIT}
+use Rattle.resolution.specs.Numbers.{objects_of, cells_of}
 use Rattle.symbols.specs.Views.{decls_of}
 use Rattle.fault_notes.specs.AmountsPassed.{objects, cells, calls}
 use Rattle.fault_notes.proofs.AmountsPassed.{over_if, none_amount}

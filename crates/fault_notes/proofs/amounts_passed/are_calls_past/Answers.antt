@@ -1,4 +1,4 @@
-use Rattle.std.proofs.Common.{◌≡◌, ◌∙◌, ◌<◌, true, false, Some, map, length, refl, sym, ap, below_more, arith}
+use Rattle.std.proofs.Common.{◌≡◌, ◌∙◌, true, false, map, refl, sym, ap, below_more, arith}
 use Rattle.std.proofs.lemmas.Option.{same_Some}
 use Rattle.resolution.specs.Scopes.{declared}
 use Rattle.syntax.specs.Trees.{Decl}

@@ -1,4 +1,4 @@
-use Rattle.std.proofs.Common.{◌≡◌, ◌∙◌, ◌+◌, take, map, sym, ap}
+use Rattle.std.proofs.Common.{◌∙◌, ◌+◌, take, map, sym, ap}
 use Rattle.std.proofs.lemmas.List.{take-map}
 use Rattle.std.proofs.lemmas.Result.{IfOk-weaker}
 use Rattle.resolution.specs.Resolution.{few_calls}

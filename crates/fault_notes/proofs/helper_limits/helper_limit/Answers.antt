@@ -1,4 +1,4 @@
-use Rattle.std.proofs.Common.{◌≡◌, ◌∙◌, List, true, false, sym, ap, subst, length, arith, take, ℕ}
+use Rattle.std.proofs.Common.{◌≡◌, ◌∙◌, List, true, false, sym, ap, subst, length, arith, take}
 use Rattle.std.specs.Prelude.{min}
 use Rattle.call_graph.specs.Graphs.{Body, bodies_of}
 use Rattle.call_graph.specs.declared.graph.Body as code

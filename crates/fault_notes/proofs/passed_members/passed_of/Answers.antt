@@ -3,7 +3,7 @@ use Rattle.syntax.specs.Trees.{Struct}
 use Rattle.syntax.specs.Views.{decl_of, struct_of}
 use Rattle.symbols.specs.Views.{decls_of}
 use Rattle.fault_notes.specs.FirstBy.{first_by}
-use Rattle.fault_notes.specs.PassedMembers.{passed_for, passed_of}
+use Rattle.fault_notes.specs.PassedFound.{met_for, met_of}
 use Rattle.fault_notes.proofs.Structs.{struct_found, struct_missed}
 use Rattle.fault_notes.proofs.passed_members.passed_of.Goals as goal
 
@@ -13,8 +13,8 @@ returns-in-Some c =
     let same = struct_found decls c.args.place c.number.result c.args.decl.now c.in-Struct.field-0 c.requires c.in-Struct.is c.number.ensures
     (struct_of c.in-Some.structure.now) c.in-Some.ensures in
     c.passed_in.ensures
-    ∙ ap (λ (s : Struct). first_by (passed_for decls c.args.at s.members) s.members) same
-    ∙ ap (λ d. passed_of decls c.args.at (decl_of d)) (sym c.in-Struct.is)
+    ∙ ap (λ (s : Struct). first_by (met_for c.args.sought decls s.members) s.members) same
+    ∙ ap (λ d. met_of c.args.sought decls (decl_of d)) (sym c.in-Struct.is)
 
 pub returns-in-None : goal.returns-in-None
 returns-in-None c =

@@ -5,14 +5,14 @@ use Rattle.fault_notes.proofs.MissingInits.{is_null_given, no_gap}
 use Rattle.fault_notes.proofs.tree_notes.Faulty.final_note.Goals as goal
 
 pub returns-in-Some : goal.returns-in-Some
-returns-in-Some c = rw c.in_ok-note.ensures (gap (rw c.in_ok-symbols.ensures at c.in-Some.ensures))
+returns-in-Some c = rw c.in_ok-note.ensures (gap (c.in-Some.ensures))
 
 pub returns-in-Some-null_given : goal.returns-in-Some-null_given
 returns-in-Some-null_given c =
     let x = c.args.self.now in
-    rw c.in_ok-note-2.ensures (null (is_null_given (decls_of x) x.at _ (sym (rw c.in_ok-symbols.ensures at c.in-Some-null_given.ensures))))
+    rw c.in_ok-note-2.ensures (null (is_null_given (decls_of x) x.at _ (sym (c.in-Some-null_given.ensures))))
 
 pub returns : goal.returns
 returns c =
     let x = c.args.self.now in
-    no_gap (decls_of x) x.at (rw c.in_ok-symbols.ensures at c.in_default.ensures) (sym (rw c.in_ok-symbols.ensures at c.in_default-null_given.ensures))
+    no_gap (decls_of x) x.at (c.in_default.ensures) (sym (c.in_default-null_given.ensures))

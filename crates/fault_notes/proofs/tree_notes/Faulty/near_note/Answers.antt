@@ -12,11 +12,11 @@ returns-in_default c =
 pub returns-in_default-2 : goal.returns-in_default-2
 returns-in_default-2 c =
     let x = c.args.self.now in
-    none_near (tokens_of x) (decls_of x) x.at (text_at c.in-Some.text) c.in-Some.ensures (rw (c.in_default-2.is, c.in_ok-symbols.ensures) at c.in_ok-name.ensures)
+    none_near (tokens_of x) (decls_of x) x.at (text_at c.in-Some.text) c.in-Some.ensures (rw c.in_default-2.is at c.in_ok-name.ensures)
 
 pub returns : goal.returns
 returns c =
-    let found = rw (c.in-Some-2.is, c.in_ok-symbols.ensures) at c.in_ok-name.ensures in
+    let found = rw c.in-Some-2.is at c.in_ok-name.ensures in
     rw c.in_ok-note.ensures record {
       unknown = text_at c.in-Some.text;
       there = sym c.in-Some.ensures;

@@ -13,11 +13,11 @@ returns c =
     let i = c.in-Some.i in
     let q = text_at c.in-Some-name_of.text in
     let named = c.in-Some-name_of.ensures ∙ ap name_of c.token_of.ensures in
-    let inside = rw c.deref.ensures.value at c.in-Some-section_there.ensures in
+    let inside = rw c.items.ensures at c.in-Some-section_there.ensures in
     let noted = noted_by (tokens_of x) (decls_of x) x.at i q (section_at c.in-Some-section_there.section) c.in-Some.ensures.place named inside in
-    let all = ap (map stmt_at) c.deref-2.ensures.value ∙ c.in_ok-all.ensures in
+    let all = ap (map stmt_at) c.deref.ensures.value ∙ c.in_ok-all.ensures in
     IfOk-weaker c.note_of_var.result _ _
     (λ note is.
-    is ∙ ap (λ (b : Bool). note_of_var b q (map stmt_at c.deref-2.result.now)) c.has_two_fields.ensures
+    is ∙ ap (λ (b : Bool). note_of_var b q (map stmt_at c.deref.result.now)) c.has_two_fields.ensures
     ∙ ap (λ (ss : List Stmt). note_of_var (has_two_fields i (tokens_of x)) q ss) all ∙ sym noted)
     c.note_of_var.ensures

@@ -2,12 +2,11 @@ use Rattle.std.proofs.Common.{◌≡◌, ◌++◌, drop}
 use Rattle.syntax.specs.Views.{stmts_of}
 use Rattle.resolution.specs.Statements.{after_all}
 use Rattle.expressions.specs.Checkers.{scope}
-use Rattle.name_notes.specs.Searches.{of_stmts}
-use Rattle.name_notes.specs.Values.{notes_seen, said_of_stmt}
+use Rattle.name_notes.specs.Values.{stmts_clashes}
 use Rattle.name_notes.proofs.searches.Search.+stmts.Given as goal
 
 abbrev pub invariant-stmts-loop-s : goal.invariant-stmts-loop-s
 invariant-stmts-loop-s l = record {
-  notes : notes_seen l.notes.items ++ of_stmts (said_of_stmt l.self) (scope l.checker) (stmts_of (drop l.s-index l.stmts)) ≡ notes_seen l.initial.notes.items ++ of_stmts (said_of_stmt l.self) (scope l.fn.checker) (stmts_of l.stmts);
+  found : l.found.items ++ stmts_clashes l.self.at (scope l.checker) (stmts_of (drop l.s-index l.stmts)) ≡ l.initial.found.items ++ stmts_clashes l.self.at (scope l.fn.checker) (stmts_of l.stmts);
   scope : after_all (scope l.checker) (stmts_of (drop l.s-index l.stmts)) ≡ after_all (scope l.fn.checker) (stmts_of l.stmts);
 }
