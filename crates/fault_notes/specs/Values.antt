@@ -13,7 +13,7 @@ use Rattle.resolution.specs.Scopes.{declared, member_bears, member_name, place_o
 use Rattle.source.specs.Texts.{HasTokens, IsFault, SOURCE_LIMIT}
 use Rattle.source.specs.Tokens.{Tok, seen, seen_token}
 use Rattle.source.specs.declared.fault.Code.{Code}
-use Rattle.source.specs.declared.fault.Code.TheVariants.{LimitExceeded}
+use Rattle.source.specs.declared.fault.Code.TheVariants.{LimitExceeded, MisplacedReturn}
 use Rattle.source.specs.declared.fault.Fault.{Fault}
 use Rattle.source.specs.declared.token.Token.{Token}
 use Rattle.symbols.specs.Views.{decls_of as decls_in, members_seen}
@@ -31,7 +31,7 @@ use Rattle.syntax.specs.declared.tree.Param as written_param
 use Rattle.syntax.specs.declared.tree.Protection.{Protection}
 use Rattle.syntax.specs.declared.tree.Section as written_section
 use Rattle.syntax.specs.declared.tree.Stmt as written_stmt
-use Rattle.fault_notes.specs.FaultNotes.{IsLimitPassed, IsLimitTold, IsTrueNote, IsTold, gap_note}
+use Rattle.fault_notes.specs.FaultNotes.{AreNotes, IsLimitPassed, IsLimitTold, IsTrueNote, IsTold, gap_note}
 use Rattle.fault_notes.specs.FirstBy.{first_by}
 use Rattle.fault_notes.specs.HelperLimits.{IsFirstOfHelpers, IsHelperLimit}
 use Rattle.fault_notes.specs.LimitsPassed.{struct_name, body_name, thread_name}
@@ -85,6 +85,10 @@ FoundNote Is None = (note : Note) → Is note → ⊥
 abbrev pub IsNoteIfTold : Faulty → Code → Option written_note.Note → Type 0
 IsNoteIfTold x code (Some note) = IsTrueNote (tokens_of x) (decls_of x) code x.at (note_of note)
 IsNoteIfTold x code None = IsTold (tokens_of x) (decls_of x) code x.at → ⊥
+
+-- all that is told of a `return`, whatever the tokens are
+abbrev pub AreReturnNotes : List Decl → ℕ → List Note → Type 0
+AreReturnNotes decls at notes = (tokens : List Tok) → AreNotes tokens decls MisplacedReturn at notes
 
 abbrev pub FoundInit : (Init → Type 0) → Option (Bor written_init.Init) → Type 0
 FoundInit Is (Some i) = Is (init_of i.now)

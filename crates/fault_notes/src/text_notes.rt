@@ -6,11 +6,11 @@ ghost use Rattle.fault_notes.specs.TextNotes.{AreTextNotes};
 ghost use Rattle.fault_notes.specs.Values.{FoundTextLimit, IsItsFault};
 
 use crate::lock_paths::is_limit_at;
-use crate::tree_notes::tree_notes;
+use crate::tree_notes::{return_notes, tree_notes};
 use explanation::Note;
 use lexer::lex;
 use parser::{find_tree, one_tree};
-use source::fault::{Fault, Refusal};
+use source::fault::{Code, Fault, Refusal};
 use source::memory::NoMemory;
 use std::alloc::Global;
 use symbols::table::SymbolTable;
@@ -76,6 +76,10 @@ pub fn fault_notes(alloc: Global, text: &[u8], fault: &Fault) -> Result<Vec<Note
         let notes = token_notes(alloc, tokens, fault)?;
         return Ok(notes);
     };
+    // (which needs no table of what is declared)
+    if let Code::MisplacedReturn = fault.code {
+        return return_notes(alloc, &tree.decls, fault.start);
+    }
     let mut least = None;
     let symbols = SymbolTable::new(alloc, &tree.decls, &mut least)?;
     tree_notes(alloc, &tokens, &symbols, fault)

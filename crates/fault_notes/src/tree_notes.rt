@@ -12,7 +12,7 @@ ghost use Rattle.name_notes.specs.TypeNotes.{IsTypeNote};
 ghost use Rattle.fault_notes.specs.FaultNotes.{AreNotes, IsDeclaredNote, IsGivenNote, IsLockNote, IsPassedNote, IsReturnNote};
 ghost use Rattle.fault_notes.specs.NameSpaces.{IsDeclaredAs, IsDeclaredIn};
 ghost use Rattle.fault_notes.specs.VarsFound.{note_of_var, var_noted};
-ghost use Rattle.fault_notes.specs.Values.{FoundName, FoundNote, IsLimitIfTold, IsNoteIfTold, decls_of, idents, stmt_at, tokens_of};
+ghost use Rattle.fault_notes.specs.Values.{AreReturnNotes, FoundName, FoundNote, IsLimitIfTold, IsNoteIfTold, decls_of, idents, stmt_at, tokens_of};
 
 use crate::amounts_passed::amount_passed;
 use crate::first_inits::first_given;
@@ -64,6 +64,34 @@ fn note_of_var(
     };
     let note = name_note(alloc, name, words)?;
     Ok(Some(note))
+}
+
+/// Which `return` is missing, or that none is.
+fn note_of_return(alloc: Global, decls: &[Decl], at: usize) -> Result<Note, NoMemory>
+    ensures { IfOk result (λ note. IsReturnNote (map decl_of decls.now) at (note_of note)) }
+{
+    let Some(name) = lacking(decls, at) else {
+        let words = "this return is not the last statement of a body with a result";
+        return Ok(Note {
+            start: None,
+            words: String::from_str(alloc, words)?,
+        });
+    };
+    name_note(
+        alloc,
+        name,
+        " has a result, and its body does not end in a return",
+    )
+}
+
+/// What is told of a misplaced or missing `return` by the declarations of a tree.
+pub fn return_notes(alloc: Global, decls: &[Decl], at: usize) -> Result<Vec<Note>, NoMemory>
+    ensures { IfOk result (λ notes. AreReturnNotes (map decl_of decls.now) at (map note_of notes.items)) }
+{
+    let mut notes = Vec::new(alloc);
+    let note = note_of_return(alloc, decls, at)?;
+    notes.push(note)?;
+    Ok(notes)
 }
 
 /// Tokens with the declarations of their tree, and the place of its fault.
@@ -252,18 +280,8 @@ impl<'a> Faulty<'a> {
     fn return_note(&self, alloc: Global) -> Result<Note, NoMemory>
         ensures { IfOk result (λ note. IsReturnNote (decls_of self.now) self.now.at (note_of note)) }
     {
-        let Some(name) = lacking(self.symbols.items(), self.at) else {
-            let words = "this return is not the last statement of a body with a result";
-            return Ok(Note {
-                start: None,
-                words: String::from_str(alloc, words)?,
-            });
-        };
-        name_note(
-            alloc,
-            name,
-            " has a result, and its body does not end in a return",
-        )
+        let note = note_of_return(alloc, self.symbols.items(), self.at)?;
+        Ok(note)
     }
 
     // What is told, if anything is.
