@@ -9,7 +9,21 @@ use core_lang::value::{Failure, Value};
 use operations::access::{cell_of_element, follow, member, owned_by, value_at};
 use operations::operators::{compare, negate, operate};
 
+// What most operands are is read in line, without a frame of its own.
+#[inline(always)]
+#[cycle(evaluate)]
+fn operand(e: &Expr, shape: &Shape, locals: &[Value], heap: &[Value]) -> Result<Value, Failure>
+    ensures { result ≡ value_of e.now shape.now locals.now heap.now }
+{
+    match e {
+        Expr::Number(n) => Ok(Value::Int(*n)),
+        Expr::Place(path) => follow(path, shape, locals, heap),
+        _ => evaluate(e, shape, locals, heap),
+    }
+}
+
 /// The value of an expression.
+#[cycle(evaluate)]
 #[tactic(auto, using(crate::proofs::Steps::chains))]
 pub fn evaluate(e: &Expr, shape: &Shape, locals: &[Value], heap: &[Value]) -> Result<Value, Failure>
     ensures { result ≡ value_of e.now shape.now locals.now heap.now }
@@ -20,12 +34,12 @@ pub fn evaluate(e: &Expr, shape: &Shape, locals: &[Value], heap: &[Value]) -> Re
         Expr::Place(path) => follow(path, shape, locals, heap),
         Expr::Global { cell, .. } => value_at(heap, *cell as usize),
         Expr::Element { array, index, .. } => {
-            let index = evaluate(index, shape, locals, heap)?;
+            let index = operand(index, shape, locals, heap)?;
             let cell = cell_of_element(shape, *array, index)?;
             value_at(heap, cell)
         }
         Expr::Member { pool, index } => {
-            let index = evaluate(index, shape, locals, heap)?;
+            let index = operand(index, shape, locals, heap)?;
             member(shape, *pool, index)
         }
         Expr::Negate(e) => negate(evaluate(e, shape, locals, heap)?),
@@ -40,9 +54,9 @@ pub fn evaluate(e: &Expr, shape: &Shape, locals: &[Value], heap: &[Value]) -> Re
             owned_by(shape, value, *number, owner)
         }
         Expr::Chain { first, rest } => {
-            let mut value = evaluate(first, shape, locals, heap)?;
+            let mut value = operand(first, shape, locals, heap)?;
             for operation in rest {
-                let right = evaluate(&operation.operand, shape, locals, heap)?;
+                let right = operand(&operation.operand, shape, locals, heap)?;
                 value = operate(operation.operator, value, right)?;
             }
             Ok(value)
@@ -61,8 +75,8 @@ pub fn is_true(
 {
     match c {
         Condition::Compare(comparison, a, b) => {
-            let left = evaluate(a, shape, locals, heap)?;
-            let right = evaluate(b, shape, locals, heap)?;
+            let left = operand(a, shape, locals, heap)?;
+            let right = operand(b, shape, locals, heap)?;
             compare(*comparison, left, right)
         }
         Condition::Not(c) => Ok(!is_true(c, shape, locals, heap)?),

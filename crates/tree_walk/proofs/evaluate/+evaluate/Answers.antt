@@ -7,32 +7,32 @@ use Rattle.tree_walk.specs.Chains.{chain_starts}
 use Rattle.tree_walk.proofs.Steps.{chain_fails, chain_fails_first}
 use Rattle.tree_walk.proofs.evaluate.+evaluate.Goals as goal
 
-pub loop-operation-init : goal.loop-operation-init
-loop-operation-init t c =
+pub evaluate-loop-operation-init : goal.evaluate-loop-operation-init
+evaluate-loop-operation-init t c =
     chain_starts _ _ _ _ _ _ _ _ _ c.in-Chain.is c.deref-operation-items.ensures.value c.deref-in-Chain.ensures c.in_ok-value-in-Chain.ensures
 
-pub returns-in_err-right-in-Chain : goal.returns-in_err-right-in-Chain
-returns-in_err-right-in-Chain t c =
+pub evaluate-returns-in_err-right-in-Chain : goal.evaluate-returns-in_err-right-in-Chain
+evaluate-returns-in_err-right-in-Chain t c =
     let p = err_from_is_err_and c.from_residual-in_err-right-in-Chain.result c.from_residual-in_err-right-in-Chain.ensures.1 in
     rw (p.1, p.2) (chain_fails _ _ _ _ _ _ _ _ _ c.loop-operation-test.true c.operation-item.is
     (ap (joined c.operation-item.result.operator (Ok c.loop-operation.value)) (sym c.in_err-right-in-Chain.ensures)) c.loop-operation.invariant)
 
-pub returns-in_err-value-in-Chain-2 : goal.returns-in_err-value-in-Chain-2
-returns-in_err-value-in-Chain-2 t c =
+pub evaluate-returns-in_err-value-in-Chain-2 : goal.evaluate-returns-in_err-value-in-Chain-2
+evaluate-returns-in_err-value-in-Chain-2 t c =
     let p = err_from_is_err_and c.from_residual-in_err-value-in-Chain-2.result c.from_residual-in_err-value-in-Chain-2.ensures.1 in
     rw (p.1, p.2) (chain_fails _ _ _ _ _ _ _ _ _ c.loop-operation-test.true c.operation-item.is
     (ap (joined c.operation-item.result.operator (Ok c.loop-operation.value)) (sym c.in_ok-right-in-Chain.ensures) ∙ sym c.in_err-value-in-Chain-2.ensures) c.loop-operation.invariant)
 
-pub loop-operation-preserved : goal.loop-operation-preserved
-loop-operation-preserved t c =
+pub evaluate-loop-operation-preserved : goal.evaluate-loop-operation-preserved
+evaluate-loop-operation-preserved t c =
     chain_goes _ _ _ _ _ _ _ _ _ c.loop-operation-test.true c.operation-item.is
     (ap (joined c.operation-item.result.operator (Ok c.loop-operation.value)) (sym c.in_ok-right-in-Chain.ensures) ∙ sym c.in_ok-value-in-Chain-2.ensures) c.loop-operation.invariant
 
-pub returns-after-loop-operation : goal.returns-after-loop-operation
-returns-after-loop-operation t c =
+pub evaluate-returns-after-loop-operation : goal.evaluate-returns-after-loop-operation
+evaluate-returns-after-loop-operation t c =
     chain_ends c.deref-operation-items.result.now c.loop-operation.operation-index c.args.shape.now c.args.locals.now c.args.heap.now _ _ c.loop-operation-test.false c.loop-operation.invariant
 
-pub returns-in_err-value-in-Chain : goal.returns-in_err-value-in-Chain
-returns-in_err-value-in-Chain t c =
+pub evaluate-returns-in_err-value-in-Chain : goal.evaluate-returns-in_err-value-in-Chain
+evaluate-returns-in_err-value-in-Chain t c =
     let p = err_from_is_err_and c.from_residual-in_err-value-in-Chain.result c.from_residual-in_err-value-in-Chain.ensures.1 in
     p.1 ∙ ap Err p.2 ∙ chain_fails_first _ _ _ _ _ _ _ _ c.in-Chain.is c.deref-in-Chain.ensures c.in_err-value-in-Chain.ensures
