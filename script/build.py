@@ -37,6 +37,7 @@ def load(folder):
 def load_to_build(folder):
     """The same, as it is when it builds."""
     rt = load(folder)
+    list_below_once(rt.rtlib.Crate)
     made = rt.rtlib.Crate.__init__
 
     def make(self, *given, **named):
@@ -47,6 +48,19 @@ def load_to_build(folder):
     if not hasattr(rt, "share_work"):
         sum_once(rt.rtlib.Crate)
     return rt
+
+
+def list_below_once(crate_type):
+    """Has each crate find those below it once. The toolchain follows each way down to them, of which there are hundreds of
+    thousands, at each question, and the checks of a text ask for each name that it brings in."""
+    found = crate_type.below
+
+    def below(crate):
+        if "known_below" not in vars(crate):
+            crate.known_below = found(crate)
+        return [*crate.known_below]
+
+    crate_type.below = below
 
 
 def sum_once(crate_type):
@@ -84,10 +98,11 @@ class Build:
         self.begun, self.printing, self.done = time.time(), threading.Lock(), 0
         for crate in self.crates:
             rtlib.stop_on_links(crate.folder)
-            rtlib.stop_on_text(crate, "check")
+        self.look_at_text = rtlib.stop_on_text
 
     def prove_library(self, crate, jobs):
         """Leaves the crate's statements in its folder, with what they were made from, where it is proved."""
+        self.look_at_text(crate, "check")
         stamp, kept = crate.stamp(), f"{crate.folder}/out/rlib/stamp"
         shutil.rmtree(os.path.dirname(kept), ignore_errors=True)
         os.makedirs(os.path.dirname(kept))
