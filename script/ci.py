@@ -1,5 +1,5 @@
 #!/usr/bin/env python3
-"""Runs `rt ci`: the same in every respect, but for how often it asks what lies below a crate.
+"""Runs `rt ci`, with the words that it is given: the same in every respect, but for how often it asks what lies below a crate.
 
 The toolchain follows each way down through the crates for the list of those below one, and some versions for a crate's sum
 of files. Together there are 200,000 such ways; the sums took half an hour of one processor in a whole gate, the lists a
@@ -25,8 +25,8 @@ def main():
         if not hasattr(rt, "share_work"):
             sum_once(rt.rtlib.Crate)
     except (ImportError, OSError, AttributeError, SyntaxError):
-        os.execvp("rt", ["rt", "ci"])
-    return run(["ci"])
+        os.execvp("rt", ["rt", "ci", *sys.argv[1:]])
+    return run(["ci", *sys.argv[1:]])
 
 
 if __name__ == "__main__":

@@ -1,12 +1,14 @@
 #!/usr/bin/env python3
 """What a reader has to believe: the definitions that the clauses of public calls say their promises in.
 
-    believed.py            fails where a definition that counts stands in a file whose head says that nobody has to believe
-                           it, or in a folder Theory; or where the list in docs/THEOREM.md is not that of today
+    believed.py            fails where a definition that counts is in a folder Working or Theory, or its file's head says
+                           that nobody has to believe it; where a file of which none counts is in neither folder; or
+                           where the list in docs/THEOREM.md is not that of today
     believed.py --write    writes that list
     believed.py --names    prints each file with the names that count
 
-Begins with the clauses of a call, and goes on to each definition that a definition names.
+Begins with the clauses of a call, and goes on to each definition that a definition names. For where a file is, what the
+crates promise that are no part of the engines counts too: the laws, the command line, the tests.
 """
 import pathlib
 import re
@@ -31,7 +33,8 @@ class Module:
         self.path = path
         self.text = path.read_text()
         head = self.text.split("\n\n")[0].replace("\n--", "")
-        self.is_working = "obody has to believe" in head or "/Theory/" in str(path)
+        self.is_apart = bool({"Working", "Theory"} & {*path.parts})
+        self.is_working = "obody has to believe" in head or self.is_apart
         self.imports = imports_of(self.text)
         self.parts = parts_of(self.text)
 
@@ -96,7 +99,9 @@ def clauses_of(path, wanted):
     """The clauses of public functions of a file, as one text, and the file's ghost imports."""
     text = path.read_text()
     found = []
-    for match in re.finditer(r"\n *pub(?:\([a-z]+\))? fn (\w+)(.*?)\n *\{\n", text, re.S):
+    # (a program's root has no public function)
+    visible = r"(?:pub )?" if path.name == "main.rt" else r"pub(?:\([a-z]+\))? "
+    for match in re.finditer(rf"\n *{visible}fn (\w+)(.*?)\n *\{{\n", text, re.S):
         name, head = match.groups()
         is_public = "pub(crate)" not in match.group(0).split("fn")[0]
         if is_public and (wanted is None or name in wanted):
@@ -170,6 +175,12 @@ class Reading:
     def wrong(self):
         return sorted({module for module, _ in self.seen if self.modules[module].is_working})
 
+    def misplaced(self, believed):
+        """The files of definitions of which none counts, that aren't apart."""
+        lists = {"Lib.antt", "Theory.antt", "Working.antt"}
+        own = {name for name, it in self.modules.items() if not it.is_apart and it.path.name not in lists}
+        return sorted(own - believed)
+
 
 def engines():
     """The calls that the driver's root names."""
@@ -182,11 +193,26 @@ def engines():
     return calls
 
 
+def others():
+    """All public calls of the crates that are no part of the engines."""
+    lines = re.findall(r"^(\w+)[^:\n]*:(.*)$", (TOP / "crates.txt").read_text(), re.M)
+    below, todo = set(), ["driver"]
+    deps = {name: names.split() for name, names in lines}
+    while todo:
+        crate = todo.pop()
+        if crate in deps and crate not in below:
+            below.add(crate)
+            todo += deps[crate]
+    return {str(it.relative_to(TOP)): None for crate in deps if crate not in below for it in (CRATES / crate).glob("src/**/*.rt")}
+
+
 def main():
     reading, failed, tables = Reading(), 0, []
     groups = (("The headline", HEADLINE), ("The compiler", COMPILER), ("All engines", engines()))
+    believed = {module for module, _ in reading.begin(others()).seen}
     for title, calls in groups:
         tables.append(reading.begin(calls).table(title))
+        believed |= {module for module, _ in reading.seen}
         for module in reading.wrong():
             names = ", ".join(name for where, name in sorted(reading.seen) if where == module)
             print(f"{title}: nobody has to believe {module}, its head says, but these count: {names}")
@@ -194,6 +220,9 @@ def main():
         if "--names" in sys.argv[1:]:
             for module, names in reading.files().items():
                 print(f"{title}: {module}: {', '.join(names)}")
+    for module in reading.misplaced(believed):
+        print(f"nobody has to believe {module}: no promise cites it, so it belongs into a folder Working or Theory")
+        failed += 1
     text = THEOREM.read_text()
     before, rest = text.split(BEGIN)
     new = before + BEGIN + "\n" + "\n".join(tables) + "\n" + END + rest.split(END)[1]

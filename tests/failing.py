@@ -9,11 +9,11 @@
                 default all
 --turns N       of serial, outcomes and replay, by default 1000; outcomes looks at 5 orders at most
 --every N       only every N-th growth
---cases         the program `cases` over each of its files, and of its calls the growths alone
---unit-tests    the programs of the tests of `unit_tests`, `command_tests` and `thread_tests`, and of their calls the
-                growths alone; of each test of `thread_tests` some 300 growths, spread over all
+--cases         the program `test_cases` over each of its files, and of its calls the growths alone
+--unit-tests    the programs of the tests of `test_units`, `test_commands` and `test_workers`, and of their calls the
+                growths alone; of each test of `test_workers` some 300 growths, spread over all
 --test NAME     only this test, and each of its growths
-FILE..          programs, by default those of examples/; of `cases` files of crates/cases/data, by default all.
+FILE..          programs, by default those of examples/; of `test_cases` files of crates/test_cases/data, by default all.
                 Where a file of steps lies beside a program, simulate and trace take it, else some steps of its threads in turn.
                 replay takes what serial writes of the program, and with --why that with another value of the first cell;
                 run and replay pass over those that don't end
@@ -23,7 +23,7 @@ tests/failing/failing.c does where it is preloaded. A refused growth must end wi
 `autolock: no memory` and nothing written; a failed read with status 3 and `autolock: cannot read NAME`; a failed write
 of a text with status 3 and `autolock: cannot write`, and of a line of standard error with the status that the whole run
 has. How many growths a run with threads makes differs from run to run: one that made fewer than the number that was to
-fail must end as it does when none fails. `cases` must end with 4, or find all as wanted; a test must pass, or fail by an error that says that memory
+fail must end as it does when none fails. `test_cases` must end with 4, or find all as wanted; a test must pass, or fail by an error that says that memory
 was refused. The last line is 'N runs, M failed'; exit status 1 where M is not 0.
 """
 import argparse
@@ -83,7 +83,7 @@ def wrong_write(whole, ended, _names):
 
 
 def wrong_cases(whole, ended, _names):
-    """What is wrong with a run of `cases` that was refused a growth, or nothing."""
+    """What is wrong with a run of `test_cases` that was refused a growth, or nothing."""
     is_right = ended.returncode == 4 if ended.returncode else ended.stdout == whole.stdout
     return None if is_right and b", 0 not as wanted" in whole.stdout else "neither status 4 nor all as wanted"
 
@@ -160,8 +160,8 @@ def of_autolock(a, room):
 
 
 def of_cases(a):
-    program = str((a.program or TOP / "crates/cases/out/cases").resolve())
-    for file in a.files or sorted((TOP / "crates/cases/data").glob("*.txt")):
+    program = str((a.program or TOP / "crates/test_cases/out/test_cases").resolve())
+    for file in a.files or sorted((TOP / "crates/test_cases/data").glob("*.txt")):
         yield Subject([program, str(file)], [], {"growth": wrong_cases}, a.every)
 
 

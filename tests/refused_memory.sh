@@ -1,9 +1,9 @@
 #!/usr/bin/env bash
 # Refuses each growth of memory in turn to `autolock` (every command, the programs of examples/), to the tests of
-# `unit_tests` and `command_tests`, and, each N-th one, to `cases` over its files; then limits the address space of
+# `test_units` and `test_commands`, and, each N-th one, to `test_cases` over its files; then limits the address space of
 # `autolock`. The programs are those that `rt ci` leaves in crates/NAME/out.
 #
-#     tests/refused_memory.sh [N]      by default every 500th growth of `cases`
+#     tests/refused_memory.sh [N]      by default every 500th growth of `test_cases`
 set -euo pipefail
 cd "$(dirname "$0")"
 status=0

@@ -6,8 +6,8 @@ use Rattle.driver.specs.Engines.{first_unread, of_program, of_other, of_reader, 
 use Rattle.driver.specs.declared.streams.Streams.{Streams}
 use Rattle.driver.specs.declared.status.Status.{Status}
 use Rattle.driver.specs.declared.status.Status.TheVariants.{Failed}
-use Rattle.words.specs.declared.line.Line.{Line}
-use Rattle.words.specs.declared.line.Line.TheVariants.{Check, Explain, Order, Listing, Serial, Outcomes, Simulate, Trace, Run, Replay}
+use Rattle.driver_words.specs.declared.line.Line.{Line}
+use Rattle.driver_words.specs.declared.line.Line.TheVariants.{Check, Explain, Order, Listing, Serial, Outcomes, Simulate, Trace, Run, Replay}
 use Rattle.autolock.specs.Asked.{file_of, other_of, files_of, NamesOneOf, IsOverOne, IsOverTwo}
 
 abbrev pub names_of : List Reading → List (List ℕ)

@@ -18,13 +18,13 @@ use driver::{
     Judging, Looking, Sink, SourceText, Status, Streams, check, explain, find_outcomes, list,
     miss_other, order_graph, replay, run, serial, simulate, trace,
 };
+use driver_words::{Line, words};
 use std::alloc::{AllocError, Global};
 use std::io::{Read, Write};
 use std::process::ExitCode;
 use std::sync::Wait;
 use std::thread::Threads;
 use std::{env, fs, io};
-use words::{Line, words};
 
 /// The name of the file whose program is asked for.
 fn file_name<'a>(line: Line<'a>) -> &'a str

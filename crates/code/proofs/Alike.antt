@@ -13,7 +13,7 @@ use Rattle.code.specs.declared.instr.Instr.{Instr}
 use Rattle.code.specs.declared.instr.Instr.TheVariants.{PushNumber, PushNull, GetLocal, PutLocal, LoadGlobal, PutGlobal, LoadElement, Bound, PutElement, GetMember, LoadFinal, LoadField, NonNull, PutField, Where, NegateTop, NotTop, Operate, Test, Jump, JumpBack, JumpIfFalse, JumpIfTrue, PrintTop, Acquire, Return, End}
 use Rattle.code.specs.Machine.{Machine, Effect, Moves, Asks, Finishes, Undefined, Standing, At, Halted, Stuck, passed, advances, jumps_if, or_trap, on_top, on_two, if_there, is_true, negation, printed, loads, stores, act, proceed, exec}
 use Rattle.code.specs.Memory.{HeldCells, value_at, with_value, with_changed, beside, load_from, written_where, store_to, noted, read_if_held, load_held, write_if_held, store_held, overwritten, Agrees, IsCovered, IsConsistent, IsPartOf, Keeps}
-use Rattle.code.specs.Laws.{on_heap}
+use Rattle.code.specs.Working.Laws.{on_heap}
 use Rattle.code.proofs.Values.{set_same, set_other, changed_same, changed_other, changed_cells, changed_covered, length-overwritten, written_cell, unwritten_cell, overwritten_with, agrees_noted, noted_agrees, set_here, set_there}
 
 -- ---- what a read and a write keep

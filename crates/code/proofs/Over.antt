@@ -6,7 +6,7 @@ use Rattle.core_lang.specs.declared.value.Value.{Value}
 use Rattle.core_lang.specs.declared.shape.Shape.{Shape}
 use Rattle.code.specs.declared.instr.Instr.{Instr}
 use Rattle.code.specs.Machine.{Machine, Effect, Moves, Asks, Finishes, Undefined, passed, act, proceed, exec}
-use Rattle.code.specs.Laws.{IsOver}
+use Rattle.code.specs.Working.Laws.{IsOver}
 
 module _ {M : Type 0} (load : M → ℕ → Option (Value × M)) (store : M → ℕ → Value → Option M) (shape : Shape) (code : List Instr) where
   -- after one instruction

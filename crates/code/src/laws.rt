@@ -3,7 +3,7 @@
 ghost use Rattle.std.specs.Prelude.{List};
 ghost use Rattle.core_lang.specs.declared.value.Value.{Value};
 ghost use Rattle.code.specs.Memory.{HeldCells};
-ghost use Rattle.code.specs.Laws.{InRuns, StaysOver, EndsOnce, HasWritten, KeepsUnwritten, KeepsSize, KeepsHeld, MovesAlike, AsksAlike, FinishesAlike, HaltsAlike, HaltsOnItsHeap};
+ghost use Rattle.code.specs.Working.Laws.{InRuns, StaysOver, EndsOnce, HasWritten, KeepsUnwritten, KeepsSize, KeepsHeld, MovesAlike, AsksAlike, FinishesAlike, HaltsAlike, HaltsOnItsHeap};
 
 /// A run that is over, on a heap or on held cells, stays as it is; so two ends of one run are the same.
 pub fn over_stays_over()

@@ -5,7 +5,7 @@ ghost use Rattle.std.specs.Fmt.{decimal};
 ghost use Rattle.std.proofs.Props.{props};
 ghost use Rattle.code.specs.Listing.{named, global_text, final_text, where_text, field_text, operator_text, comparison_text, paths_text, acquired_text, instr_text, code_text, section_text, listing_text};
 ghost use Rattle.locks.specs.Texts.{AddsText};
-ghost use Rattle.code.specs.Naming.{IsIndexOf, IsMnemonic, operand_text};
+ghost use Rattle.code.specs.Working.Naming.{IsIndexOf, IsMnemonic, operand_text};
 
 use crate::instr::Instr;
 use crate::names::{GlobalName, Names};

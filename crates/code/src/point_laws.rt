@@ -4,9 +4,9 @@
 ghost use Rattle.std.specs.Prelude.{List, slice_get};
 ghost use Rattle.core_lang.specs.declared.value.Value.{Value};
 ghost use Rattle.code.specs.Memory.{HeldCells, load_from, store_to, load_held, store_held};
-ghost use Rattle.code.specs.Seen.{IsMemory, held_value};
-ghost use Rattle.code.specs.PointLaws.{PointsGoOn, SpotsArePoints, PointsHaveSpots, SpotsHaveNumbers};
-ghost use Rattle.code.specs.PointLaws.{FirstPointIsAtStart, EmptyHasEnd, SpotsAcquire, OnlySpotsAcquire, SectionsGoOn};
+ghost use Rattle.code.specs.Working.Seen.{IsMemory, held_value};
+ghost use Rattle.code.specs.Working.PointLaws.{PointsGoOn, SpotsArePoints, PointsHaveSpots, SpotsHaveNumbers};
+ghost use Rattle.code.specs.Working.PointLaws.{FirstPointIsAtStart, EmptyHasEnd, SpotsAcquire, OnlySpotsAcquire, SectionsGoOn};
 
 /// A whole heap is a memory, and so are cells that are held.
 pub fn memories_are_seen()

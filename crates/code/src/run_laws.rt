@@ -1,7 +1,7 @@
 //! What holds of a section's code beside the section run whole: functions that do nothing, and whose contracts are the
 //! laws.
 
-ghost use Rattle.code.specs.RunLaws.{EndsAsSection, EndsOnlyAsSection, SectionsBehave};
+ghost use Rattle.code.specs.Working.RunLaws.{EndsAsSection, EndsOnlyAsSection, SectionsBehave};
 
 use crate::point_laws::sections_go_on;
 

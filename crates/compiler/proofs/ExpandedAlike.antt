@@ -11,7 +11,7 @@ use Rattle.core_lang.specs.declared.typed.Struct as the_struct
 use Rattle.core_lang.specs.declared.typed.Thread as the_thread
 use Rattle.core_lang.specs.Expansion.{ArrayData, array_data, PoolData, pool_data, IsWrittenOut}
 use Rattle.core_lang.specs.WrittenLocals.{AreWrittenLocals}
-use Rattle.expansion.specs.Data.{Numbered, lock_field_data, final_data, ClassData, NamedLock, FieldLock, class_data, FieldData, field_data, StructData, struct_data, GlobalData, global_data, CallData, call_data, ThreadData, thread_data, HeadData, head_data, IsExpanded}
+use Rattle.core_lang_expansion.specs.Data.{Numbered, lock_field_data, final_data, ClassData, NamedLock, FieldLock, class_data, FieldData, field_data, StructData, struct_data, GlobalData, global_data, CallData, call_data, ThreadData, thread_data, HeadData, head_data, IsExpanded}
 use Rattle.resolution.specs.Core.{Section, LockClass, global_lock, lock_field, LockField, FinalField, Field, Struct, GlobalVariable, Array, Pool, Call, Thread, Program}
 use Rattle.resolution.specs.CoreViews.{core_section, core_class, core_lock, core_final, core_field, core_struct, core_global, core_array, core_pool, core_call, core_thread, core_of}
 use Rattle.compiler.proofs.WrittenAlike.{body_alike}

@@ -15,7 +15,7 @@ use Rattle.core_lang.specs.declared.typed.Typed.{Typed}
 use Rattle.resolution.specs.CoreViews.{core_of}
 use Rattle.resolution.specs.Resolution.{resolved}
 use Rattle.resolution.specs.Resolved.{Resolves}
-use Rattle.expansion.specs.Data.{IsExpanded}
+use Rattle.core_lang_expansion.specs.Data.{IsExpanded}
 use Rattle.locks.specs.Faults as paths
 use Rattle.lockorder.specs.Faults as order
 use Rattle.compiler.specs.Programs.{HasFault, of_text, of_tokens, of_tree, of_paths, of_order}

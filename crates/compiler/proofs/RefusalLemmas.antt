@@ -9,7 +9,7 @@ use Rattle.syntax.specs.Faults as grammar
 use Rattle.resolution.specs.Faults as names
 use Rattle.resolution.specs.Resolved.{Resolves}
 use Rattle.core_lang.specs.declared.typed.Typed.{Typed}
-use Rattle.expansion.specs.Data.{IsExpanded}
+use Rattle.core_lang_expansion.specs.Data.{IsExpanded}
 use Rattle.locks.specs.Faults as paths
 use Rattle.source.specs.Mistakes.{IsLeastOf}
 use Rattle.compiler.specs.Programs.{IsRefusal, IsOrderRefusal, HasNoTextFault, HasNoTokenFault, in_text, in_tokens, in_tree, in_paths, in_order}

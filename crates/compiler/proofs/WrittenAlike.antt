@@ -14,7 +14,7 @@ use Rattle.core_lang.specs.declared.tree.Action as the_action
 use Rattle.core_lang.specs.declared.tree.Action.{Bind, SetLocal, SetGlobal, SetElement, SetField, Call as CallOf, Print, If', IfElse', While', If, IfElse, While, Row_of-Stmt, end_of-Stmt, more_of-Stmt, items-the_row-Stmt, items_hidden-the_row-Stmt-0}
 use Rattle.core_lang.specs.declared.tree.Return as the_return
 use Rattle.core_lang.specs.declared.tree.Section as the_section
-use Rattle.core_lang.specs.Lists.{block_of, else_of}
+use Rattle.core_lang.specs.Theory.Lists.{block_of, else_of}
 use Rattle.core_lang.specs.Meaning.{deepest}
 use Rattle.core_lang.specs.Expansion as x
 use Rattle.core_lang.specs.Expansion.{Pair, pair, At, behind_bound, behind_block, parameters_at, entered, one, RenamesPath, Renames, RenamesEach, RenamesTest, RenamesTests, RenamesResult, Arguments, Bound, Bodies, Writes, WritesRow, WritesAll, HelpersWritten, IsWrittenOut}

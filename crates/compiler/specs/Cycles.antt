@@ -1,7 +1,7 @@
 -- What is known of a text whose lock classes have no order.
 use Rattle.std.specs.Prelude.{◌≡◌, ℕ, List, [], string_bytes}
 use Rattle.core_lang.specs.declared.typed.Typed.{Typed}
-use Rattle.expansion.specs.Data.{IsExpanded}
+use Rattle.core_lang_expansion.specs.Data.{IsExpanded}
 use Rattle.lockorder.specs.Faults.{IsCycleOf, IsFaultAtFirst}
 use Rattle.lockpaths.specs.Paths.{ArePaths}
 use Rattle.resolution.specs.Resolved.{Resolves}

@@ -1,9 +1,9 @@
 pub mod Programs
 pub mod Cycles
-pub mod Orders
+pub mod Working
 -- what the public clauses cite
 pub use Rattle.compiler.specs.Cycles.{IsBare, IsWrittenProgram, IsCyclic}
-pub use Rattle.compiler.specs.Orders.{IsOrdered}
+pub use Rattle.compiler.specs.Working.Orders.{IsOrdered}
 pub use Rattle.compiler.specs.Programs.{HasFault, Accepts, IsOfFirstPass, IsRefusal}
 pub use Rattle.core_lang.specs.WellFormed.{IsWellFormed}
 pub use Rattle.lockpaths.specs.Paths.{ArePaths}

@@ -12,7 +12,7 @@ use Rattle.syntax.specs.Faults as grammar
 use Rattle.resolution.specs.Faults as names
 use Rattle.source.specs.Mistakes.{IsLeastOf}
 use Rattle.resolution.specs.Resolved.{Resolves}
-use Rattle.expansion.specs.Data.{IsExpanded}
+use Rattle.core_lang_expansion.specs.Data.{IsExpanded}
 use Rattle.locks.specs.Faults as paths
 use Rattle.lockorder.specs.Faults as order
 

@@ -5,7 +5,7 @@ ghost use Rattle.core_lang.specs.WellFormed.{IsWellFormed};
 ghost use Rattle.lockorder.specs.Faults.{IsCycleOf, IsFaultAtFirst};
 ghost use Rattle.compiler.specs.Programs.{IsForMemory, IsRefusal};
 ghost use Rattle.compiler.specs.Cycles.{IsBare, IsCyclic};
-ghost use Rattle.compiler.specs.Orders.{IsOrdered};
+ghost use Rattle.compiler.specs.Working.Orders.{IsOrdered};
 
 use crate::passes::written_out;
 use core_lang::typed::Typed;

@@ -2,7 +2,7 @@
 
 ghost use Rattle.std.specs.Prelude.{IfOk, IfErr, OnOk};
 ghost use Rattle.core_lang.specs.WellFormed.{IsChecked, IsWellFormed};
-ghost use Rattle.expansion.specs.Data.{IsExpanded};
+ghost use Rattle.core_lang_expansion.specs.Data.{IsExpanded};
 ghost use Rattle.lockpaths.specs.Paths.{ArePaths};
 ghost use Rattle.lockorder.specs.Edges.{AreRanksOf, RiseIn};
 ghost use Rattle.lockorder.specs.Faults.{HasNoFault};
@@ -10,7 +10,7 @@ ghost use Rattle.lowering.specs.Plans.{IsCompiled};
 ghost use Rattle.compiler.specs.Programs.{Accepts, IsForMemory, IsOrderRefusal, IsRefusal};
 
 use core_lang::typed::Typed;
-use expansion::program::expand;
+use core_lang_expansion::program::expand;
 use lexer::lex;
 use lockorder::order;
 use lockorder::ranks::{OrderRefusal, Ranks};

@@ -41,7 +41,7 @@ use Rattle.core_lang.specs.declared.tree.Section.{Section}
 use Rattle.core_lang.specs.Typing.{IsHeap, CanEnd, AreOf, Takes, IsWellTypedSection, lookup, struct_of, HasType, HaveTypes, local_types, cell_types, final_target, field_type, if_global, global_type, array_type, pool_struct, LeadsTo, IsPathTo, IsOf, AreIntegers, CanCompare, IsTest, AreTests, GivesLocal, IsWellTyped, AreWellTyped, AllWellTyped, IsResult}
 use Rattle.core_lang.specs.Helpers.{CallsOnly, AllCallOnly, EachCallsOnly, IsAtMostDeep}
 use Rattle.core_lang.specs.WellFormed.{IsChecked, IsCell, IsLaidOut, IsWithinLimits}
-use Rattle.core_lang.specs.Soundness.{Gives, IsTypedState, LeadsToTyped, ValuesHaveTheirTypes, TestsDecide, EffectsStayTyped}
+use Rattle.core_lang.specs.Working.Soundness.{Gives, IsTypedState, LeadsToTyped, ValuesHaveTheirTypes, TestsDecide, EffectsStayTyped}
 use Rattle.core_lang.specs.Laws.{StaysTyped, NeverGoAstray}
 
 gives_with : {A B : Type 0} (P : A → Type 0) (Q : B → Type 0) (r : Result A Failure) (f : A → Result B Failure) → Gives P r → ((a : A) → P a → Gives Q (f a)) → Gives Q (with r f)

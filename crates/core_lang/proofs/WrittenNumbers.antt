@@ -9,7 +9,7 @@ use Rattle.core_lang.specs.declared.tree.Return.{Return}
 use Rattle.core_lang.specs.declared.tree.Section.{Section}
 use Rattle.core_lang.specs.declared.shape.Shape.{Shape}
 use Rattle.core_lang.specs.Scopes.{bound_by, bound_in, bound_in_all, numbers_from}
-use Rattle.core_lang.specs.Lists.{block_of, else_of}
+use Rattle.core_lang.specs.Theory.Lists.{block_of, else_of}
 use Rattle.core_lang.specs.Meaning.{deepest}
 use Rattle.core_lang.specs.Expansion.{Pair, At, behind_block, entered, one, Arguments, Bound, Bodies, Writes, WritesRow, WritesAll, HelpersWritten, IsWrittenOut}
 

@@ -20,7 +20,7 @@ use Rattle.core_lang.specs.declared.tree.Local.{Local}
 use Rattle.core_lang.specs.declared.tree.Section.{Section}
 use Rattle.core_lang.specs.Cells.{with, found, element_cell, field_cell, not_null, read}
 use Rattle.core_lang.specs.Meaning.{State, Flow, GoesOn, Traps, Beyond, Astray, Helpers, Run, Over, place_of, value_of, values_of, truth_of, given, after, choose, printed, written, stored, turns, over, returned, ending, concluded, default_local, opening, back, effect_by, effects_by, sequence_by, run_from, if_there, helped, deepest, effect_of, sequence}
-use Rattle.core_lang.specs.Lists.{effect_of-If, effect_of-IfElse, effect_of-While}
+use Rattle.core_lang.specs.Theory.Lists.{effect_of-If, effect_of-IfElse, effect_of-While}
 use Rattle.core_lang.specs.Whole.{run_of}
 use Rattle.core_lang.specs.Expansion.{Pair, pair, At, Renames, RenamesTest, RenamesResult, HasSamePlaces, behind_bound, behind_block, parameters_at, entered, one, Arguments, Bound, Bodies, Writes, WritesRow, WritesAll, WritesBody, HelpersWritten, IsWrittenOut}
 use Rattle.core_lang.proofs.Renamed.{Agree, value_same, truth_same, place_same, element_same, cell_same}

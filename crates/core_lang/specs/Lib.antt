@@ -11,10 +11,9 @@ pub mod Expansion
 pub mod WrittenLocals
 pub mod WrittenPoints
 pub mod WellFormed
-pub mod Checked
-pub mod Soundness
 pub mod Laws
-pub mod Lists
+pub mod Working
+pub mod Theory
 -- what public clauses cite
 pub use Rattle.core_lang.specs.Traps.{trap_number}
 pub use Rattle.core_lang.specs.Meaning.{State, value_of, truth_of, effect_of, sequence}
@@ -23,5 +22,5 @@ pub use Rattle.core_lang.specs.Serial.{Invocation, Ended, WholeCall, run_call, s
 pub use Rattle.core_lang.specs.Typing.{struct_of, HasType, HaveTypes, local_types, IsHeap, HasCells, Fit, CanEnd}
 pub use Rattle.core_lang.specs.WellFormed.{IsChecked, IsWellFormed}
 unfoldable pub use Rattle.core_lang.specs.WellFormed.{CanCall}
-pub use Rattle.core_lang.specs.Soundness.{Gives, IsTypedState, LeadsToTyped, ValuesHaveTheirTypes, TestsDecide, EffectsStayTyped}
+pub use Rattle.core_lang.specs.Working.Soundness.{Gives, IsTypedState, LeadsToTyped, ValuesHaveTheirTypes, TestsDecide, EffectsStayTyped}
 pub use Rattle.core_lang.specs.Laws.{MoreTurnsChangeNothing, HaveAtMostOneWhole, StaysTyped, NeverGoAstray, OpeningIsTyped, OverIsWhole, WholeIsOver, SerialOfNone, SerialOfBoth, HaveAtMostOneSerial, SerialSplits, QuietCallsChangeNothing, IsUnsettled, SettledAreSerial, WritingOutChangesNothing, ExpansionsRunAlike, WrittenOutHasNoCalls, WrittenOutBindsInOrder, WellFormedAreChecked, WellFormedCallNothing}

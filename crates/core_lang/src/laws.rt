@@ -3,7 +3,7 @@
 ghost use Rattle.core_lang.specs.Laws.{MoreTurnsChangeNothing, HaveAtMostOneWhole, NeverGoAstray, OpeningIsTyped, OverIsWhole, WholeIsOver, SerialOfNone, SerialOfBoth, SerialSplits, QuietCallsChangeNothing, HaveAtMostOneSerial, SettledAreSerial, WritingOutChangesNothing, ExpansionsRunAlike, WrittenOutHasNoCalls, WrittenOutBindsInOrder, WellFormedAreChecked, WellFormedCallNothing};
 ghost use denote.Param.Send.{IsSync};
 ghost use Rattle.core_lang.specs.contracts.typed.Typed as typed;
-ghost use Rattle.core_lang.specs.Soundness.{ValuesHaveTheirTypes, TestsDecide, EffectsStayTyped};
+ghost use Rattle.core_lang.specs.Working.Soundness.{ValuesHaveTheirTypes, TestsDecide, EffectsStayTyped};
 
 /// What a run gives with some turns, it gives with more.
 pub fn more_turns_change_nothing()

@@ -6,7 +6,7 @@ use Rattle.driver.specs.declared.request.PairRequest.TheVariants.{Simulate, Trac
 use Rattle.driver.specs.declared.request.Request.{Request}
 use Rattle.driver.specs.declared.request.Request.TheVariants.{Check, OrderGraph, Listing, Serial, Outcomes}
 use Rattle.driver.specs.declared.status.Status.{Status}
-use Rattle.driver.specs.Answering.{RequestAnswers, PairWanted}
+use Rattle.driver.specs.Working.Answering.{RequestAnswers, PairWanted}
 use Rattle.driver.specs.Answers.{TextAnswers, accepted, refused}
 use Rattle.driver.specs.Explanations.{ExplainAnswers, faultless, explained, cycle_explained}
 use Rattle.driver.specs.Outcomes as outcomes

@@ -6,7 +6,7 @@ use Rattle.core_lang.specs.declared.typed.Thread.{Thread}
 use Rattle.core_lang.specs.declared.typed.Typed.{Typed}
 use Rattle.core_lang.specs.Serial.{Scheduled, script_from, scripts_from, all_calls}
 use Rattle.core_lang.specs.WellFormed.{IsChecked, CanCall}
-use Rattle.driver.specs.Running.{CanMake}
+use Rattle.driver.specs.Working.Running.{CanMake}
 
 -- calls that can be made, one list behind the other
 pub can_make_both : (program : Typed) (ss more : List Scheduled) → CanMake program ss → CanMake program more → CanMake program (ss ++ more)

@@ -7,13 +7,13 @@ use Rattle.std.specs.List.{flat_map}
 use Rattle.std.specs.Prelude.{All, IfSome}
 use Rattle.code.specs.Listing.{line}
 use Rattle.explanation.specs.Explanation.{explanation_text}
-use Rattle.explanation.specs.Laws.{ShownByFirstBytes}
+use Rattle.explanation.specs.Working.Laws.{ShownByFirstBytes}
 use Rattle.explanation.specs.Remedies.{remedy_text}
 use Rattle.explanation.specs.Shown.{shown_place}
 use Rattle.explanation_json.specs.Json.{fault_json}
-use Rattle.explanation_json.specs.Laws.{FaultByFirstBytes}
+use Rattle.explanation_json.specs.Working.Laws.{FaultByFirstBytes}
 use Rattle.explanation.specs.Notes.{Note, note_text, told_text}
-use Rattle.fault_notes.specs.TextNotes.{IsTextLimit, source, a_name, IsTrueTextNote, of_tree, of_tokens, of_limit as of_text_limit, AreTextNotes}
+use Rattle.explanation_faults.specs.TextNotes.{IsTextLimit, source, a_name, IsTrueTextNote, of_tree, of_tokens, of_limit as of_text_limit, AreTextNotes}
 use Rattle.core_lang.specs.declared.typed.Typed.{Typed}
 use Rattle.lockorder.specs.Faults.{IsFaultAtFirst, at_first}
 use Rattle.source.specs.declared.fault.Code.{Code}

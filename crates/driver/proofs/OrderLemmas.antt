@@ -19,7 +19,7 @@ use Rattle.report.specs.History.{unsettled_of}
 use Rattle.driver.specs.declared.status.Status.{Status}
 use Rattle.driver.specs.declared.status.Status.TheVariants.{Unsettled}
 use Rattle.driver.specs.Outcomes.{scheduled_next, scheduled_from, scheduled_in, StopsInOrder}
-use Rattle.driver.specs.Running.{CanMake, StopsAt, progress_of}
+use Rattle.driver.specs.Working.Running.{CanMake, StopsAt, progress_of}
 use Rattle.driver.specs.Serial.{calls_of, entries}
 use Rattle.driver.proofs.SerialLemmas.{settled_ahead, entries_ahead}
 

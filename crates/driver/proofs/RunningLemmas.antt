@@ -5,7 +5,7 @@ use Rattle.core_lang.specs.declared.typed.Typed.{Typed}
 use Rattle.core_lang.specs.Serial.{Scheduled, end_of, opening_heap, run_call, serial_with}
 use Rattle.core_lang.specs.Whole.{Finished, Over, Beyond_turns}
 use Rattle.report.specs.Entry.{Entry}
-use Rattle.driver.specs.Running.{StopsAt, progress_of}
+use Rattle.driver.specs.Working.Running.{StopsAt, progress_of}
 use Rattle.driver.specs.Serial.{calls_of, entry, entries}
 
 -- these entries, and then these calls from this heap, come as far as all of the calls

@@ -5,11 +5,11 @@ use Rattle.core_lang.specs.declared.value.Value.{Value}
 use Rattle.core_lang.specs.declared.typed.Typed.{Typed}
 use Rattle.core_lang.specs.Laws.{SettledAreSerial}
 use Rattle.core_lang.specs.Serial.{Scheduled, Ended, all_calls, opening_heap, serial_run, Serial, SerialFromOpening}
-use Rattle.recorded.specs.declared.format.Format.TheVariants.{One}
+use Rattle.source_histories.specs.declared.format.Format.TheVariants.{One}
 use Rattle.report.specs.History.{history_of, unsettled_of}
 use Rattle.driver.specs.declared.status.Status.{Status}
 use Rattle.driver.specs.declared.status.Status.TheVariants.{Done, Unsettled}
-use Rattle.driver.specs.Running.{StopsAt, progress_of}
+use Rattle.driver.specs.Working.Running.{StopsAt, progress_of}
 use Rattle.driver.specs.Serial.{calls_of, entry, entries, IsHistory, StopsAtCall}
 
 -- the calls ahead of those that the turns don't settle are run serially

@@ -7,7 +7,7 @@ use Rattle.driver.specs.declared.status.Status.{Status}
 use Rattle.driver.specs.declared.status.Status.TheVariants.{Done, Refused, BadWords, Failed, OutOfMemory, Differs, BadInput, Unsettled, Strange}
 use Rattle.driver.specs.Engines.{Serves, Reading, Gave, first_unread, IsReadOut, IsReadOrLong, IsUnread, of_reader, of_memory}
 use Rattle.driver.specs.Messages.{cannot_read, cannot_write, no_memory}
-use Rattle.driver.specs.Serving.{IsOut, GoesOut, IsGiven}
+use Rattle.driver.specs.Working.Serving.{IsOut, GoesOut, IsGiven}
 use Rattle.source.specs.declared.memory.NoMemory.{NoMemory}
 use Rattle.driver.specs.Streams.{writing_failed, Writes, Tells}
 

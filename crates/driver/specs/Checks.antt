@@ -1,7 +1,7 @@
 -- What `check` answers.
 use Rattle.std.specs.Prelude.{◌≡◌, ℕ, List, []}
 use Rattle.lowering.specs.Plans.{Plan}
-use Rattle.check_report.specs.Check.{check_text}
+use Rattle.report_check.specs.Check.{check_text}
 use Rattle.driver.specs.declared.status.Status.{Status}
 use Rattle.driver.specs.declared.status.Status.TheVariants.{Done}
 use Rattle.driver.specs.Answers.{TextAnswers}

@@ -3,13 +3,13 @@ use Rattle.std.specs.Prelude.{◌≡◌, ℕ, Bool, List, [], string_bytes, if�
 use Rattle.compiler.specs.Cycles.{IsWrittenProgram}
 use Rattle.compiler.specs.Programs.{Accepts, IsOfFirstPass}
 use Rattle.core_lang.specs.declared.typed.Typed.{Typed}
-use Rattle.cycle_notes.specs.CycleNotes.{AreCycleNotes}
-use Rattle.cycle_notes.specs.OrderNotes.{AreOrderNotes}
-use Rattle.expansion.specs.Data.{IsExpanded}
+use Rattle.explanation_cycles.specs.CycleNotes.{AreCycleNotes}
+use Rattle.explanation_cycles.specs.OrderNotes.{AreOrderNotes}
+use Rattle.core_lang_expansion.specs.Data.{IsExpanded}
 use Rattle.explanation.specs.Explanation.{accepted_text, explanation_text}
 use Rattle.explanation.specs.Notes.{Note}
 use Rattle.explanation_json.specs.Json.{accepted_json, fault_json}
-use Rattle.fault_notes.specs.TextNotes.{AreTextNotes}
+use Rattle.explanation_faults.specs.TextNotes.{AreTextNotes}
 use Rattle.lockorder.specs.declared.ranks.Edge.{Edge}
 use Rattle.lockorder.specs.Edges.{AreRanksOf}
 use Rattle.lockorder.specs.Faults.{IsCycleOf, IsFaultAtFirst}

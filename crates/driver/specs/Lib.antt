@@ -1,4 +1,3 @@
-pub mod Statuses
 pub mod Streams
 pub mod Messages
 pub mod Answers
@@ -13,11 +12,9 @@ pub mod Traces
 pub mod Replays
 pub mod ThreadRuns
 pub mod Engines
-pub mod Running
-pub mod Answering
-pub mod Serving
+pub mod Working
 -- what the public clauses cite
-pub use Rattle.driver.specs.Statuses.{exit_status}
+pub use Rattle.driver.specs.Working.Statuses.{exit_status}
 pub use Rattle.driver.specs.Streams.{name_of, reader_of, reading_failed, writer_of, writing_failed, Writes, Tells}
 pub use Rattle.driver.specs.Messages.{cannot_read, cannot_write, no_memory, strange}
 pub use Rattle.compiler.specs.Programs.{Accepts}

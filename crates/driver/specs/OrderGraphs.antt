@@ -3,7 +3,7 @@ use Rattle.std.specs.Prelude.{◌≡◌, ℕ, List, []}
 use Rattle.lockorder.specs.declared.ranks.ClassPair.{ClassPair}
 use Rattle.lockorder.specs.ClassPairs.{AreClassPairs}
 use Rattle.lowering.specs.Plans.{Plan}
-use Rattle.check_report.specs.Order.{order_text}
+use Rattle.report_check.specs.Order.{order_text}
 use Rattle.driver.specs.declared.status.Status.{Status}
 use Rattle.driver.specs.declared.status.Status.TheVariants.{Done}
 use Rattle.driver.specs.Answers.{TextAnswers}

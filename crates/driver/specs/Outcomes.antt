@@ -4,7 +4,7 @@ use Rattle.core_lang.specs.declared.typed.Typed.{Typed}
 use Rattle.core_lang.specs.Serial.{Invocation, Scheduled}
 use Rattle.outcomes.specs.Ends.{Told, AreAllEnds, AreDrawnEnds, HasPlaces, StopsAfter, done_after}
 use Rattle.outcomes.specs.Orders.{next_call, one_more, none_done}
-use Rattle.outcomes_report.specs.Outcomes.{outcomes_text}
+use Rattle.report_outcomes.specs.Outcomes.{outcomes_text}
 use Rattle.report.specs.History.{unsettled_of}
 use Rattle.driver.specs.declared.request.Looking.{Looking}
 use Rattle.driver.specs.declared.status.Status.{Status}

@@ -6,10 +6,10 @@ use Rattle.std.specs.Option.{option_map_or}
 use Rattle.std.specs.Str.Lossy.{utf8_lossy}
 use Rattle.code.specs.Listing.{line}
 use Rattle.lowering.specs.Plans.{Plan}
-use Rattle.recorded.specs.declared.format.Format.{Format}
-use Rattle.recorded.specs.declared.refusal.HistoryFault.{HistoryFault}
-use Rattle.recorded.specs.Histories.{history_in}
-use Rattle.recorded.specs.Refusals.{history_fault_text}
+use Rattle.source_histories.specs.declared.format.Format.{Format}
+use Rattle.source_histories.specs.declared.refusal.HistoryFault.{HistoryFault}
+use Rattle.source_histories.specs.Histories.{history_in}
+use Rattle.source_histories.specs.Refusals.{history_fault_text}
 use Rattle.replay.specs.declared.verdict.Verdict.{Verdict}
 use Rattle.replay.specs.declared.verdict.Verdict.TheVariants as verdict
 use Rattle.replay.specs.declared.wanted.Wanted.{Wanted}

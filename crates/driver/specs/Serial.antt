@@ -3,7 +3,7 @@ use Rattle.std.specs.Prelude.{◌≡◌, ℕ, List, [], ◌∷◌, ◌++◌, map
 use Rattle.core_lang.specs.declared.typed.Typed.{Typed}
 use Rattle.core_lang.specs.Serial.{Scheduled, Invocation, Ended, all_calls, run_call, serial_run, SerialFromOpening}
 use Rattle.core_lang.specs.Whole.{Beyond_turns}
-use Rattle.recorded.specs.declared.format.Format.TheVariants.{One}
+use Rattle.source_histories.specs.declared.format.Format.TheVariants.{One}
 use Rattle.report.specs.Entry.{Entry}
 use Rattle.report.specs.History.{history_of, unsettled_of}
 use Rattle.driver.specs.declared.status.Status.{Status}

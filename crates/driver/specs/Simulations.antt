@@ -1,10 +1,10 @@
 -- What `simulate` answers.
 use Rattle.std.specs.Prelude.{◌≡◌, ℕ, List, [], length, Ok, Err}
 use Rattle.lowering.specs.Plans.{Plan}
-use Rattle.steps.specs.declared.turn.Turn.{Turn}
-use Rattle.steps.specs.declared.refusal.StepsFault.{StepsFault}
-use Rattle.steps.specs.Turns.{steps_of}
-use Rattle.steps.specs.Steps.{turns_in, steps_fault_text}
+use Rattle.source_steps.specs.declared.turn.Turn.{Turn}
+use Rattle.source_steps.specs.declared.refusal.StepsFault.{StepsFault}
+use Rattle.source_steps.specs.Turns.{steps_of}
+use Rattle.source_steps.specs.Steps.{turns_in, steps_fault_text}
 use Rattle.worlds.specs.Worlds.{final}
 use Rattle.worlds.specs.Claims.{Headline}
 use Rattle.code.specs.Listing.{line}

@@ -3,7 +3,7 @@ use Rattle.std.specs.Prelude.{◌≡◌, ◌<◌, ℕ, List, [], length, map}
 use Rattle.core_lang.specs.declared.value.Value.{Value}
 use Rattle.history.specs.Commits.{Commit}
 use Rattle.lowering.specs.Plans.{Plan}
-use Rattle.recorded.specs.declared.format.Format.TheVariants.{Two}
+use Rattle.source_histories.specs.declared.format.Format.TheVariants.{Two}
 use Rattle.report.specs.Entry.{entry_of_commit}
 use Rattle.report.specs.History.{history_of}
 use Rattle.workers.specs.Answers.{HasScript, IsHistoryOf, RunsAsAccepted}

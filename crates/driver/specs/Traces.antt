@@ -1,11 +1,11 @@
 -- What `trace` answers.
 use Rattle.std.specs.Prelude.{◌≡◌, ℕ, Bool, List, [], length, Ok}
 use Rattle.lowering.specs.Plans.{Plan}
-use Rattle.steps.specs.declared.turn.Turn.{Turn}
-use Rattle.steps.specs.Turns.{steps_of}
-use Rattle.steps.specs.Steps.{turns_in}
+use Rattle.source_steps.specs.declared.turn.Turn.{Turn}
+use Rattle.source_steps.specs.Turns.{steps_of}
+use Rattle.source_steps.specs.Steps.{turns_in}
 use Rattle.worlds.specs.Claims.{Headline}
-use Rattle.trace_report.specs.Trace.{IsTrace}
+use Rattle.report_trace.specs.Trace.{IsTrace}
 use Rattle.driver.specs.declared.status.Status.{Status}
 use Rattle.driver.specs.declared.status.Status.TheVariants.{Done}
 use Rattle.driver.specs.Answers.{TextAnswers}

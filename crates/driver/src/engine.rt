@@ -1,7 +1,7 @@
 //! The engines over readers and writers.
 
 ghost use Rattle.std.specs.Prelude.{◌≡◌, [], ◌∷◌, false};
-ghost use Rattle.driver.specs.Answering.{PairWanted, RequestAnswers};
+ghost use Rattle.driver.specs.Working.Answering.{PairWanted, RequestAnswers};
 ghost use Rattle.driver.specs.Answers.{Alone, Beside, TextAnswers};
 ghost use Rattle.driver.specs.Checks.{CheckAnswers};
 ghost use Rattle.driver.specs.Engines.{Serves, IsMissed, reading_of};

@@ -2,9 +2,9 @@
 
 ghost use Rattle.std.specs.Prelude.{◌≡◌, [], false, IfOk, string_bytes};
 ghost use Rattle.compiler.specs.Cycles.{IsCyclic};
-ghost use Rattle.compiler.specs.Orders.{IsOrdered};
+ghost use Rattle.compiler.specs.Working.Orders.{IsOrdered};
 ghost use Rattle.compiler.specs.Programs.{IsOfFirstPass};
-ghost use Rattle.driver.specs.Answering.{Meets, IsExplainedAnswer, acceptance_told_of, fault_told_of};
+ghost use Rattle.driver.specs.Working.Answering.{Meets, IsExplainedAnswer, acceptance_told_of, fault_told_of};
 ghost use Rattle.driver.specs.Answers.{Alone};
 ghost use Rattle.driver.specs.Engines.{Serves, reading_of};
 ghost use Rattle.driver.specs.Explanations.{ExplainAnswers};
@@ -16,10 +16,10 @@ use crate::source_text::SourceText;
 use crate::status::Status;
 use crate::streams::Streams;
 use compiler::{Cyclic, Ordered, examine};
-use cycle_notes::{cycle_notes, order_notes};
 use explanation::{Acceptance, Explanation};
+use explanation_cycles::{cycle_notes, order_notes};
+use explanation_faults::fault_notes;
 use explanation_json::{accepted_json, fault_json};
-use fault_notes::fault_notes;
 use source::fault::{Fault, Refusal};
 use source::memory::NoMemory;
 use std::alloc::Global;

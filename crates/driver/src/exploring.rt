@@ -4,7 +4,7 @@ ghost use Rattle.std.specs.Prelude.{IfOk, map};
 ghost use Rattle.core_lang.specs.Expansion.{IsExpansion};
 ghost use Rattle.core_lang.specs.WellFormed.{IsChecked};
 ghost use Rattle.outcomes.specs.Ends.{Finds, StopsAfter, told_of};
-ghost use Rattle.driver.specs.Answering.{Meets, IsToldAnswer};
+ghost use Rattle.driver.specs.Working.Answering.{Meets, IsToldAnswer};
 ghost use Rattle.driver.specs.Outcomes.{IsLookedAt, StopsInOrder};
 
 use crate::answer::Answer;
@@ -14,11 +14,11 @@ use crate::running::run_calls;
 use crate::status::Status;
 use core_lang::laws;
 use core_lang::typed::Typed;
+use meaning_registers::prepared::Prepared;
 use outcomes::outcome::{Found, Outcome};
 use outcomes::search::Search;
-use outcomes_report::Ends;
-use register_machine::prepared::Prepared;
 use report::unsettled_text;
+use report_outcomes::Ends;
 use source::memory::NoMemory;
 use std::alloc::Global;
 

@@ -4,7 +4,7 @@ ghost use Rattle.std.specs.Prelude.{◌≡◌, ◌<◌, ◌+◌, ◌^◌, IfOk, 
 ghost use Rattle.outcomes.specs.Ends.{done_after};
 ghost use Rattle.outcomes.specs.Orders.{calls_in, none_done};
 ghost use Rattle.driver.specs.Outcomes.{scheduled_in, scheduled_next};
-ghost use Rattle.driver.specs.Running.{scheduled_of};
+ghost use Rattle.driver.specs.Working.Running.{scheduled_of};
 
 use crate::schedule::ScheduledCall;
 use core_lang::typed::Typed;

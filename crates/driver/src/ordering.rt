@@ -1,14 +1,14 @@
 //! The answer of `order`.
 
 ghost use Rattle.std.specs.Prelude.{IfOk};
-ghost use Rattle.driver.specs.Answering.{Meets};
+ghost use Rattle.driver.specs.Working.Answering.{Meets};
 ghost use Rattle.driver.specs.OrderGraphs.{IsOrderGraph};
 
 use crate::answer::Answer;
 use crate::status::Status;
-use check_report::Order;
 use lockorder::class_pairs;
 use lowering::compiled::Program;
+use report_check::Order;
 use source::memory::NoMemory;
 use std::alloc::Global;
 

@@ -2,8 +2,8 @@
 
 ghost use Rattle.std.specs.Prelude.{◌≡◌, IfOk, string_bytes};
 ghost use Rattle.code.specs.Listing.{line};
-ghost use Rattle.recorded.specs.Histories.{recorded_lines};
-ghost use Rattle.driver.specs.Answering.{Meets, IsBadHistoryAnswer, IsJudgementAnswer};
+ghost use Rattle.source_histories.specs.Histories.{recorded_lines};
+ghost use Rattle.driver.specs.Working.Answering.{Meets, IsBadHistoryAnswer, IsJudgementAnswer};
 ghost use Rattle.driver.specs.Replays.{IsReplayed, verdict_status, verdict_text};
 
 use crate::answer::Answer;
@@ -12,10 +12,10 @@ use crate::running::prepared;
 use crate::status::Status;
 use crate::why::push_why;
 use lowering::compiled::Program;
-use recorded::refusal::{HistoryFault, HistoryRefusal};
-use recorded::{Recorded, history_fault_line, read_history};
 use replay::{Judgement, Verdict, replay};
 use source::memory::NoMemory;
+use source_histories::refusal::{HistoryFault, HistoryRefusal};
+use source_histories::{Recorded, history_fault_line, read_history};
 use std::alloc::{AllocError, Global};
 
 /// The line of a fault of the history file.

@@ -6,18 +6,18 @@ ghost use Rattle.core_lang.specs.Serial.{all_calls};
 ghost use Rattle.core_lang.specs.Typing.{HasCells};
 ghost use Rattle.core_lang.specs.WellFormed.{IsChecked};
 ghost use Rattle.report.specs.{entry_of};
-ghost use Rattle.driver.specs.Running.{scheduled_of, ended_of, CanMake, IsRan};
+ghost use Rattle.driver.specs.Working.Running.{scheduled_of, ended_of, CanMake, IsRan};
 ghost use Rattle.driver.specs.Serial.{entry};
 
 use crate::schedule::{ScheduledCall, schedule};
 use core_lang::typed::Typed;
 use lowering::compiled::Program;
 use meaning::run::End;
-use register_machine::prepared::Prepared;
+use meaning_registers::prepared::Prepared;
+use meaning_trees::heap::Heap;
 use report::Record;
 use source::memory::NoMemory;
 use std::alloc::Global;
-use tree_walk::heap::Heap;
 
 /// How far the calls of a program came.
 #[derive(Drop)]

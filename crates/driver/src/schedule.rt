@@ -2,7 +2,7 @@
 
 ghost use Rattle.std.specs.Prelude.{◌≡◌, ◌++◌, IfOk, OnOk, map};
 ghost use Rattle.core_lang.specs.Serial.{all_calls, script_from};
-ghost use Rattle.driver.specs.Running.{scheduled_of};
+ghost use Rattle.driver.specs.Working.Running.{scheduled_of};
 
 use core_lang::typed::{Call, Typed};
 use source::memory::NoMemory;

@@ -1,7 +1,7 @@
 //! What `simulate` answers for a program.
 
 ghost use Rattle.std.specs.Prelude.{◌≡◌, IfOk, string_bytes};
-ghost use Rattle.driver.specs.Answering.{Meets, IsBadStepsAnswer};
+ghost use Rattle.driver.specs.Working.Answering.{Meets, IsBadStepsAnswer};
 ghost use Rattle.driver.specs.Simulations.{IsSimulated};
 
 use crate::answer::Answer;
@@ -10,9 +10,9 @@ use interleavings::world::run;
 use lowering::compiled::Program;
 use report::simulation_text;
 use source::memory::NoMemory;
+use source_steps::refusal::{StepsFault, StepsRefusal};
+use source_steps::{read_steps, steps_fault_line};
 use std::alloc::Global;
-use steps::refusal::{StepsFault, StepsRefusal};
-use steps::{read_steps, steps_fault_line};
 
 /// The line of a fault of the steps file.
 pub fn bad_steps(

@@ -1,16 +1,16 @@
 //! What `run` answers for a program.
 
 ghost use Rattle.std.specs.Prelude.{◌≡◌, IfOk, length};
-ghost use Rattle.driver.specs.Answering.{Meets, IsStrangeAnswer};
+ghost use Rattle.driver.specs.Working.Answering.{Meets, IsStrangeAnswer};
 ghost use Rattle.driver.specs.ThreadRuns.{IsThreadsRun};
 
 use crate::answer::Answer;
 use crate::status::Status;
 use core_lang::value::Value;
 use lowering::compiled::Program;
-use recorded::Format;
 use report::entries_text;
 use source::memory::NoMemory;
+use source_histories::Format;
 use std::alloc::Global;
 use std::sync::Wait;
 use std::thread::Threads;

@@ -1,7 +1,7 @@
 //! What `trace` answers for a program.
 
 ghost use Rattle.std.specs.Prelude.{◌≡◌, IfOk, string_bytes};
-ghost use Rattle.driver.specs.Answering.{Meets};
+ghost use Rattle.driver.specs.Working.Answering.{Meets};
 ghost use Rattle.driver.specs.Traces.{IsTraceAnswer};
 
 use crate::answer::Answer;
@@ -9,11 +9,11 @@ use crate::request::Pair;
 use crate::simulating::bad_steps;
 use crate::status::Status;
 use lowering::compiled::Program;
+use report_trace::Trace;
 use source::memory::NoMemory;
+use source_steps::read_steps;
+use source_steps::refusal::StepsRefusal;
 use std::alloc::Global;
-use steps::read_steps;
-use steps::refusal::StepsRefusal;
-use trace_report::Trace;
 
 /// A line for each step of a steps file, and the text of the world after them; or the line of the file's fault.
 pub fn traced(

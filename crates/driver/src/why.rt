@@ -3,11 +3,11 @@
 ghost use Rattle.std.specs.Prelude.{OnOk, string_bytes};
 ghost use Rattle.std.specs.List.{flat_map};
 ghost use Rattle.locks.specs.Texts.{AddsText};
-ghost use Rattle.recorded.specs.Histories.{recorded_lines};
+ghost use Rattle.source_histories.specs.Histories.{recorded_lines};
 ghost use Rattle.driver.specs.Replays.{call_wanted, found_text, wanted_text, why_text};
 
-use recorded::Recorded;
 use replay::{Judgement, Verdict, Wanted};
+use source_histories::Recorded;
 use std::alloc::{AllocError, Global};
 
 /// Puts the lines of calls up to their ends.

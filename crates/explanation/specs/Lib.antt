@@ -2,11 +2,9 @@ pub mod Shown
 pub mod Remedies
 pub mod Notes
 pub mod Explanation
-pub mod Laws
-pub mod Values
-pub mod Marks
+pub mod Working
 -- what the public clauses cite
 pub use Rattle.explanation.specs.Notes.{Note, note_of}
 pub use Rattle.explanation.specs.Explanation.{accepted_text, explanation_text}
-pub use Rattle.explanation.specs.Laws.{ShownByFirstBytes}
-pub use Rattle.explanation.specs.Values.{accepted_text_of, explanation_text_of}
+pub use Rattle.explanation.specs.Working.Laws.{ShownByFirstBytes}
+pub use Rattle.explanation.specs.Working.Values.{accepted_text_of, explanation_text_of}

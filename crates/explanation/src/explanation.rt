@@ -25,7 +25,7 @@ pub struct Explanation<'a> {
 }
 
 impl Explanation<'_> {
-    ghost use Rattle.explanation.specs.Values.{explanation_text_of};
+    ghost use Rattle.explanation.specs.Working.Values.{explanation_text_of};
 
     /// The line that reports the fault, as [`fault_line`] gives it; the line of the source that it is in, and below it a
     /// caret under the place; a line for each note, and its place in the same form, if it has one; and what can be done. Of a line of the
@@ -63,7 +63,7 @@ pub struct Acceptance<'a> {
 }
 
 impl Acceptance<'_> {
-    ghost use Rattle.explanation.specs.Values.{accepted_text_of};
+    ghost use Rattle.explanation.specs.Working.Values.{accepted_text_of};
 
     /// The line `accepted`; and for each note what [`Explanation::text`] writes of one.
     ///

@@ -2,9 +2,9 @@
 
 ghost use Rattle.std.specs.Prelude.{◌≡◌, IfOk};
 ghost use Rattle.source.specs.Faults.{line_of, column_of};
-ghost use Rattle.explanation.specs.Marks.{AreOf};
+ghost use Rattle.explanation.specs.Working.Marks.{AreOf};
 
-use check_report::places::Cursor;
+use report_check::places::Cursor;
 use source::memory::NoMemory;
 use std::alloc::Global;
 

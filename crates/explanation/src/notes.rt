@@ -2,7 +2,7 @@
 
 ghost use Rattle.std.specs.Prelude.{◌≡◌, IfOk, OnOk, codes, map, string_bytes};
 ghost use Rattle.source.specs.Faults.{place_text};
-ghost use Rattle.explanation.specs.Values.{noted_words};
+ghost use Rattle.explanation.specs.Working.Values.{noted_words};
 ghost use Rattle.locks.specs.Texts.{AddsText};
 ghost use Rattle.explanation.specs.Notes.{note_of, said_text};
 
@@ -51,7 +51,7 @@ pub struct Notes<'a> {
 }
 
 impl Notes<'_> {
-    ghost use Rattle.explanation.specs.Values.{note_text_of, note_texts_of};
+    ghost use Rattle.explanation.specs.Working.Values.{note_text_of, note_texts_of};
 
     // The line of a note on this place.
     fn placed(

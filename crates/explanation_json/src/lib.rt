@@ -3,7 +3,7 @@
 //! - [`fault_json`]: of a fault. [`accepted_json`]: of a program without one.
 //! - [`laws`]: what holds of the JSON of every fault.
 //!
-//! `specs/Json.antt` says which object that is, and `serde_json` which text it has. `specs/Values.antt` says it of values of
+//! `specs/Json.antt` says which object that is, and `serde_json` which text it has. `specs/Working/Values.antt` says it of values of
 //! the code; nobody has to believe that.
 #![tactic(auto)]
 

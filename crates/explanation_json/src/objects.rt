@@ -4,7 +4,7 @@ ghost use Rattle.std.specs.Prelude.{◌≡◌, IfOk, map, string_bytes};
 ghost use Rattle.explanation.specs.Notes.{note_of};
 ghost use Rattle.serde_json.specs.View.{view, members_view};
 ghost use Rattle.explanation_json.specs.Json as object;
-ghost use Rattle.explanation_json.specs.Values.{accepted_data_of, accepted_json_of, fault_data_of, fault_json_of, fault_members_of, fault_words_of};
+ghost use Rattle.explanation_json.specs.Working.Values.{accepted_data_of, accepted_json_of, fault_data_of, fault_json_of, fault_members_of, fault_words_of};
 
 use crate::places::Places;
 use explanation::{Acceptance, Explanation, Note, remedy_of};

@@ -4,8 +4,8 @@ use Rattle.std.specs.List.{All}
 use Rattle.std.proofs.lemmas.List.{map-append}
 use Rattle.std.proofs.lemmas.List.Elements.{All-head, All-tail, All-push, All-weaker, All-same}
 use Rattle.history.specs.Commits.{Commit}
-use Rattle.history.specs.Arrays.{ListsOf}
-use Rattle.history.specs.Lists.{commit_in, commits_in, IsStored}
+use Rattle.history.specs.Working.Arrays.{ListsOf}
+use Rattle.history.specs.Working.Lists.{commit_in, commits_in, IsStored}
 use Rattle.history.specs.declared.lists.Stored.{Stored}
 
 -- what stands in the arrays stands in others too, and is the same there

@@ -1,7 +1,7 @@
 //! Copies of finished sections.
 
 ghost use Rattle.std.specs.Prelude.{◌≡◌, ◌≤◌, ◌+◌, ◌++◌, ◌↔◌, length, vec_len, vec_capacity, IfOk, IsTrue};
-ghost use Rattle.history.specs.Copies.{HasRoom};
+ghost use Rattle.history.specs.Working.Copies.{HasRoom};
 
 use crate::entry::{CellValue, Entry};
 use crate::kept::Kept;
@@ -21,7 +21,7 @@ pub struct CopyRoom {
 
 impl Model for CopyRoom {
     ghost use Rattle.std.specs.Prelude.{◌≡◌, [], vec_len, vec_capacity};
-    ghost use Rattle.history.specs.Copies.{CopyRoomOf};
+    ghost use Rattle.history.specs.Working.Copies.{CopyRoomOf};
 
     ghost Value = { CopyRoomOf };
 

@@ -1,7 +1,7 @@
 //! The entries of a history.
 
 ghost use Rattle.std.specs.Prelude.{◌≡◌, ◌<◌, ◌+◌, [], ◌∷◌, ◌++◌, length, slice_get, Some, OnOk, OnErr};
-ghost use Rattle.history.specs.Histories.{IsPromised, nothing_promised, with_promise};
+ghost use Rattle.history.specs.Working.Histories.{IsPromised, nothing_promised, with_promise};
 
 use crate::entry::Entry;
 use crate::kept::Kept;
@@ -24,11 +24,11 @@ pub struct History {
 impl Model for History {
     ghost use Rattle.std.specs.Prelude.{◌+◌, ◌≤◌, vec_len, vec_capacity};
     ghost use Rattle.std.specs.List.{All};
-    ghost use Rattle.history.specs.Histories.{HistoryOf};
+    ghost use Rattle.history.specs.Working.Histories.{HistoryOf};
 
     ghost Value = { HistoryOf };
 
-    ghost use Rattle.history.specs.Lists.{commits_in, IsStored};
+    ghost use Rattle.history.specs.Working.Lists.{commits_in, IsStored};
 
     ghost view = { λ h. record { commits = commits_in h.lists h.entries.items; promised = h.lists.promised } };
 

@@ -1,6 +1,6 @@
 //! What holds of every history: functions that do nothing, and whose contracts are the laws.
 
-ghost use Rattle.history.specs.Laws.{WritesSpareOthers, Commuting, LegalIsSerial, CommittedOfOneMore, LegalOfOneMore, TrueOfOneMore, CommittedKeepsSize};
+ghost use Rattle.history.specs.Working.Laws.{WritesSpareOthers, Commuting, LegalIsSerial, CommittedOfOneMore, LegalOfOneMore, TrueOfOneMore, CommittedKeepsSize};
 
 /// Further entries that don't write a cell leave its value.
 pub fn commuting()

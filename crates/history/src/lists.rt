@@ -1,9 +1,9 @@
 //! The lists of entries.
 
 ghost use Rattle.std.specs.Prelude.{◌≡◌, ◌≤◌, ◌+◌, ◌++◌, [], length, vec_len, vec_capacity, OnOk, OnErr, IsTrue};
-ghost use Rattle.history.specs.Histories.{IsPromised, nothing_promised, with_promise};
-ghost use Rattle.history.specs.Arrays.{with_room};
-ghost use Rattle.history.specs.Lists.{part_behind, packed_commit, packed_behind, with_lists, commit_in, IsPacked, IsStored, IsWithin, Stores};
+ghost use Rattle.history.specs.Working.Histories.{IsPromised, nothing_promised, with_promise};
+ghost use Rattle.history.specs.Working.Arrays.{with_room};
+ghost use Rattle.history.specs.Working.Lists.{part_behind, packed_commit, packed_behind, with_lists, commit_in, IsPacked, IsStored, IsWithin, Stores};
 
 use crate::entry::{CellValue, Entry};
 use crate::kept::Kept;
@@ -74,7 +74,7 @@ pub struct Lists {
 
 impl Model for Lists {
     ghost use Rattle.std.specs.Prelude.{◌≤◌, ◌+◌, ◌*◌, vec_len, vec_capacity};
-    ghost use Rattle.history.specs.Arrays.{ListsOf};
+    ghost use Rattle.history.specs.Working.Arrays.{ListsOf};
 
     ghost Value = { ListsOf };
 

@@ -11,8 +11,8 @@ use Rattle.locks.specs.declared.lock.Lock.{Lock}
 use Rattle.locks.specs.LockPaths.{LockPath, lock_paths, lock_named}
 use Rattle.locks.specs.Order.{Precedes, PrecedesIsStrict}
 use Rattle.inserter.specs.Placement.{IsPath}
-use Rattle.inserter.specs.Runs.{IsListed, Asks}
-use Rattle.inserter.specs.Laws.{IsOrdered}
+use Rattle.inserter.specs.Working.Runs.{IsListed, Asks}
+use Rattle.inserter.specs.Working.Laws.{IsOrdered}
 use Rattle.inserter.proofs.Held.{not_in_none, in_first, in_rest, in_cases, held_or_not}
 use Rattle.inserter.proofs.Listed.{PathLaws, listed_wanted, somewhere}
 use Rattle.inserter.proofs.Named.{named_class}

@@ -14,7 +14,7 @@ use Rattle.locks.specs.Sets.{has}
 use Rattle.points.specs.declared.table.Points.{Points}
 use Rattle.points.specs.Wanted.{rank_of, IsWanted, IsSurelyHeld, AreWanted, AreSurelyHeld}
 use Rattle.inserter.specs.Placement.{IsPath, GoesBefore, IsListBefore}
-use Rattle.inserter.specs.Keys.{key_of, AreKeys, numbers_in, IsLeft, AreDue, AreListsOf}
+use Rattle.inserter.specs.Working.Keys.{key_of, AreKeys, numbers_in, IsLeft, AreDue, AreListsOf}
 use Rattle.inserter.proofs.KeyLists.{of_numbers, in_numbers, numbers_rise, own_key, number_of_key}
 
 -- what a list has at a place below its end

@@ -13,8 +13,8 @@ use Rattle.locks.specs.declared.lock.Lock.{Lock}
 use Rattle.locks.specs.LockPaths.{LockPath, lock_named, Uses, IsInScope, BindsRoot}
 use Rattle.points.specs.Used.{IsUsedLater}
 use Rattle.points.specs.Wanted.{rank_of, IsTaken, last, earlier, IsSurelyHeld}
-use Rattle.inserter.specs.Runs.{IsListed, Keeps}
-use Rattle.inserter.specs.Laws.{IsOrdered}
+use Rattle.inserter.specs.Working.Runs.{IsListed, Keeps}
+use Rattle.inserter.specs.Working.Laws.{IsOrdered}
 use Rattle.inserter.proofs.Held.{held_or_not}
 use Rattle.inserter.proofs.Arrived.{AreBelow, HasPath, Arrived}
 use Rattle.inserter.proofs.Listed.{PathLaws, named_rank, rises, somewhere, listed_below}

@@ -15,7 +15,7 @@ use Rattle.std.proofs.lemmas.Bool.Decides.{Decides-eqb}
 use Rattle.std.proofs.lemmas.Nat.{mod-mul-add}
 use Rattle.locks.specs.declared.path_set.PathSet.{PathSet}
 use Rattle.locks.specs.Sets.{has}
-use Rattle.inserter.specs.Keys.{key_of, first_keys, AreKeys, numbers_in}
+use Rattle.inserter.specs.Working.Keys.{key_of, first_keys, AreKeys, numbers_in}
 
 -- ---- what a list contains
 

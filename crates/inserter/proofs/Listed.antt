@@ -10,12 +10,12 @@ use Rattle.flow.specs.Flow.{Before}
 use Rattle.flow.specs.Points.{points}
 use Rattle.locks.specs.declared.lock.Lock.{Lock}
 use Rattle.locks.specs.LockPaths.{LockPath, lock_paths, lock_named, Uses, BindsRoot}
-use Rattle.locks.specs.Laws.{UsedAreInScope, ScopeOfPathsGoesBack, PathsHaveClasses, UsedAreListed}
+use Rattle.locks.specs.Working.Laws.{UsedAreInScope, ScopeOfPathsGoesBack, PathsHaveClasses, UsedAreListed}
 use Rattle.points.specs.Used.{IsUsedLater}
 use Rattle.points.specs.Wanted.{rank_of, IsWanted}
 use Rattle.inserter.specs.Placement.{IsPath, IsDue}
-use Rattle.inserter.specs.Runs.{IsListed}
-use Rattle.inserter.specs.Laws.{IsOrdered}
+use Rattle.inserter.specs.Working.Runs.{IsListed}
+use Rattle.inserter.specs.Working.Laws.{IsOrdered}
 use Rattle.inserter.proofs.Named.{named_class}
 
 -- the laws of lock paths that are used

@@ -1,5 +1,5 @@
 -- The lists of a placement are lists that the law of a run asks for.
-use Rattle.inserter.specs.Laws.{PlacementsAreOrdered}
+use Rattle.inserter.specs.Working.Laws.{PlacementsAreOrdered}
 
 pub placements_are_ordered : PlacementsAreOrdered
 placements_are_ordered program ranks placed k section lists well ranked rise is here there =

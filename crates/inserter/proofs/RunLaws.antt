@@ -10,8 +10,8 @@ use Rattle.core_lang.specs.declared.typed.Typed.{Typed}
 use Rattle.locks.specs.declared.lock.Lock.{Lock}
 use Rattle.locks.specs.LockPaths.{LockPath, lock_paths, lock_named}
 use Rattle.inserter.specs.Placement.{IsPath}
-use Rattle.inserter.specs.Runs.{Asks, Run, begins, gets, goes}
-use Rattle.inserter.specs.Laws.{IsOrdered, InRuns, AsksRise, UsedAreHeld, HeldAreNamed, FewAreHeld}
+use Rattle.inserter.specs.Working.Runs.{Asks, Run, begins, gets, goes}
+use Rattle.inserter.specs.Working.Laws.{IsOrdered, InRuns, AsksRise, UsedAreHeld, HeldAreNamed, FewAreHeld}
 use Rattle.inserter.proofs.Held.{distinct_push}
 use Rattle.inserter.proofs.Few.{no_more_than}
 use Rattle.inserter.proofs.Listed.{PathLaws, named_rank, used_wanted, number_of, listed_wanted}

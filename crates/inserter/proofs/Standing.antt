@@ -9,8 +9,8 @@ use Rattle.locks.specs.declared.lock.Lock.{Lock}
 use Rattle.locks.specs.LockPaths.{LockPath, lock_named}
 use Rattle.locks.specs.Order.{Precedes}
 use Rattle.points.specs.Wanted.{IsWanted}
-use Rattle.inserter.specs.Runs.{IsListed}
-use Rattle.inserter.specs.Laws.{IsOrdered}
+use Rattle.inserter.specs.Working.Runs.{IsListed}
+use Rattle.inserter.specs.Working.Laws.{IsOrdered}
 use Rattle.inserter.proofs.Held.{held_or_not}
 use Rattle.inserter.proofs.Arrived.{HasPath, Arrived}
 use Rattle.inserter.proofs.Listed.{PathLaws, somewhere, listed_wanted, due_listed}

@@ -1,7 +1,5 @@
 pub mod Placement
-pub mod Runs
-pub mod Laws
-pub mod Keys
+pub mod Working
 pub use Rattle.inserter.specs.Placement.{IsPath, IsDue, GoesBefore, IsListBefore, AreLists, IsPlacement, lists_of, all_lists}
-pub use Rattle.inserter.specs.Runs.{AreAllowed, IsListed, Asks, Keeps, Run}
-pub use Rattle.inserter.specs.Laws.{IsOrdered}
+pub use Rattle.inserter.specs.Working.Runs.{AreAllowed, IsListed, Asks, Keeps, Run}
+pub use Rattle.inserter.specs.Working.Laws.{IsOrdered}

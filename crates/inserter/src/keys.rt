@@ -1,7 +1,7 @@
 //! The lock paths of a section in the order in which they are listed.
 
 ghost use Rattle.std.specs.Prelude.{◌≤◌, length, map, slice_index, IfOk};
-ghost use Rattle.inserter.specs.Keys.{AreKeys};
+ghost use Rattle.inserter.specs.Working.Keys.{AreKeys};
 
 use source::memory::NoMemory;
 use std::alloc::Global;

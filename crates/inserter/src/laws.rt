@@ -1,6 +1,6 @@
 //! What holds of the locks of every run: functions that do nothing, and whose contracts are the laws.
 
-ghost use Rattle.inserter.specs.Laws.{PlacementsAreOrdered, InRuns, AsksRise, AsksForSome, UsedAreHeld, HeldAreNamed, FewAreHeld};
+ghost use Rattle.inserter.specs.Working.Laws.{PlacementsAreOrdered, InRuns, AsksRise, AsksForSome, UsedAreHeld, HeldAreNamed, FewAreHeld};
 
 /// The lists of a placement are ones that the law of a run asks for.
 pub fn placements_are_ordered()

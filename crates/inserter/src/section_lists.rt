@@ -1,7 +1,7 @@
 //! The lists before the points of a section.
 
 ghost use Rattle.std.specs.Prelude.{◌≡◌, map, IfOk};
-ghost use Rattle.inserter.specs.Keys.{AreDue, AreListsOf, numbers_in};
+ghost use Rattle.inserter.specs.Working.Keys.{AreDue, AreListsOf, numbers_in};
 ghost use Rattle.inserter.specs.Placement.{lists_of};
 
 use crate::keys::sorted_keys;

@@ -4,22 +4,22 @@ use Rattle.std.specs.Prelude.{slice_get}
 use Rattle.std.proofs.lemmas.List.{set-set}
 use Rattle.std.proofs.lemmas.Option.{slice_get_within}
 use Rattle.locks.specs.Order.{PrecedesIsStrict}
-use Rattle.history.specs.Laws.{CommittedKeepsSize}
-use Rattle.lock_manager.specs.Managers.{Managed, IsKept}
+use Rattle.history.specs.Working.Laws.{CommittedKeepsSize}
+use Rattle.lock_manager.specs.Working.Managers.{Managed, IsKept}
 use Rattle.lowering.specs.Plans.{Plan}
 use Rattle.runner.specs.declared.states.Next.{Next}
 use Rattle.runner.specs.declared.states.Next.TheVariants as next
-use Rattle.runner.specs.Opens.{OpenOf, IsRunning, moved, moved_by, Ran}
-use Rattle.runner.specs.Answers.{open_of, IsNamed}
+use Rattle.runner.specs.Working.Opens.{OpenOf, IsRunning, moved, moved_by, Ran}
+use Rattle.runner.specs.Working.Answers.{open_of, IsNamed}
 use Rattle.worlds.specs.declared.event.Event.{Event}
 use Rattle.worlds.specs.declared.event.Event.TheVariants as event
 use Rattle.worlds.specs.Worlds.{World, happens, world_after}
-use Rattle.worlds.specs.States.{StepsKeepSound}
-use Rattle.worlds.specs.Ahead.{WorldsStayReady}
+use Rattle.worlds.specs.Working.States.{StepsKeepSound}
+use Rattle.worlds.specs.Working.Ahead.{WorldsStayReady}
 use Rattle.interleavings.specs.declared.state.State.{State}
 use Rattle.interleavings.specs.declared.state.State.TheVariants as state
-use Rattle.interleavings.specs.States.{state_of, world_of, IsTied}
-use Rattle.interleavings.specs.Steps.{Moved}
+use Rattle.interleavings.specs.Working.States.{state_of, world_of, IsTied}
+use Rattle.interleavings.specs.Working.Steps.{Moved}
 use Rattle.interleavings.specs.Threads.{ThreadsOf, threads_of, with_steps}
 use Rattle.interleavings.proofs.Lists.{set_same, set_itself}
 use Rattle.interleavings.proofs.Turning.{Done, done}

@@ -11,17 +11,17 @@ use Rattle.core_lang.specs.Typing.{lookup}
 use Rattle.locks.specs.declared.lock.Lock.{Lock}
 use Rattle.layout.specs.LockCells.{cells_of}
 use Rattle.code.specs.Memory.{value_at}
-use Rattle.moved_cells.specs.Grants.{numbered, values_on, if_there}
+use Rattle.moved_cells.specs.Working.Grants.{numbered, values_on, if_there}
 use Rattle.history.specs.Commits.{committed}
-use Rattle.history.specs.Laws.{CommittedKeepsSize}
+use Rattle.history.specs.Working.Laws.{CommittedKeepsSize}
 use Rattle.lock_manager.specs.declared.places.Place.{Place}
 use Rattle.lock_manager.specs.declared.places.Place.TheVariants.{Free, Taken}
-use Rattle.lock_manager.specs.Managers.{Managed, IsKept, session_in, number_from, place_of, cell_of, value_in}
+use Rattle.lock_manager.specs.Working.Managers.{Managed, IsKept, session_in, number_from, place_of, cell_of, value_in}
 use Rattle.lowering.specs.Plans.{Plan}
 use Rattle.worlds.specs.Worlds.{World, with_taken, taken}
-use Rattle.worlds.specs.States.{IsSound, HoldsLockOf}
+use Rattle.worlds.specs.Working.States.{IsSound, HoldsLockOf}
 use Rattle.interleavings.specs.declared.state.State.{State}
-use Rattle.interleavings.specs.States.{thread_of, session_at, cells_seen}
+use Rattle.interleavings.specs.Working.States.{thread_of, session_at, cells_seen}
 use Rattle.interleavings.proofs.Lists.{lookup_at, at_contained, item_at, map_at, same_everywhere}
 use Rattle.interleavings.proofs.Numbers.{number_found, cell_among, has_lock, contains_among, among_contains}
 use Rattle.interleavings.proofs.Holding.{open_holds, holds_open}

@@ -3,14 +3,14 @@ use Rattle.std.proofs.Common.{◌≡◌, ◌≢◌, ℕ, List, [], ◌∷◌, Op
 use Rattle.std.specs.Prelude.{slice_get}
 use Rattle.core_lang.specs.declared.value.Outcome.{Outcome}
 use Rattle.locks.specs.declared.lock.Lock.{Lock}
-use Rattle.lock_manager.specs.Managers.{Managed}
+use Rattle.lock_manager.specs.Working.Managers.{Managed}
 use Rattle.lowering.specs.Plans.{Plan}
 use Rattle.worlds.specs.Worlds.{Activation}
 use Rattle.interleavings.specs.declared.coming.Coming.TheVariants as coming
 use Rattle.interleavings.specs.declared.state.State.{State}
 use Rattle.interleavings.specs.declared.state.State.TheVariants as state
-use Rattle.interleavings.specs.States.{thread_of, world_of, IsTied}
-use Rattle.interleavings.specs.Steps.{coming_at}
+use Rattle.interleavings.specs.Working.States.{thread_of, world_of, IsTied}
+use Rattle.interleavings.specs.Working.Steps.{coming_at}
 use Rattle.interleavings.specs.Coming.{section_comes, open_comes, thread_comes, coming_to}
 use Rattle.interleavings.proofs.Lists.{map_at}
 

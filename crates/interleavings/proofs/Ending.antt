@@ -14,17 +14,17 @@ use Rattle.locks.specs.declared.lock.Lock.{Lock}
 use Rattle.layout.specs.LockCells.{cells_of}
 use Rattle.layout.specs.Layouts.{AreDistinct}
 use Rattle.code.specs.Memory.{value_at, overwritten, Agrees}
-use Rattle.moved_cells.specs.Grants.{GrantOf, IsWhole, numbered, cells_in, locks_of}
-use Rattle.moved_cells.specs.Laws.{OffsetsFindValues}
-use Rattle.held_cells.specs.Held.{cells_granted}
+use Rattle.moved_cells.specs.Working.Grants.{GrantOf, IsWhole, numbered, cells_in, locks_of}
+use Rattle.moved_cells.specs.Working.Laws.{OffsetsFindValues}
+use Rattle.runner_cells.specs.Working.Held.{cells_granted}
 use Rattle.history.specs.Commits.{committed}
-use Rattle.lock_manager.specs.Managers.{Managed, IsKept}
-use Rattle.lock_manager.specs.Calls.{Knows, AreOf, IsOwnWrite}
+use Rattle.lock_manager.specs.Working.Managers.{Managed, IsKept}
+use Rattle.lock_manager.specs.Working.Calls.{Knows, AreOf, IsOwnWrite}
 use Rattle.lowering.specs.Plans.{Plan, IsCompiled}
-use Rattle.runner.specs.Opens.{OpenOf, CanGiveBack, ticket_of}
+use Rattle.runner.specs.Working.Opens.{OpenOf, CanGiveBack, ticket_of}
 use Rattle.worlds.specs.Waiting.{first_if}
 use Rattle.worlds.specs.Worlds.{Activation, call_at, scripts, script_of}
-use Rattle.worlds.specs.States.{IsWell, IsFit}
+use Rattle.worlds.specs.Working.States.{IsWell, IsFit}
 use Rattle.interleavings.proofs.Lists.{some_same, contains_at, at_contained, all_contained, all_from, first_or_rest, later, map_at, map_back}
 use Rattle.interleavings.proofs.Numbers.{distinct_first, distinct_rest, has_lock, among_contains}
 use Rattle.interleavings.proofs.Cells.{first_is, first_is_not}

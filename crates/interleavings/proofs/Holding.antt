@@ -9,14 +9,14 @@ use Rattle.core_lang.specs.Typing.{lookup}
 use Rattle.locks.specs.declared.lock.Lock.{Lock}
 use Rattle.lock_manager.specs.declared.places.Place.{Place}
 use Rattle.lock_manager.specs.declared.places.Place.TheVariants.{Free, Taken}
-use Rattle.lock_manager.specs.Sessions.{SessionOf}
-use Rattle.lock_manager.specs.Managers.{Managed, IsKept, Holds, session_in, place_of, holder_of, taker}
-use Rattle.runner.specs.Opens.{OpenOf, session_of_open}
+use Rattle.lock_manager.specs.Working.Sessions.{SessionOf}
+use Rattle.lock_manager.specs.Working.Managers.{Managed, IsKept, Holds, session_in, place_of, holder_of, taker}
+use Rattle.runner.specs.Working.Opens.{OpenOf, session_of_open}
 use Rattle.worlds.specs.Asking.{among}
 use Rattle.worlds.specs.Worlds.{World, ThreadState, Activation, HasOpen, holds, holder_from, holder}
 use Rattle.interleavings.specs.declared.state.State.{State}
 use Rattle.interleavings.specs.declared.state.State.TheVariants as state
-use Rattle.interleavings.specs.States.{thread_of, open_thread, session_of_state, session_at}
+use Rattle.interleavings.specs.Working.States.{thread_of, open_thread, session_of_state, session_at}
 use Rattle.interleavings.proofs.Lists.{some_same, lookup_some, map_at, map_back}
 use Rattle.interleavings.proofs.Numbers.{contains_among, among_contains}
 

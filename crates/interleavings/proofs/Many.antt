@@ -6,9 +6,9 @@ use Rattle.lowering.specs.Plans.{Plan}
 use Rattle.worlds.specs.declared.event.Event.{Event}
 use Rattle.worlds.specs.declared.event.Event.TheVariants.{Began}
 use Rattle.worlds.specs.Worlds.{World, happens, world_after}
-use Rattle.steps.specs.declared.turn.Turn.{Turn}
+use Rattle.source_steps.specs.declared.turn.Turn.{Turn}
 use Rattle.interleavings.specs.Threads.{ThreadsOf, threads_of, with_steps, StopsAtBegin}
-use Rattle.steps.specs.Turns.{steps_of}
+use Rattle.source_steps.specs.Turns.{steps_of}
 
 pub steps_more : (plan : Plan) (w : World) (xs ys : List ℕ) → world_after plan w (xs ++ ys) ≡ world_after plan (world_after plan w xs) ys
 steps_more plan w [] ys = refl

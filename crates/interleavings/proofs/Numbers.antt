@@ -7,7 +7,7 @@ use Rattle.std.proofs.lemmas.Option.{none-some, slice_get-get_or}
 use Rattle.locks.specs.declared.lock.Lock.{Lock}
 use Rattle.layout.specs.LockCells.{same_lock, cells_from, cells_of}
 use Rattle.layout.specs.Layouts.{AreDistinct}
-use Rattle.lock_manager.specs.Managers.{number_from}
+use Rattle.lock_manager.specs.Working.Managers.{number_from}
 use Rattle.worlds.specs.Asking.{among}
 use Rattle.interleavings.proofs.Lists.{some_same}
 

@@ -6,15 +6,15 @@ use Rattle.std.proofs.lemmas.Bool.{cases_lt}
 use Rattle.std.proofs.lemmas.List.{length-map}
 use Rattle.std.proofs.lemmas.Option.{slice_get_within, slice_get_past}
 use Rattle.core_lang.specs.Typing.{lookup}
-use Rattle.history.specs.Laws.{CommittedKeepsSize}
-use Rattle.lock_manager.specs.Managers.{Managed, IsKept, session_in, opened, threads as most_threads}
+use Rattle.history.specs.Working.Laws.{CommittedKeepsSize}
+use Rattle.lock_manager.specs.Working.Managers.{Managed, IsKept, session_in, opened, threads as most_threads}
 use Rattle.lowering.specs.Plans.{Plan, IsCompiled}
 use Rattle.worlds.specs.Worlds.{at_first, scripts, script_of, opening_world}
-use Rattle.worlds.specs.States.{IsSound, OpeningIsSound}
-use Rattle.worlds.specs.Ahead.{IsReadyWorld, WorldsStayReady}
+use Rattle.worlds.specs.Working.States.{IsSound, OpeningIsSound}
+use Rattle.worlds.specs.Working.Ahead.{IsReadyWorld, WorldsStayReady}
 use Rattle.interleavings.specs.declared.state.State.{State}
 use Rattle.interleavings.specs.declared.state.State.TheVariants as state
-use Rattle.interleavings.specs.States.{thread_of, session_of_state, session_at, IsAt, AreReady, cells_seen, world_of, IsTied}
+use Rattle.interleavings.specs.Working.States.{thread_of, session_of_state, session_at, IsAt, AreReady, cells_seen, world_of, IsTied}
 use Rattle.interleavings.proofs.Lists.{some_same, item_at, map_at, same_everywhere}
 use Rattle.interleavings.proofs.Cells.{same_cells}
 

@@ -12,29 +12,29 @@ use Rattle.layout.specs.LockCells.{cells_of}
 use Rattle.layout.specs.Layouts.{AreDistinct}
 use Rattle.code.specs.Machine.{Effect, Moves, Asks, Finishes, Undefined}
 use Rattle.code.specs.Memory.{HeldCells}
-use Rattle.moved_cells.specs.Grants.{numbered}
-use Rattle.moved_cells.specs.Laws.{OffsetsFindValues}
+use Rattle.moved_cells.specs.Working.Grants.{numbered}
+use Rattle.moved_cells.specs.Working.Laws.{OffsetsFindValues}
 use Rattle.history.specs.Commits.{Commit, committed}
-use Rattle.history.specs.Laws.{CommittedKeepsSize}
-use Rattle.lock_manager.specs.Sessions.{SessionOf, fresh, with_lock, with_ask}
-use Rattle.lock_manager.specs.Managers.{Managed, IsKept, session_in, session_of, holder_of, taker}
-use Rattle.lock_manager.specs.Calls.{with_session}
+use Rattle.history.specs.Working.Laws.{CommittedKeepsSize}
+use Rattle.lock_manager.specs.Working.Sessions.{SessionOf, fresh, with_lock, with_ask}
+use Rattle.lock_manager.specs.Working.Managers.{Managed, IsKept, session_in, session_of, holder_of, taker}
+use Rattle.lock_manager.specs.Working.Calls.{with_session}
 use Rattle.lowering.specs.Plans.{Plan}
 use Rattle.source.specs.declared.memory.NoMemory.{NoMemory}
 use Rattle.runner.specs.declared.states.Next.{Next}
 use Rattle.runner.specs.declared.states.Next.TheVariants as next
-use Rattle.runner.specs.Opens.{OpenOf, ReadyOf, further, session_of_open}
-use Rattle.runner.specs.Answers.{open_of, IsNamed}
+use Rattle.runner.specs.Working.Opens.{OpenOf, ReadyOf, further, session_of_open}
+use Rattle.runner.specs.Working.Answers.{open_of, IsNamed}
 use Rattle.worlds.specs.declared.event.Event.{Event}
 use Rattle.worlds.specs.declared.event.Event.TheVariants as event
 use Rattle.worlds.specs.Waiting.{first_if}
 use Rattle.worlds.specs.Worlds.{World, ThreadState, Activation, HasOpen, activation, instructed, next_effect, granted, taken, commit, call_at, holder, begins, goes_on, asks, ends, steps_with, thread_steps, happens, with_active}
-use Rattle.worlds.specs.States.{IsSound, StepsKeepSound}
-use Rattle.worlds.specs.Ahead.{IsReadyWorld, WorldsStayReady}
+use Rattle.worlds.specs.Working.States.{IsSound, StepsKeepSound}
+use Rattle.worlds.specs.Working.Ahead.{IsReadyWorld, WorldsStayReady}
 use Rattle.interleavings.specs.declared.state.State.{State}
 use Rattle.interleavings.specs.declared.state.State.TheVariants as state
-use Rattle.interleavings.specs.States.{state_of, open_thread, thread_of, session_of_state, session_at, IsOf, IsAt, cells_seen, world_of, IsTied}
-use Rattle.interleavings.specs.Steps.{Begun, Moved, Got, Refused, Over, Stays, ReadySteps, RunningSteps, AskingSteps, EndedSteps, Steps, Refuses, Stepped, CanStep, status_at}
+use Rattle.interleavings.specs.Working.States.{state_of, open_thread, thread_of, session_of_state, session_at, IsOf, IsAt, cells_seen, world_of, IsTied}
+use Rattle.interleavings.specs.Working.Steps.{Begun, Moved, Got, Refused, Over, Stays, ReadySteps, RunningSteps, AskingSteps, EndedSteps, Steps, Refuses, Stepped, CanStep, status_at}
 use Rattle.interleavings.specs.Statuses.{calling, wanting, asking, section_status, thread_status, status_of}
 use Rattle.interleavings.specs.Threads.{ThreadsOf, threads_of}
 use Rattle.interleavings.proofs.Lists.{some_same, map_at, set_same, set_other, set_itself}

@@ -1,10 +1,10 @@
 //! One step of one thread.
 
 ghost use Rattle.std.specs.Prelude.{◌≡◌, ◌<◌, ◌≤◌, length, MatchOption, IfOk};
-ghost use Rattle.interleavings.specs.States.{state_of, AreReady};
-ghost use Rattle.interleavings.specs.Steps.{Stepped, AskingSteps, EndedSteps, CanBegin, CanStep, HasNoCall, IsCall, status_at, asking_at, coming_at};
+ghost use Rattle.interleavings.specs.Working.States.{state_of, AreReady};
+ghost use Rattle.interleavings.specs.Working.Steps.{Stepped, AskingSteps, EndedSteps, CanBegin, CanStep, HasNoCall, IsCall, status_at, asking_at, coming_at};
 ghost use Rattle.interleavings.specs.declared.state.State.TheVariants as state;
-ghost use Rattle.runner.specs.Opens.{CanBeReleased, IsKnown};
+ghost use Rattle.runner.specs.Working.Opens.{CanBeReleased, IsKnown};
 
 use crate::coming::Coming;
 use crate::state::State;

@@ -7,7 +7,7 @@ ghost use Rattle.worlds.specs.Claims.{Headline};
 ghost use Rattle.interleavings.specs.Threads.{cell_in, at_opening, after_steps, with_steps, StopsAtBegin};
 ghost use Rattle.interleavings.specs.Statuses.{status_of};
 ghost use Rattle.interleavings.specs.Coming.{coming_to};
-ghost use Rattle.steps.specs.Turns.{steps_of};
+ghost use Rattle.source_steps.specs.Turns.{steps_of};
 
 use crate::coming::Coming;
 use crate::state::State;
@@ -18,10 +18,10 @@ use history::entries::History;
 use lock_manager::manager::Manager;
 use lowering::compiled::Program;
 use source::memory::NoMemory;
+use source_steps::turn::Turn;
 use std::alloc::Global;
 use std::marker::Model;
 use std::mem;
-use steps::turn::Turn;
 use worlds::event::Event;
 
 /// The threads of a compiled program, each with its state, and the manager of its locks. As a value it is the program's
@@ -44,7 +44,7 @@ impl<'p> Model for World<'p> {
 
     ghost coded = { Prim.hlevel (codes, action.the_row.coded, expr.the_row.coded, condition.the_row.coded) };
 
-    ghost use Rattle.interleavings.specs.States.{world_of, IsTied};
+    ghost use Rattle.interleavings.specs.Working.States.{world_of, IsTied};
 
     ghost view = { λ w. record { plan = w.program.now; world = world_of w.manager w.states.items } };
 

@@ -26,7 +26,7 @@ use Rattle.locks.specs.Locks.{final_of, led_to, global_lock, lock_of, protection
 use Rattle.layout.specs.declared.places.CellPlace.{CellPlace}
 use Rattle.layout.specs.declared.places.ObjectPlace.{ObjectPlace}
 use Rattle.layout.specs.Layouts.{lock_fields, object_struct}
-use Rattle.layout.specs.Numbers.{first_finals, locks_in, openings_in}
+use Rattle.layout.specs.Working.Numbers.{first_finals, locks_in, openings_in}
 use Rattle.layout.proofs.Lists.{lookup_at, map_at, read_at}
 
 -- ---- of a list that a slice lends

@@ -14,7 +14,7 @@ use Rattle.core_lang.specs.WellFormed.{IsWellFormed}
 use Rattle.locks.specs.declared.lock.Lock.{Lock}
 use Rattle.locks.specs.Locks.{IsLock, protecting, final_of, lock_of_cell}
 use Rattle.layout.specs.Layouts.{LayoutOf, object_named, all_locks, AreDistinct, IsLayoutOf}
-use Rattle.layout.specs.Numbers.{program_finals}
+use Rattle.layout.specs.Working.Numbers.{program_finals}
 use Rattle.layout.proofs.Lists.{lookup_some}
 use Rattle.layout.proofs.Listed.{listed}
 use Rattle.layout.proofs.Locked.{cell_locked}

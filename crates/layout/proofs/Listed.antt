@@ -18,7 +18,7 @@ use Rattle.locks.specs.Locks.{global_lock, IsLockOfClass, IsLock}
 use Rattle.layout.specs.declared.places.ClassPlace.{ClassPlace}
 use Rattle.layout.specs.declared.places.ClassPlace.TheVariants as place
 use Rattle.layout.specs.Layouts.{if_global_lock, global_locks, lock_fields, object_struct, locks_of_object, object_locks, all_locks}
-use Rattle.layout.specs.Numbers.{KnowFields, AreFields, class_place, locks_at}
+use Rattle.layout.specs.Working.Numbers.{KnowFields, AreFields, class_place, locks_at}
 use Rattle.layout.proofs.Lists.{lookup_some, lookup_at, contains_there, there_contains, read_at, still_at, last_at, map_at, take_one_more}
 use Rattle.std.proofs.lemmas.List.{map_push}
 use Rattle.layout.proofs.Locked.{object_there}

@@ -8,7 +8,7 @@ use Rattle.layout.specs.declared.places.ClassPlace.{ClassPlace}
 use Rattle.layout.specs.declared.places.ClassPlace.TheVariants as place
 use Rattle.layout.specs.declared.places.ObjectPlace.{ObjectPlace}
 use Rattle.layout.specs.Layouts.{AreDistinct}
-use Rattle.layout.specs.Numbers.{number_at, number_of, AreNumbered}
+use Rattle.layout.specs.Working.Numbers.{number_at, number_of, AreNumbered}
 use Rattle.layout.proofs.Lists.{lookup_some, lookup_at, contains_there, there_contains, read_at, still_at, push_cases}
 
 -- ---- what is found of a lock

@@ -10,8 +10,8 @@ use Rattle.locks.specs.declared.lock.Lock.{Lock}
 use Rattle.layout.specs.declared.places.CellPlace.{CellPlace}
 use Rattle.layout.specs.LockCells.{same_lock, cells_from, cells_of, IsSlot}
 use Rattle.layout.specs.Layouts.{LayoutOf, AreDistinct}
-use Rattle.layout.specs.Numbers.{openings_in, locks_in, IsPlaced, ArePlaced}
-use Rattle.layout.specs.Growth.{with_cell}
+use Rattle.layout.specs.Working.Numbers.{openings_in, locks_in, IsPlaced, ArePlaced}
+use Rattle.layout.specs.Working.Growth.{with_cell}
 use Rattle.core_lang.specs.declared.value.Value.{Value}
 use Rattle.layout.proofs.Lists.{read_at, still_at, last_at, map_at, push_cases, get_set_same, get_set_other, contains_there}
 

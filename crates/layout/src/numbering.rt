@@ -4,7 +4,7 @@ ghost use Rattle.std.specs.Prelude.{◌≡◌, ◌↔◌, ◌<◌, ◌^◌, ℕ,
 ghost use Rattle.std.specs.List.{Contains};
 ghost use Rattle.core_lang.specs.WellFormed.{IsWellFormed};
 ghost use Rattle.layout.specs.Layouts.{all_locks, AreDistinct};
-ghost use Rattle.layout.specs.Numbers.{AreNumbered, AreFields, HasFinalsOf, FindsField};
+ghost use Rattle.layout.specs.Working.Numbers.{AreNumbered, AreFields, HasFinalsOf, FindsField};
 
 use crate::places::{ClassPlace, ObjectPlace};
 use crate::protection::lock_fields;
@@ -26,7 +26,7 @@ pub struct Numbering {
 }
 
 impl Numbering {
-    ghost use Rattle.layout.specs.Growth.{AddsClass, AddsObject};
+    ghost use Rattle.layout.specs.Working.Growth.{AddsClass, AddsObject};
 
     /// The locks of a program: the global locks by class, and behind them those of object after object.
     pub fn of(alloc: Global, program: &Typed) -> Result<Numbering, NoMemory>

@@ -32,7 +32,7 @@ impl Model for Layout {
 
     ghost Value = { LayoutOf };
 
-    ghost use Rattle.layout.specs.Numbers.{openings_in, locks_in, first_finals, ArePlaced};
+    ghost use Rattle.layout.specs.Working.Numbers.{openings_in, locks_in, first_finals, ArePlaced};
 
     ghost view = { λ l. record {
       opening = openings_in l.cells.items;
@@ -46,7 +46,7 @@ impl Model for Layout {
 }
 
 impl Layout {
-    ghost use Rattle.layout.specs.Growth.{without_cells, with_cell};
+    ghost use Rattle.layout.specs.Working.Growth.{without_cells, with_cell};
 
     // The locks and finals of a program, and no cells.
     pub(crate) fn without_cells(

@@ -14,7 +14,7 @@ use Rattle.source.specs.Tokens.{Lexeme, end, Tok, seen, seen_token}
 use Rattle.source.specs.Texts.{SOURCE_LIMIT, HasTokens, DoRise, AreSlices, IsFaultFrom, IsFault, too_big, within, IsRefusal, end_at}
 use Rattle.lexer.specs.declared.stop.Stop.{Stop}
 use Rattle.lexer.specs.declared.stop.Stop.TheVariants as stop
-use Rattle.lexer.specs.Reading.{skip, unit_at, Fails, Refuses}
+use Rattle.lexer.specs.Working.Reading.{skip, unit_at, Fails, Refuses}
 use Rattle.lexer.proofs.Steps.{State, token_on, end_found, end_only, no_fault, no_tokens, one_fault, is_fault, tokens_rise, tokens_sliced}
 
 abbrev pub tok_of : Lexeme → ℕ → ℕ → Tok

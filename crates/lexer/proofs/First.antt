@@ -7,7 +7,7 @@ use Rattle.std.proofs.lemmas.List.{take_all}
 use Rattle.source.specs.declared.token.Sign.{Sign}
 use Rattle.source.specs.Texts.{is_white, is_digit, is_letter, NUMBER_LIMIT}
 use Rattle.source.specs.Tokens.{Lexeme, mark}
-use Rattle.lexer.specs.Reading.{after_line, skip, is_slash, double_of, sign_or, single_at, sign_at, unit_at, CanStand}
+use Rattle.lexer.specs.Working.Reading.{after_line, skip, is_slash, double_of, sign_or, single_at, sign_at, unit_at, CanStand}
 use Rattle.lexer.proofs.Gaps.{line_bounds}
 use Rattle.lexer.proofs.Numbers.{number_on}
 use Rattle.lexer.proofs.Steps.{skip_le, unit_shortens, unit_stands}

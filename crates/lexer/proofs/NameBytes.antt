@@ -1,9 +1,13 @@
 -- Names are ASCII.
-use Rattle.std.proofs.Common.{◌≡◌, ℕ, ◌<◌, true, List, [], ◌∷◌, sym, arith}
-use Rattle.std.specs.Prelude.{IsUtf8, IsAscii, bytes_eq}
+use Rattle.std.proofs.Common.{◌≡◌, ◌∙◌, ℕ, ◌<◌, true, List, [], ◌∷◌, sym, arith}
+use Rattle.std.specs.Prelude.{IsUtf8, IsAscii}
+use Rattle.std.specs.Ordering.{is_eq}
+use Rattle.std.specs.Cmp.{nat_cmp}
+use Rattle.std.specs.Cmp.Lexicographic.{slice_cmp}
 use Rattle.std.specs.List.{list_all}
 use Rattle.std.proofs.lemmas.Bool.Decides.{nat_tests}
 use Rattle.std.proofs.lemmas.Slice.Eq.{bytes_eq-Decides}
+use Rattle.std.proofs.lemmas.Map.Text.{is_eq-slice_cmp}
 use Rattle.std.proofs.lemmas.Str.{IsUtf8-from_ascii}
 use Rattle.std.proofs.lemmas.Str.Ascii.{IsAscii-nil, IsAscii-cons}
 use Rattle.source.specs.Texts.{is_name_byte}
@@ -20,5 +24,5 @@ pub name_utf8 : (bs : List ℕ) → list_all is_name_byte bs ≡ true → IsUtf8
 name_utf8 bs h = IsUtf8-from_ascii bs (name_ascii bs h)
 
 -- a name that is found is the one that was looked for
-pub same_bytes : (a b : List ℕ) → bytes_eq a b ≡ true → b ≡ a
-same_bytes a b h = sym ((bytes_eq-Decides a b).0 h)
+pub same_bytes : (a b : List ℕ) → is_eq (slice_cmp nat_cmp a b) ≡ true → b ≡ a
+same_bytes a b h = sym ((bytes_eq-Decides a b).0 (sym (is_eq-slice_cmp a b) ∙ h))

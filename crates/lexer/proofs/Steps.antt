@@ -8,7 +8,7 @@ use Rattle.source.specs.declared.fault.Code.{Code}
 use Rattle.source.specs.declared.fault.Code.TheVariants.{BadCharacter, NumberTooLarge, LimitExceeded}
 use Rattle.source.specs.Tokens.{Lexeme, name, int, word, mark, end, Tok}
 use Rattle.source.specs.Texts.{is_white, is_in_line, IsLineEnd, IsGap, no_gap, white, comment, BeginsComment, IsUnit, IsLongest, IsWithin, is_name, is_number, is_word, is_mark, IsNext, place, tok_at, end_at, AreTokens, at_end, token, HasTokens, DoRise, AreSlices, Leads, here, past, IsBadCharacter, IsOver, IsFaultFrom, bad_character, too_large, too_long}
-use Rattle.lexer.specs.Reading.{after_line, is_slash, skip, CanStand, unit_at}
+use Rattle.lexer.specs.Working.Reading.{after_line, is_slash, skip, CanStand, unit_at}
 use Rattle.lexer.proofs.Gaps.{and_parts, skip_comment, slash_is, Stands, skip_is}
 use Rattle.lexer.proofs.Units.{unit_begins, same_kind, same_unit, Over, Reads, over_code, Stuck, no_unit, over_unit, UnitAt, unit_law}
 

@@ -11,7 +11,7 @@ use Rattle.source.specs.declared.token.Keyword.{Keyword}
 use Rattle.source.specs.declared.token.Sign.{Sign}
 use Rattle.source.specs.Tokens.{Lexeme, name, int, word, mark}
 use Rattle.source.specs.Texts.{is_letter, is_digit, is_name_byte, is_white, keyword_text, sign_text, value_of, IsUnit, is_name, is_number, is_word, is_mark, IsLongest, IsWithin, NUMBER_LIMIT, NAME_LIMIT}
-use Rattle.lexer.specs.Reading.{run_of, after_run, keyword_of, single_of, double_of, within, word_or_name, word_at, number_at, sign_or, single_at, sign_at, unit_at}
+use Rattle.lexer.specs.Working.Reading.{run_of, after_run, keyword_of, single_of, double_of, within, word_or_name, word_at, number_at, sign_or, single_at, sign_at, unit_at}
 use Rattle.lexer.proofs.Gaps.{and_parts}
 use Rattle.lexer.proofs.Runs.{run_parts, run_all, run_stops, run_head}
 use Rattle.lexer.proofs.Texts.{keyword_found, keyword_is, is_word_text, keyword_letters, sign_in, sign_again, is_sign_text, sign_bytes, single_is, double_is}

@@ -6,21 +6,23 @@ ghost use Rattle.std.specs.Rc.{rc_str_bytes};
 ghost use Rattle.source.specs.Texts.{is_name_byte};
 
 use std::alloc::{AllocError, Global};
-use std::collections::HashSet;
+use std::collections::BTreeSet;
 use std::rc::RcStr;
 use std::str::from_utf8_unchecked;
 
 /// The names so far, each once, so that names that are the same share their bytes.
+///
+/// It is a tree, since whoever writes a program picks its names: a table by hashes can be made slow by names of one hash.
 #[derive(Drop)]
 pub struct Names {
-    texts: HashSet<RcStr>,
+    texts: BTreeSet<RcStr>,
 }
 
 impl Names {
     /// No names.
     pub fn new(alloc: Global) -> Names {
         Names {
-            texts: HashSet::new(alloc),
+            texts: BTreeSet::new(alloc),
         }
     }
 

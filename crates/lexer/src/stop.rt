@@ -2,7 +2,7 @@
 
 ghost use Rattle.std.specs.Prelude.{◌≡◌};
 ghost use Rattle.lexer.specs.declared.stop.Stop.TheVariants.{NoMemory};
-ghost use Rattle.lexer.specs.Reading.{Refuses};
+ghost use Rattle.lexer.specs.Working.Reading.{Refuses};
 
 use source::fault::{Code, Fault, Refusal};
 use std::alloc::{AllocError, Global};

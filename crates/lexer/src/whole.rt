@@ -4,7 +4,7 @@ ghost use Rattle.std.specs.Prelude.{◌≡◌, ◌<◌, ◌≤◌, ◌^◌, ℕ,
 ghost use Rattle.source.specs.declared.fault.Code.{Code};
 ghost use Rattle.source.specs.Faults.{IsFaultAt, IsGiven};
 ghost use Rattle.source.specs.Tokens.{Tok, seen, seen_token};
-ghost use Rattle.lexer.specs.Reading.{seen_kind, CanStand};
+ghost use Rattle.lexer.specs.Working.Reading.{seen_kind, CanStand};
 ghost use Rattle.source.specs.Texts.{HasTokens, DoRise, AreSlices, IsFault, IsRefusal, SOURCE_LIMIT};
 
 use crate::bytes::after_gap;

@@ -9,11 +9,11 @@ use Rattle.core_lang.specs.declared.value.Value.{Value}
 use Rattle.locks.specs.declared.lock.Lock.{Lock}
 use Rattle.layout.specs.LockCells.{cells_of}
 use Rattle.layout.specs.Layouts.{LayoutOf}
-use Rattle.moved_cells.specs.Grants.{GrantOf, values_on, locks_of}
+use Rattle.moved_cells.specs.Working.Grants.{GrantOf, values_on, locks_of}
 use Rattle.lock_manager.specs.declared.places.Place.{Place}
 use Rattle.lock_manager.specs.declared.places.Place.TheVariants.{Free}
-use Rattle.lock_manager.specs.Committed.{CommittedOf, members_of, lock_values, restored}
-use Rattle.lock_manager.specs.Managers.{number_from, put_number, put_for, given_back}
+use Rattle.lock_manager.specs.Working.Committed.{CommittedOf, members_of, lock_values, restored}
+use Rattle.lock_manager.specs.Working.Managers.{number_from, put_number, put_for, given_back}
 use Rattle.core_lang.specs.Typing.{lookup}
 use Rattle.lock_manager.proofs.Lists.{set_same, set_other, some_same, first_or_rest, later, first, contains_at}
 use Rattle.lock_manager.proofs.Numbers.{number_at, lock_cases}

@@ -9,8 +9,8 @@ use Rattle.std.proofs.lemmas.List.{take_all, take_more, at_drop_all}
 use Rattle.std.proofs.lemmas.Option.{none-some, slice_get_within, slice_get-get_or}
 use Rattle.core_lang.specs.declared.value.Value.{Value}
 use Rattle.code.specs.Memory.{value_at, overwritten, Agrees}
-use Rattle.moved_cells.specs.Grants.{numbered, values_on, if_there}
-use Rattle.lock_manager.specs.Ties.{Rise}
+use Rattle.moved_cells.specs.Working.Grants.{numbered, values_on, if_there}
+use Rattle.lock_manager.specs.Working.Ties.{Rise}
 use Rattle.std.proofs.Math.Seq.{drop-cons}
 
 -- ---- what was read

@@ -12,15 +12,15 @@ use Rattle.code.specs.Memory.{overwritten, Agrees}
 use Rattle.layout.specs.declared.room.Room.{Room}
 use Rattle.layout.specs.LockCells.{cells_of}
 use Rattle.layout.specs.Layouts.{AreDistinct}
-use Rattle.moved_cells.specs.Grants.{GrantOf, IsWhole, cells_in, values_on, locks_of}
+use Rattle.moved_cells.specs.Working.Grants.{GrantOf, IsWhole, cells_in, values_on, locks_of}
 use Rattle.history.specs.Commits.{Commit, committed, IsLegal, WritesNot}
-use Rattle.history.specs.Laws.{WritesSpareOthers, CommittedOfOneMore, LegalOfOneMore}
+use Rattle.history.specs.Working.Laws.{WritesSpareOthers, CommittedOfOneMore, LegalOfOneMore}
 use Rattle.lock_manager.specs.declared.places.Place.TheVariants.{Free, Taken}
 use Rattle.lock_manager.specs.declared.queue.Waiter.{Waiter}
-use Rattle.lock_manager.specs.Sessions.{SessionOf, TicketOf, fresh, with_lock, with_ask}
-use Rattle.lock_manager.specs.Queues.{leaving, joining}
-use Rattle.lock_manager.specs.Managers.{Managed, IsKept, Holds, Asks, place_of, session_of, session_in, given_back, as_committed, ComesAfter, threads}
-use Rattle.lock_manager.specs.Calls.{Knows, CanAsk, IsOwnWrite, Fits, AreItsGrants, with_session, after_grant, after_refusal, after_release, after_give_up}
+use Rattle.lock_manager.specs.Working.Sessions.{SessionOf, TicketOf, fresh, with_lock, with_ask}
+use Rattle.lock_manager.specs.Working.Queues.{leaving, joining}
+use Rattle.lock_manager.specs.Working.Managers.{Managed, IsKept, Holds, Asks, place_of, session_of, session_in, given_back, as_committed, ComesAfter, threads}
+use Rattle.lock_manager.specs.Working.Calls.{Knows, CanAsk, IsOwnWrite, Fits, AreItsGrants, with_session, after_grant, after_refusal, after_release, after_give_up}
 use Rattle.lock_manager.proofs.Lists.{all_contained, mapped, unmapped, some_same, push_cases}
 use Rattle.lock_manager.proofs.Numbers.{cell_is_of, lock_cases, distinct_none, distinct_push}
 use Rattle.lock_manager.proofs.Heaps.{values_agree, values_same}

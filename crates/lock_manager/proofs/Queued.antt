@@ -4,12 +4,12 @@ use Rattle.std.specs.Prelude.{nat_eq, if◌then◌else◌, slice_get}
 use Rattle.std.specs.List.{All, Contains}
 use Rattle.std.proofs.lemmas.Bool.Decides.{eqb_tells}
 use Rattle.lock_manager.specs.declared.queue.Waiter.{Waiter}
-use Rattle.lock_manager.specs.Queues.{leaving, waiting_in}
+use Rattle.lock_manager.specs.Working.Queues.{leaving, waiting_in}
 use Rattle.lock_manager.proofs.Lists.{first_or_rest, later, first, some_same}
 use Rattle.std.proofs.lemmas.List.{drop_more}
 use Rattle.std.proofs.lemmas.Option.{none-some}
 use Rattle.locks.specs.declared.lock.Lock.{Lock}
-use Rattle.lock_manager.specs.Calls.{first_and, first_waiters}
+use Rattle.lock_manager.specs.Working.Calls.{first_and, first_waiters}
 use Rattle.layout.specs.LockCells.{same_lock}
 
 goes : (t : ℕ) (w : Waiter) (ws : List Waiter) → w.thread ≡ t → leaving t (w ∷ ws) ≡ leaving t ws

@@ -13,17 +13,17 @@ use Rattle.locks.specs.Waiting.{Asker, AsksRise}
 use Rattle.code.specs.Memory.{value_at}
 use Rattle.layout.specs.LockCells.{cells_of}
 use Rattle.layout.specs.Layouts.{LayoutOf}
-use Rattle.moved_cells.specs.Grants.{GrantOf, numbered, values_on}
-use Rattle.history.specs.Histories.{HistoryOf, nothing_promised}
-use Rattle.history.specs.Laws.{CommittedKeepsSize}
+use Rattle.moved_cells.specs.Working.Grants.{GrantOf, numbered, values_on}
+use Rattle.history.specs.Working.Histories.{HistoryOf, nothing_promised}
+use Rattle.history.specs.Working.Laws.{CommittedKeepsSize}
 use Rattle.lock_manager.specs.declared.places.Place.{Place}
 use Rattle.lock_manager.specs.declared.places.Place.TheVariants.{Free, Taken}
 use Rattle.lock_manager.specs.declared.queue.Waiter.{Waiter}
-use Rattle.lock_manager.specs.Committed.{CommittedOf, at_opening, lock_values}
-use Rattle.lock_manager.specs.Sessions.{SessionOf, TicketOf}
-use Rattle.lock_manager.specs.Managers.{Managed, managed, IsKept, IsLayout, Holds, place_of, session_of, session_in, holder_of, taker, cell_of, value_in, number_from, ComesAfter, asker_of, askers_of, opened, threads}
-use Rattle.lock_manager.specs.Calls.{AreOf, IsOwnWrite, Knows}
-use Rattle.lock_manager.specs.Ties.{sum_over, one_if_open, cells_if_open}
+use Rattle.lock_manager.specs.Working.Committed.{CommittedOf, at_opening, lock_values}
+use Rattle.lock_manager.specs.Working.Sessions.{SessionOf, TicketOf}
+use Rattle.lock_manager.specs.Working.Managers.{Managed, managed, IsKept, IsLayout, Holds, place_of, session_of, session_in, holder_of, taker, cell_of, value_in, number_from, ComesAfter, asker_of, askers_of, opened, threads}
+use Rattle.lock_manager.specs.Working.Calls.{AreOf, IsOwnWrite, Knows}
+use Rattle.lock_manager.specs.Working.Ties.{sum_over, one_if_open, cells_if_open}
 use Rattle.lock_manager.proofs.Lists.{all_contained, all_from, map_at, map_back, some_same}
 use Rattle.lock_manager.proofs.Numbers.{number_at}
 use Rattle.lock_manager.proofs.Heaps.{value_among}

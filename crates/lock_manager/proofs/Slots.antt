@@ -7,9 +7,9 @@ use Rattle.std.proofs.lemmas.Option.{none-some, slice_get_within, slice_get_past
 use Rattle.core_lang.specs.Typing.{lookup}
 use Rattle.layout.specs.Layouts.{AreDistinct}
 use Rattle.locks.specs.declared.lock.Lock.{Lock}
-use Rattle.lock_manager.specs.Sessions.{SessionOf}
-use Rattle.lock_manager.specs.Managers.{session_in, Holds, Asks}
-use Rattle.lock_manager.specs.Ties.{sum_over, one_if_asking, one_if_some}
+use Rattle.lock_manager.specs.Working.Sessions.{SessionOf}
+use Rattle.lock_manager.specs.Working.Managers.{session_in, Holds, Asks}
+use Rattle.lock_manager.specs.Working.Ties.{sum_over, one_if_asking, one_if_some}
 use Rattle.lock_manager.proofs.Lists.{set_same, set_other, some_same}
 
 pub lookup_some : {A B : Type 0} (r : Option A) (go : A → Option B) (b : B) → lookup r go ≡ Some b → (a : A) × (r ≡ Some a) × (go a ≡ Some b)

@@ -7,18 +7,18 @@ use Rattle.locks.specs.declared.lock.Lock.{Lock}
 use Rattle.code.specs.Memory.{overwritten}
 use Rattle.core_lang.specs.declared.value.Value.{Value}
 use Rattle.layout.specs.declared.room.Room.{Room}
-use Rattle.moved_cells.specs.Grants.{GrantOf, locks_of}
+use Rattle.moved_cells.specs.Working.Grants.{GrantOf, locks_of}
 use Rattle.history.specs.Commits.{Commit}
-use Rattle.history.specs.Histories.{PromisedOf, with_promise, IsPromised}
-use Rattle.history.specs.Laws.{WritesSpareOthers, CommittedOfOneMore, LegalOfOneMore}
+use Rattle.history.specs.Working.Histories.{PromisedOf, with_promise, IsPromised}
+use Rattle.history.specs.Working.Laws.{WritesSpareOthers, CommittedOfOneMore, LegalOfOneMore}
 use Rattle.lock_manager.specs.declared.places.Place.{Place}
 use Rattle.lock_manager.specs.declared.places.Place.TheVariants.{Free, Taken}
 use Rattle.lock_manager.specs.declared.queue.Waiter.{Waiter}
-use Rattle.lock_manager.specs.Sessions.{SessionOf, TicketOf, fresh, with_lock, with_ask}
-use Rattle.lock_manager.specs.Queues.{leaving, joining}
-use Rattle.lock_manager.specs.Managers.{Managed, IsKept, session_of, given_back, as_committed, number_from, put_for, threads}
-use Rattle.lock_manager.specs.Calls.{Knows, CanAsk, Fits, AreItsGrants, after_grant, after_refusal, after_release, after_give_up}
-use Rattle.lock_manager.specs.Ties.{IsTied, sum_over, one_if_open, cells_if_open, one_if_asking, one_if_some}
+use Rattle.lock_manager.specs.Working.Sessions.{SessionOf, TicketOf, fresh, with_lock, with_ask}
+use Rattle.lock_manager.specs.Working.Queues.{leaving, joining}
+use Rattle.lock_manager.specs.Working.Managers.{Managed, IsKept, session_of, given_back, as_committed, number_from, put_for, threads}
+use Rattle.lock_manager.specs.Working.Calls.{Knows, CanAsk, Fits, AreItsGrants, after_grant, after_refusal, after_release, after_give_up}
+use Rattle.lock_manager.specs.Working.Ties.{IsTied, sum_over, one_if_open, cells_if_open, one_if_asking, one_if_some}
 use Rattle.lock_manager.proofs.Queued.{no_longer, one_less}
 use Rattle.lock_manager.proofs.Slots.{slot_of, closed_slot, sum_set, few_ask}
 use Rattle.lock_manager.proofs.GivenBack.{place_at, put_at}

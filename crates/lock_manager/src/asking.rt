@@ -3,7 +3,7 @@
 ghost use Rattle.std.specs.Prelude.{◌≡◌, ◌↔◌, ◌<◌, length, slice_index, Some, IsTrue};
 ghost use Rattle.locks.specs.declared.lock.Lock.{Lock as LockOf};
 ghost use Rattle.locks.specs.Order.{Precedes};
-ghost use Rattle.lock_manager.specs.Managers.{ComesAfter};
+ghost use Rattle.lock_manager.specs.Working.Managers.{ComesAfter};
 
 use locks::lock::Lock;
 

@@ -5,12 +5,12 @@ ghost use Rattle.std.specs.List.{Contains, All};
 ghost use Rattle.locks.specs.declared.lock.Lock.{Lock as LockOf};
 ghost use Rattle.code.specs.Memory.{overwritten, Agrees};
 ghost use Rattle.layout.specs.LockCells.{cells_of};
-ghost use Rattle.moved_cells.specs.Grants.{IsWhole, cells_in, values_on, locks_of};
+ghost use Rattle.moved_cells.specs.Working.Grants.{IsWhole, cells_in, values_on, locks_of};
 ghost use Rattle.lock_manager.specs.declared.places.Place.TheVariants as place;
-ghost use Rattle.lock_manager.specs.Managers.{IsLayout, number_from, given_back};
-ghost use Rattle.lock_manager.specs.Calls.{IsOwnWrite};
-ghost use Rattle.lock_manager.specs.Ties.{all_restored, AreNow};
-ghost use Rattle.lock_manager.specs.Committed.{at_opening, with_writes, lock_values, restored, IsWithin};
+ghost use Rattle.lock_manager.specs.Working.Managers.{IsLayout, number_from, given_back};
+ghost use Rattle.lock_manager.specs.Working.Calls.{IsOwnWrite};
+ghost use Rattle.lock_manager.specs.Working.Ties.{all_restored, AreNow};
+ghost use Rattle.lock_manager.specs.Working.Committed.{at_opening, with_writes, lock_values, restored, IsWithin};
 
 use crate::fitting::{are_whole, holds};
 use crate::opening::{members, opening_values};
@@ -39,7 +39,7 @@ pub struct Committed<'p> {
 }
 
 impl<'p> Model for Committed<'p> {
-    ghost use Rattle.lock_manager.specs.Committed.{CommittedOf, IsComplete, rows};
+    ghost use Rattle.lock_manager.specs.Working.Committed.{CommittedOf, IsComplete, rows};
 
     ghost Value = { CommittedOf };
 

@@ -2,7 +2,7 @@
 
 ghost use Rattle.std.specs.Prelude.{◌↔◌, IsTrue};
 ghost use Rattle.std.specs.List.{Contains, All};
-ghost use Rattle.moved_cells.specs.Grants.{IsWhole, locks_of};
+ghost use Rattle.moved_cells.specs.Working.Grants.{IsWhole, locks_of};
 
 use layout::table::Layout;
 use locks::lock::Lock;

@@ -3,8 +3,8 @@
 ghost use Rattle.std.specs.Prelude.{◌≡◌, ◌↔◌, ◌<◌, length, slice_get, Some, IfOk, OnErr, IsTrue, is_some};
 ghost use Rattle.std.specs.List.{Contains, All};
 ghost use Rattle.locks.specs.Waiting.{HasNoCycle};
-ghost use Rattle.lock_manager.specs.Managers.{IsLayout, IsKept, opened, waiting_for, session_of, IsQuiet, holder_of, cell_of, askers_of};
-ghost use Rattle.lock_manager.specs.Calls.{Begins, Answers, CanAsk, Knows, Fits, CanRelease, Releases, GivesUp, AreOf, AreItsGrants};
+ghost use Rattle.lock_manager.specs.Working.Managers.{IsLayout, IsKept, opened, waiting_for, session_of, IsQuiet, holder_of, cell_of, askers_of};
+ghost use Rattle.lock_manager.specs.Working.Calls.{Begins, Answers, CanAsk, Knows, Fits, CanRelease, Releases, GivesUp, AreOf, AreItsGrants};
 
 use crate::answer::Answer;
 use crate::asking::comes_after;
@@ -44,8 +44,8 @@ pub struct Manager<'p> {
 }
 
 impl<'p> Model for Manager<'p> {
-    ghost use Rattle.lock_manager.specs.Managers.{Managed, managed, IsKept};
-    ghost use Rattle.lock_manager.specs.Ties.{IsTied};
+    ghost use Rattle.lock_manager.specs.Working.Managers.{Managed, managed, IsKept};
+    ghost use Rattle.lock_manager.specs.Working.Ties.{IsTied};
 
     ghost Value = { Managed };
 

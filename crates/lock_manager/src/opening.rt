@@ -1,8 +1,8 @@
 //! The cells of each lock, and what they hold at first.
 
 ghost use Rattle.std.specs.Prelude.{◌≡◌, [], replicate, IfOk};
-ghost use Rattle.lock_manager.specs.Managers.{IsLayout};
-ghost use Rattle.lock_manager.specs.Committed.{members_of, rows};
+ghost use Rattle.lock_manager.specs.Working.Managers.{IsLayout};
+ghost use Rattle.lock_manager.specs.Working.Committed.{members_of, rows};
 
 use core_lang::value::Value;
 use layout::table::Layout;

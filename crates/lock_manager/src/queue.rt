@@ -1,7 +1,7 @@
 //! Who waits.
 
 ghost use Rattle.std.specs.Prelude.{◌≡◌, ◌<◌, [], ◌∷◌, ◌++◌, length, slice_get, vec_capacity, None, IfOk};
-ghost use Rattle.lock_manager.specs.Queues.{joining, leaving, waiting_in};
+ghost use Rattle.lock_manager.specs.Working.Queues.{joining, leaving, waiting_in};
 
 use locks::lock::Lock;
 use source::memory::NoMemory;

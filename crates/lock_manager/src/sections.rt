@@ -2,9 +2,9 @@
 
 ghost use Rattle.std.specs.Prelude.{◌≡◌, ◌≢◌, ◌↔◌, ◌<◌, ℕ, IsTrue, length, replicate, slice_get, slice_set, Some, None, IfOk, MatchOption};
 ghost use Rattle.std.specs.List.{Contains};
-ghost use Rattle.lock_manager.specs.Sessions.{SessionOf, fresh, with_lock, with_ask};
-ghost use Rattle.lock_manager.specs.Managers.{session_in, Holds};
-ghost use Rattle.lock_manager.specs.Ties.{HasRoom, IsChanged, cells_if_open};
+ghost use Rattle.lock_manager.specs.Working.Sessions.{SessionOf, fresh, with_lock, with_ask};
+ghost use Rattle.lock_manager.specs.Working.Managers.{session_in, Holds};
+ghost use Rattle.lock_manager.specs.Working.Ties.{HasRoom, IsChanged, cells_if_open};
 
 use crate::fitting::holds;
 use crate::session::Session;
@@ -25,7 +25,7 @@ pub struct Sections {
 
 impl Model for Sections {
     ghost use Rattle.std.specs.Prelude.{◌≡◌, List, Option, length};
-    ghost use Rattle.lock_manager.specs.Sessions.{SessionOf};
+    ghost use Rattle.lock_manager.specs.Working.Sessions.{SessionOf};
 
     ghost Value = { List (Option SessionOf) };
 

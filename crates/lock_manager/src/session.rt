@@ -1,8 +1,8 @@
 //! What is known of an open section.
 
 ghost use Rattle.std.specs.Prelude.{◌≡◌, ◌<◌, ◌↔◌, length, IfOk, IsTrue, OnOk};
-ghost use Rattle.lock_manager.specs.Sessions.{fresh, with_lock, with_ask};
-ghost use Rattle.lock_manager.specs.Ties.{MayTake};
+ghost use Rattle.lock_manager.specs.Working.Sessions.{fresh, with_lock, with_ask};
+ghost use Rattle.lock_manager.specs.Working.Ties.{MayTake};
 
 use layout::room::Room;
 use locks::lock::Lock;
@@ -20,7 +20,7 @@ pub struct Session {
 
 impl Model for Session {
     ghost use Rattle.std.specs.Prelude.{◌≤◌, vec_len, vec_capacity};
-    ghost use Rattle.lock_manager.specs.Sessions.{SessionOf};
+    ghost use Rattle.lock_manager.specs.Working.Sessions.{SessionOf};
 
     ghost Value = { SessionOf };
 

@@ -1,9 +1,9 @@
 //! Tickets and receipts, and the memory that they take.
 
 ghost use Rattle.std.specs.Prelude.{◌≡◌, ◌<◌, ◌≤◌, length, slice_get, IfOk, OnOk, vec_len, vec_capacity};
-ghost use Rattle.lock_manager.specs.Sessions.{fresh, with_lock, with_ask};
-ghost use Rattle.lock_manager.specs.Ties.{HasWakingRoom};
-ghost use Rattle.lock_manager.specs.Calls.{ticket_with, first_waiters};
+ghost use Rattle.lock_manager.specs.Working.Sessions.{fresh, with_lock, with_ask};
+ghost use Rattle.lock_manager.specs.Working.Ties.{HasWakingRoom};
+ghost use Rattle.lock_manager.specs.Working.Calls.{ticket_with, first_waiters};
 
 use crate::queue::Queue;
 use crate::session::Session;
@@ -118,13 +118,13 @@ pub struct Ticket {
 
 impl Model for Ticket {
     ghost use Rattle.std.specs.Prelude.{vec_len, vec_capacity};
-    ghost use Rattle.lock_manager.specs.Sessions.{TicketOf};
+    ghost use Rattle.lock_manager.specs.Working.Sessions.{TicketOf};
 
     ghost Value = { TicketOf };
 
     ghost view = { λ t. record { thread = t.pass.value.thread; session = t.pass.value.session } };
 
-    ghost use Rattle.lock_manager.specs.Ties.{HasWakingRoom};
+    ghost use Rattle.lock_manager.specs.Working.Ties.{HasWakingRoom};
 
     ghost invariant = { λ t.
         HasWakingRoom t.pass.value.session (vec_len t.pass.value.wake) (vec_capacity t.pass.value.wake) };
@@ -223,7 +223,7 @@ pub struct Receipt {
 }
 
 impl Model for Receipt {
-    ghost use Rattle.lock_manager.specs.Sessions.{ReceiptOf};
+    ghost use Rattle.lock_manager.specs.Working.Sessions.{ReceiptOf};
 
     ghost Value = { ReceiptOf };
 

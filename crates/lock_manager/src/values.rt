@@ -3,7 +3,7 @@
 ghost use Rattle.std.specs.Prelude.{◌≡◌, ◌<◌, ◌↔◌, length, slice_get, Some, IfOk, IsTrue};
 ghost use Rattle.std.specs.List.{All};
 ghost use Rattle.code.specs.Memory.{overwritten, Agrees};
-ghost use Rattle.moved_cells.specs.Grants.{numbered, values_on};
+ghost use Rattle.moved_cells.specs.Working.Grants.{numbered, values_on};
 
 use crate::writes::Writes;
 use core_lang::value::Value;

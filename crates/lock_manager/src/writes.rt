@@ -2,7 +2,7 @@
 
 ghost use Rattle.std.specs.Prelude.{◌≡◌, ◌<◌, true, length, slice_get, Some};
 ghost use Rattle.code.specs.Memory.{overwritten, value_at};
-ghost use Rattle.lock_manager.specs.Ties.{Rise};
+ghost use Rattle.lock_manager.specs.Working.Ties.{Rise};
 
 use core_lang::value::Value;
 use history::entry::CellValue;

@@ -14,8 +14,8 @@ use Rattle.points.specs.declared.table.Points.{Points}
 use Rattle.lockorder.specs.declared.class_set.ClassSet.{ClassSet}
 use Rattle.lockorder.specs.declared.ranks.Edge.{Edge}
 use Rattle.lockorder.specs.Faults.{arrows, classes_of, cycle_text}
-use Rattle.lockorder.specs.Sections.{BindsAt, IsOfClass, MakesSomewhere, UsesSoFar}
-use Rattle.lockorder.specs.Tables.{has_class, has_edge, no_classes, InSet, InTable, LeadsWithin}
+use Rattle.lockorder.specs.Working.Sections.{BindsAt, IsOfClass, MakesSomewhere, UsesSoFar}
+use Rattle.lockorder.specs.Working.Tables.{has_class, has_edge, no_classes, InSet, InTable, LeadsWithin}
 use Rattle.lockorder.proofs.InSection.{Below, one_class, set_within}
 
 -- ---- numbers below a bound that goes by several names

@@ -9,7 +9,7 @@ use Rattle.std.proofs.lemmas.Bool.{cases_eq, cases_lt, and_parts, and_from, or_r
 use Rattle.std.proofs.lemmas.Bool.Decides.{nat_tests}
 use Rattle.locks.specs.declared.path_set.PathSet.{PathSet}
 use Rattle.locks.specs.Sets.{has}
-use Rattle.lockorder.specs.Sections.{Share}
+use Rattle.lockorder.specs.Working.Sections.{Share}
 
 abbrev pub bit : ℕ → ℕ → Bool
 bit n i = bit_at n i == 1

@@ -10,9 +10,9 @@ use Rattle.core_lang.specs.declared.tree.Section.{Section}
 use Rattle.core_lang.specs.declared.typed.Typed.{Typed}
 use Rattle.core_lang.specs.WellFormed.{IsWellFormed}
 use Rattle.flow.specs.Points.{points, start_of}
-use Rattle.flow.specs.PointList.{point_at}
+use Rattle.flow.specs.Working.PointList.{point_at}
 use Rattle.flow.specs.declared.points.PointRef.{PointRef}
-use Rattle.locks.specs.Laws.{PathsHaveClasses}
+use Rattle.locks.specs.Working.Laws.{PathsHaveClasses}
 use Rattle.lockorder.specs.declared.ranks.Edge as written
 use Rattle.lockorder.specs.Edges.{Makes, MakesFirst, Edge}
 use Rattle.lockorder.specs.Ranks.{AreRanks, LeadTo}

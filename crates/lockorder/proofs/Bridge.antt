@@ -11,17 +11,17 @@ use Rattle.core_lang.specs.WellFormed.{IsWellFormed}
 use Rattle.flow.specs.Skeletons.{skeleton}
 use Rattle.flow.specs.Flow.{Plus, one, more, Follows, Before}
 use Rattle.flow.specs.Points.{points}
-use Rattle.flow.specs.Laws.{PairsLeadBetweenPoints}
+use Rattle.flow.specs.Working.Laws.{PairsLeadBetweenPoints}
 use Rattle.locks.specs.declared.path_set.PathSet.{PathSet}
 use Rattle.locks.specs.LockPaths.{LockPath, Uses, BindsRoot, lock_paths}
-use Rattle.locks.specs.Laws.{UsedAreListed, PathsHaveClasses}
+use Rattle.locks.specs.Working.Laws.{UsedAreListed, PathsHaveClasses}
 use Rattle.locks.specs.Sets.{AreSets}
 use Rattle.points.specs.declared.table.Points.{Points}
-use Rattle.points.specs.Points.{ArePoints}
+use Rattle.points.specs.Working.Points.{ArePoints}
 use Rattle.points.specs.Used.{IsUsedBefore}
 use Rattle.lockorder.specs.Edges.{Makes, Edge}
-use Rattle.lockorder.specs.Sections.{set_at, no_paths, IsOfClass, HasClass, BindsAt, UsesAt, MakesSomewhere, MakesAt, LeadBetween}
-use Rattle.lockorder.specs.Tellings.{AreBetween, AreEdges}
+use Rattle.lockorder.specs.Working.Sections.{set_at, no_paths, IsOfClass, HasClass, BindsAt, UsesAt, MakesSomewhere, MakesAt, LeadBetween}
+use Rattle.lockorder.specs.Working.Tellings.{AreBetween, AreEdges}
 use Rattle.lockorder.proofs.Lists.{contains_there, there_contains}
 use Rattle.lockorder.proofs.InSection.{set_within}
 

@@ -7,7 +7,7 @@ use Rattle.std.proofs.lemmas.List.{get_or_past}
 use Rattle.std.proofs.lemmas.List.Elements.{All-get_or}
 use Rattle.std.proofs.lemmas.Nat.Bits.{bit_at-zero}
 use Rattle.lockorder.specs.declared.class_set.ClassSet.{ClassSet}
-use Rattle.lockorder.specs.Tables.{has_class, no_classes, has_edge}
+use Rattle.lockorder.specs.Working.Tables.{has_class, no_classes, has_edge}
 
 abbrev pub IsEmpty : ClassSet → Type 0
 IsEmpty set = (c : ℕ) → has_class set c ≡ false

@@ -10,7 +10,7 @@ use Rattle.std.proofs.lemmas.Nat.Bits.{bit_at-zero}
 use Rattle.locks.specs.declared.path_set.PathSet.{PathSet}
 use Rattle.locks.specs.Sets.{has}
 use Rattle.points.specs.declared.table.Points.{Points}
-use Rattle.lockorder.specs.Sections.{IsIn, Share, no_paths, set_at, IsOfClass, HasClass, UsesSoFar}
+use Rattle.lockorder.specs.Working.Sections.{IsIn, Share, no_paths, set_at, IsOfClass, HasClass, UsesSoFar}
 
 -- ---- what holds of some number below a bound
 

@@ -9,8 +9,8 @@ use Rattle.std.proofs.lemmas.List.Elements.{All-append, All-cons, Contains-appen
 use Rattle.std.proofs.lemmas.List.Quantifiers.{all_pairs_push}
 use Rattle.lockorder.specs.declared.class_set.ClassSet.{ClassSet}
 use Rattle.lockorder.specs.ClassPairs.{Precedes}
-use Rattle.lockorder.specs.Tables.{has_class, no_classes, InTable, LeadsWithin, has_edge}
-use Rattle.lockorder.specs.Tellings.{ArePairsOf}
+use Rattle.lockorder.specs.Working.Tables.{has_class, no_classes, InTable, LeadsWithin, has_edge}
+use Rattle.lockorder.specs.Working.Tellings.{ArePairsOf}
 use Rattle.lockorder.proofs.Lists.{in_first}
 
 -- of the pairs before this one those that the table has

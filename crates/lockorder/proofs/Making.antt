@@ -7,7 +7,7 @@ use Rattle.locks.specs.declared.path_set.PathSet.{PathSet}
 use Rattle.locks.specs.Sets.{has}
 use Rattle.points.specs.declared.table.Points.{Points}
 use Rattle.lockorder.specs.declared.section_edges.Made.{Made}
-use Rattle.lockorder.specs.Sections.{IsOfClass, IsUseFor, BindsAt, MakesAt, MakesFirstAt, KeepsLower, set_at}
+use Rattle.lockorder.specs.Working.Sections.{IsOfClass, IsUseFor, BindsAt, MakesAt, MakesFirstAt, KeepsLower, set_at}
 use Rattle.lockorder.proofs.InSection.{shared_class, set_within}
 
 pub match_none : {X : Type 0} (A : Type 0) (B : X → Type 0) (o : Option X) → MatchOption o A B → ((x : X) → o ≡ Some x → ⊥) → A

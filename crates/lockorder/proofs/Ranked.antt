@@ -9,7 +9,7 @@ use Rattle.std.proofs.lemmas.Option.{none-some}
 use Rattle.std.proofs.lemmas.List.Elements.{All-nil, All-push, Contains-append_left, Contains-push, Contains-push_cases}
 use Rattle.lockorder.specs.declared.class_set.ClassSet.{ClassSet}
 use Rattle.lockorder.specs.Ranks.{EachIsNext}
-use Rattle.lockorder.specs.Tables.{has_class, InSet, InTable, LeadsWithin, HasCycle, IsReadyIn, IsNextIn, AreRanksIn}
+use Rattle.lockorder.specs.Working.Tables.{has_class, InSet, InTable, LeadsWithin, HasCycle, IsReadyIn, IsNextIn, AreRanksIn}
 use Rattle.lockorder.proofs.Lists.{not_in_none, contains_there, no_more, no_fewer, distinct_push, push_cases, get_set_same, get_set_other, found_below}
 use Rattle.lockorder.proofs.Rising.{each_push, next_listed}
 use Rattle.lockorder.proofs.Stuck.{cycle_of_stuck}

@@ -12,8 +12,8 @@ use Rattle.flow.specs.Flow.{Plus, one, more as further}
 use Rattle.lockorder.specs.declared.class_set.ClassSet.{ClassSet}
 use Rattle.lockorder.specs.declared.cycles.Reached.{Reached}
 use Rattle.lockorder.specs.Ranks.{LeadTo, IsCycle}
-use Rattle.lockorder.specs.Tables.{InTable, IsOnCycle}
-use Rattle.lockorder.specs.Reached.{distance_of, HasDistance, LeadsNearer, IsDone, AreReached, KeepsReached, AreDistances, IsNearestBelow, nearer}
+use Rattle.lockorder.specs.Working.Tables.{InTable, IsOnCycle}
+use Rattle.lockorder.specs.Working.Reached.{distance_of, HasDistance, LeadsNearer, IsDone, AreReached, KeepsReached, AreDistances, IsNearestBelow, nearer}
 use Rattle.lockorder.proofs.Lists.{not_in_none, in_first, in_cases, contains_there, there_contains, no_more, distinct_push}
 
 some_is_some : (o : Option ℕ) (a b : ℕ) → o ≡ Some a → o ≡ Some b → a ≡ b

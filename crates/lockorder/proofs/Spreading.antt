@@ -5,7 +5,7 @@ use Rattle.std.proofs.lemmas.Bool.{cases_eq, cases_lt, cases_Bool}
 use Rattle.std.proofs.lemmas.List.{get_or-set_other, get_or_default, drop_all, take_all}
 use Rattle.std.proofs.Math.ListN.{length-set}
 use Rattle.flow.specs.Flow.{one, more}
-use Rattle.lockorder.specs.Sections.{is_found, unfound, AreBefore, AreAllBefore, LeadsOn, ComesBefore}
+use Rattle.lockorder.specs.Working.Sections.{is_found, unfound, AreBefore, AreAllBefore, LeadsOn, ComesBefore}
 
 pub none_found : (n p : ℕ) → is_found (replicate n false) p ≡ false
 none_found zero p = refl

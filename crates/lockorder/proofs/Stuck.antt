@@ -6,7 +6,7 @@ use Rattle.std.proofs.lemmas.Bool.{and_parts, and_cases, both_ways, not-true, no
 use Rattle.std.proofs.lemmas.List.Elements.{All-cons, All-nil, All-contains}
 use Rattle.flow.specs.Flow.{Plus, one, more}
 use Rattle.lockorder.specs.declared.class_set.ClassSet.{ClassSet}
-use Rattle.lockorder.specs.Tables.{has_class, InSet, has_edge, InTable, LeadsWithin, HasCycle, IsReadyIn}
+use Rattle.lockorder.specs.Working.Tables.{has_class, InSet, has_edge, InTable, LeadsWithin, HasCycle, IsReadyIn}
 use Rattle.lockorder.proofs.Lists.{not_in_none, in_cases, among_or_not, no_more, distinct_cons, found_below}
 
 module _ (before : List ClassSet) (listed : ClassSet) (within : LeadsWithin before) (stuck : (c : ℕ) → IsReadyIn before listed c → ⊥) where

@@ -15,9 +15,9 @@ use Rattle.lockorder.specs.declared.ranks.ClassPair.{ClassPair}
 use Rattle.lockorder.specs.Edges.{Makes, MakesFirst, Edge}
 use Rattle.lockorder.specs.Ranks.{AreDistinct, LeadTo, IsCycle}
 use Rattle.lockorder.specs.Faults.{classes_of, second, AllMakeFirst, IsCycleOf}
-use Rattle.lockorder.specs.Sections.{MakesSomewhere, MakesAt, MakesFirstAt}
+use Rattle.lockorder.specs.Working.Sections.{MakesSomewhere, MakesAt, MakesFirstAt}
 use Rattle.lockorder.specs.ClassPairs.{classes_of_pair, IsMadeFirst}
-use Rattle.lockorder.specs.Tellings.{pair_at, told_at, around, AreClosed, AreEdges, IsNotMade, IsToldMore, IsTold, AreTold}
+use Rattle.lockorder.specs.Working.Tellings.{pair_at, told_at, around, AreClosed, AreEdges, IsNotMade, IsToldMore, IsTold, AreTold}
 
 -- ---- one section
 

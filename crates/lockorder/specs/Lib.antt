@@ -2,10 +2,7 @@ pub mod Edges
 pub mod Ranks
 pub mod Faults
 pub mod ClassPairs
-pub mod Tables
-pub mod Reached
-pub mod Sections
-pub mod Tellings
+pub mod Working
 pub use Rattle.lockorder.specs.Edges.{Makes, MakesFirst, Edge, AreRanksOf, RiseIn}
 pub use Rattle.lockorder.specs.Ranks.{IsRankList, AreRanks, Rise, IsCycle}
 pub use Rattle.lockorder.specs.Faults.{cycle_text, IsFault, HasNoFault, IsFaultAtFirst, IsCycleOf, IsRefusal}

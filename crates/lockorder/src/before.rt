@@ -2,7 +2,7 @@
 
 ghost use Rattle.std.specs.Prelude.{◌≡◌, ◌<◌, true, false, ℕ, length, IfOk};
 ghost use Rattle.std.specs.Bool.{Decides};
-ghost use Rattle.lockorder.specs.Sections.{is_found, unfound, AreBefore, AreAllBefore, LeadsOn, ComesBefore, LeadBetween};
+ghost use Rattle.lockorder.specs.Working.Sections.{is_found, unfound, AreBefore, AreAllBefore, LeadsOn, ComesBefore, LeadBetween};
 
 use source::memory::NoMemory;
 use std::alloc::Global;

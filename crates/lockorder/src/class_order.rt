@@ -9,8 +9,8 @@ ghost use Rattle.lockorder.specs.Edges as program_edges;
 ghost use Rattle.lockorder.specs.Edges.{AreRanksOf, RiseIn};
 ghost use Rattle.lockorder.specs.Ranks.{IsCycle};
 ghost use Rattle.lockorder.specs.Faults.{HasNoFault, IsRefusal, IsCycleOf};
-ghost use Rattle.lockorder.specs.Tables.{HasEdgesOf};
-ghost use Rattle.lockorder.specs.Tellings.{AreEdges};
+ghost use Rattle.lockorder.specs.Working.Tables.{HasEdgesOf};
+ghost use Rattle.lockorder.specs.Working.Tellings.{AreEdges};
 
 use crate::pairs::{around, edges_of};
 use crate::ranks::{ClassPair, Cycle, Edge, OrderRefusal, Ranks};

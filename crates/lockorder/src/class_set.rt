@@ -1,7 +1,7 @@
 //! Sets of lock classes.
 
 ghost use Rattle.std.specs.Prelude.{◌≡◌, ◌<◌, ◌==◌, ◌||◌, false, ℕ};
-ghost use Rattle.lockorder.specs.Tables.{has_class};
+ghost use Rattle.lockorder.specs.Working.Tables.{has_class};
 
 /// Some of a program's lock classes, of which there are at most 128.
 #[derive(Clone, Copy)]

@@ -2,8 +2,8 @@
 
 ghost use Rattle.std.specs.Prelude.{◌≡◌, ◌<◌, ℕ, length, IfOk, OnOk};
 ghost use Rattle.lockorder.specs.Ranks.{IsCycle};
-ghost use Rattle.lockorder.specs.Tables.{InTable, HasCycle, IsCycleThrough};
-ghost use Rattle.lockorder.specs.Reached.{HasDistance, AreReached, KeepsReached, AreDistances, IsDone, IsNearest, nearer};
+ghost use Rattle.lockorder.specs.Working.Tables.{InTable, HasCycle, IsCycleThrough};
+ghost use Rattle.lockorder.specs.Working.Reached.{HasDistance, AreReached, KeepsReached, AreDistances, IsDone, IsNearest, nearer};
 
 use crate::table::Table;
 use source::memory::NoMemory;

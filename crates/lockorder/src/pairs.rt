@@ -2,7 +2,7 @@
 
 ghost use Rattle.std.specs.Prelude.{◌≡◌, ◌<◌, [], IfOk, length, map, slice_index};
 ghost use Rattle.lockorder.specs.Faults as cycles;
-ghost use Rattle.lockorder.specs.Tellings.{around, ArePairsOf};
+ghost use Rattle.lockorder.specs.Working.Tellings.{around, ArePairsOf};
 
 use crate::ranks::{ClassPair, Edge};
 use crate::table::Table;

@@ -3,7 +3,7 @@
 ghost use Rattle.std.specs.Prelude.{◌≡◌, true, ℕ};
 ghost use Rattle.std.specs.Bool.{Decides};
 ghost use Rattle.locks.specs.Sets.{has};
-ghost use Rattle.lockorder.specs.Sections.{Share};
+ghost use Rattle.lockorder.specs.Working.Sections.{Share};
 
 use locks::path_set::PathSet;
 

@@ -2,7 +2,7 @@
 
 ghost use Rattle.std.specs.Prelude.{◌<◌, ℕ, length, IfOk};
 ghost use Rattle.std.specs.Bool.{Decides};
-ghost use Rattle.lockorder.specs.Tables.{InSet, InTable, IsNextOrNone, IsRanking};
+ghost use Rattle.lockorder.specs.Working.Tables.{InSet, InTable, IsNextOrNone, IsRanking};
 
 use crate::class_set::ClassSet;
 use crate::ranks::Ranks;

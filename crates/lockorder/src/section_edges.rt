@@ -4,8 +4,8 @@ ghost use Rattle.std.specs.Prelude.{◌≡◌, ◌<◌, ◌≤◌, ℕ, length, 
 ghost use Rattle.std.specs.Bool.{Decides};
 ghost use Rattle.std.specs.List.{All};
 ghost use Rattle.locks.specs.Sets.{has};
-ghost use Rattle.lockorder.specs.Tables.{InSet, has_class, AddsEdges, HasEdgesOf};
-ghost use Rattle.lockorder.specs.Sections.{AreUsedSoFar, HasClass, IsOfClass, IsUseOrNone, KeepsLower, LeadBetween, LeadsToRoots, MakesAt, MakesFirstAt, MakesSomewhere};
+ghost use Rattle.lockorder.specs.Working.Tables.{InSet, has_class, AddsEdges, HasEdgesOf};
+ghost use Rattle.lockorder.specs.Working.Sections.{AreUsedSoFar, HasClass, IsOfClass, IsUseOrNone, KeepsLower, LeadBetween, LeadsToRoots, MakesAt, MakesFirstAt, MakesSomewhere};
 
 use crate::before::{leads_on, points_before};
 use crate::class_set::ClassSet;

@@ -1,7 +1,7 @@
 //! Edges between lock classes.
 
 ghost use Rattle.std.specs.Prelude.{◌≡◌, ◌<◌, ◌≤◌, false, ℕ, length, IfOk};
-ghost use Rattle.lockorder.specs.Tables.{has_edge, AddsEach, InSet, LeadsWithin};
+ghost use Rattle.lockorder.specs.Working.Tables.{has_edge, AddsEach, InSet, LeadsWithin};
 
 use crate::class_set::ClassSet;
 use source::memory::NoMemory;

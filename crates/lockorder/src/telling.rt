@@ -1,9 +1,9 @@
 //! What makes the edges between pairs of classes.
 
 ghost use Rattle.std.specs.Prelude.{◌≡◌, ◌<◌, ℕ, length, None, IsSome, IfOk, OnOk};
-ghost use Rattle.lockorder.specs.Sections.{LeadBetween, MakesSomewhere};
-ghost use Rattle.lockorder.specs.Tables.{HasEdgesOf};
-ghost use Rattle.lockorder.specs.Tellings.{told_at, AreBetween, AreClosed, AreToldMore, MakesBySome};
+ghost use Rattle.lockorder.specs.Working.Sections.{LeadBetween, MakesSomewhere};
+ghost use Rattle.lockorder.specs.Working.Tables.{HasEdgesOf};
+ghost use Rattle.lockorder.specs.Working.Tellings.{told_at, AreBetween, AreClosed, AreToldMore, MakesBySome};
 
 use crate::ranks::{ClassPair, Edge};
 use crate::section_edges::SectionEdges;

@@ -9,17 +9,17 @@ use Rattle.std.proofs.lemmas.List.Elements.{filter_map-append}
 use Rattle.source.specs.declared.fault.Code.TheVariants.{UnstableBase, LimitExceeded}
 use Rattle.source.specs.declared.mistake.Mistake.{Mistake}
 use Rattle.source.specs.Mistakes.{lesser, least_of, goes_before}
-use Rattle.source.specs.Leasts.{least_append}
+use Rattle.source.specs.Theory.Leasts.{least_append}
 use Rattle.core_lang.specs.declared.tree.Section.{Section}
 use Rattle.core_lang.specs.declared.typed.Typed.{Typed}
 use Rattle.flow.specs.Points.{Point, points}
 use Rattle.locks.specs.Accesses.{Access, accesses_at}
 use Rattle.locks.specs.Faults.{Named, where_at}
 use Rattle.locks.specs.LockPaths.{StablePath, LockPath, stable, each_once, lock_path, paths_of}
-use Rattle.locks.specs.Laws.{SamePathDecides}
-use Rattle.normal_forms.specs.Forms.{replacements_at}
-use Rattle.lockpaths.specs.Gathering.{Gathered, is_in, place_from, with_new, with_path, with_known, blamed, met, ended, gathered, gathered_at, with_access, blamed_unless, with_where, with_owner, with_owners}
-use Rattle.lockpaths.specs.Faulted.{fault_of, faults_behind, fault_unless, where_fault, owner_fault}
+use Rattle.locks.specs.Working.Laws.{SamePathDecides}
+use Rattle.lockpaths_forms.specs.Working.Forms.{replacements_at}
+use Rattle.lockpaths.specs.Working.Gathering.{Gathered, is_in, place_from, with_new, with_path, with_known, blamed, met, ended, gathered, gathered_at, with_access, blamed_unless, with_where, with_owner, with_owners}
+use Rattle.lockpaths.specs.Working.Faulted.{fault_of, faults_behind, fault_unless, where_fault, owner_fault}
 use Rattle.lockpaths.proofs.Once.{place_in, place_none, once_in, once_new, once_known}
 use Rattle.lockpaths.proofs.Formed.{path_is_right}
 

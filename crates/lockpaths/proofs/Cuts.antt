@@ -3,7 +3,7 @@ use Rattle.std.proofs.Common.{◌≡◌, ℕ, ◌+◌, ◌-◌, ◌<◌, ◌≤�
 use Rattle.std.proofs.Math.Seq.{drop-cons}
 use Rattle.std.specs.List.{AllZip}
 use Rattle.locks.specs.declared.path_set.PathSet.{PathSet}
-use Rattle.lockpaths.specs.Numbers.{IsSetOf, cut, AreRising}
+use Rattle.lockpaths.specs.Working.Numbers.{IsSetOf, cut, AreRising}
 
 end_at : (ends : List ℕ) (i : ℕ) → i < length ends → drop i ends ≡ get_or ends i 0 ∷ drop (i + 1) ends
 end_at ends i h = rw (add-one, drop-cons ends i 0)

@@ -8,16 +8,16 @@ use Rattle.source.specs.declared.fault.Code.{Code}
 use Rattle.source.specs.declared.fault.Code.TheVariants.{UnstableBase, LimitExceeded}
 use Rattle.source.specs.declared.mistake.Mistake.{Mistake}
 use Rattle.source.specs.Mistakes.{lesser, least_of, goes_before}
-use Rattle.source.specs.Leasts.{IsAmong, least_in, least_none, none_before}
+use Rattle.source.specs.Theory.Leasts.{IsAmong, least_in, least_none, none_before}
 use Rattle.core_lang.specs.declared.tree.Section.{Section}
 use Rattle.core_lang.specs.declared.typed.Typed.{Typed}
 use Rattle.locks.specs.Accesses.{Access, accesses}
 use Rattle.flow.specs.Points.{Point, points}
 use Rattle.locks.specs.LockPaths.{StablePath, LockPath, stable, each_once, lock_path, paths_of}
 use Rattle.locks.specs.Faults.{HasSection, Named, where_at, IsUnstable, unstable, IsUnstableOwner, unstable_owner, IsOverLimit, one_too_many, IsFault, unstable_base, unstable_owner_base, over_limit, HasNoFault}
-use Rattle.locks.specs.Laws.{SamePathDecides}
-use Rattle.lockpaths.specs.Gathering.{is_in}
-use Rattle.lockpaths.specs.Faulted.{fault_of, faults_behind, fault_unless, where_fault, owner_fault, faults_in, faults_of}
+use Rattle.locks.specs.Working.Laws.{SamePathDecides}
+use Rattle.lockpaths.specs.Working.Gathering.{is_in}
+use Rattle.lockpaths.specs.Working.Faulted.{fault_of, faults_behind, fault_unless, where_fault, owner_fault, faults_in, faults_of}
 use Rattle.lockpaths.proofs.Contained.{not_in_none, in_rest, in_cases, in_middle, around}
 use Rattle.lockpaths.proofs.Once.{is_in_contains, contains_is_in}
 use Rattle.lockpaths.proofs.Accessed.{lesser_is}

@@ -12,8 +12,8 @@ use Rattle.flow.specs.Points.{points}
 use Rattle.locks.specs.Accesses.{Target, global, element, field}
 use Rattle.locks.specs.Locks.{protection_of}
 use Rattle.locks.specs.LockPaths.{StablePath, Binding, bindings, all_replaced, extended, normal_base, stable, under, target_path}
-use Rattle.normal_forms.specs.Forms.{of_binding, replaced_by, all_replaced_by, form_by, replacements_at}
-use Rattle.lockpaths.specs.Gathering.{path_by, through_of}
+use Rattle.lockpaths_forms.specs.Working.Forms.{of_binding, replaced_by, all_replaced_by, form_by, replacements_at}
+use Rattle.lockpaths.specs.Working.Gathering.{path_by, through_of}
 
 all_same : (section : Section) (bs : List Binding) (path : StablePath) → all_replaced_by (map (of_binding section) bs) path ≡ all_replaced section bs path
 all_same section [] path = refl

@@ -19,11 +19,11 @@ use Rattle.locks.specs.Accesses.{Access, access, along, in_action, in_path, in_e
 use Rattle.locks.specs.Accesses as target
 use Rattle.locks.specs.Locks.{protection_of}
 use Rattle.locks.specs.LockPaths.{StablePath, LockPath, is_fixed, all_final, stable}
-use Rattle.locks.specs.Lists.{in_expr-Chain, in_condition-And, in_condition-Or}
+use Rattle.locks.specs.Theory.Lists.{in_expr-Chain, in_condition-And, in_condition-Or}
 use Rattle.lockpaths.specs.declared.finder.Finder.{Finder}
-use Rattle.normal_forms.specs.Forms.{form_by}
-use Rattle.lockpaths.specs.Gathering.{Gathered, through_of, field_path, met as met_by}
-use Rattle.lockpaths.specs.Finding.{table_of, target_of, over, over_point, over_points, over_owner, over_owners, in_all, in_operands}
+use Rattle.lockpaths_forms.specs.Working.Forms.{form_by}
+use Rattle.lockpaths.specs.Working.Gathering.{Gathered, through_of, field_path, met as met_by}
+use Rattle.lockpaths.specs.Working.Finding.{table_of, target_of, over, over_point, over_points, over_owner, over_owners, in_all, in_operands}
 use Rattle.flow.specs.Points.{Point}
 use Rattle.std.specs.List.{flat_map}
 

@@ -5,8 +5,8 @@ use Rattle.std.specs.List.{Contains, filter}
 use Rattle.std.proofs.lemmas.Bool.{both_ways, false_from_ne_true}
 use Rattle.std.proofs.lemmas.List.Elements.{filter-append}
 use Rattle.locks.specs.LockPaths.{LockPath, same_path, each_once}
-use Rattle.locks.specs.Laws.{SamePathDecides}
-use Rattle.lockpaths.specs.Gathering.{place_from, is_in}
+use Rattle.locks.specs.Working.Laws.{SamePathDecides}
+use Rattle.lockpaths.specs.Working.Gathering.{place_from, is_in}
 use Rattle.lockpaths.proofs.Contained.{not_in_none, in_first, in_rest, in_cases}
 
 abbrev others : LockPath → LockPath → Bool

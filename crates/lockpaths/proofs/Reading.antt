@@ -28,9 +28,9 @@ use Rattle.locks.specs.declared.path.LockPath as written
 use Rattle.locks.specs.LockPaths.{LockPath, lock_path_of, global_path, class_if_global, same_path}
 use Rattle.core_lang.specs.declared.tree.Section.{Section}
 use Rattle.flow.specs.Points.{Point, points}
-use Rattle.normal_forms.specs.Forms.{Replacement, replacements_at}
-use Rattle.lockpaths.specs.Gathering.{gathered_at, gathered_in, Gathered, nothing_yet, place_from, with_owners, with_path, with_new}
-use Rattle.lockpaths.specs.Numbers.{is_number}
+use Rattle.lockpaths_forms.specs.Working.Forms.{Replacement, replacements_at}
+use Rattle.lockpaths.specs.Working.Gathering.{gathered_at, gathered_in, Gathered, nothing_yet, place_from, with_owners, with_path, with_new}
+use Rattle.lockpaths.specs.Working.Numbers.{is_number}
 
 -- ---- of a list that a slice lends
 

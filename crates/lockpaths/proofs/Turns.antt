@@ -5,14 +5,14 @@ use Rattle.std.proofs.lemmas.List.{take_more}
 use Rattle.std.proofs.lemmas.Grind.{flat_map-append}
 use Rattle.source.specs.declared.mistake.Mistake.{Mistake}
 use Rattle.source.specs.Mistakes.{least_of}
-use Rattle.source.specs.Leasts.{least_append}
+use Rattle.source.specs.Theory.Leasts.{least_append}
 use Rattle.core_lang.specs.declared.tree.Section.{Section}
 use Rattle.core_lang.specs.declared.typed.Typed.{Typed}
-use Rattle.locks.specs.Laws.{SamePathDecides, EachPathOnce}
+use Rattle.locks.specs.Working.Laws.{SamePathDecides, EachPathOnce}
 use Rattle.lockpaths.specs.declared.table.SectionPaths.{SectionPaths}
-use Rattle.lockpaths.specs.Faulted.{faults_in}
-use Rattle.lockpaths.specs.Gathering.{Gathered, gathered_in}
-use Rattle.lockpaths.specs.Numbers.{IsFinished, AreEach}
+use Rattle.lockpaths.specs.Working.Faulted.{faults_in}
+use Rattle.lockpaths.specs.Working.Gathering.{Gathered, gathered_in}
+use Rattle.lockpaths.specs.Working.Numbers.{IsFinished, AreEach}
 use Rattle.lockpaths.specs.Paths.{AreSectionPaths}
 use Rattle.lockpaths.proofs.Faulty.{still_none}
 use Rattle.lockpaths.proofs.Used.{IsFound, least_after, found_none}

@@ -8,7 +8,7 @@ use Rattle.std.proofs.lemmas.List.{length-map, take-map, drop_at, take_at, map-a
 use Rattle.std.proofs.lemmas.List.Elements.{filter_map-append, All-nil, All-cons}
 use Rattle.source.specs.declared.mistake.Mistake.{Mistake}
 use Rattle.source.specs.Mistakes.{least_of}
-use Rattle.source.specs.Leasts.{least_append}
+use Rattle.source.specs.Theory.Leasts.{least_append}
 use Rattle.core_lang.specs.declared.tree.Section.{Section}
 use Rattle.core_lang.specs.declared.typed.Typed.{Typed}
 use Rattle.flow.specs.Points.{Point, points}
@@ -16,13 +16,13 @@ use Rattle.locks.specs.declared.path_set.PathSet.{PathSet}
 use Rattle.locks.specs.Accesses.{Access, accesses_at, accesses}
 use Rattle.locks.specs.LockPaths.{LockPath, lock_path, lock_path_of, lock_paths, paths_of, Uses}
 use Rattle.locks.specs.Sets.{AreSets}
-use Rattle.locks.specs.Laws.{SamePathDecides, EachPathOnce}
+use Rattle.locks.specs.Working.Laws.{SamePathDecides, EachPathOnce}
 use Rattle.lockpaths.specs.declared.table.SectionPaths.{SectionPaths}
 use Rattle.lockpaths.specs.declared.table.Paths.{Paths}
-use Rattle.normal_forms.specs.Forms.{replacements_at}
-use Rattle.lockpaths.specs.Gathering.{Gathered, nothing_yet, gathered_at, gathered_in}
-use Rattle.lockpaths.specs.Faulted.{faults_behind, owner_fault, faults_in}
-use Rattle.lockpaths.specs.Numbers.{is_number, IsSetOf, cut, AreRising, IsComplete, IsFinished, AreEach}
+use Rattle.lockpaths_forms.specs.Working.Forms.{replacements_at}
+use Rattle.lockpaths.specs.Working.Gathering.{Gathered, nothing_yet, gathered_at, gathered_in}
+use Rattle.lockpaths.specs.Working.Faulted.{faults_behind, owner_fault, faults_in}
+use Rattle.lockpaths.specs.Working.Numbers.{is_number, IsSetOf, cut, AreRising, IsComplete, IsFinished, AreEach}
 use Rattle.lockpaths.specs.Paths.{AreSectionPaths, ArePaths}
 use Rattle.lockpaths.proofs.Contained.{not_in_none, in_first, in_rest, in_cases}
 use Rattle.lockpaths.proofs.Accessed.{IsWithin, IsState, IsBehind, ends_from, all_points_met, IsAfter, owners_met}

@@ -3,19 +3,19 @@
 ghost use Rattle.std.specs.Prelude.{◌≡◌, [], ◌∷◌, map, IfOk, OnOk};
 ghost use Rattle.std.specs.Option.{option_copied};
 ghost use Rattle.locks.specs.Locks.{protection_of};
-ghost use Rattle.flow.specs.PointList.{point_at};
+ghost use Rattle.flow.specs.Working.PointList.{point_at};
 ghost use Rattle.flow.specs.Points.{statement};
 ghost use Rattle.locks.specs.Accesses.{access, global, element, in_path, in_expr, in_exprs, in_condition, in_action};
 ghost use Rattle.locks.specs.LockPaths.{global_path, lock_path_of};
-ghost use Rattle.lockpaths.specs.Gathering.{through_of};
-ghost use Rattle.lockpaths.specs.Finding.{IsBase, IsLockOf, in_all, over, over_point, over_points, over_owner, over_owners};
+ghost use Rattle.lockpaths.specs.Working.Gathering.{through_of};
+ghost use Rattle.lockpaths.specs.Working.Finding.{IsBase, IsLockOf, in_all, over, over_point, over_points, over_owner, over_owners};
 
 use crate::found::Found;
 use core_lang::tree::{Action, Condition, Expr, FieldStep, Path, Stmt};
 use core_lang::typed::{LockClass, Owner, Protection, Typed};
 use flow::points::PointRef;
+use lockpaths_forms::forms::{Form, Forms};
 use locks::path::{LockPath, Root};
-use normal_forms::forms::{Form, Forms};
 use source::memory::NoMemory;
 use std::alloc::Global;
 

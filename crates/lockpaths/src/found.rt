@@ -3,7 +3,7 @@
 ghost use Rattle.std.specs.Prelude.{◌≡◌, ◌<◌, length, IfSome, OnOk};
 ghost use Rattle.std.specs.Option.{option_map};
 ghost use Rattle.locks.specs.LockPaths.{lock_path_of, same_root, same_numbers, same_path};
-ghost use Rattle.lockpaths.specs.Gathering.{ended, met, place_from, with_new};
+ghost use Rattle.lockpaths.specs.Working.Gathering.{ended, met, place_from, with_new};
 
 use locks::path::{LockPath, Root};
 use source::fault::Code;
@@ -31,7 +31,7 @@ pub struct Found {
 impl Model for Found {
     ghost use Rattle.std.specs.Prelude.{◌≤◌, map, length};
     ghost use Rattle.locks.specs.LockPaths.{lock_path_of};
-    ghost use Rattle.lockpaths.specs.Gathering.{Gathered};
+    ghost use Rattle.lockpaths.specs.Working.Gathering.{Gathered};
 
     ghost Value = { Gathered };
 

@@ -6,7 +6,7 @@ use Rattle.std.proofs.lemmas.Option.{none-some}
 use Rattle.core_lang.specs.declared.tree.Section.{Section}
 use Rattle.std.proofs.lemmas.Bool.{eq-eqb}
 use Rattle.locks.specs.LockPaths.{StablePath, OwnerPath, Binding, stable_value, owner_of, owned_path, or_behind, bindings, behind, replaced, all_replaced}
-use Rattle.locks.specs.Laws.{NormalFormOfOwned, NormalFormOfLet, NormalFormOfOther}
+use Rattle.locks.specs.Working.Laws.{NormalFormOfOwned, NormalFormOfLet, NormalFormOfOther}
 use Rattle.locks.proofs.Lists.{not_in_none, in_cases}
 use Rattle.locks.proofs.Normal.{Replaces, other, by_owner, no_path, by_path, past_parts, IsOrdered, from_next, unchanged, bindings_ordered}
 

@@ -14,7 +14,7 @@ use Rattle.core_lang.specs.Typing.{lookup}
 use Rattle.core_lang.specs.WellFormed.{IsGlobalLock}
 use Rattle.core_lang.specs.Scopes.{NamesOnly, IsWellScoped}
 use Rattle.flow.specs.Points.{Binds, IsScopeAt}
-use Rattle.flow.specs.Laws.{ScopeGoesBack}
+use Rattle.flow.specs.Working.Laws.{ScopeGoesBack}
 use Rattle.flow.specs.Skeletons.{skeleton}
 use Rattle.flow.specs.Flow.{Follows}
 use Rattle.core_lang.specs.declared.shape.Array.{Array}
@@ -23,7 +23,7 @@ use Rattle.locks.specs.declared.path.Root.TheVariants.{GlobalLock, Local as AtLo
 use Rattle.locks.specs.Accesses.{Target, global, element, field, accesses_at}
 use Rattle.locks.specs.Locks.{protection_of}
 use Rattle.locks.specs.LockPaths.{LockPath, StablePath, Binding, stable, normal_base, extended, bindings, under, global_path, protected_path, class_if_global, target_path, lock_path, IsRootInScope}
-use Rattle.locks.specs.Laws.{UsedAreInScope, ScopeOfPathsGoesBack}
+use Rattle.locks.specs.Working.Laws.{UsedAreInScope, ScopeOfPathsGoesBack}
 use Rattle.locks.proofs.Lists.{each_at, from_filter_map}
 use Rattle.locks.proofs.Scoped.{sound_point}
 use Rattle.locks.proofs.Named.{IsTargetNamed, IsNamed, accesses_named}

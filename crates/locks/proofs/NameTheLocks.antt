@@ -23,7 +23,7 @@ use Rattle.core_lang.specs.declared.typed.Typed.{Typed}
 use Rattle.core_lang.specs.Cells.{with, found, at_index, element_cell, field_cell}
 use Rattle.core_lang.specs.Meaning.{along}
 use Rattle.core_lang.specs.Typing.{lookup, struct_of, local_types, HasType, HaveTypes, IsHeap}
-use Rattle.core_lang.specs.Soundness.{Gives}
+use Rattle.core_lang.specs.Working.Soundness.{Gives}
 use Rattle.core_lang.specs.Scopes.{IsWellScoped}
 use Rattle.core_lang.specs.WellFormed.{IsWellFormed, EndsAt, IsGlobalLock}
 use Rattle.flow.specs.Points.{points}
@@ -31,8 +31,8 @@ use Rattle.locks.specs.declared.lock.Lock.{Lock}
 use Rattle.locks.specs.Accesses.{Target, global, element, field, accesses_at}
 use Rattle.locks.specs.Locks.{led_to, global_lock, lock_of, protection_of, walked, protecting, lock_of_cell}
 use Rattle.locks.specs.LockPaths.{LockPath, bindings, normal_form, extended, global_path, class_if_global, target_path, lock_named, object_at, LetsAgree}
-use Rattle.locks.specs.Reached.{Reaches, to_global, to_element, to_field}
-use Rattle.locks.specs.Laws.{PathsNameTheLocks}
+use Rattle.locks.specs.Working.Reached.{Reaches, to_global, to_element, to_field}
+use Rattle.locks.specs.Working.Laws.{PathsNameTheLocks}
 use Rattle.flow.specs.Theory.Each.{each_there}
 use Rattle.flow.specs.Theory.PointTypes.{IsTypedPoint, points_typed}
 use Rattle.locks.proofs.Lists.{each_at}

@@ -6,7 +6,7 @@ use Rattle.core_lang.specs.declared.tree.Condition.{Condition, And, Or}
 use Rattle.core_lang.specs.declared.tree.Stmt.{Stmt}
 use Rattle.core_lang.specs.declared.tree.Action.{Action, If, IfElse, While}
 use Rattle.code.specs.Needs.{expr_need, test_need, stmt_need, body_need}
-use Rattle.lowering.specs.NeedLists.{operations_need, conditions_need}
+use Rattle.lowering.specs.Working.NeedLists.{operations_need, conditions_need}
 use Rattle.lowering.proofs.NeedViews.{expr_need-Chain, test_need-And, test_need-Or, stmt_need-If, stmt_need-IfElse, stmt_need-While}
 
 pub chain_needs : (e : Expr) (first : Box Expr Global) (rest : Vec Operation Global) (items : List Operation) (left : Expr) (n : ℕ) →

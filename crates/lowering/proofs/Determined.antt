@@ -13,7 +13,7 @@ use Rattle.lockorder.specs.Ranks.{IsReady, EachIsNext, AreRanks}
 use Rattle.points.specs.Wanted.{rank_of, IsWanted, IsTaken, last, earlier}
 use Rattle.inserter.specs.Placement.{IsPath, IsDue, GoesBefore, IsListBefore, AreLists}
 use Rattle.lowering.specs.Plans.{Plan, IsCompiled}
-use Rattle.lowering.specs.PlanLaws.{HasLists, NothingIsTaken, DeclareAlike, ListsDependOnTheSection, RanksStay}
+use Rattle.lowering.specs.Working.PlanLaws.{HasLists, NothingIsTaken, DeclareAlike, ListsDependOnTheSection, RanksStay}
 
 -- ---- lists
 

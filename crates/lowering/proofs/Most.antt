@@ -15,7 +15,7 @@ use Rattle.locks.specs.LockPaths.{LockPath, lock_path_of}
 use Rattle.layout.specs.LockCells.{cells_of}
 use Rattle.locks.specs.Locks.{IsLockOfClass}
 use Rattle.layout.specs.Layouts.{LayoutOf, IsLayoutOf}
-use Rattle.lowering.specs.Rooms.{most_among, most_cells}
+use Rattle.lowering.specs.Working.Rooms.{most_among, most_cells}
 
 -- a lock of the program has one of its classes
 listed_class : (program : Typed) (lock : Lock) (found : Option LockClass) → slice_get program.classes.items lock.class ≡ found → IsLockOfClass program lock found →

@@ -1,12 +1,9 @@
 pub mod Lowered
-pub mod Rooms
 pub mod Plans
-pub mod Compiled
-pub mod PlanLaws
-pub mod NeedLists
+pub mod Working
 -- what the public clauses cite
 pub use Rattle.lowering.specs.Lowered.{StructTexts, AreNames, IsLowered, lists_at, IsCodeOf}
-pub use Rattle.lowering.specs.Rooms.{most_cells, IsRoomOf, AreRoomsOf}
+pub use Rattle.lowering.specs.Working.Rooms.{most_cells, IsRoomOf, AreRoomsOf}
 pub use Rattle.lowering.specs.Plans.{Plan, IsCompiled, CodesBehave, CompiledRunAlike}
-pub use Rattle.lowering.specs.Compiled.{IsRoomAt}
-pub use Rattle.lowering.specs.PlanLaws.{NothingIsTaken, ListsDependOnTheSection, RanksStay}
+pub use Rattle.lowering.specs.Working.Compiled.{IsRoomAt}
+pub use Rattle.lowering.specs.Working.PlanLaws.{NothingIsTaken, ListsDependOnTheSection, RanksStay}

@@ -18,7 +18,7 @@ use Rattle.code.specs.declared.names.Names.{Names}
 use Rattle.code.specs.declared.section_code.SectionCode.{SectionCode}
 use Rattle.code.specs.declared.section_code.Code.{Code}
 use Rattle.code.specs.Lowering.{section_code}
-use Rattle.emission.specs.NumberLists.{number_lists}
+use Rattle.code_emission.specs.NumberLists.{number_lists}
 
 -- ---- names
 

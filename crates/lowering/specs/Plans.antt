@@ -6,7 +6,7 @@ use Rattle.core_lang.specs.declared.typed.Typed.{Typed}
 use Rattle.core_lang.specs.Serial.{Invocation, Ended, SerialFromOpening}
 use Rattle.core_lang.specs.Laws.{CallsFill}
 use Rattle.core_lang.specs.WellFormed.{IsChecked, IsWellFormed}
-use Rattle.expansion.specs.Data.{IsExpanded}
+use Rattle.core_lang_expansion.specs.Data.{IsExpanded}
 use Rattle.locks.specs.Faults as paths
 use Rattle.lockorder.specs.Edges.{AreRanksOf, RiseIn}
 use Rattle.inserter.specs.Placement.{IsPlacement}

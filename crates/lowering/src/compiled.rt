@@ -2,7 +2,7 @@
 
 ghost use Rattle.std.specs.Prelude.{◌≡◌, ◌<◌, length, IfOk};
 ghost use Rattle.core_lang.specs.WellFormed.{IsChecked, IsWellFormed};
-ghost use Rattle.expansion.specs.Data.{IsExpanded};
+ghost use Rattle.core_lang_expansion.specs.Data.{IsExpanded};
 ghost use Rattle.inserter.specs.Placement.{all_lists};
 ghost use Rattle.lockorder.specs.Edges.{AreRanksOf, RiseIn};
 ghost use Rattle.lockpaths.specs.Paths.{ArePaths};
@@ -49,7 +49,7 @@ impl Model for Program {
     ghost use Rattle.core_lang.specs.contracts.tree.Condition as condition;
     ghost use Rattle.std.specs.Coded.{codes};
     ghost use Rattle.lowering.specs.Plans.{Plan};
-    ghost use Rattle.lowering.specs.Compiled.{plan_of, IsProgram};
+    ghost use Rattle.lowering.specs.Working.Compiled.{plan_of, IsProgram};
 
     ghost Value = { Plan };
 
@@ -63,7 +63,7 @@ impl Model for Program {
 impl Program {
     ghost use Rattle.lowering.specs.Plans.{IsCompiled};
     ghost use Rattle.lowering.specs.Lowered.{IsCodeOf};
-    ghost use Rattle.lowering.specs.Compiled.{IsRoomAt};
+    ghost use Rattle.lowering.specs.Working.Compiled.{IsRoomAt};
 
     /// A program that is accepted, with its helpers written out and its lock paths and ranks, compiled.
     ///

@@ -3,7 +3,7 @@
 ghost use denote.Param.Send.{IsSync};
 ghost use Rattle.lowering.specs.contracts.compiled.Program as program;
 ghost use Rattle.lowering.specs.Plans.{CodesBehave, CompiledRunAlike};
-ghost use Rattle.lowering.specs.PlanLaws.{NothingIsTaken, ListsDependOnTheSection, RanksStay};
+ghost use Rattle.lowering.specs.Working.PlanLaws.{NothingIsTaken, ListsDependOnTheSection, RanksStay};
 
 /// The code of each section of a well-formed program behaves as the section, whatever lists stand before its points: alone
 /// it comes to an outcome exactly where the section, run whole, is over, and then to the same outcome, prints and heap; and

@@ -2,7 +2,7 @@
 
 ghost use Rattle.std.specs.Prelude.{◌≡◌, ◌+◌, IfOk};
 ghost use Rattle.code.specs.Needs.{expr_need, test_need, stmt_need, body_need, end_need, operand_need};
-ghost use Rattle.lowering.specs.NeedLists.{conditions_need};
+ghost use Rattle.lowering.specs.Working.NeedLists.{conditions_need};
 
 use core_lang::tree::{Action, Condition, Expr, Return, Section, Stmt};
 use source::memory::NoMemory;

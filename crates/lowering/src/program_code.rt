@@ -3,7 +3,7 @@
 ghost use Rattle.std.specs.Prelude.{◌≡◌, IfOk};
 ghost use Rattle.lockpaths.specs.Paths.{ArePaths};
 ghost use Rattle.inserter.specs.Placement.{all_lists};
-ghost use Rattle.emission.specs.NumberLists.{number_lists};
+ghost use Rattle.code_emission.specs.NumberLists.{number_lists};
 ghost use Rattle.lowering.specs.Lowered.{IsCodeOf, lists_at};
 
 use crate::names::names_of;

@@ -5,7 +5,7 @@ ghost use Rattle.std.specs.List.{sum_by};
 ghost use Rattle.lockpaths.specs.Paths.{ArePaths};
 ghost use Rattle.locks.specs.declared.path.LockPath as written;
 ghost use Rattle.layout.specs.Layouts.{IsLayoutOf};
-ghost use Rattle.lowering.specs.Rooms.{AreRoomsOf, most_cells};
+ghost use Rattle.lowering.specs.Working.Rooms.{AreRoomsOf, most_cells};
 
 use crate::needs;
 use core_lang::typed::Typed;

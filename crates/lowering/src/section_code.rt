@@ -2,13 +2,13 @@
 
 ghost use Rattle.std.specs.Prelude.{◌≡◌, map, IfOk};
 ghost use Rattle.locks.specs.LockPaths.{lock_path_of, lock_paths};
-ghost use Rattle.emission.specs.NumberLists.{number_lists};
+ghost use Rattle.code_emission.specs.NumberLists.{number_lists};
 ghost use Rattle.lowering.specs.Lowered.{IsLowered, texts, path_texts};
 
 use code::section_code::SectionCode;
+use code_emission::instructions;
 use core_lang::tree::Section;
 use core_lang::typed::Typed;
-use emission::instructions;
 use locks::path::LockPath;
 use locks::text::push_path;
 use source::memory::NoMemory;

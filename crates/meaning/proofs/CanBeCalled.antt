@@ -10,8 +10,8 @@ use Rattle.core_lang.specs.Typing.{IsHeap}
 use Rattle.core_lang.specs.WellFormed.{CanCall, IsChecked}
 use Rattle.core_lang.specs.Laws.{StaysTyped, NeverGoAstray}
 use Rattle.meaning.specs.declared.run.End.{End}
-use Rattle.meaning.specs.Answer.{IsNothing, Answers, NoneIsBeyond}
-use Rattle.meaning.specs.Laws.{AnswersStayTyped}
+use Rattle.meaning.specs.Working.Answer.{IsNothing, Answers, NoneIsBeyond}
+use Rattle.meaning.specs.Working.Laws.{AnswersStayTyped}
 
 -- the run of a call stays typed
 run_stays : NeverGoAstray → (program : Typed) (number n : ℕ) (arguments heap : List Value) →

@@ -1,6 +1,4 @@
-pub mod Answer
-pub mod CalledSections
-pub mod Laws
 -- what the public clauses cite
-pub use Rattle.meaning.specs.Answer.{run_at, Answers, NoneIsBeyond, NoneIsBeyondIfTyped}
-pub use Rattle.meaning.specs.Laws.{AnswersStayTyped}
+pub mod Working
+pub use Rattle.meaning.specs.Working.Answer.{run_at, Answers, NoneIsBeyond, NoneIsBeyondIfTyped}
+pub use Rattle.meaning.specs.Working.Laws.{AnswersStayTyped}

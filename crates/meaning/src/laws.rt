@@ -1,6 +1,6 @@
 //! What holds of every answer: a function that does nothing, and whose contract is the law.
 
-ghost use Rattle.meaning.specs.Laws.{AnswersStayTyped};
+ghost use Rattle.meaning.specs.Working.Laws.{AnswersStayTyped};
 
 use core_lang::laws;
 

@@ -7,7 +7,7 @@ use Rattle.core_lang.specs.declared.value.Value.{Value}
 use Rattle.locks.specs.declared.lock.Lock.{Lock}
 use Rattle.code.specs.Memory.{value_at, with_changed, Agrees}
 use Rattle.layout.specs.LockCells.{same_lock, cells_from}
-use Rattle.moved_cells.specs.Grants.{numbered, values_on, if_there}
+use Rattle.moved_cells.specs.Working.Grants.{numbered, values_on, if_there}
 
 -- each is at least n, and greater than those before it
 abbrev pub Rise : ℕ → List ℕ → Type 0

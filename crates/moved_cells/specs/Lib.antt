@@ -1,3 +1,2 @@
-pub mod Grants
-pub mod Laws
-pub use Rattle.moved_cells.specs.Grants.{GrantOf, locks_of, numbered, cells_in, IsWhole, values_on}
+pub mod Working
+pub use Rattle.moved_cells.specs.Working.Grants.{GrantOf, locks_of, numbered, cells_in, IsWhole, values_on}

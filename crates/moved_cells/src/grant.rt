@@ -14,7 +14,7 @@ pub struct Grant {
 }
 
 impl Model for Grant {
-    ghost use Rattle.moved_cells.specs.Grants.{GrantOf};
+    ghost use Rattle.moved_cells.specs.Working.Grants.{GrantOf};
 
     ghost Value = { GrantOf };
 

@@ -1,6 +1,6 @@
 //! What holds of every grant: functions that do nothing, and whose contracts are the laws.
 
-ghost use Rattle.moved_cells.specs.Laws.{HasItsCells, OffsetsFindValues, OffsetsChangeCells, ValuesAreWhole, ValuesAgree};
+ghost use Rattle.moved_cells.specs.Working.Laws.{HasItsCells, OffsetsFindValues, OffsetsChangeCells, ValuesAreWhole, ValuesAgree};
 
 /// The value at the offset of a cell is the cell's, and a write there changes this cell.
 pub fn slots_are_cells()

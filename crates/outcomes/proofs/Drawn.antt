@@ -15,11 +15,11 @@ use Rattle.outcomes.specs.declared.drawing.Walk.{Walk}
 use Rattle.outcomes.specs.declared.drawing.Drawing.{Drawing}
 use Rattle.outcomes.specs.Orders.{next_call, one_more, none_done, orders}
 use Rattle.outcomes.specs.Ends.{Told, AreDrawnEnds}
-use Rattle.outcomes.specs.States.{Reached, at, nowhere, with_more, orders_to}
-use Rattle.outcomes.specs.Trails.{IsBegun, IsLonger}
-use Rattle.outcomes.specs.Searching.{Leads, order_at, IsGood, AreGood, IsFound, as_told}
-use Rattle.outcomes.specs.Drawing.{IsWalk, HasCallLeft, calls_of_thread, Notes, IsNewEnd, AreEndsOf}
-use Rattle.outcomes.specs.Steps.{IsOver, IsBeyond}
+use Rattle.outcomes.specs.Working.States.{Reached, at, nowhere, with_more, orders_to}
+use Rattle.outcomes.specs.Working.Trails.{IsBegun, IsLonger}
+use Rattle.outcomes.specs.Working.Searching.{Leads, order_at, IsGood, AreGood, IsFound, as_told}
+use Rattle.outcomes.specs.Working.Drawing.{IsWalk, HasCallLeft, calls_of_thread, Notes, IsNewEnd, AreEndsOf}
+use Rattle.outcomes.specs.Working.Steps.{IsOver, IsBeyond}
 use Rattle.outcomes.proofs.Leading.{leads_further, all_longer, good_found, push_good}
 use Rattle.outcomes.proofs.Full.{Within, sums, lengths, sums-lengths, length-lengths, fits, call_left}
 use Rattle.outcomes.proofs.Whole.{all_end, ends_apart, sum_told}

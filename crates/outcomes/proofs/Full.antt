@@ -14,7 +14,7 @@ use Rattle.core_lang.specs.WellFormed.{calls_together}
 use Rattle.std.proofs.Math.ListN.{length-set}
 use Rattle.outcomes.specs.Orders.{next_call, one_more, none_done, orders_of, calls_of, calls_in}
 use Rattle.outcomes.specs.Ends.{done_after}
-use Rattle.outcomes.specs.Searching.{Leads}
+use Rattle.outcomes.specs.Working.Searching.{Leads}
 use Rattle.outcomes.proofs.Leading.{next_within, among_begun, leads_made}
 
 unfoldable pub sums : List ℕ → ℕ

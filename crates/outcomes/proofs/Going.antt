@@ -13,10 +13,10 @@ use Rattle.outcomes.specs.declared.search.Stop.TheVariants.{TooMany, Beyond}
 use Rattle.outcomes.specs.declared.search.Work.{Work}
 use Rattle.outcomes.specs.declared.state.State.{State}
 use Rattle.outcomes.specs.Orders.{next_call, one_more, orders_of}
-use Rattle.outcomes.specs.States.{Reached, at, nowhere, reached_of, with_more, orders_to}
-use Rattle.outcomes.specs.Trails.{longer}
-use Rattle.outcomes.specs.Searching.{order_at, IsGood, AreGood, weight, total, Summand, IsFound, IsAdded}
-use Rattle.outcomes.specs.Steps.{IsOver, Puts, IsAtWork, IsReached, Growth, made_by, made_below, made_from, made_from_all, GoesOn, IsStop, HasTooMany, one}
+use Rattle.outcomes.specs.Working.States.{Reached, at, nowhere, reached_of, with_more, orders_to}
+use Rattle.outcomes.specs.Working.Trails.{longer}
+use Rattle.outcomes.specs.Working.Searching.{order_at, IsGood, AreGood, weight, total, Summand, IsFound, IsAdded}
+use Rattle.outcomes.specs.Working.Steps.{IsOver, Puts, IsAtWork, IsReached, Growth, made_by, made_below, made_from, made_from_all, GoesOn, IsStop, HasTooMany, one}
 use Rattle.outcomes.proofs.Sums.{sum_with, sum_without, sum_more, total_found, total_added}
 use Rattle.outcomes.proofs.Full.{has_order}
 use Rattle.outcomes.proofs.Leading.{good_longer, longer_again, good_child, good_found, good_added}

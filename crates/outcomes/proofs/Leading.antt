@@ -14,9 +14,9 @@ use Rattle.core_lang.specs.Typing.{lookup, IsHeap, HasCells}
 use Rattle.core_lang.specs.Laws.{OverIsWhole}
 use Rattle.core_lang.specs.Whole.{Finished, Over}
 use Rattle.outcomes.specs.Orders.{next_call, one_more, none_done, orders_of, begun_with, begun_by, calls_of}
-use Rattle.outcomes.specs.States.{Reached, NoneIsAlike, at, nowhere, with_more}
-use Rattle.outcomes.specs.Trails.{longer, IsLonger}
-use Rattle.outcomes.specs.Searching.{Leads, order_at, IsGood, AreGood, IsFound, IsAdded}
+use Rattle.outcomes.specs.Working.States.{Reached, NoneIsAlike, at, nowhere, with_more}
+use Rattle.outcomes.specs.Working.Trails.{longer, IsLonger}
+use Rattle.outcomes.specs.Working.Searching.{Leads, order_at, IsGood, AreGood, IsFound, IsAdded}
 
 -- one call more
 pub leads_further : (program : Typed) (n : ℕ) (done : List ℕ) (heap : List Value) (order done' : List ℕ) (heap' : List Value) (t : ℕ) (call : Invocation) (finished : Finished) →

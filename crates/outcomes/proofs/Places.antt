@@ -16,11 +16,11 @@ use Rattle.core_lang.specs.Serial.{Ended, SerialFromOpening, opening_heap}
 use Rattle.core_lang.specs.WellFormed.{calls_together}
 use Rattle.outcomes.specs.declared.search.Search.{Search}
 use Rattle.outcomes.specs.declared.search.Work.{Work}
-use Rattle.outcomes.specs.Steps.{GoesOn, made_from_all}
+use Rattle.outcomes.specs.Working.Steps.{GoesOn, made_from_all}
 use Rattle.outcomes.specs.Orders.{none_done, orders_of, calls_in}
 use Rattle.outcomes.specs.Ends.{done_after, end_in, Place, LeadsTo, AreAllPlaces, HasPlaces}
-use Rattle.outcomes.specs.States.{Reached, at, nowhere}
-use Rattle.outcomes.specs.Searching.{Leads, Summand, order_at, IsGood, AreGood, weight, total}
+use Rattle.outcomes.specs.Working.States.{Reached, at, nowhere}
+use Rattle.outcomes.specs.Working.Searching.{Leads, Summand, order_at, IsGood, AreGood, weight, total}
 use Rattle.outcomes.proofs.Leading.{leads_serially, leads_made}
 use Rattle.outcomes.proofs.Full.{sums, fits, fits_made, made_few, made_in_order, leads_done}
 use Rattle.outcomes.proofs.Whole.{counted, unsettled_end, ends_as, no_end, settled_heap, some_term, passed, both_true, same_cells, cells_are, cells_same}

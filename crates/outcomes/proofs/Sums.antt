@@ -7,8 +7,8 @@ use Rattle.core_lang.specs.Serial.{Invocation, go_on, run_call, serial_with}
 use Rattle.core_lang.specs.Whole.{Finished, Run, Over}
 use Rattle.outcomes.specs.Orders.{next_call, one_more, orders_of, begun_with, begun_by, calls_of}
 use Rattle.outcomes.specs.Ends.{heap_left, end_from, done_after}
-use Rattle.outcomes.specs.States.{Reached, at, nowhere, with_more}
-use Rattle.outcomes.specs.Searching.{sum_over, weight, IsFound, IsAdded, Summand}
+use Rattle.outcomes.specs.Working.States.{Reached, at, nowhere, with_more}
+use Rattle.outcomes.specs.Working.Searching.{sum_over, weight, IsFound, IsAdded, Summand}
 
 -- where a call is over, an order that begins with it ends as the others end from there
 end_behind : (program : Typed) (n : ℕ) (done : List ℕ) (heap : List Value) (t : ℕ) (call : Invocation) (finished : Finished) (order : List ℕ) →

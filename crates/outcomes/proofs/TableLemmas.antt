@@ -10,9 +10,9 @@ use Rattle.std.specs.declared.hash.FoldHasher.{FoldHasher}
 use Rattle.std.specs.declared.hash.BuildHasherDefault.{BuildHasherDefault}
 use Rattle.core_lang.specs.declared.value.Value.{Value}
 use Rattle.outcomes.specs.declared.layer.Entry.{Entry}
-use Rattle.outcomes.specs.Hashes.{hash}
-use Rattle.outcomes.specs.States.{Reached, IsAlike, entry_state, orders_to, at, nowhere, NoneIsAlike}
-use Rattle.outcomes.specs.Tables.{hash_of, HasHash, IsLast, IsTable, HasAlike, IsLeft, left_count}
+use Rattle.outcomes.specs.Working.Hashes.{hash}
+use Rattle.outcomes.specs.Working.States.{Reached, IsAlike, entry_state, orders_to, at, nowhere, NoneIsAlike}
+use Rattle.outcomes.specs.Working.Tables.{hash_of, HasHash, IsLast, IsTable, HasAlike, IsLeft, left_count}
 use Rattle.outcomes.proofs.Lists.{pushed_at, still_at, last_at, set_at, replaced_at}
 
 -- entries with the same hashes in the same places

@@ -5,7 +5,7 @@ use Rattle.std.proofs.Math.ListN.{get_or-append}
 use Rattle.std.proofs.Math.Seq.{get_or-append_seam}
 use Rattle.outcomes.specs.declared.trail.Step.{Step}
 use Rattle.outcomes.proofs.Lists.{pushed_at}
-use Rattle.outcomes.specs.Trails.{longer, grown, orders_of, AreBackward}
+use Rattle.outcomes.specs.Working.Trails.{longer, grown, orders_of, AreBackward}
 
 -- one step more
 pub grown_one_more : (orders : List (List ℕ)) (ss : List Step) (s : Step) →

@@ -16,9 +16,9 @@ use Rattle.outcomes.specs.declared.search.Search.{Search}
 use Rattle.outcomes.specs.declared.search.Work.{Work}
 use Rattle.outcomes.specs.Orders.{next_call, one_more, none_done, orders, orders_of, calls_of, calls_in}
 use Rattle.outcomes.specs.Ends.{EndsIn, heap_if_settled, heap_left, end_in, Told, told_count, AreAllEnds, StopsAfter}
-use Rattle.outcomes.specs.States.{Reached, at, nowhere}
-use Rattle.outcomes.specs.Searching.{Leads, order_at, IsGood, AreGood, weight, total, as_told, Summand}
-use Rattle.outcomes.specs.Steps.{GoesOn, made_from_all, opening_state, IsBeyond, HasTooMany, one}
+use Rattle.outcomes.specs.Working.States.{Reached, at, nowhere}
+use Rattle.outcomes.specs.Working.Searching.{Leads, order_at, IsGood, AreGood, weight, total, as_told, Summand}
+use Rattle.outcomes.specs.Working.Steps.{GoesOn, made_from_all, opening_state, IsBeyond, HasTooMany, one}
 use Rattle.outcomes.proofs.Leading.{leads_in_order, leads_serially, leads_made}
 use Rattle.outcomes.proofs.Full.{full, leads_done}
 

@@ -4,12 +4,12 @@ ghost use Rattle.std.specs.Prelude.{◌≡◌, ◌<◌, ◌≤◌, ◌+◌, ◌^
 ghost use Rattle.core_lang.specs.Serial.{opening_heap};
 ghost use Rattle.core_lang.specs.Typing.{HasCells};
 ghost use Rattle.core_lang.specs.WellFormed.{calls_together};
-ghost use Rattle.outcomes.specs.States.{orders_to};
+ghost use Rattle.outcomes.specs.Working.States.{orders_to};
 ghost use Rattle.outcomes.specs.Orders.{orders, none_done};
-ghost use Rattle.outcomes.specs.Trails.{IsBegun};
-ghost use Rattle.outcomes.specs.Steps.{CanSearch};
+ghost use Rattle.outcomes.specs.Working.Trails.{IsBegun};
+ghost use Rattle.outcomes.specs.Working.Steps.{CanSearch};
 ghost use Rattle.outcomes.specs.Ends.{Finds};
-ghost use Rattle.outcomes.specs.Drawing.{IsWalk, HasCallLeft, calls_of_thread, Advances, Walks, Notes};
+ghost use Rattle.outcomes.specs.Working.Drawing.{IsWalk, HasCallLeft, calls_of_thread, Advances, Walks, Notes};
 
 use crate::layer::Layer;
 use crate::outcome::Found;
@@ -18,11 +18,11 @@ use crate::state::State;
 use crate::trail::Trail;
 use core_lang::laws;
 use core_lang::value::Value;
+use meaning_trees::heap::Heap;
 use rand::rngs::SmallRng;
 use rand::{RngExt, SeedableRng};
 use source::memory::NoMemory;
 use std::alloc::Global;
-use tree_walk::heap::Heap;
 
 /// Calls that were made one after another.
 #[derive(Drop)]

@@ -1,7 +1,7 @@
 //! Numbers by which states are found.
 
 ghost use Rattle.std.specs.Prelude.{◌≡◌};
-ghost use Rattle.outcomes.specs.Hashes.{hash, mixed, mixed_all, word_of, mixed_cells};
+ghost use Rattle.outcomes.specs.Working.Hashes.{hash, mixed, mixed_all, word_of, mixed_cells};
 
 use core_lang::value::Value;
 

@@ -1,7 +1,7 @@
 //! States, each once.
 
 ghost use Rattle.std.specs.Prelude.{◌≡◌, ◌<◌, ◌+◌, ◌^◌, ◌↔◌, [], ◌∷◌, ◌++◌, length, map, slice_set, IsTrue, OnOk, OnErr, MatchOption};
-ghost use Rattle.outcomes.specs.States.{reached_of, orders_to, IsOne, IsAlike, NoneIsAlike, with_more, at};
+ghost use Rattle.outcomes.specs.Working.States.{reached_of, orders_to, IsOne, IsAlike, NoneIsAlike, with_more, at};
 
 use crate::hash::hash;
 use crate::state::State;
@@ -29,8 +29,8 @@ pub struct Layer {
 
 impl Model for Layer {
     ghost use Rattle.std.specs.Prelude.{List, map};
-    ghost use Rattle.outcomes.specs.States.{Reached, entry_state};
-    ghost use Rattle.outcomes.specs.Tables.{IsTable};
+    ghost use Rattle.outcomes.specs.Working.States.{Reached, entry_state};
+    ghost use Rattle.outcomes.specs.Working.Tables.{IsTable};
 
     ghost Value = { List Reached };
 

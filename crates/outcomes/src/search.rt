@@ -4,11 +4,11 @@ ghost use Rattle.std.specs.Prelude.{◌≡◌, ◌<◌, ◌≤◌, ◌+◌, ◌^
 ghost use Rattle.core_lang.specs.Serial.{invocation, opening_heap};
 ghost use Rattle.core_lang.specs.Typing.{IsHeap, HasCells};
 ghost use Rattle.core_lang.specs.WellFormed.{CanCall, calls_together};
-ghost use Rattle.outcomes.specs.States.{orders_to};
+ghost use Rattle.outcomes.specs.Working.States.{orders_to};
 ghost use Rattle.outcomes.specs.Orders.{next_call};
-ghost use Rattle.outcomes.specs.Steps.{CanSearch, FindsOrHasMore, Leaves, Puts, IsNext, IsAtWork, IsReached, AreReached, Steps, made_by, made_from, made_from_all, opening_state, FirstsAre};
+ghost use Rattle.outcomes.specs.Working.Steps.{CanSearch, FindsOrHasMore, Leaves, Puts, IsNext, IsAtWork, IsReached, AreReached, Steps, made_by, made_from, made_from_all, opening_state, FirstsAre};
 ghost use Rattle.outcomes.specs.Ends.{Finds, told_of};
-ghost use Rattle.outcomes.specs.Searching.{as_told};
+ghost use Rattle.outcomes.specs.Working.Searching.{as_told};
 
 use crate::layer::Layer;
 use crate::outcome::{Found, Outcome};
@@ -17,12 +17,12 @@ use crate::trail::Trail;
 use core_lang::laws;
 use core_lang::typed::{Call, Typed};
 use core_lang::value::Value;
-use register_machine::prepared::Prepared;
+use meaning_registers::prepared::Prepared;
+use meaning_trees::draft::Draft;
+use meaning_trees::heap::Heap;
 use source::memory::NoMemory;
 use std::alloc::{AllocError, Global};
 use std::mem;
-use tree_walk::draft::Draft;
-use tree_walk::heap::Heap;
 
 /// What is searched.
 pub struct Search<'a> {

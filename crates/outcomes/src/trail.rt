@@ -1,7 +1,7 @@
 //! Orders that share their beginnings.
 
 ghost use Rattle.std.specs.Prelude.{◌≡◌, ◌<◌, [], ◌∷◌, ◌++◌, length, slice_index_or, IfOk, OnOk, OnErr};
-ghost use Rattle.outcomes.specs.Trails.{longer, IsBegun, IsLonger};
+ghost use Rattle.outcomes.specs.Working.Trails.{longer, IsBegun, IsLonger};
 
 use std::alloc::{AllocError, Global};
 use std::marker::Model;
@@ -24,7 +24,7 @@ pub struct Trail {
 
 impl Model for Trail {
     ghost use Rattle.std.specs.Prelude.{ℕ, List};
-    ghost use Rattle.outcomes.specs.Trails.{orders_of, AreBackward};
+    ghost use Rattle.outcomes.specs.Working.Trails.{orders_of, AreBackward};
 
     ghost Value = { List (List ℕ) };
 

@@ -5,8 +5,8 @@ use Rattle.source.specs.declared.token.Sign.TheVariants.{OpenParen, CloseParen, 
 use Rattle.source.specs.Tokens.{mark, Tok}
 use Rattle.syntax.specs.Trees.{Ident, element, path, Expr, paren}
 use Rattle.parser.specs.declared.stop.Stop.{Stop}
-use Rattle.parser.specs.Reading.{◌>>=◌, Fails, Reader, turn, many_at, is_sign, sign_at, open_at, name_at, is_next, skip_at, next_after, after_each, choose, chosen, closed_at}
-use Rattle.parser.specs.Expressions.{place_at, path_at, alone_at, element_at, fields_at, parens_at, inside_at, condition_at, expr_at}
+use Rattle.parser.specs.Working.Reading.{◌>>=◌, Fails, Reader, turn, many_at, is_sign, sign_at, open_at, name_at, is_next, skip_at, next_after, after_each, choose, chosen, closed_at}
+use Rattle.parser.specs.Working.Expressions.{place_at, path_at, alone_at, element_at, fields_at, parens_at, inside_at, condition_at, expr_at}
 use Rattle.parser.specs.Theory.Readers.{fails_on}
 use Rattle.parser.specs.Theory.Many.{many_at-turn}
 use Rattle.parser.proofs.Rooms.{inside_at_some, parens_at_some}

@@ -7,8 +7,8 @@ use Rattle.source.specs.Tokens.{Lexeme, word, mark, end, Tok}
 use Rattle.syntax.specs.Trees as tree
 use Rattle.syntax.specs.Trees.{Ident, ValueType, int_type, no_stmts, Member, lock_member, final_member, field_member, Section, Items, no_items, Decl, lock, struct, global, array, pool, init, atomic, helper, thread}
 use Rattle.syntax.specs.Grammar.{tok, name_tok, IsOptional, left_out, AreMany, no_more, one_more, IsAfter, AreListed, none_listed, IsName, is_name, IsType, is_int_type, IsConst, is_int_const, are_no_stmts, is_braced, is_block, IsIndex, is_index, IsProtection, is_variable, is_array, is_final, is_field, IsMember, is_lock_member, is_final_member, is_field_member, IsStruct, is_struct, IsPool, is_pool, IsInit, is_init, IsSection, is_section, IsCall, is_call, IsItem, is_call_item, is_repeat, IsItems, are_no_items, are_items, IsThread, is_thread, IsDecl, is_lock, is_struct_decl, is_global, is_array_decl, is_pool_decl, is_init_decl, is_atomic, is_helper, is_thread_decl}
-use Rattle.parser.specs.Reading.{Reader, next_until, choose}
-use Rattle.parser.specs.Declarations.{array_at, variable_at, global_at, section_at, consts_in, call_at, call_item, repeat_with, item_with, item_at, items_with, items_in, thread_at, lock_at, field_at, final_at, lock_member_at, member_at, members_with, members_in, struct_at, pool_at, init_at, decl_from, decl_at, decls_at}
+use Rattle.parser.specs.Working.Reading.{Reader, next_until, choose}
+use Rattle.parser.specs.Working.Declarations.{array_at, variable_at, global_at, section_at, consts_in, call_at, call_item, repeat_with, item_with, item_at, items_with, items_in, thread_at, lock_at, field_at, final_at, lock_member_at, member_at, members_with, members_in, struct_at, pool_at, init_at, decl_from, decl_at, decls_at}
 use Rattle.parser.specs.Theory.Law.{implies, Says, Law, at_rest, Head, refuses, takes, first_law, IsTok, is_tok, IsInt, is_int_tok}
 use Rattle.parser.specs.Theory.Laws.{many_law}
 use Rattle.parser.specs.Theory.Joined.{Done, done, Both, both, nowhere, Part, Rest, ends_with, then_part, then_open, production, sign_part, word_part, name_part, int_part, until_law, maybe_part, listed_part, choose_law, weaken_law, either}

@@ -2,15 +2,15 @@
 use Rattle.std.proofs.Common.{◌≡◌, ℕ, zero, suc, ◌-◌, ◌<◌, List, refl, arith, sub-one, Option, Ok}
 use Rattle.source.specs.declared.span.Span.{Span}
 use Rattle.source.specs.Tokens.{Tok, mark}
-use Rattle.parser.specs.Reading.{listed_at, sign_at, open_at, word_at, name_at, maybe_at, after_at, int_at}
-use Rattle.parser.specs.Parts.{const_at, type_at, index_at, maybe_protection, params_at}
-use Rattle.parser.specs.Declarations.{consts_in, items_with, item_at, items_in, members_with, member_at, members_in, pool_at, init_at, section_at, array_at, variable_at, field_at, final_at, call_at, repeat_with}
+use Rattle.parser.specs.Working.Reading.{listed_at, sign_at, open_at, word_at, name_at, maybe_at, after_at, int_at}
+use Rattle.parser.specs.Working.Parts.{const_at, type_at, index_at, maybe_protection, params_at}
+use Rattle.parser.specs.Working.Declarations.{consts_in, items_with, item_at, items_in, members_with, member_at, members_in, pool_at, init_at, section_at, array_at, variable_at, field_at, final_at, call_at, repeat_with}
 use Rattle.source.specs.declared.token.Keyword.TheVariants as keyword
 use Rattle.source.specs.declared.token.Number.{Number}
 use Rattle.source.specs.declared.token.Sign.TheVariants.{Colon, Dot, Equals, Semicolon, OpenParen, CloseParen, OpenBrace, CloseBrace}
 use Rattle.syntax.specs.Trees.{Ident, ValueType, Const, Protection, Param, Stmts, pool, init, array, global, field_member, final_member, Items}
-use Rattle.parser.specs.Statements.{braced_at}
-use Rattle.parser.specs.Rests.{pool_decl, init_decl}
+use Rattle.parser.specs.Working.Statements.{braced_at}
+use Rattle.parser.specs.Working.Rests.{pool_decl, init_decl}
 use Rattle.syntax.specs.Trees as tree
 
 -- ---- behind an opening sign, where one may be opened

@@ -12,8 +12,8 @@ use Rattle.syntax.specs.declared.tree.While as the_while
 use Rattle.syntax.specs.Returns.{IsReturn, is_return, HasReturn, this_returns, returns_inside, later_returns, HasReturnInside, in_then, in_else, in_while, HasStrayReturn, this_early, stray_inside, later_stray, EndsInReturn, last_returns, ends_later, IsSectionFault, no_result, stray, missing, IsReturnFault, this_section, this_helper, later_section, ReturnsRight, IsFirstReturnFault}
 use Rattle.syntax.specs.Trees.{Ident, ValueType, Expr, Variable, Array, Struct, Pool, Init, Thread, Stmt, let_local, let_owned, let_call, var_local, assign, if_then, while, print, return_value, Stmts, no_stmts, stmt, Otherwise, no_else, else_do, Section, Decl, lock, struct, global, array, pool, init, atomic, helper, thread}
 use Rattle.syntax.specs.Views.{stmt_of, stmts_of, else_of}
-use Rattle.syntax.specs.Rows.{stmt_of-While, if_of-out}
-use Rattle.parser.specs.Returning.{earlier, own_return, least_return, inner_return, other_return, least_stray, is_return as returns, does_end, missing_at, section_fault_of, section_fault, least_fault}
+use Rattle.syntax.specs.Theory.Rows.{stmt_of-While, if_of-out}
+use Rattle.parser.specs.Working.Returning.{earlier, own_return, least_return, inner_return, other_return, least_stray, is_return as returns, does_end, missing_at, section_fault_of, section_fault, least_fault}
 
 -- ---- the lesser of places
 

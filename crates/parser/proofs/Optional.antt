@@ -3,7 +3,7 @@ use Rattle.std.proofs.Common.{◌≡◌, Bool, true, false, cond, List, [], ◌�
 use Rattle.source.specs.declared.token.Sign.{Sign}
 use Rattle.source.specs.Tokens.{mark, Tok}
 use Rattle.parser.specs.declared.stop.Stop.{Stop}
-use Rattle.parser.specs.Reading.{◌>>=◌, Fails, Reader, is_sign, sign_at, skip_at, maybe_from, maybe_at, after_at}
+use Rattle.parser.specs.Working.Reading.{◌>>=◌, Fails, Reader, is_sign, sign_at, skip_at, maybe_from, maybe_at, after_at}
 use Rattle.parser.specs.Theory.Readers.{fails_on}
 use Rattle.parser.specs.Theory.Signs.{kind_is}
 

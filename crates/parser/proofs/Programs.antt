@@ -11,8 +11,8 @@ use Rattle.syntax.specs.Returns.{IsFirstReturnFault}
 use Rattle.syntax.specs.Faults.{IsUnexpected, IsTooDeep, IsMisplaced, NoEnd}
 use Rattle.parser.specs.declared.stop.Stop.{Stop}
 use Rattle.parser.specs.declared.stop.Stop.TheVariants.{Unexpected, TooDeep, NoMemory}
-use Rattle.parser.specs.Reading.{◌>>=◌, Reader, Next, turn, many_at, same_kind, is_next, next_unless, next_until}
-use Rattle.parser.specs.Declarations.{decl_at, decls_at, end_from, program_at, first_start}
+use Rattle.parser.specs.Working.Reading.{◌>>=◌, Reader, Next, turn, many_at, same_kind, is_next, next_unless, next_until}
+use Rattle.parser.specs.Working.Declarations.{decl_at, decls_at, end_from, program_at, first_start}
 use Rattle.parser.specs.Theory.Readers.{OnValue, on_then, on_weaker}
 use Rattle.parser.specs.Theory.Many.{NextShortens, many_at-turn}
 use Rattle.parser.proofs.Turns.{next_decl_shortens}

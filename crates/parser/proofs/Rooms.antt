@@ -3,8 +3,8 @@ use Rattle.std.proofs.Common.{◌≡◌, ℕ, zero, suc, ◌-◌, ◌<◌, List,
 use Rattle.source.specs.declared.span.Span.{Span}
 use Rattle.source.specs.Tokens.{Tok}
 use Rattle.syntax.specs.declared.tree.Level.TheVariants.{Disjunction}
-use Rattle.parser.specs.Reading.{Reader}
-use Rattle.parser.specs.Expressions.{inside_at, level_at, in_parens, parens_at}
+use Rattle.parser.specs.Working.Reading.{Reader}
+use Rattle.parser.specs.Working.Expressions.{inside_at, level_at, in_parens, parens_at}
 use Rattle.syntax.specs.Trees.{Expr}
 
 pub inside_at_some : (room : ℕ) → 0 < room → inside_at room ≡ level_at Disjunction (room - 1)

@@ -8,9 +8,9 @@ use Rattle.source.specs.declared.token.Number.{Number}
 use Rattle.syntax.specs.Trees as tree
 use Rattle.syntax.specs.Trees.{Ident, ValueType, Const, Stmts, Member, lock_member, final_member, field_member, Section, Items, no_items, Decl, lock, struct, global, array, pool, init, atomic, helper, thread}
 use Rattle.syntax.specs.Grammar.{tok, name_tok, int_tok, IsOptional, left_out, given, AreMany, no_more, one_more, IsAfter, after, AreListed, IsName, is_name, IsType, is_int_type, is_ref_type, IsConst, is_braced, is_block, IsIndex, is_index, IsProtection, is_protection, is_variable, is_array, is_final, is_field, IsMember, is_lock_member, is_final_member, is_field_member, IsStruct, is_struct, IsPool, is_pool, IsInit, is_init, IsSection, is_section, IsCall, is_call, IsItem, is_call_item, is_repeat, IsItems, are_no_items, are_items, IsThread, is_thread, IsDecl, is_lock, is_struct_decl, is_global, is_array_decl, is_pool_decl, is_init_decl, is_atomic, is_helper, is_thread_decl, Spells, spells}
-use Rattle.parser.specs.Reading.{◌>>=◌, sign_at, open_at, word_at, name_at, int_at, choose}
-use Rattle.parser.specs.Parts.{type_at, const_at}
-use Rattle.parser.specs.Declarations.{array_at, variable_at, global_at, section_at, consts_in, call_at, call_item, repeat_with, item_with, item_at, items_with, items_in, thread_at, lock_at, field_at, final_at, lock_member_at, member_at, members_with, members_in, struct_at, pool_at, init_at, decl_at, decls_at, end_from, program_at}
+use Rattle.parser.specs.Working.Reading.{◌>>=◌, sign_at, open_at, word_at, name_at, int_at, choose}
+use Rattle.parser.specs.Working.Parts.{type_at, const_at}
+use Rattle.parser.specs.Working.Declarations.{array_at, variable_at, global_at, section_at, consts_in, call_at, call_item, repeat_with, item_with, item_at, items_with, items_in, thread_at, lock_at, field_at, final_at, lock_member_at, member_at, members_with, members_in, struct_at, pool_at, init_at, decl_at, decls_at, end_from, program_at}
 use Rattle.parser.specs.Theory.Law.{IsTok, is_tok}
 use Rattle.parser.specs.Theory.Joined.{Done, done, Both, both}
 use Rattle.parser.specs.Theory.PartLaws.{IsParams, is_params}

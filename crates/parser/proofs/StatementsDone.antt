@@ -2,9 +2,9 @@
 use Rattle.std.proofs.Common.{◌≡◌, ℕ, zero, suc, ◌-◌, ◌<◌, List, refl, arith, sub-one, Ok}
 use Rattle.source.specs.declared.span.Span.{Span}
 use Rattle.source.specs.Tokens.{Tok}
-use Rattle.parser.specs.Statements.{stmts_with, stmt_at, stmts_in, braced_at, else_with, while_with, if_with}
+use Rattle.parser.specs.Working.Statements.{stmts_with, stmt_at, stmts_in, braced_at, else_with, while_with, if_with}
 use Rattle.syntax.specs.Trees.{Expr, Stmts, Otherwise, while, if_then}
-use Rattle.parser.specs.Expressions.{condition_at}
+use Rattle.parser.specs.Working.Expressions.{condition_at}
 
 pub stmts_in_some : (room : ℕ) → 0 < room → stmts_in room ≡ stmts_with (stmt_at (room - 1))
 unfolding stmts_in

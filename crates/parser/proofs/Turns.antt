@@ -4,8 +4,8 @@ use Rattle.source.specs.declared.token.Sign.TheVariants.{CloseBrace}
 use Rattle.source.specs.Tokens.{Tok, mark, end}
 use Rattle.syntax.specs.Grammar.{IsMember, IsItem, IsDecl}
 use Rattle.parser.specs.declared.stop.Stop.{Stop}
-use Rattle.parser.specs.Reading.{next_until, Fails, is_next}
-use Rattle.parser.specs.Declarations.{member_at, item_at, decl_at, items_with, decls_at, members_with}
+use Rattle.parser.specs.Working.Reading.{next_until, Fails, is_next}
+use Rattle.parser.specs.Working.Declarations.{member_at, item_at, decl_at, items_with, decls_at, members_with}
 use Rattle.parser.specs.Theory.Readers.{Shortens}
 use Rattle.parser.specs.Theory.Many.{NextShortens, with_front}
 use Rattle.parser.specs.Theory.Laws.{law_shortens, next_shortens}

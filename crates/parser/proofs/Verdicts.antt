@@ -8,8 +8,8 @@ use Rattle.syntax.specs.Returns.{ReturnsRight, IsFirstReturnFault}
 use Rattle.syntax.specs.Faults.{HasRightTree, IsMisplaced, IsFault, unended, unexpected, too_deep, misplaced}
 use Rattle.parser.specs.declared.stop.Stop.{Stop}
 use Rattle.parser.specs.declared.stop.Stop.TheVariants.{Unexpected, TooDeep}
-use Rattle.parser.specs.Declarations.{program_at, first_start}
-use Rattle.parser.specs.Returning.{least_fault}
+use Rattle.parser.specs.Working.Declarations.{program_at, first_start}
+use Rattle.parser.specs.Working.Returning.{least_fault}
 use Rattle.parser.proofs.Programs.{program_is, unexpected_at, too_deep_at, no_end_at, no_answer, only_tree}
 use Rattle.parser.proofs.Least.{returns_right, first_fault, not_right, same_first}
 

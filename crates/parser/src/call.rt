@@ -3,9 +3,9 @@
 ghost use Rattle.std.specs.Prelude.{map};
 ghost use Rattle.source.specs.Tokens.{seen};
 ghost use Rattle.syntax.specs.Views.{expr_of, helper_call_of, stmt_of};
-ghost use Rattle.parser.specs.Reading.{Gives, listed_at};
-ghost use Rattle.parser.specs.Expressions.{expr_at};
-ghost use Rattle.parser.specs.Statements.{helper_call_at, call_stmt_at};
+ghost use Rattle.parser.specs.Working.Reading.{Gives, listed_at};
+ghost use Rattle.parser.specs.Working.Expressions.{expr_at};
+ghost use Rattle.parser.specs.Working.Statements.{helper_call_at, call_stmt_at};
 
 use crate::expr::expr;
 use crate::growth::push;

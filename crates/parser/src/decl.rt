@@ -3,9 +3,9 @@
 ghost use Rattle.std.specs.Prelude.{◌≡◌, map};
 ghost use Rattle.source.specs.Tokens.{seen};
 ghost use Rattle.syntax.specs.Views.{ident, type_of, section_of, decl_of, tree_of};
-ghost use Rattle.parser.specs.Reading.{Gives};
-ghost use Rattle.parser.specs.Declarations.{array_at, variable_at, global_at, section_at, decl_at, decls_at, program_at};
-ghost use Rattle.parser.specs.Rests.{pool_decl, init_decl};
+ghost use Rattle.parser.specs.Working.Reading.{Gives};
+ghost use Rattle.parser.specs.Working.Declarations.{array_at, variable_at, global_at, section_at, decl_at, decls_at, program_at};
+ghost use Rattle.parser.specs.Working.Rests.{pool_decl, init_decl};
 
 use crate::growth::push;
 use crate::member::{lock, structure};
@@ -62,7 +62,7 @@ fn variable(
 }
 
 /// A global, behind its first word.
-#[tactic(auto, unfolding(crate::specs::Declarations::global_at, crate::specs::Reading::choose))]
+#[tactic(auto, unfolding(crate::specs::Working::Declarations::global_at, crate::specs::Working::Reading::choose))]
 fn global(alloc: Global, tokens: &[Token], room: u32) -> Result<(Decl, &[Token]), Stop>
     ensures { Gives (λ x. (decl_of x.0, seen x.1.now)) result (global_at room (seen tokens.now)) }
 {
@@ -124,7 +124,7 @@ fn section(alloc: Global, tokens: &[Token], room: u32) -> Result<(Section, &[Tok
     Ok((section, rest))
 }
 
-#[tactic(auto, unfolding(crate::specs::Declarations::decl_at))]
+#[tactic(auto, unfolding(crate::specs::Working::Declarations::decl_at))]
 fn decl(alloc: Global, tokens: &[Token], room: u32) -> Result<(Decl, &[Token]), Stop>
     ensures { Gives (λ x. (decl_of x.0, seen x.1.now)) result (decl_at room (seen tokens.now)) }
 {
@@ -173,7 +173,7 @@ fn decls(alloc: Global, tokens: &[Token], room: u32) -> Result<(Vec<Decl>, &[Tok
 }
 
 /// A program, with at most `room` signs open at a time.
-#[tactic(auto, unfolding(crate::specs::Declarations::program_at))]
+#[tactic(auto, unfolding(crate::specs::Working::Declarations::program_at))]
 pub fn program(alloc: Global, tokens: &[Token], room: u32) -> Result<Tree, Stop>
     ensures { Gives tree_of result (program_at room (seen tokens.now)) }
 {

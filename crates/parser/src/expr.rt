@@ -4,8 +4,8 @@ ghost use Rattle.std.specs.Prelude.{◌≡◌, option_map};
 ghost use Rattle.source.specs.Tokens.{seen};
 ghost use Rattle.syntax.specs.Views.{ident, expr_of, joined_of, place_of, link_of, links_of};
 ghost use Rattle.syntax.specs.Trees as trees;
-ghost use Rattle.parser.specs.Reading.{Gives, closed_at, given};
-ghost use Rattle.parser.specs.Expressions.{prim_at, unary_with, sum_with, compared_with, prefix_at, comparison_at, place_at, element_at, parens_at, inside_at, operand_at, level_at, expr_at, ended_at, condition_at, level_links, op_at};
+ghost use Rattle.parser.specs.Working.Reading.{Gives, closed_at, given};
+ghost use Rattle.parser.specs.Working.Expressions.{prim_at, unary_with, sum_with, compared_with, prefix_at, comparison_at, place_at, element_at, parens_at, inside_at, operand_at, level_at, expr_at, ended_at, condition_at, level_links, op_at};
 
 use crate::growth::push;
 use crate::parts::names_after_dots;
@@ -17,7 +17,7 @@ use std::alloc::Global;
 use syntax::tree::{Comparison, Element, Expr, Joined, Level, Link, Name, Op, Path, Place, Prefix};
 
 /// An operator of the level, if one comes next.
-#[tactic(auto, unfolding(crate::specs::Expressions::op_at))]
+#[tactic(auto, unfolding(crate::specs::Working::Expressions::op_at))]
 fn operator(level: Level, tokens: &[Token]) -> Option<(Op, &[Token])>
     ensures { option_map (λ x. (x.0, seen x.1.now)) result ≡ op_at level (seen tokens.now) }
 {
@@ -39,7 +39,7 @@ fn operator(level: Level, tokens: &[Token]) -> Option<(Op, &[Token])>
 }
 
 /// An operator before an operand, if one comes next, and where it stands.
-#[tactic(auto, unfolding(crate::specs::Expressions::prefix_at))]
+#[tactic(auto, unfolding(crate::specs::Working::Expressions::prefix_at))]
 fn prefix(tokens: &[Token]) -> Option<((Prefix, Span), &[Token])>
     ensures { option_map (λ x. (x.0, seen x.1.now)) result ≡ prefix_at (seen tokens.now) }
 {
@@ -56,7 +56,7 @@ fn prefix(tokens: &[Token]) -> Option<((Prefix, Span), &[Token])>
 }
 
 /// A comparison, if one comes next.
-#[tactic(auto, unfolding(crate::specs::Expressions::comparison_at))]
+#[tactic(auto, unfolding(crate::specs::Working::Expressions::comparison_at))]
 fn comparison(tokens: &[Token]) -> Option<(Comparison, &[Token])>
     ensures { option_map (λ x. (x.0, seen x.1.now)) result ≡ comparison_at (seen tokens.now) }
 {
@@ -78,7 +78,7 @@ fn comparison(tokens: &[Token]) -> Option<(Comparison, &[Token])>
 
 /// A place, behind its first name.
 #[cycle(expr)]
-#[tactic(auto, unfolding(crate::specs::Reading::choose))]
+#[tactic(auto, unfolding(crate::specs::Working::Reading::choose))]
 pub fn place(
     alloc: Global,
     name: Name,
@@ -130,7 +130,7 @@ fn value_of(place: Place) -> Expr
 
 /// A number, `null`, a place, or an expression in parentheses, in which `room` signs may be opened.
 #[cycle(expr)]
-#[tactic(auto, unfolding(crate::specs::Expressions::prim_with))]
+#[tactic(auto, unfolding(crate::specs::Working::Expressions::prim_with))]
 fn prim(alloc: Global, tokens: &[Token], room: u32) -> Result<(Expr, &[Token]), Stop>
     ensures { Gives (λ x. (expr_of x.0, seen x.1.now)) result (prim_at room (seen tokens.now)) }
 {
@@ -169,7 +169,7 @@ fn parens(alloc: Global, at: Span, tokens: &[Token], room: u32) -> Result<(Expr,
 
 /// An operand, with an operator before it or none.
 #[cycle(expr)]
-#[tactic(auto, unfolding(crate::specs::Expressions::unary_with))]
+#[tactic(auto, unfolding(crate::specs::Working::Expressions::unary_with))]
 fn unary(alloc: Global, tokens: &[Token], room: u32) -> Result<(Expr, &[Token]), Stop>
     ensures { Gives (λ x. (expr_of x.0, seen x.1.now)) result (unary_with (prim_at room) (seen tokens.now)) }
 {
@@ -208,7 +208,7 @@ fn joined(alloc: Global, operands: Joined, rest: &[Token]) -> Result<(Expr, &[To
 
 /// A sum, or two with a comparison between them.
 #[cycle(expr)]
-#[tactic(auto, unfolding(crate::specs::Expressions::compared_with))]
+#[tactic(auto, unfolding(crate::specs::Working::Expressions::compared_with))]
 fn compared(alloc: Global, tokens: &[Token], room: u32) -> Result<(Expr, &[Token]), Stop>
     ensures { Gives (λ x. (expr_of x.0, seen x.1.now)) result (compared_with (sum_with (prim_at room)) (seen tokens.now)) }
 {
@@ -246,7 +246,7 @@ fn links(
 
 /// A chain of the level's operators, or one operand.
 #[cycle(expr)]
-#[tactic(auto, unfolding(crate::specs::Expressions::chain_at))]
+#[tactic(auto, unfolding(crate::specs::Working::Expressions::chain_at))]
 fn chain(alloc: Global, level: Level, tokens: &[Token], room: u32) -> Result<(Expr, &[Token]), Stop>
     ensures { Gives (λ x. (expr_of x.0, seen x.1.now)) result (level_at level room (seen tokens.now)) }
 {
@@ -280,7 +280,7 @@ fn closed(alloc: Global, sign: Sign, tokens: &[Token], room: u32) -> Result<(Exp
 }
 
 /// An expression, in which `room` signs may still be opened, and the semicolon behind it.
-#[tactic(auto, unfolding(crate::specs::Expressions::ended_at))]
+#[tactic(auto, unfolding(crate::specs::Working::Expressions::ended_at))]
 pub fn ended(alloc: Global, tokens: &[Token], room: u32) -> Result<(Expr, &[Token]), Stop>
     ensures { Gives (λ x. (expr_of x.0, seen x.1.now)) result (ended_at room (seen tokens.now)) }
 {

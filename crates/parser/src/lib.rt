@@ -14,7 +14,7 @@
 //! - `member`, `thread`, `decl`, `whole`: members of structs, what threads do, declarations, all of a text.
 //! - `returns`: the first misplaced `return`.
 //!
-//! What the functions compute stands in `specs/Reading.antt`, `Parts.antt`, `Expressions.antt`, `Statements.antt` and
+//! What the functions compute stands in `specs/Working/Reading.antt`, `Parts.antt`, `Expressions.antt`, `Statements.antt` and
 //! `Declarations.antt`, as functions on lists; the law of readers, which says that this is what the grammar says, in `specs/Theory`.
 #![tactic(auto)]
 

@@ -3,8 +3,8 @@
 ghost use Rattle.std.specs.Prelude.{◌≡◌};
 ghost use Rattle.source.specs.Tokens.{seen};
 ghost use Rattle.syntax.specs.Views.{expr_of, local_of, owner_of, stmt_of};
-ghost use Rattle.parser.specs.Reading.{Gives};
-ghost use Rattle.parser.specs.Statements.{typed_of, local_with, typed_at, owner_at, valued_at, called_at, let_at, var_at};
+ghost use Rattle.parser.specs.Working.Reading.{Gives};
+ghost use Rattle.parser.specs.Working.Statements.{typed_of, local_with, typed_at, owner_at, valued_at, called_at, let_at, var_at};
 
 use crate::call::helper_call;
 use crate::expr::{ended, expr};
@@ -61,7 +61,7 @@ fn owner(tokens: &[Token]) -> Result<(Owner, &[Token]), Stop>
 }
 
 /// A `let` of a value, behind the sign `=`.
-#[tactic(auto, unfolding(crate::specs::Reading::choose))]
+#[tactic(auto, unfolding(crate::specs::Working::Reading::choose))]
 fn valued(
     alloc: Global,
     typed: TypedName,
@@ -102,7 +102,7 @@ fn called(
 }
 
 /// A `let`, behind its first word, which stands at `start`.
-#[tactic(auto, unfolding(crate::specs::Reading::choose))]
+#[tactic(auto, unfolding(crate::specs::Working::Reading::choose))]
 pub fn let_rest(
     alloc: Global,
     start: Span,

@@ -3,8 +3,8 @@
 ghost use Rattle.std.specs.Prelude.{◌≡◌, map};
 ghost use Rattle.source.specs.Tokens.{seen};
 ghost use Rattle.syntax.specs.Views.{ident, member_of, struct_of};
-ghost use Rattle.parser.specs.Reading.{Gives};
-ghost use Rattle.parser.specs.Declarations.{lock_at, lock_member_at, final_at, field_at, member_at, members_with, struct_at};
+ghost use Rattle.parser.specs.Working.Reading.{Gives};
+ghost use Rattle.parser.specs.Working.Declarations.{lock_at, lock_member_at, final_at, field_at, member_at, members_with, struct_at};
 
 use crate::growth::push;
 use crate::parts::{protection, value_type};
@@ -57,7 +57,7 @@ fn field(alloc: Global, tokens: &[Token], room: u32) -> Result<(Member, &[Token]
 }
 
 /// A member of a struct.
-#[tactic(auto, unfolding(crate::specs::Reading::choose))]
+#[tactic(auto, unfolding(crate::specs::Working::Reading::choose))]
 fn member(alloc: Global, tokens: &[Token], room: u32) -> Result<(Member, &[Token]), Stop>
     ensures { Gives (λ x. (member_of x.0, seen x.1.now)) result (member_at room (seen tokens.now)) }
 {

@@ -4,8 +4,8 @@ ghost use Rattle.std.specs.Prelude.{◌≡◌, map};
 ghost use Rattle.source.specs.Tokens.{seen};
 ghost use Rattle.source.specs.declared.token.Sign.TheVariants.{Dot};
 ghost use Rattle.syntax.specs.Views.{ident, type_of, const_of, param_of, protection_of, option_of};
-ghost use Rattle.parser.specs.Reading.{Gives, name_at, listed_at, after_each};
-ghost use Rattle.parser.specs.Parts.{type_at, index_at, const_at, member_from, negative_from, param_at, params_at, protection_at, maybe_protection, maybe_value, maybe_result};
+ghost use Rattle.parser.specs.Working.Reading.{Gives, name_at, listed_at, after_each};
+ghost use Rattle.parser.specs.Working.Parts.{type_at, index_at, const_at, member_from, negative_from, param_at, params_at, protection_at, maybe_protection, maybe_value, maybe_result};
 
 use crate::growth::push;
 use crate::stop::Stop;
@@ -19,7 +19,7 @@ use std::alloc::Global;
 use syntax::tree::{Const, Name, Param, Protection, ValueType};
 
 /// A type.
-#[tactic(auto, unfolding(crate::specs::Parts::type_at))]
+#[tactic(auto, unfolding(crate::specs::Working::Parts::type_at))]
 pub fn value_type(tokens: &[Token]) -> Result<(ValueType, &[Token]), Stop>
     ensures { Gives (λ x. (type_of x.0, seen x.1.now)) result (type_at (seen tokens.now)) }
 {
@@ -61,7 +61,7 @@ fn negative(sign: Span, tokens: &[Token]) -> Result<(Const, &[Token]), Stop>
 }
 
 /// A constant, in which `room` signs may be opened.
-#[tactic(auto, unfolding(crate::specs::Parts::const_at))]
+#[tactic(auto, unfolding(crate::specs::Working::Parts::const_at))]
 pub fn constant(alloc: Global, tokens: &[Token], room: u32) -> Result<(Const, &[Token]), Stop>
     ensures { Gives (λ x. (const_of x.0, seen x.1.now)) result (const_at room (seen tokens.now)) }
 {
@@ -166,7 +166,7 @@ fn some_protection(
 }
 
 /// An annotation, or nothing.
-#[tactic(auto, unfolding(crate::specs::Reading::maybe_at))]
+#[tactic(auto, unfolding(crate::specs::Working::Reading::maybe_at))]
 pub fn protection(
     alloc: Global,
     tokens: &[Token],

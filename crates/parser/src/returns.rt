@@ -2,7 +2,7 @@
 
 ghost use Rattle.std.specs.Prelude.{◌≡◌, map};
 ghost use Rattle.syntax.specs.Views.{stmt_of, stmts_of, else_of, section_of, decl_of};
-ghost use Rattle.parser.specs.Returning as returning;
+ghost use Rattle.parser.specs.Working.Returning as returning;
 
 use syntax::tree::{Block, Decl, Section, Stmt};
 

@@ -3,8 +3,8 @@
 ghost use Rattle.std.specs.Prelude.{◌≡◌};
 ghost use Rattle.source.specs.Tokens.{seen};
 ghost use Rattle.syntax.specs.Views.{ident, stmt_of, stmts_of, else_of};
-ghost use Rattle.parser.specs.Reading.{Gives};
-ghost use Rattle.parser.specs.Statements.{assign_at, stmt_at, braced_at, else_with, if_with, while_with, stmts_in, stmts_with};
+ghost use Rattle.parser.specs.Working.Reading.{Gives};
+ghost use Rattle.parser.specs.Working.Statements.{assign_at, stmt_at, braced_at, else_with, if_with, while_with, stmts_in, stmts_with};
 
 use crate::call::call_rest;
 use crate::expr::{condition, ended, place};
@@ -33,7 +33,7 @@ fn assignment(
 
 /// A statement, in which `room` signs may be opened.
 #[cycle(stmt)]
-#[tactic(auto, unfolding(crate::specs::Statements::stmt_with))]
+#[tactic(auto, unfolding(crate::specs::Working::Statements::stmt_with))]
 fn stmt(alloc: Global, tokens: &[Token], room: u32) -> Result<(Stmt, &[Token]), Stop>
     ensures { Gives (λ x. (stmt_of x.0, seen x.1.now)) result (stmt_at room (seen tokens.now)) }
 {
@@ -108,7 +108,7 @@ fn if_rest(
 
 /// The block behind `else`, or nothing.
 #[cycle(stmt)]
-#[tactic(auto, unfolding(crate::specs::Reading::choose))]
+#[tactic(auto, unfolding(crate::specs::Working::Reading::choose))]
 fn otherwise(alloc: Global, tokens: &[Token], room: u32) -> Result<(Option<Block>, &[Token]), Stop>
     ensures { Gives (λ x. (else_of x.0, seen x.1.now)) result (else_with room (stmts_in room) (seen tokens.now)) }
 {

@@ -4,7 +4,7 @@ ghost use Rattle.std.specs.Prelude.{◌≡◌, ◌<◌, IfOk, OnOk, option_map};
 ghost use Rattle.std.specs.Rc.{rc_str_bytes};
 ghost use Rattle.source.specs.Tokens.{seen, word, mark, end};
 ghost use Rattle.syntax.specs.Views.{ident};
-ghost use Rattle.parser.specs.Reading.{closing, Gives, same_sign, same_keyword, sign_at, open_at, word_at, name_at, int_at, skip_at, is_next};
+ghost use Rattle.parser.specs.Working.Reading.{closing, Gives, same_sign, same_keyword, sign_at, open_at, word_at, name_at, int_at, skip_at, is_next};
 
 use crate::stop::Stop;
 use source::span::Span;
@@ -28,7 +28,7 @@ fn is_same_word(a: Keyword, b: Keyword) -> bool
 }
 
 /// The sign, which has to come next, and the tokens after it.
-#[tactic(auto, unfolding(crate::specs::Reading::sign_at))]
+#[tactic(auto, unfolding(crate::specs::Working::Reading::sign_at))]
 pub fn take_sign(tokens: &[Token], sign: Sign) -> Result<(Span, &[Token]), Stop>
     ensures { Gives (λ x. (x.0, seen x.1.now)) result (sign_at sign (seen tokens.now)) }
 {
@@ -43,7 +43,7 @@ pub fn take_sign(tokens: &[Token], sign: Sign) -> Result<(Span, &[Token]), Stop>
 }
 
 /// An opening sign, which has to come next, where `room` more may be opened.
-#[tactic(auto, unfolding(crate::specs::Reading::open_at))]
+#[tactic(auto, unfolding(crate::specs::Working::Reading::open_at))]
 pub fn take_open(tokens: &[Token], sign: Sign, room: u32) -> Result<(Span, &[Token]), Stop>
     ensures gives { Gives (λ x. (x.0, seen x.1.now)) result (open_at sign room (seen tokens.now)) }
     ensures room { OnOk result (0 < room) }
@@ -74,7 +74,7 @@ pub fn ended_by<T: Drop>(
 }
 
 /// The keyword, which has to come next.
-#[tactic(auto, unfolding(crate::specs::Reading::word_at))]
+#[tactic(auto, unfolding(crate::specs::Working::Reading::word_at))]
 pub fn take_word(tokens: &[Token], keyword: Keyword) -> Result<(Span, &[Token]), Stop>
     ensures { Gives (λ x. (x.0, seen x.1.now)) result (word_at keyword (seen tokens.now)) }
 {
@@ -99,7 +99,7 @@ pub fn named(start: u32, text: &RcStr) -> Result<Name, AllocError>
 }
 
 /// A name, which has to come next.
-#[tactic(auto, unfolding(crate::specs::Reading::name_at))]
+#[tactic(auto, unfolding(crate::specs::Working::Reading::name_at))]
 pub fn take_name(tokens: &[Token]) -> Result<(Name, &[Token]), Stop>
     ensures { Gives (λ x. (ident x.0, seen x.1.now)) result (name_at (seen tokens.now)) }
 {
@@ -122,7 +122,7 @@ pub fn small(span: Span, value: u32) -> Number
 }
 
 /// A number, which has to come next.
-#[tactic(auto, unfolding(crate::specs::Reading::int_at))]
+#[tactic(auto, unfolding(crate::specs::Working::Reading::int_at))]
 pub fn take_int(tokens: &[Token]) -> Result<(Number, &[Token]), Stop>
     ensures { Gives (λ x. (x.0, seen x.1.now)) result (int_at (seen tokens.now)) }
 {
@@ -134,7 +134,7 @@ pub fn take_int(tokens: &[Token]) -> Result<(Number, &[Token]), Stop>
 }
 
 /// The tokens behind the sign, if it comes next.
-#[tactic(auto, unfolding(crate::specs::Reading::skip_at))]
+#[tactic(auto, unfolding(crate::specs::Working::Reading::skip_at))]
 pub fn after_sign(tokens: &[Token], sign: Sign) -> Option<&[Token]>
     ensures { option_map (λ x. seen x.now) result ≡ skip_at sign (seen tokens.now) }
 {

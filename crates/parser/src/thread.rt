@@ -3,8 +3,8 @@
 ghost use Rattle.std.specs.Prelude.{◌≡◌};
 ghost use Rattle.source.specs.Tokens.{seen};
 ghost use Rattle.syntax.specs.Views.{call_of, item_of, items_of, thread_of};
-ghost use Rattle.parser.specs.Reading.{Gives};
-ghost use Rattle.parser.specs.Declarations.{call_at, repeat_with, item_at, items_in, items_with, thread_at};
+ghost use Rattle.parser.specs.Working.Reading.{Gives};
+ghost use Rattle.parser.specs.Working.Declarations.{call_at, repeat_with, item_at, items_in, items_with, thread_at};
 
 use crate::growth::push;
 use crate::parts::constants;
@@ -29,7 +29,7 @@ fn call(alloc: Global, tokens: &[Token], room: u32) -> Result<(Call, &[Token]), 
 
 /// What a thread does.
 #[cycle(item)]
-#[tactic(auto, unfolding(crate::specs::Declarations::item_with, crate::specs::Reading::choose))]
+#[tactic(auto, unfolding(crate::specs::Working::Declarations::item_with, crate::specs::Working::Reading::choose))]
 fn item(alloc: Global, tokens: &[Token], room: u32) -> Result<(Item, &[Token]), Stop>
     ensures { Gives (λ x. (item_of x.0, seen x.1.now)) result (item_at room (seen tokens.now)) }
 {

@@ -4,8 +4,8 @@ ghost use Rattle.std.specs.Prelude.{◌≡◌, ◌-◌, ℕ, List, IfOk, IfErr, 
 ghost use Rattle.source.specs.declared.fault.Code.TheVariants.{MisplacedReturn};
 ghost use Rattle.source.specs.{Tok, seen, IsFaultAt, IsGiven};
 ghost use Rattle.syntax.specs.{Decl, tree_of, HasTree, HasRightTree, IsMisplaced, IsRefusal, IsTooDeep, IsUnexpected};
-ghost use Rattle.parser.specs.Declarations.{first_start};
-ghost use Rattle.parser.specs.TreesFound.{IsTreeOf};
+ghost use Rattle.parser.specs.Working.Declarations.{first_start};
+ghost use Rattle.parser.specs.Working.TreesFound.{IsTreeOf};
 
 use crate::decl::program;
 use crate::returns::return_fault;

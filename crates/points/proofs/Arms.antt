@@ -5,7 +5,7 @@ use Rattle.std.proofs.lemmas.List.{reverse-append}
 use Rattle.flow.specs.declared.skeleton.Part.{Part}
 use Rattle.flow.specs.declared.skeleton.Part.TheViews.{made-Point, If, While}
 use Rattle.flow.specs.Skeletons.{Skeleton, Nil, Step, Fork, Loop, count}
-use Rattle.flow.specs.Parts.{part_in_front, skeleton_of}
+use Rattle.flow.specs.Working.Parts.{part_in_front, skeleton_of}
 use Rattle.flow.specs.Theory.Gather.{or}
 use Rattle.flow.specs.Theory.Passes.{gather, befores, behind, laters}
 use Rattle.flow.specs.Theory.Joined.{later_loop}
@@ -13,7 +13,7 @@ use Rattle.flow.specs.Theory.Views.{front_point, front_if, front_while}
 use Rattle.locks.specs.declared.path_set.PathSet.{PathSet}
 use Rattle.locks.specs.Sets.{has}
 use Rattle.points.specs.declared.uses.Uses.{Uses}
-use Rattle.points.specs.Passes.{column, uses, IsGathered, IsBehind, AreBefore, AreLater}
+use Rattle.points.specs.Working.Passes.{column, uses, IsGathered, IsBehind, AreBefore, AreLater}
 use Rattle.points.proofs.Sets.{column-push, column-more}
 
 -- which skeleton a part is

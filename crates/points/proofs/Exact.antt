@@ -12,7 +12,7 @@ use Rattle.core_lang.specs.declared.tree.Section.{Section}
 use Rattle.core_lang.specs.declared.typed.Typed.{Typed}
 use Rattle.flow.specs.Skeletons.{Skeleton, skeleton, count}
 use Rattle.flow.specs.Points.{Point, points, scopes, bound_at, IsScopeAt}
-use Rattle.flow.specs.Laws.{PointsAreCounted, ScopesAreCounted}
+use Rattle.flow.specs.Working.Laws.{PointsAreCounted, ScopesAreCounted}
 use Rattle.flow.specs.Theory.TreeScopes.{names}
 use Rattle.locks.specs.declared.path.Root.{Root}
 use Rattle.locks.specs.declared.path.Root.TheVariants.{GlobalLock, Local as AtLocal}
@@ -22,10 +22,10 @@ use Rattle.locks.specs.LockPaths.{LockPath, Uses, IsRootInScope, IsInScope, Bind
 use Rattle.locks.specs.Sets.{has, AreSets}
 use Rattle.points.specs.declared.uses.Uses as walk
 use Rattle.points.specs.declared.table.Points.{Points}
-use Rattle.points.specs.Points.{ArePoints}
+use Rattle.points.specs.Working.Points.{ArePoints}
 use Rattle.points.specs.Used.{IsUsedBefore, IsUsedLater}
-use Rattle.points.specs.Passes.{column, marks, uses, AreUsedBefore, AreUsedLater}
-use Rattle.points.specs.Scoping.{is_at, is_among, test_at, test_root, in_scope, binds_at, binds}
+use Rattle.points.specs.Working.Passes.{column, marks, uses, AreUsedBefore, AreUsedLater}
+use Rattle.points.specs.Working.Scoping.{is_at, is_among, test_at, test_root, in_scope, binds_at, binds}
 use Rattle.points.proofs.Sets.{marks_at, marks_past}
 
 -- a test that is false of what does not hold

@@ -8,8 +8,8 @@ use Rattle.flow.specs.Theory.MustHold.{and}
 use Rattle.locks.specs.declared.path_set.PathSet.{PathSet}
 use Rattle.locks.specs.Sets.{has}
 use Rattle.points.specs.declared.held.Held.{Held}
-use Rattle.points.specs.Passes.{column}
-use Rattle.points.specs.HeldPasses.{wanted_at, bound_at, past_point, IsThrough, AreHeld, AreHeldAlong}
+use Rattle.points.specs.Working.Passes.{column}
+use Rattle.points.specs.Working.HeldPasses.{wanted_at, bound_at, past_point, IsThrough, AreHeld, AreHeldAlong}
 use Rattle.points.proofs.Sets.{column-push}
 
 module _ (h : Held) (n : ℕ) where

@@ -6,7 +6,7 @@ use Rattle.flow.specs.declared.skeleton.Part.TheOpen.{Part-F, Point, If, While}
 use Rattle.flow.specs.declared.skeleton.Part.TheFolds.{fold_out-Part}
 use Rattle.flow.specs.Skeletons.{Skeleton, Nil, Step, Fork, Loop, count}
 use Rattle.flow.specs.Flow.{head, pair_with, pairs_from}
-use Rattle.flow.specs.Parts.{part_step, part_in_front, skeleton_of}
+use Rattle.flow.specs.Working.Parts.{part_step, part_in_front, skeleton_of}
 use Rattle.flow.specs.Theory.Joined.{joined, split_turn}
 
 head_joined : (c d : Skeleton) (n : ℕ) (k : Option ℕ) → head (joined c d) n k ≡ head c n (head d (n + count c) k)

@@ -5,7 +5,7 @@ use Rattle.std.proofs.Common.{sym, ap, ◌∙◌, subst, arith, inl, inr}
 use Rattle.std.proofs.lemmas.Bool.{cases_eq, and_parts, and_from, or_cases, or_left, or_right, not-true, not_from_false, ltb-false, lt-ltb, le-ltb, false≢true}
 use Rattle.locks.specs.declared.path_set.PathSet.{PathSet}
 use Rattle.locks.specs.Sets.{has}
-use Rattle.points.specs.Ranks.{IsReached, IsWithin, IsGreatest, IsWantedBy}
+use Rattle.points.specs.Working.Ranks.{IsReached, IsWithin, IsGreatest, IsWantedBy}
 
 module _ (ranks : List ℕ) (used : PathSet) where
   reached_before : (n j rank : ℕ) → j < n + 1 → (j ≡ n → ⊥) → has used j ≡ true → rank ≤ slice_index ranks j → IsReached ranks used n rank

@@ -10,7 +10,7 @@ use Rattle.core_lang.specs.declared.tree.Action.{Action, If, IfElse, While}
 use Rattle.core_lang.specs.declared.tree.Section.{Section}
 use Rattle.core_lang.specs.Scopes.{scope_after, scope_after_all, numbers_from}
 use Rattle.flow.specs.declared.points.PointRef.{PointRef}
-use Rattle.flow.specs.PointList.{point_at}
+use Rattle.flow.specs.Working.PointList.{point_at}
 use Rattle.flow.specs.Points.{inner_scopes, scopes_of_all, scope_of_return, scopes}
 use Rattle.flow.specs.Theory.TreeScopes.{names}
 use Rattle.flow.specs.Theory.Views.{inner_scopes-If, inner_scopes-IfElse, inner_scopes-While}
@@ -19,8 +19,8 @@ use Rattle.locks.specs.declared.path.Root.TheVariants.{GlobalLock, Local as AtLo
 use Rattle.locks.specs.declared.path.LockPath as written
 use Rattle.locks.specs.declared.path_set.PathSet.{PathSet}
 use Rattle.locks.specs.Sets.{has}
-use Rattle.points.specs.Passes.{column}
-use Rattle.points.specs.Scoping.{is_at, is_among, test_at, test_root, AreThose, in_scope, binds, IsAfter, AreScopes, of_block, of_inner, behind_block, behind_action}
+use Rattle.points.specs.Working.Passes.{column}
+use Rattle.points.specs.Working.Scoping.{is_at, is_among, test_at, test_root, AreThose, in_scope, binds, IsAfter, AreScopes, of_block, of_inner, behind_block, behind_action}
 use Rattle.points.proofs.Sets.{column-push}
 
 or_comm : (x y : Bool) → (x || y) ≡ (y || x)

@@ -9,17 +9,17 @@ use Rattle.core_lang.specs.declared.tree.Section.{Section}
 use Rattle.core_lang.specs.declared.typed.Typed.{Typed}
 use Rattle.flow.specs.Skeletons.{Skeleton, skeleton, count}
 use Rattle.flow.specs.Points.{points}
-use Rattle.flow.specs.Laws.{PointsAreCounted}
+use Rattle.flow.specs.Working.Laws.{PointsAreCounted}
 use Rattle.locks.specs.declared.path_set.PathSet.{PathSet}
 use Rattle.locks.specs.LockPaths.{LockPath, Uses, BindsRoot, lock_paths}
-use Rattle.locks.specs.Laws.{UsedAreListed}
+use Rattle.locks.specs.Working.Laws.{UsedAreListed}
 use Rattle.locks.specs.Sets.{has, AreSets}
 use Rattle.points.specs.declared.table.Points.{Points}
 use Rattle.points.specs.declared.held.Held.{Held}
-use Rattle.points.specs.Points.{ArePoints}
-use Rattle.points.specs.Ranks.{IsReached, IsWantedBy, AreWantedBy, set_at}
+use Rattle.points.specs.Working.Points.{ArePoints}
+use Rattle.points.specs.Working.Ranks.{IsReached, IsWantedBy, AreWantedBy, set_at}
 use Rattle.points.specs.Wanted.{rank_of, IsWanted, IsSurelyHeld}
-use Rattle.points.specs.HeldPasses.{AreHeldAlong, wanted_at, bound_at}
+use Rattle.points.specs.Working.HeldPasses.{AreHeldAlong, wanted_at, bound_at}
 use Rattle.points.proofs.Exact.{sets_by, tell_all}
 use Rattle.points.proofs.Taken.{held_decided}
 

@@ -10,7 +10,7 @@ use Rattle.flow.specs.Theory.Joined.{length_laters}
 use Rattle.locks.specs.declared.path_set.PathSet.{PathSet}
 use Rattle.locks.specs.Sets.{has}
 use Rattle.points.specs.declared.uses.Uses.{Uses}
-use Rattle.points.specs.Passes.{column, uses, AreBefore, AreLater, AreUsedBefore, AreUsedLater}
+use Rattle.points.specs.Working.Passes.{column, uses, AreBefore, AreLater, AreUsedBefore, AreUsedLater}
 use Rattle.points.proofs.Sets.{column-reverse}
 
 module _ (u : Uses) (c : Skeleton) (empty : PathSet) (none : (i : ℕ) → has empty i ≡ false) (was sets : Vec PathSet Global) (first : was.items ≡ []) where

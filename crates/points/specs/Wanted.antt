@@ -8,7 +8,7 @@ use Rattle.locks.specs.LockPaths.{LockPath, Uses, IsInScope, BindsRoot}
 use Rattle.locks.specs.declared.path_set.PathSet.{PathSet}
 use Rattle.locks.specs.Sets.{AreSets}
 use Rattle.points.specs.declared.table.Points.{Points}
-use Rattle.points.specs.Points.{ArePoints}
+use Rattle.points.specs.Working.Points.{ArePoints}
 use Rattle.points.specs.Used.{IsUsedLater}
 
 -- the rank of a path is that of its class

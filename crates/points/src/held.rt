@@ -2,10 +2,10 @@
 
 ghost use Rattle.std.specs.Prelude.{◌≡◌, ◌≤◌, ◌<◌, ◌+◌, ℕ, length, vec_len, IfOk, OnOk};
 ghost use Rattle.flow.specs.Skeletons.{count, Nil};
-ghost use Rattle.flow.specs.Parts.{skeleton_of, part_in_front};
+ghost use Rattle.flow.specs.Working.Parts.{skeleton_of, part_in_front};
 ghost use Rattle.locks.specs.Sets.{has};
-ghost use Rattle.points.specs.HeldPasses.{past_point, wanted_at, bound_at, IsThrough, AreHeld, AreHeldAlong};
-ghost use Rattle.points.specs.Passes.{marks};
+ghost use Rattle.points.specs.Working.HeldPasses.{past_point, wanted_at, bound_at, IsThrough, AreHeld, AreHeldAlong};
+ghost use Rattle.points.specs.Working.Passes.{marks};
 
 use flow::skeleton::Part;
 use locks::path_set::PathSet;

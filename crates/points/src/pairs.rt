@@ -3,7 +3,7 @@
 ghost use Rattle.std.specs.Prelude.{◌≡◌, ◌<◌, ◌+◌, ◌^◌, ◌++◌, IfOk, OnOk};
 ghost use Rattle.flow.specs.Skeletons.{count, Nil};
 ghost use Rattle.flow.specs.Flow.{head, pair_with, pairs_from, pairs};
-ghost use Rattle.flow.specs.Parts.{skeleton_of, part_in_front};
+ghost use Rattle.flow.specs.Working.Parts.{skeleton_of, part_in_front};
 
 use flow::skeleton::Part;
 use source::memory::NoMemory;

@@ -1,7 +1,7 @@
 //! The ranks of a section's lock paths.
 
 ghost use Rattle.std.specs.Prelude.{◌≤◌, ◌↔◌, ◌⊎◌, ℕ, length};
-ghost use Rattle.points.specs.Ranks.{IsWithin, IsGreatest, AreUpTo, IsWantedSet};
+ghost use Rattle.points.specs.Working.Ranks.{IsWithin, IsGreatest, AreUpTo, IsWantedSet};
 
 use locks::path_set::PathSet;
 

@@ -3,10 +3,10 @@
 ghost use Rattle.std.specs.Prelude.{◌≡◌, ◌≤◌, ℕ, length, map, IfOk, OnOk};
 ghost use Rattle.core_lang.specs.Scopes.{numbers_from};
 ghost use Rattle.flow.specs.Points.{scopes};
-ghost use Rattle.flow.specs.PointList.{point_at};
+ghost use Rattle.flow.specs.Working.PointList.{point_at};
 ghost use Rattle.locks.specs.Sets.{has};
-ghost use Rattle.points.specs.Passes.{column};
-ghost use Rattle.points.specs.Scoping.{AreThose, AreScopes, IsAfter, is_at, is_among, in_scope, binds, of_block, of_inner, behind_block, behind_action};
+ghost use Rattle.points.specs.Working.Passes.{column};
+ghost use Rattle.points.specs.Working.Scoping.{AreThose, AreScopes, IsAfter, is_at, is_among, in_scope, binds, of_block, of_inner, behind_block, behind_action};
 
 use core_lang::tree::{Action, Section, Stmt};
 use flow::points::PointRef;

@@ -3,7 +3,7 @@
 ghost use Rattle.std.specs.Prelude.{◌≡◌, ◌<◌, map, length, IfOk};
 ghost use Rattle.locks.specs.declared.path.LockPath as written;
 ghost use Rattle.lockpaths.specs.Paths.{ArePaths};
-ghost use Rattle.points.specs.Points.{ArePointsOf};
+ghost use Rattle.points.specs.Working.Points.{ArePointsOf};
 
 use crate::pairs::pairs_of;
 use crate::roots::Roots;

@@ -2,7 +2,7 @@
 
 ghost use Rattle.std.specs.Prelude.{◌≡◌, ◌≤◌, vec_len};
 ghost use Rattle.flow.specs.Skeletons.{count};
-ghost use Rattle.flow.specs.Parts.{skeleton_of};
+ghost use Rattle.flow.specs.Working.Parts.{skeleton_of};
 
 use flow::skeleton::Part;
 use locks::path_set::PathSet;

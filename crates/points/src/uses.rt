@@ -2,9 +2,9 @@
 
 ghost use Rattle.std.specs.Prelude.{◌≡◌, ◌≤◌, ◌<◌, ◌+◌, ◌^◌, ◌++◌, ℕ, length, vec_len, replicate, IfOk, OnOk};
 ghost use Rattle.flow.specs.Skeletons.{count, Nil};
-ghost use Rattle.flow.specs.Parts.{skeleton_of, part_in_front};
+ghost use Rattle.flow.specs.Working.Parts.{skeleton_of, part_in_front};
 ghost use Rattle.locks.specs.Sets.{has};
-ghost use Rattle.points.specs.Passes.{uses, IsGathered, IsBehind, AreBefore, AreLater, AreUsedBefore, AreUsedLater};
+ghost use Rattle.points.specs.Working.Passes.{uses, IsGathered, IsBehind, AreBefore, AreLater, AreUsedBefore, AreUsedLater};
 
 use crate::pairs::points_in;
 use flow::skeleton::Part;

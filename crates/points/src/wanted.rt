@@ -2,8 +2,8 @@
 
 ghost use Rattle.std.specs.Prelude.{◌≡◌, map, slice_index, vec_len, IfOk};
 ghost use Rattle.flow.specs.Skeletons.{count};
-ghost use Rattle.flow.specs.Parts.{skeleton_of};
-ghost use Rattle.points.specs.Ranks.{AreWantedBy, ranks_by_path};
+ghost use Rattle.flow.specs.Working.Parts.{skeleton_of};
+ghost use Rattle.points.specs.Working.Ranks.{AreWantedBy, ranks_by_path};
 ghost use Rattle.points.specs.Wanted.{AreWanted, AreSurelyHeld};
 
 use crate::held::Held;

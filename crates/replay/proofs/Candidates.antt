@@ -12,18 +12,18 @@ use Rattle.core_lang.specs.declared.typed.Typed.{Typed}
 use Rattle.core_lang.specs.Serial.{Scheduled}
 use Rattle.core_lang.specs.Typing.{lookup}
 use Rattle.core_lang.specs.WellFormed.{IsChecked, CanCall}
-use Rattle.recorded.specs.declared.format.Format.{Format}
-use Rattle.recorded.specs.declared.format.Format.TheVariants.{One, Two}
-use Rattle.recorded.specs.Pieces.{begins}
+use Rattle.source_histories.specs.declared.format.Format.{Format}
+use Rattle.source_histories.specs.declared.format.Format.TheVariants.{One, Two}
+use Rattle.source_histories.specs.Pieces.{begins}
 use Rattle.report.specs.declared.record.Called.{Called}
 use Rattle.report.specs.Entry.{scheduled_called}
 use Rattle.report.specs.History.{call_head}
 use Rattle.replay.specs.declared.told.Told.{Told}
 use Rattle.replay.specs.declared.progress.Seat.{Seat}
 use Rattle.replay.specs.declared.progress.Progress.{Progress}
-use Rattle.replay.specs.Told.{told_in}
+use Rattle.replay.specs.Working.Told.{told_in}
 use Rattle.replay.specs.Readers.{Reader, IsNextCall, MayBegin, next_call, calls_by}
-use Rattle.replay.specs.Reading.{IsAt, AreSeats, called_at, least_at, call_in, begins_at, IsNoCall, IsOnlyCall}
+use Rattle.replay.specs.Working.Reading.{IsAt, AreSeats, called_at, least_at, call_in, begins_at, IsNoCall, IsOnlyCall}
 use Rattle.replay.proofs.Heads.{shown, IsShort, told_head}
 use Rattle.replay.proofs.Scripts.{scheduled_at, next_bounds, next_call_in, call_in_bounds}
 

@@ -5,10 +5,10 @@ use Rattle.core_lang.specs.declared.typed.Cell.{Cell}
 use Rattle.core_lang.specs.Serial.{opening_heap, SerialFromOpening}
 use Rattle.core_lang.specs.Laws.{MoreTurnsChangeNothing}
 use Rattle.history.specs.Commits.{Commit, call_of, answer_of, committed}
-use Rattle.history.specs.Laws.{LegalIsSerial}
+use Rattle.history.specs.Working.Laws.{LegalIsSerial}
 use Rattle.report.specs.Entry.{entry_of_commit}
-use Rattle.replay.specs.Histories.{invocation_in, ended_in, history_lines}
-use Rattle.replay.specs.Laws.{EntriesAreSame}
+use Rattle.replay.specs.Working.Histories.{invocation_in, ended_in, history_lines}
+use Rattle.replay.specs.Working.Laws.{EntriesAreSame}
 use Rattle.replay.proofs.HistoryLemmas.{history_same}
 
 said_calls : (cs : List Commit) → map call_of cs ≡ map invocation_in (map entry_of_commit cs)

@@ -5,10 +5,10 @@ use Rattle.std.proofs.lemmas.List.{map-append, take_all, length-map}
 use Rattle.std.proofs.lemmas.List.Elements.{filter-append}
 use Rattle.std.proofs.lemmas.List.Sums.{sum_by-append}
 use Rattle.core_lang.specs.declared.typed.Typed.{Typed}
-use Rattle.recorded.specs.declared.format.Format.{Format}
+use Rattle.source_histories.specs.declared.format.Format.{Format}
 use Rattle.report.specs.Entry.{Entry, scheduled_in}
 use Rattle.replay.specs.Readers.{AllCalled, MayBegin, next_call, script_of, calls_by}
-use Rattle.replay.specs.Histories.{order_of, of_thread, FollowScripts, BeginAsTheyMay}
+use Rattle.replay.specs.Working.Histories.{order_of, of_thread, FollowScripts, BeginAsTheyMay}
 use Rattle.replay.proofs.Seating.{get_last, calls_by_one, calls_by_other}
 
 -- ---- lists

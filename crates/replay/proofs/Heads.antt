@@ -6,13 +6,13 @@ use Rattle.std.proofs.lemmas.Bool.{false≢true}
 use Rattle.std.specs.Fmt.{decimal}
 use Rattle.core_lang.specs.declared.typed.Typed.{Typed}
 use Rattle.core_lang.specs.Serial.{Scheduled}
-use Rattle.recorded.specs.declared.format.Format.{Format}
-use Rattle.recorded.specs.declared.format.Format.TheVariants.{One, Two}
-use Rattle.recorded.specs.Pieces.{before, behind, count_in}
-use Rattle.recorded.specs.Theory.Counts.{count_in-decimal, before-count, behind-count}
+use Rattle.source_histories.specs.declared.format.Format.{Format}
+use Rattle.source_histories.specs.declared.format.Format.TheVariants.{One, Two}
+use Rattle.source_histories.specs.Pieces.{before, behind, count_in}
+use Rattle.source_histories.specs.Theory.Counts.{count_in-decimal, before-count, behind-count}
 use Rattle.report.specs.Pieces.{invocation_text}
 use Rattle.report.specs.History.{begun_text, call_head}
-use Rattle.replay.specs.Told.{begun_in, both, told_after, told_in}
+use Rattle.replay.specs.Working.Told.{begun_in, both, told_after, told_in}
 
 -- what comes after the numbers of a call
 abbrev pub invoked : Typed → Scheduled → List ℕ → List ℕ

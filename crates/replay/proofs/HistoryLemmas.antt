@@ -7,13 +7,13 @@ use Rattle.core_lang.specs.declared.typed.Typed.{Typed}
 use Rattle.core_lang.specs.Whole.{Run, Over, Beyond_turns, Gone_astray}
 use Rattle.core_lang.specs.Serial.{Ended, Serial, end_of, opening_heap, run_section, run_call, go_on, serial_with}
 use Rattle.core_lang.specs.Laws.{MoreTurnsChangeNothing, OverIsWhole}
-use Rattle.recorded.specs.declared.format.Format.{Format}
+use Rattle.source_histories.specs.declared.format.Format.{Format}
 use Rattle.report.specs.Entry.{Entry}
 use Rattle.report.specs.History.{call_line}
 use Rattle.replay.specs.Readers.{Reader, opened, due, call, cells, Come, finished_as, print_lines, closing_lines}
 use Rattle.replay.specs.Verdicts.{HasEnded, IsSame}
-use Rattle.replay.specs.Histories.{invocation_in, ended_in, entry_lines, history_lines, FollowScripts, BeginAsTheyMay}
-use Rattle.replay.specs.Laws.{SameIsHistory, HistoryIsSame}
+use Rattle.replay.specs.Working.Histories.{invocation_in, ended_in, entry_lines, history_lines, FollowScripts, BeginAsTheyMay}
+use Rattle.replay.specs.Working.Laws.{SameIsHistory, HistoryIsSame}
 use Rattle.replay.proofs.Following.{Follow, follow_scripts, follow_begins, scripts_follow}
 
 -- ---- runs

@@ -2,10 +2,10 @@
 use Rattle.std.proofs.Common.{◌≡◌, ◌∙◌, ℕ, true, List, [], ◌∷◌, sym}
 use Rattle.std.specs.Prelude.{codes}
 use Rattle.core_lang.specs.declared.typed.Typed.{Typed}
-use Rattle.recorded.specs.declared.format.Format.{Format}
+use Rattle.source_histories.specs.declared.format.Format.{Format}
 use Rattle.replay.specs.declared.progress.Progress.{Progress}
 use Rattle.replay.specs.Readers.{Reader}
-use Rattle.replay.specs.Reading.{IsAt, IsNoCall}
+use Rattle.replay.specs.Working.Reading.{IsAt, IsNoCall}
 use Rattle.replay.specs.Wanted.{NamesNone}
 use Rattle.replay.proofs.Heads.{head_not_cells}
 

@@ -5,11 +5,11 @@ use Rattle.std.specs.Option.{option_map_or}
 use Rattle.core_lang.specs.declared.typed.Call.{Call}
 use Rattle.core_lang.specs.declared.typed.Typed.{Typed}
 use Rattle.core_lang.specs.Serial.{Scheduled}
-use Rattle.recorded.specs.declared.format.Format.{Format}
+use Rattle.source_histories.specs.declared.format.Format.{Format}
 use Rattle.report.specs.History.{call_head}
 use Rattle.replay.specs.declared.progress.Progress.{Progress}
 use Rattle.replay.specs.Readers.{Reader, next_call}
-use Rattle.replay.specs.Reading.{IsAt, called_at, call_in}
+use Rattle.replay.specs.Working.Reading.{IsAt, called_at, call_in}
 use Rattle.replay.specs.Wanted.{next_head}
 use Rattle.replay.proofs.Scripts.{scheduled_at, next_call_in}
 

@@ -4,13 +4,13 @@ use Rattle.core_lang.specs.declared.typed.Typed.{Typed}
 use Rattle.core_lang.specs.Serial.{Scheduled, run_call}
 use Rattle.core_lang.specs.Whole.{Finished, Over, Beyond_turns}
 use Rattle.core_lang.specs.WellFormed.{IsChecked}
-use Rattle.recorded.specs.declared.format.Format.{Format}
-use Rattle.recorded.specs.Pieces.{before, count_in}
+use Rattle.source_histories.specs.declared.format.Format.{Format}
+use Rattle.source_histories.specs.Pieces.{before, count_in}
 use Rattle.report.specs.Entry.{scheduled_in}
 use Rattle.replay.specs.declared.verdict.Verdict.TheVariants.{Same, Differs, Unsettled}
 use Rattle.replay.specs.Readers.{Reader, opened, Comes, due, call, cells, Come, CallComes, IsNextCall, IsUnsettled, next_call, finished_as, print_lines}
 use Rattle.replay.specs.Verdicts.{HasEnded, Stops, IsSame, IsDiffering, IsBeyond}
-use Rattle.replay.specs.Laws.{AtMostOneVerdict}
+use Rattle.replay.specs.Working.Laws.{AtMostOneVerdict}
 use Rattle.replay.proofs.Heads.{thread_head, head_not_cells}
 use Rattle.replay.proofs.Scripts.{next_bounds}
 

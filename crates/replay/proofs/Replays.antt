@@ -4,7 +4,7 @@ use Rattle.std.specs.Prelude.{codes}
 use Rattle.std.proofs.lemmas.Bool.{false≢true}
 use Rattle.std.proofs.lemmas.List.{take_more, drop_more, take_all, get_or_default, take-append-drop, length-take-le, length-map, append-nil}
 use Rattle.core_lang.specs.declared.typed.Typed.{Typed}
-use Rattle.recorded.specs.declared.format.Format.{Format}
+use Rattle.source_histories.specs.declared.format.Format.{Format}
 use Rattle.replay.specs.declared.progress.Progress.{Progress}
 use Rattle.replay.specs.declared.progress.Stage.{Stage}
 use Rattle.replay.specs.declared.progress.Stage.TheVariants.{Calls, Cells, Ended}
@@ -15,7 +15,7 @@ use Rattle.replay.specs.Verdicts.{HasEnded, Reaches, IsOther, IsSame, IsDifferin
 use Rattle.replay.specs.declared.verdict.Verdict.{Verdict}
 use Rattle.replay.specs.declared.verdict.Verdict.TheVariants.{Differs}
 use Rattle.replay.specs.Wanted.{IsWanted, IsWantedAt, Explains}
-use Rattle.replay.specs.Reading.{IsAt, IsSound, Reads}
+use Rattle.replay.specs.Working.Reading.{IsAt, IsSound, Reads}
 use Rattle.replay.proofs.Steps.{at_stage, closed_at}
 
 -- so many of the lines came

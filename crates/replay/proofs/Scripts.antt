@@ -10,7 +10,7 @@ use Rattle.core_lang.specs.Serial.{Scheduled, invocation, script_from}
 use Rattle.core_lang.specs.Typing.{lookup}
 use Rattle.core_lang.specs.WellFormed.{IsChecked, CanCall, calls_together}
 use Rattle.replay.specs.Readers.{script_of, next_call, calls_by}
-use Rattle.replay.specs.Reading.{call_in}
+use Rattle.replay.specs.Working.Reading.{call_in}
 
 -- a call of a script, with its number
 abbrev pub scheduled_at : ℕ → ℕ → Call → Scheduled

@@ -7,7 +7,7 @@ use Rattle.std.proofs.lemmas.List.Sums.{sum_by-append}
 use Rattle.std.proofs.lemmas.Option.{slice_get_within}
 use Rattle.replay.specs.declared.progress.Seat.{Seat}
 use Rattle.replay.specs.Readers.{calls_by, IsAfter}
-use Rattle.replay.specs.Reading.{called_at, least_at, AreSeats}
+use Rattle.replay.specs.Working.Reading.{called_at, least_at, AreSeats}
 
 -- ---- elements
 

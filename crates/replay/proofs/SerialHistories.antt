@@ -9,11 +9,11 @@ use Rattle.core_lang.specs.declared.typed.Thread.{Thread}
 use Rattle.core_lang.specs.declared.typed.Typed.{Typed}
 use Rattle.core_lang.specs.Serial.{Scheduled, Invocation, Ended, invocation, script_from, scripts_from, all_calls, opening_heap, serial_with, SerialFromOpening}
 use Rattle.core_lang.specs.Laws.{HaveAtMostOneSerial}
-use Rattle.recorded.specs.declared.format.Format.TheVariants.{One}
+use Rattle.source_histories.specs.declared.format.Format.TheVariants.{One}
 use Rattle.report.specs.Entry.{Entry, scheduled_in}
 use Rattle.replay.specs.Readers.{script_of}
-use Rattle.replay.specs.Histories.{invocation_in, ended_in, of_thread, history_lines}
-use Rattle.replay.specs.Laws.{SerialIsSame, OneOrderOneHistory}
+use Rattle.replay.specs.Working.Histories.{invocation_in, ended_in, of_thread, history_lines}
+use Rattle.replay.specs.Working.Laws.{SerialIsSame, OneOrderOneHistory}
 use Rattle.replay.proofs.HistoryLemmas.{Settled, serial_settled, settled_same}
 
 -- ---- the calls of a thread among all

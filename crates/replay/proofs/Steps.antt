@@ -15,7 +15,7 @@ use Rattle.core_lang.specs.Serial.{run_call}
 use Rattle.core_lang.specs.Typing.{HasCells}
 use Rattle.core_lang.specs.Whole.{Over, Beyond_turns}
 use Rattle.meaning.specs.declared.run.End.{End}
-use Rattle.recorded.specs.declared.format.Format.{Format}
+use Rattle.source_histories.specs.declared.format.Format.{Format}
 use Rattle.report.specs.declared.record.Called.{Called}
 use Rattle.report.specs.Pieces.{outcome_text}
 use Rattle.report.specs.Entry.{Entry, scheduled_called}
@@ -26,7 +26,7 @@ use Rattle.replay.specs.declared.progress.Stage.{Stage}
 use Rattle.replay.specs.declared.progress.Stage.TheVariants.{Calls, Cells, Ended}
 use Rattle.replay.specs.Readers.{Reader, Comes, call, cells, IsUnsettled, script_of, print_lines, cell_lines, closing_lines}
 use Rattle.replay.specs.Verdicts.{IsOther}
-use Rattle.replay.specs.Reading.{IsAt, IsOnlyCall, IsHead, due_lines, has_closed, called_at, SeatsAreFull}
+use Rattle.replay.specs.Working.Reading.{IsAt, IsOnlyCall, IsHead, due_lines, has_closed, called_at, SeatsAreFull}
 use Rattle.replay.proofs.Heads.{head_not_cells}
 use Rattle.replay.proofs.Scripts.{length-script_of}
 use Rattle.replay.proofs.Seating.{seats_next}

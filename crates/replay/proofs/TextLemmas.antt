@@ -6,13 +6,13 @@ use Rattle.core_lang.specs.declared.value.Value.{Value}
 use Rattle.core_lang.specs.declared.typed.Cell.{Cell}
 use Rattle.core_lang.specs.declared.typed.Typed.{Typed}
 use Rattle.code.specs.Listing.{line}
-use Rattle.recorded.specs.declared.format.Format.{Format}
-use Rattle.recorded.specs.Lines.{header_of}
+use Rattle.source_histories.specs.declared.format.Format.{Format}
+use Rattle.source_histories.specs.Lines.{header_of}
 use Rattle.report.specs.Entry.{Entry}
 use Rattle.report.specs.History.{print_line, print_texts, entry_text, call_line, cell_texts, cell_line, closing_of}
 use Rattle.replay.specs.Readers.{print_lines, cell_lines, closing_lines}
-use Rattle.replay.specs.Histories.{entry_lines, text_of}
-use Rattle.replay.specs.Laws.{TextIsOfLines}
+use Rattle.replay.specs.Working.Histories.{entry_lines, text_of}
+use Rattle.replay.specs.Working.Laws.{TextIsOfLines}
 
 text_append : (xs ys : List (List ℕ)) → text_of (xs ++ ys) ≡ text_of xs ++ text_of ys
 text_append [] ys = refl

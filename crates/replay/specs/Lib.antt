@@ -1,12 +1,9 @@
 pub mod Readers
 pub mod Verdicts
 pub mod Wanted
-pub mod Histories
-pub mod Laws
-pub mod Told
-pub mod Reading
+pub mod Working
 -- what the public clauses cite
 pub use Rattle.replay.specs.Verdicts.{IsSame, IsDiffering, IsBeyond, Holds}
 pub use Rattle.replay.specs.Wanted.{MayCome, IsWanted, IsWantedAt, Explains}
-pub use Rattle.replay.specs.Histories.{IsHistory, history_lines, text_of}
-pub use Rattle.replay.specs.Laws.{AtMostOneVerdict, SameIsHistory, HistoryIsSame, TextIsOfLines, SerialIsSame, EntriesAreSame, OneOrderOneHistory}
+pub use Rattle.replay.specs.Working.Histories.{IsHistory, history_lines, text_of}
+pub use Rattle.replay.specs.Working.Laws.{AtMostOneVerdict, SameIsHistory, HistoryIsSame, TextIsOfLines, SerialIsSame, EntriesAreSame, OneOrderOneHistory}

@@ -7,8 +7,8 @@ use Rattle.core_lang.specs.declared.typed.Thread.{Thread}
 use Rattle.core_lang.specs.declared.typed.Typed.{Typed}
 use Rattle.core_lang.specs.Whole.{Finished, Over, Beyond_turns}
 use Rattle.core_lang.specs.Serial.{Scheduled, opening_heap, script_from, run_call}
-use Rattle.recorded.specs.declared.format.Format.{Format}
-use Rattle.recorded.specs.declared.format.Format.TheVariants.{One, Two}
+use Rattle.source_histories.specs.declared.format.Format.{Format}
+use Rattle.source_histories.specs.declared.format.Format.TheVariants.{One, Two}
 use Rattle.report.specs.Pieces.{outcome_text}
 use Rattle.report.specs.Entry.{Entry, scheduled_in}
 use Rattle.report.specs.History.{call_head, print_line, cell_line}

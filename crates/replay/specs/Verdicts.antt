@@ -1,7 +1,7 @@
 -- What is said of a recorded history.
 use Rattle.std.specs.Prelude.{◌≡◌, ℕ, ◌+◌, true, List, [], ◌∷◌, ◌++◌, length}
 use Rattle.core_lang.specs.declared.typed.Typed.{Typed}
-use Rattle.recorded.specs.declared.format.Format.{Format}
+use Rattle.source_histories.specs.declared.format.Format.{Format}
 use Rattle.replay.specs.declared.verdict.Verdict.{Verdict}
 use Rattle.replay.specs.declared.verdict.Verdict.TheVariants.{Same, Differs, Unsettled}
 use Rattle.replay.specs.Readers.{Reader, opened, Comes, Come, IsUnsettled}

@@ -2,17 +2,17 @@
 
 ghost use Rattle.std.specs.Prelude.{◌≡◌, ◌<◌, ◌^◌, IfOk, slice_get, string_bytes};
 ghost use Rattle.std.specs.Option.{option_copied};
-ghost use Rattle.replay.specs.Reading.{IsReady, IsSound, IsCandidate, begins_at, call_in, IsHeadOf};
+ghost use Rattle.replay.specs.Working.Reading.{IsReady, IsSound, IsCandidate, begins_at, call_in, IsHeadOf};
 
 use crate::progress::{Progress, Seat};
 use crate::told::told_by;
 use core_lang::typed::{Call, Typed};
-use recorded::Format;
-use recorded::piece::begins;
-use register_machine::prepared::Prepared;
+use meaning_registers::prepared::Prepared;
 use report::lines::push_call_head;
 use report::record::Called;
 use source::memory::NoMemory;
+use source_histories::Format;
+use source_histories::piece::begins;
 use std::alloc::Global;
 
 /// A program whose histories are read, and what is asked of them.

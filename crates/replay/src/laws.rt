@@ -1,6 +1,6 @@
 //! What holds of every verdict: functions that do nothing, and whose contracts are the laws.
 
-ghost use Rattle.replay.specs.Laws.{AtMostOneVerdict, SameIsHistory, HistoryIsSame, TextIsOfLines, SerialIsSame, EntriesAreSame, OneOrderOneHistory};
+ghost use Rattle.replay.specs.Working.Laws.{AtMostOneVerdict, SameIsHistory, HistoryIsSame, TextIsOfLines, SerialIsSame, EntriesAreSame, OneOrderOneHistory};
 
 use core_lang::laws;
 

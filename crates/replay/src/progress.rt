@@ -1,6 +1,6 @@
 //! How far a history was read.
 
-use tree_walk::heap::Heap;
+use meaning_trees::heap::Heap;
 
 /// What came of a thread.
 #[derive(Clone, Copy, Debug)]

@@ -4,16 +4,16 @@ ghost use Rattle.std.specs.Prelude.{◌≡◌, ◌+◌, ◌<◌, ◌≤◌, ◌^
 ghost use Rattle.std.specs.Bool.{Decides};
 ghost use Rattle.replay.specs.declared.progress.Stage.TheVariants.{Calls, Cells};
 ghost use Rattle.replay.specs.Readers.{script_of};
-ghost use Rattle.replay.specs.Reading.{IsReady, IsSound, Reads, Leaves, IsOnlyCall, IsHead, SeatsAreFull, called_at};
+ghost use Rattle.replay.specs.Working.Reading.{IsReady, IsSound, Reads, Leaves, IsOnlyCall, IsHead, SeatsAreFull, called_at};
 
 use crate::candidate::Replay;
 use crate::progress::{Finding, Progress, Seat, Stage};
 use meaning::run::End;
-use recorded::piece::is;
 use report::lines::{push_cell, push_print};
 use report::pieces::push_outcome;
 use report::record::Called;
 use source::memory::NoMemory;
+use source_histories::piece::is;
 
 /// How many calls of a thread came.
 pub(crate) fn called(at: &Progress, thread: usize) -> usize

@@ -3,9 +3,9 @@
 ghost use Rattle.std.specs.Prelude.{◌≡◌, IfOk, Some, None, length};
 ghost use Rattle.core_lang.specs.Expansion.{IsExpansion};
 ghost use Rattle.core_lang.specs.WellFormed.{IsChecked};
-ghost use Rattle.recorded.specs.Histories.{recorded_lines};
+ghost use Rattle.source_histories.specs.Histories.{recorded_lines};
 ghost use Rattle.replay.specs.Readers.{opened};
-ghost use Rattle.replay.specs.Reading.{IsReady, IsSound, IsAt};
+ghost use Rattle.replay.specs.Working.Reading.{IsReady, IsSound, IsAt};
 ghost use Rattle.replay.specs.declared.verdict.Verdict.TheVariants.{Differs};
 ghost use Rattle.replay.specs.Verdicts.{Holds};
 ghost use Rattle.replay.specs.Wanted.{Explains};
@@ -15,11 +15,11 @@ use crate::progress::{Finding, Progress, Seat, Stage};
 use crate::verdict::{Judgement, Verdict};
 use crate::wanted::Wanted;
 use core_lang::typed::Typed;
-use recorded::Recorded;
-use register_machine::prepared::Prepared;
+use meaning_registers::prepared::Prepared;
+use meaning_trees::heap::Heap;
 use source::memory::NoMemory;
+use source_histories::Recorded;
 use std::alloc::Global;
-use tree_walk::heap::Heap;
 
 // The progress at the first line.
 fn start(alloc: Global, typed: &Typed) -> Result<Progress, NoMemory>

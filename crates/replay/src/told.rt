@@ -1,10 +1,10 @@
 //! What a call's line tells before the call is known.
 
 ghost use Rattle.std.specs.Prelude.{◌≡◌, ◌<◌, ◌^◌, IfSome};
-ghost use Rattle.replay.specs.Told.{begun_in, told_in};
+ghost use Rattle.replay.specs.Working.Told.{begun_in, told_in};
 
-use recorded::Format;
-use recorded::piece::{begins, count, cut, from};
+use source_histories::Format;
+use source_histories::piece::{begins, count, cut, from};
 
 /// What a call's line tells.
 #[derive(Clone, Copy, Debug)]

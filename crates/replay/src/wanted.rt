@@ -3,7 +3,7 @@
 ghost use Rattle.std.specs.Prelude.{◌≡◌, ◌<◌, ◌++◌, IfOk, OnOk, length, map, string_bytes};
 ghost use Rattle.replay.specs.Readers.{Reader};
 ghost use Rattle.replay.specs.declared.progress.Stage.TheVariants.{Calls, Cells};
-ghost use Rattle.replay.specs.Reading.{IsAt, IsSound, Suggests};
+ghost use Rattle.replay.specs.Working.Reading.{IsAt, IsSound, Suggests};
 ghost use Rattle.replay.specs.Wanted.{next_head, next_heads};
 
 use crate::candidate::Replay;

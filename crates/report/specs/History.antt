@@ -9,9 +9,9 @@ use Rattle.core_lang.specs.declared.typed.Typed.{Typed}
 use Rattle.core_lang.specs.Serial.{Scheduled}
 use Rattle.code.specs.Listing.{line}
 use Rattle.history.specs.Commits.{Commit}
-use Rattle.recorded.specs.declared.format.Format.{Format}
-use Rattle.recorded.specs.declared.format.Format.TheVariants.{One, Two}
-use Rattle.recorded.specs.Lines.{header_of}
+use Rattle.source_histories.specs.declared.format.Format.{Format}
+use Rattle.source_histories.specs.declared.format.Format.TheVariants.{One, Two}
+use Rattle.source_histories.specs.Lines.{header_of}
 use Rattle.report.specs.Pieces.{place_text, invocation_text, value_text, outcome_text, owner_text}
 use Rattle.report.specs.Entry.{Entry, scheduled_in, entry_of_commit}
 

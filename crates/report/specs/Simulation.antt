@@ -12,7 +12,7 @@ use Rattle.interleavings.specs.Threads.{cell_in}
 use Rattle.interleavings.specs.Statuses.{status_of}
 use Rattle.lowering.specs.Plans.{Plan}
 use Rattle.worlds.specs.Worlds.{World}
-use Rattle.recorded.specs.declared.format.Format.TheVariants.{One}
+use Rattle.source_histories.specs.declared.format.Format.TheVariants.{One}
 use Rattle.code.specs.Listing.{line}
 use Rattle.report.specs.History.{commit_texts}
 use Rattle.report.specs.Pieces.{owner_text, value_text, lock_text}

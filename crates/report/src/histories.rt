@@ -4,8 +4,8 @@ ghost use Rattle.std.specs.Prelude.{◌≡◌, OnOk, IfOk, length, vec_len, stri
 ghost use Rattle.std.specs.List.{flat_map};
 ghost use Rattle.code.specs.Listing.{line};
 ghost use Rattle.locks.specs.Texts.{AddsText};
-ghost use Rattle.recorded.specs.Lines.{header_of};
-ghost use Rattle.recorded.specs.declared.format.Format.TheVariants.{One};
+ghost use Rattle.source_histories.specs.Lines.{header_of};
+ghost use Rattle.source_histories.specs.declared.format.Format.TheVariants.{One};
 ghost use Rattle.report.specs.History.{call_text, entry_text, print_texts, cell_texts, closing_of, commit_texts, calls_of, history_of, unsettled_of};
 ghost use Rattle.report.specs.Entry.{entry_of, entry_said, entry_of_commit};
 
@@ -15,8 +15,8 @@ use crate::record::{Record, Said, said_of};
 use core_lang::typed::{Cell, Typed};
 use core_lang::value::Value;
 use history::entries::History;
-use recorded::Format;
 use source::memory::NoMemory;
+use source_histories::Format;
 use std::alloc::{AllocError, Global};
 
 /// A line for each print.

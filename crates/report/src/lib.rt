@@ -1,6 +1,6 @@
 //! The exact texts of what was run: histories and simulations.
 //!
-//! - [`history_text`]: the calls and the values of all cells, in one of the two formats of [`recorded::Format`].
+//! - [`history_text`]: the calls and the values of all cells, in one of the two formats of [`source_histories::Format`].
 //! - [`entries_text`]: the same of the entries of a history.
 //! - [`unsettled_text`]: the calls before one that is not settled, and that one.
 //! - [`push_closing`]: the end of a history, the values of all cells.

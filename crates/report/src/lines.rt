@@ -9,7 +9,7 @@ use crate::pieces::{push_invocation, push_owner, push_value};
 use crate::record::Called;
 use core_lang::typed::{Cell, Typed};
 use core_lang::value::Value;
-use recorded::Format;
+use source_histories::Format;
 use std::alloc::AllocError;
 
 /// How long the history was at a call's begin, where the format tells it.

@@ -11,8 +11,8 @@ use core_lang::typed::Typed;
 use core_lang::value::Value;
 use interleavings::status::Status;
 use interleavings::world::World;
-use recorded::Format;
 use source::memory::NoMemory;
+use source_histories::Format;
 use std::alloc::{AllocError, Global};
 
 /// What a cell holds, or that a section holds it.

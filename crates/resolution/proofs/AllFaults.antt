@@ -33,10 +33,10 @@ use Rattle.resolution.specs.Resolution.{ahead_of}
 use Rattle.resolution.specs.Where.{Has, first, further, HasStmt, HasExpr, HasPlace, is_read, is_written, Binds, NamesOwner, names_owner, HasCall, HasConst, of_variable, of_elements, Annotates, annotates}
 use Rattle.resolution.specs.Faults as fault
 use Rattle.resolution.specs.Faults.{start_of, const_start, IsTooLarge, IsDeclaredTwice, Reaches, stays, goes_on, Walks, walks, NamesGlobal, IsLockDecl, IsLockMember, IsFinalMember, IsUnknown, AreUnlike, IsEquality, IsOfNumbers, IsNoValue, HasNoElements, IsNoReference, IsNoStruct, IsSection, IsPool, IsWrongType, IsWrongCount, IsNotAssignable, IsUnprotected, EndsAtNoLock, PassesNonFinal, limit_of, IsOverLimit, IsFinalMissing, IsOutOfRange, IsLockAsValue, IsFault, too_large, declared_twice, unknown, wrong_type, miscounted, not_assignable, without_lock, ends_at_no_lock, passes_non_final, over_limit, final_missing, out_of_range, lock_as_value, of_calls}
-use Rattle.resolution.specs.FaultLists as list
-use Rattle.resolution.specs.FaultLists.{one, one_if, unfit, unfit_member, no_struct, type_faults, number_faults, index_faults, own_faults, sort_misfit, const_faults, argument_faults, no_elements, no_member, no_field, step_faults, end_faults, walk_faults, path_faults, misfit, unlike, side_faults, operator_faults, expr_faults, place_faults, wanted_faults, taken, local_faults, no_target, no_array, final_faults, target_faults, no_final_in, owner_field_faults, other_type, owner_faults, global_lock_faults, lock_faults, passed_faults, last_faults, passed, along_faults, annotation_faults, protection_faults, opening_faults, some_lacks, is_at, is_due, lacks, missing_faults, field_faults, named_faults, null_faults, init_faults, call_faults, again, twice, twice_faults, member_twice_faults, struct_faults, first_too_many, lock_count, member_counts, count_faults, total_faults, given_before, init_target_again, repeated, repeated_faults, each_faults, declaration_faults}
-use Rattle.source.specs.Leasts.{IsAmong}
-use Rattle.call_graph.specs.Faults.{IsGraphFault}
+use Rattle.resolution.specs.Working.FaultLists as list
+use Rattle.resolution.specs.Working.FaultLists.{one, one_if, unfit, unfit_member, no_struct, type_faults, number_faults, index_faults, own_faults, sort_misfit, const_faults, argument_faults, no_elements, no_member, no_field, step_faults, end_faults, walk_faults, path_faults, misfit, unlike, side_faults, operator_faults, expr_faults, place_faults, wanted_faults, taken, local_faults, no_target, no_array, final_faults, target_faults, no_final_in, owner_field_faults, other_type, owner_faults, global_lock_faults, lock_faults, passed_faults, last_faults, passed, along_faults, annotation_faults, protection_faults, opening_faults, some_lacks, is_at, is_due, lacks, missing_faults, field_faults, named_faults, null_faults, init_faults, call_faults, again, twice, twice_faults, member_twice_faults, struct_faults, first_too_many, lock_count, member_counts, count_faults, total_faults, given_before, init_target_again, repeated, repeated_faults, each_faults, declaration_faults}
+use Rattle.source.specs.Theory.Leasts.{IsAmong}
+use Rattle.core_lang_calls.specs.Faults.{IsGraphFault}
 use Rattle.resolution.specs.CallGraphs.{tree_graph}
 use Rattle.resolution.specs.declared.body_limits.BodyLimits.{BodyLimits}
 use Rattle.resolution.proofs.TrueStatements.{entered_limits}

@@ -14,8 +14,8 @@ use Rattle.resolution.specs.Owners.{is_of}
 use Rattle.resolution.specs.Constants.{added, want_of}
 use Rattle.resolution.specs.Statements.{typed_values, called, call_resolved, type_given, can_take}
 use Rattle.resolution.specs.Where.{Has, HasBody, of_helper, of_parameter, of_result, first, further}
-use Rattle.resolution.specs.FaultLists as list
-use Rattle.resolution.specs.FaultLists.{one, one_if, unfit, wanted_faults, values_faults, passed_values_faults, helper_call_faults, other_result, given_back_faults}
+use Rattle.resolution.specs.Working.FaultLists as list
+use Rattle.resolution.specs.Working.FaultLists.{one, one_if, unfit, wanted_faults, values_faults, passed_values_faults, helper_call_faults, other_result, given_back_faults}
 use Rattle.resolution.proofs.Parts.{same_count}
 use Rattle.resolution.proofs.FaultlessExpressions.{NoneIn, none_left, none_right, not_one, not_if, Clean, Typing, known, Context, IsKnown, meaning_known, decl_typed, unfit_not, fit_if}
 use Rattle.resolution.proofs.FaultlessResolvedExprs.{value_is}

@@ -22,8 +22,8 @@ use Rattle.resolution.specs.Annotations.{class_in, class_of, class_number, Annot
 use Rattle.resolution.specs.Annotations as annotation
 use Rattle.resolution.specs.Where.{Has, HasType, of_pool, of_final, of_field}
 use Rattle.resolution.specs.Faults.{const_start}
-use Rattle.resolution.specs.FaultLists as list
-use Rattle.resolution.specs.FaultLists.{one, one_if, unfit, unfit_member, type_faults, number_faults, index_faults, own_faults, sort_misfit, const_faults, argument_faults, local_faults, stmts_faults, param_faults, result_faults, global_lock_faults, lock_faults, passed_faults, last_faults, passed, along_faults, annotation_faults, protection_faults, call_faults, item_faults, items_faults, decl_faults}
+use Rattle.resolution.specs.Working.FaultLists as list
+use Rattle.resolution.specs.Working.FaultLists.{one, one_if, unfit, unfit_member, type_faults, number_faults, index_faults, own_faults, sort_misfit, const_faults, argument_faults, local_faults, stmts_faults, param_faults, result_faults, global_lock_faults, lock_faults, passed_faults, last_faults, passed, along_faults, annotation_faults, protection_faults, call_faults, item_faults, items_faults, decl_faults}
 use Rattle.resolution.proofs.Named.{named_is, member_is}
 use Rattle.resolution.proofs.FaultlessExpressions.{NoneIn, none_left, none_right, not_one, not_if, at_has, decl_has, Clean, known, known_named, decl_typed, unfit_not, fit_if}
 use Rattle.resolution.proofs.FaultlessResolvedExprs.{number_is}

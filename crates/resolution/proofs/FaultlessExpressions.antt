@@ -17,12 +17,12 @@ use Rattle.resolution.specs.Core as core
 use Rattle.resolution.specs.Scopes.{Scope, Local, outside, Meaning, a_local, a_decl, nothing, meaning, declared_as, local_or, bears, local_bears, ◌>>=◌, number_at, the_decl, the_local, structs_in, the_struct, the_member, has_type, type_of, struct_meant, struct_named}
 use Rattle.resolution.specs.Expressions.{ResolvedExpr, value, truth, fits, value_of, member_value, local_path, cell_of, fitting, as_value, as_truth, test_resolved, named_value, element_value, path_value, Walk, reached, at_lock, lost, stepped, walked, at_local, walk_from, over_step, over_member, over, member_number}
 use Rattle.resolution.specs.Where.{Has, first, further, HasType, of_global, of_array, of_pool, of_final, of_field}
-use Rattle.resolution.specs.FaultLists as list
-use Rattle.resolution.specs.FaultLists.{one, one_if, unfit, no_struct, type_faults, number_faults, no_elements, no_member, no_field, step_faults, end_faults, walk_faults, path_faults, misfit, unlike, side_faults, operator_faults, expr_faults, place_faults, link_faults, wanted_faults, declaration_faults}
-use Rattle.source.specs.Leasts.{IsAmong}
+use Rattle.resolution.specs.Working.FaultLists as list
+use Rattle.resolution.specs.Working.FaultLists.{one, one_if, unfit, no_struct, type_faults, number_faults, no_elements, no_member, no_field, step_faults, end_faults, walk_faults, path_faults, misfit, unlike, side_faults, operator_faults, expr_faults, place_faults, link_faults, wanted_faults, declaration_faults}
+use Rattle.source.specs.Theory.Leasts.{IsAmong}
 use Rattle.resolution.proofs.Members as m
 use Rattle.resolution.proofs.Named.{named_is, member_is}
-use Rattle.resolution.specs.Facts.{struct_at}
+use Rattle.resolution.specs.Theory.Facts.{struct_at}
 use Rattle.resolution.proofs.Parts.{of_type}
 
 -- ---- lists with nothing in them

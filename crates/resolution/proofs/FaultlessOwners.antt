@@ -14,8 +14,8 @@ use Rattle.resolution.specs.Expressions.{fits_type, member_number}
 use Rattle.resolution.specs.declared.owner_field.OwnerField.{OwnerField}
 use Rattle.resolution.specs.Owners.{final_of, owner_member, owner_field, is_of, owner_local, tested_by, owned_value, owned_by}
 use Rattle.resolution.specs.Where.{Has, of_final, of_field}
-use Rattle.resolution.specs.FaultLists as list
-use Rattle.resolution.specs.FaultLists.{one, one_if, unfit, unfit_member, taken, local_faults, no_final_in, owner_field_faults, other_type, owner_faults, count_faults}
+use Rattle.resolution.specs.Working.FaultLists as list
+use Rattle.resolution.specs.Working.FaultLists.{one, one_if, unfit, unfit_member, taken, local_faults, no_final_in, owner_field_faults, other_type, owner_faults, count_faults}
 use Rattle.resolution.proofs.Named.{member_is}
 use Rattle.resolution.proofs.Tests.{le_true, le_false}
 use Rattle.resolution.proofs.AllFaults.{of_counts}

@@ -18,7 +18,7 @@ use Rattle.resolution.specs.Constants.{members_of, members_in, default_of}
 use Rattle.resolution.specs.Annotations.{protection_of}
 use Rattle.resolution.specs.Resolution.{few_calls, typed_items, StructBuilder, lock_added, final_added, field_added, members_added, empty_struct, nothing_yet, with_class, with_struct, with_cell, with_section, with_helper, with_thread, global_added, with_global, opening_of, with_elements, array_added, with_array, Slot, slot_given, final_cell, field_cell, with_members, object_added, with_object, with_objects, pool_added, with_pool, extended, resolved_from, resolved}
 use Rattle.resolution.specs.Where.{Has, first, further, of_section, of_helper, of_pool, of_global, of_array, of_final, of_field}
-use Rattle.resolution.specs.FaultLists.{one_if, first_too_many, member_twice_faults, member_counts, count_faults, total_faults, type_faults, lock_faults, opening_faults, const_faults, protection_faults, members_faults, decl_faults}
+use Rattle.resolution.specs.Working.FaultLists.{one_if, first_too_many, member_twice_faults, member_counts, count_faults, total_faults, type_faults, lock_faults, opening_faults, const_faults, protection_faults, members_faults, decl_faults}
 use Rattle.resolution.proofs.Members.{in_right}
 use Rattle.resolution.proofs.Named.{named_is}
 use Rattle.resolution.proofs.AllFaults.{in_structs, of_structs, of_counts, of_totals, has_parts}

@@ -24,7 +24,7 @@ use Rattle.resolution.specs.Scopes.{Scope, meaning}
 use Rattle.resolution.specs.Expressions.{ResolvedExpr, value, truth, fits, fitting, as_value, number_resolved, test_resolved, alike_sorts, number_value, literal, operator_of, negated, not_so, parenthesised, chained, linked, Tests, one_test, tested, all_hold, one_holds, ordered, equated, compared, typed, typed_place, typed_links, typed_tests, element_value}
 use Rattle.resolution.specs.Where.{operand_want, side_want}
 use Rattle.resolution.specs.Faults.{start_of}
-use Rattle.resolution.specs.FaultLists.{one_if, number_faults, no_elements, misfit, unlike, side_faults, operator_faults, expr_faults, place_faults, link_faults, wanted_faults}
+use Rattle.resolution.specs.Working.FaultLists.{one_if, number_faults, no_elements, misfit, unlike, side_faults, operator_faults, expr_faults, place_faults, link_faults, wanted_faults}
 use Rattle.resolution.proofs.FaultlessExpressions.{NoneIn, none_left, none_right, not_one, not_if, is_there, Context, meaning_known, HasResolvedExpr, name_resolved, element_resolved, path_is, path_resolved, fit_if, fit_is, wanted_value, wanted_test}
 use Rattle.resolution.proofs.Tests.{lt_false, le_true}
 

@@ -16,7 +16,7 @@ use Rattle.resolution.specs.Constants.{added, typed_arguments}
 use Rattle.resolution.specs.Resolution.{ahead_of, entry, core_locals, section_with, section_of, typed_section, call_of, copies, joined, one_call, typed_item, typed_items}
 use Rattle.resolution.specs.Statements.{typed_body, Body, after_all}
 use Rattle.resolution.specs.Where.{Has, first, further, HasBody, of_section, of_helper}
-use Rattle.resolution.specs.FaultLists.{one, one_if, unfit, type_faults, argument_faults, local_faults, stmts_faults, param_faults, result_faults, section_faults, call_faults, item_faults, items_faults}
+use Rattle.resolution.specs.Working.FaultLists.{one, one_if, unfit, type_faults, argument_faults, local_faults, stmts_faults, param_faults, result_faults, section_faults, call_faults, item_faults, items_faults}
 use Rattle.resolution.proofs.TrueStatements.{entered_same}
 use Rattle.resolution.proofs.FaultlessExpressions.{NoneIn, none_left, none_right, not_one, unfit_not, decl_has, decl_typed, Clean, Typing, type_is, AllTyped, Context}
 use Rattle.resolution.proofs.FaultlessStatements.{HasResult, typed_push, all_context, body_is}

@@ -17,13 +17,13 @@ use Rattle.resolution.specs.Expressions.{want, fitting, as_value, typed, Walk, r
 use Rattle.resolution.specs.Statements.{Target, to_local, to_global, to_element, to_field, Assignee, assignee, is_var, assignee_at, assignee_at_element, Split, last_field, field_target, assignee_along, target_of, wanted_by, first_name, Part, does, gives, binds, set_to, assigns, prints, returns, repeats, chooses_between, Body, preceded, block_of, call_resolved, acts_if, called_bound, after, after_else, after_all, first_value, typed_stmt, typed_if, typed_body}
 use Rattle.resolution.specs.Owners.{owned_by}
 use Rattle.resolution.specs.Where.{of_global, of_array}
-use Rattle.resolution.specs.FaultLists.{unfit, type_faults, no_elements, path_faults, wanted_faults, local_faults, no_target, no_array, final_faults, target_faults, binding_faults, owner_faults, helper_call_faults, given_back_faults, called_faults, stmt_faults, else_faults, stmts_faults}
+use Rattle.resolution.specs.Working.FaultLists.{unfit, type_faults, no_elements, path_faults, wanted_faults, local_faults, no_target, no_array, final_faults, target_faults, binding_faults, owner_faults, helper_call_faults, given_back_faults, called_faults, stmt_faults, else_faults, stmts_faults}
 use Rattle.resolution.proofs.TrueStatements.{after_same}
 use Rattle.resolution.proofs.FaultlessExpressions.{NoneIn, none_left, none_right, not_one, not_if, is_there, Clean, Typing, type_is, known, AllTyped, Context, IsKnown, meaning_known, decl_typed, unfit_not, Path, path_is}
 use Rattle.resolution.proofs.FaultlessResolvedExprs.{value_is, test_is}
 use Rattle.resolution.proofs.FaultlessOwners.{room, owned_is}
 use Rattle.resolution.proofs.FaultlessCalls.{call_resolves, given_back_fits}
-use Rattle.resolution.specs.Facts.{after_result}
+use Rattle.resolution.specs.Theory.Facts.{after_result}
 
 -- ---- the left side of an assignment
 

@@ -2,12 +2,12 @@
 use Rattle.std.proofs.Common.{◌≡◌, List, [], ◌∷◌, ◌++◌, None, ◌⊎◌, inl, inr, subst}
 use Rattle.source.specs.declared.mistake.Mistake.{Mistake}
 use Rattle.source.specs.Mistakes.{least_of}
-use Rattle.source.specs.Leasts.{IsAmong, least_none}
+use Rattle.source.specs.Theory.Leasts.{IsAmong, least_none}
 use Rattle.syntax.specs.Trees.{Decl}
-use Rattle.call_graph.specs.FaultLists.{graph_faults}
-use Rattle.call_graph.specs.Laws.{FaultsAreListed, HasNoGraphFault}
+use Rattle.core_lang_calls.specs.Working.FaultLists.{graph_faults}
+use Rattle.core_lang_calls.specs.Working.Laws.{FaultsAreListed, HasNoGraphFault}
 use Rattle.resolution.specs.CallGraphs.{tree_graph}
-use Rattle.resolution.specs.FaultLists.{declaration_faults, program_faults}
+use Rattle.resolution.specs.Working.FaultLists.{declaration_faults, program_faults}
 use Rattle.resolution.proofs.FaultlessExpressions.{Clean}
 use Rattle.resolution.proofs.Members as m
 

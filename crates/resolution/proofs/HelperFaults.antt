@@ -11,9 +11,9 @@ use Rattle.resolution.specs.Scopes.{◌>>=◌, Scope, outside, Meaning, a_local,
 use Rattle.resolution.specs.Expressions.{fits_type}
 use Rattle.resolution.specs.Where.{HasStmt, HasHelperCall}
 use Rattle.resolution.specs.Faults.{IsNoHelper}
-use Rattle.resolution.specs.FaultLists as list
-use Rattle.resolution.specs.FaultLists.{one, one_if, unfit, passed_values_faults, given_back_faults, declaration_faults}
-use Rattle.source.specs.Leasts.{IsAmong}
+use Rattle.resolution.specs.Working.FaultLists as list
+use Rattle.resolution.specs.Working.FaultLists.{one, one_if, unfit, passed_values_faults, given_back_faults, declaration_faults}
+use Rattle.source.specs.Theory.Leasts.{IsAmong}
 use Rattle.resolution.proofs.Members.{at}
 use Rattle.resolution.proofs.Members as m
 use Rattle.resolution.proofs.Parts.{of_helper_call, of_given_back}

@@ -7,7 +7,7 @@ use Rattle.resolution.specs.Scopes.{◌>>=◌, the_decl, the_member}
 use Rattle.resolution.specs.Constants.{members_of, pool_members, initialised, init_target_at, init_target_in, init_target_to, init_target_of, is_init_target, gives, giver, value_in, given}
 use Rattle.resolution.specs.Where.{Has}
 use Rattle.resolution.proofs.Named.{named_is}
-use Rattle.resolution.specs.Facts.{same_is}
+use Rattle.resolution.specs.Theory.Facts.{same_is}
 use Rattle.resolution.proofs.FaultlessExpressions.{at_has}
 use Rattle.resolution.proofs.Tests.{lt_of}
 

@@ -12,11 +12,11 @@ use Rattle.resolution.specs.Expressions.{member_number}
 use Rattle.resolution.specs.Annotations.{class_number, class_in, class_of, AnnotationCursor, at_struct, through_member, stepped_on, ended_at, along, protection_by, cursor_at, protection_of}
 use Rattle.resolution.specs.Where.{Has, first, further}
 use Rattle.resolution.specs.Resolution.{StructBuilder, empty_struct, nothing_yet, array_added, resolved}
-use Rattle.resolution.specs.FaultLists as list
-use Rattle.resolution.specs.FaultLists.{one_if, member_counts, count_faults, total_faults, passed_faults, along_faults, annotation_faults, protection_faults, type_faults}
+use Rattle.resolution.specs.Working.FaultLists as list
+use Rattle.resolution.specs.Working.FaultLists.{one_if, member_counts, count_faults, total_faults, passed_faults, along_faults, annotation_faults, protection_faults, type_faults}
 use Rattle.resolution.proofs.Members.{in_right}
 use Rattle.resolution.proofs.Named.{named_is, member_is}
-use Rattle.resolution.specs.Facts.{struct_at}
+use Rattle.resolution.specs.Theory.Facts.{struct_at}
 use Rattle.resolution.proofs.Parts.{of_place_at, in_members_field}
 use Rattle.resolution.proofs.AllFaults.{of_totals}
 use Rattle.resolution.proofs.TrueStatements.{length_push}

@@ -23,7 +23,7 @@ use Rattle.resolution.specs.Expressions.{number_value, fits_type}
 use Rattle.resolution.specs.Constants.{number_sort, reference_sort, member_sort, const_sort, object_of, member_of, const_value, if_fitting, typed_const, members_of, members_in, opened, default_of, object_in, referred}
 use Rattle.resolution.specs.Resolution.{nothing_yet, with_elements, array_added, pool_added, resolved}
 use Rattle.resolution.proofs.Named.{named_is}
-use Rattle.resolution.specs.Facts.{struct_at}
+use Rattle.resolution.specs.Theory.Facts.{struct_at}
 use Rattle.resolution.proofs.FaultlessExpressions.{Clean}
 use Rattle.resolution.proofs.Typed.{field_in}
 use Rattle.resolution.proofs.LaidLists.{rows_left, rows_right, get_last, get_behind, get_pushed, get_parts, bind_got}

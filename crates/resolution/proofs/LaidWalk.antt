@@ -12,7 +12,7 @@ use Rattle.resolution.specs.Numbers.{total, is_lock, classes_of, objects_of, cel
 use Rattle.resolution.specs.Constants.{members_of, members_in, default_of}
 use Rattle.resolution.specs.Annotations.{protection_of}
 use Rattle.resolution.specs.Resolution.{StructBuilder, lock_added, final_added, field_added, members_added, empty_struct, nothing_yet, with_class, with_elements, array_added, pool_added, extended, resolved_from, resolved}
-use Rattle.resolution.specs.FaultLists.{count_faults, total_faults}
+use Rattle.resolution.specs.Working.FaultLists.{count_faults, total_faults}
 use Rattle.resolution.proofs.Named.{named_is}
 use Rattle.resolution.proofs.AllFaults.{of_totals}
 use Rattle.resolution.proofs.TrueStatements.{length_push}

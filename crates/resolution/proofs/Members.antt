@@ -3,8 +3,8 @@ use Rattle.std.proofs.Common.{◌≡◌, ℕ, List, [], ◌∷◌, ◌++◌, Boo
 use Rattle.source.specs.declared.fault.Code.{Code}
 use Rattle.source.specs.declared.mistake.Mistake.{Mistake}
 use Rattle.syntax.specs.Trees.{Decl}
-use Rattle.source.specs.Leasts.{IsAmong}
-use Rattle.resolution.specs.FaultLists.{one, one_if}
+use Rattle.source.specs.Theory.Leasts.{IsAmong}
+use Rattle.resolution.specs.Working.FaultLists.{one, one_if}
 use Rattle.resolution.specs.Faults.{IsFault}
 
 abbrev pub IsTrue_of : List Decl → Mistake → Type 0

@@ -4,7 +4,7 @@ use Rattle.std.specs.Prelude.{slice_get}
 use Rattle.std.proofs.lemmas.Slice.Eq.{bytes_eq-Decides}
 use Rattle.syntax.specs.Trees.{Member}
 use Rattle.resolution.specs.Scopes.{place_of, named, member_name, member_bears, the_member}
-use Rattle.resolution.specs.Facts.{passing}
+use Rattle.resolution.specs.Theory.Facts.{passing}
 
 -- what a name is found to be
 pub record IsFound {A Q : Type 0} (bears : A → Q → Bool) (xs : List A) (q : Q) (i : ℕ) (x : A) : Type 0 where

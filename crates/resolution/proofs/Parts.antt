@@ -21,9 +21,9 @@ use Rattle.resolution.specs.Resolution.{ahead_of, entry}
 use Rattle.resolution.specs.Where as site
 use Rattle.resolution.specs.Where.{Has, first, further, HasLink, this_link, later_link, operand_want, prefix_want, side_want, Within, itself, in_parentheses, in_prefix, in_first, in_operand, in_left, in_right, in_index, Among, here, later, in_then, in_else, in_while, IsArgument, for_parameter, for_nothing, Asks, of_let, of_owned, of_let_call, of_var, of_assign, of_index, of_while, of_print, of_return, of_call_alone, HasBody, of_section, of_helper, HasStmt, in_body, HasHelperCall, by_let, by_itself, HasExpr, in_stmt, Binds, parameter, a_let, an_owned_let, a_called_let, a_var, HasType, of_global, of_array, of_pool, of_final, of_field, of_parameter, of_result, of_a_let, of_an_owned_let, of_a_called_let, of_a_var, InItems, this_call, in_repeat, later_call, HasCall, in_thread, HasConst, opening, initial, argument}
 use Rattle.resolution.specs.Faults.{start_of}
-use Rattle.resolution.specs.FaultLists as list
-use Rattle.resolution.specs.FaultLists.{one, one_if, misfit, no_elements, no_array, operator_faults, side_faults, expr_faults, link_faults, wanted_faults, local_faults, type_faults, target_faults, binding_faults, owner_faults, values_faults, each_value_faults, passed_values_faults, helper_call_faults, given_back_faults, called_faults, stmt_faults, stmts_faults, param_faults, result_faults, section_faults, const_faults, argument_faults, lock_faults, protection_faults, members_faults, opening_faults, missing_faults, index_faults, named_faults, null_faults, call_faults, item_faults, items_faults, decl_faults, each_faults, twice_faults, struct_faults, total_faults, repeated_faults, declaration_faults}
-use Rattle.source.specs.Leasts.{IsAmong}
+use Rattle.resolution.specs.Working.FaultLists as list
+use Rattle.resolution.specs.Working.FaultLists.{one, one_if, misfit, no_elements, no_array, operator_faults, side_faults, expr_faults, link_faults, wanted_faults, local_faults, type_faults, target_faults, binding_faults, owner_faults, values_faults, each_value_faults, passed_values_faults, helper_call_faults, given_back_faults, called_faults, stmt_faults, stmts_faults, param_faults, result_faults, section_faults, const_faults, argument_faults, lock_faults, protection_faults, members_faults, opening_faults, missing_faults, index_faults, named_faults, null_faults, call_faults, item_faults, items_faults, decl_faults, each_faults, twice_faults, struct_faults, total_faults, repeated_faults, declaration_faults}
+use Rattle.source.specs.Theory.Leasts.{IsAmong}
 use Rattle.resolution.proofs.Members as m
 use Rattle.resolution.proofs.TrueStatements.{after_same, entered_same}
 

@@ -8,8 +8,8 @@ use Rattle.core_lang.specs.declared.value.ValueType as core_type
 use Rattle.core_lang.specs.declared.tree.Section as the_section
 use Rattle.core_lang.specs.declared.typed.Typed.{Typed}
 use Rattle.core_lang.specs.Scopes.{numbers_from, bound_in_all, IsWellScoped}
-use Rattle.call_graph.specs.Graphs.{Body}
-use Rattle.call_graph.specs.Programs.{IsBodyOf, IsGraphOf}
+use Rattle.core_lang_calls.specs.Graphs.{Body}
+use Rattle.core_lang_calls.specs.Working.Programs.{IsBodyOf, IsGraphOf}
 use Rattle.resolution.specs.declared.body_limits.BodyLimits.{BodyLimits}
 use Rattle.resolution.specs.Core as core
 use Rattle.resolution.specs.CoreViews.{core_local, core_section, core_of}

@@ -14,14 +14,14 @@ use Rattle.resolution.specs.Annotations.{AnnotationCursor, through_member, stepp
 use Rattle.resolution.specs.Where.{Has, first, further, of_section, of_helper, InItems, this_call, in_repeat, later_call, HasCall, in_thread, opening, initial, argument, of_variable, of_elements, Annotates, annotates, of_global, of_array, of_pool, of_final, of_field}
 use Rattle.resolution.specs.Faults as fault
 use Rattle.resolution.specs.Faults.{Reaches, stays, goes_on, Walks, walks, NamesGlobal, IsLockDecl, IsSection, unknown, wrong_type, miscounted, without_lock, ends_at_no_lock, passes_non_final, over_limit, final_missing, out_of_range, lock_as_value}
-use Rattle.resolution.specs.FaultLists as list
-use Rattle.resolution.specs.FaultLists.{one, one_if, unfit, index_faults, const_faults, argument_faults, type_faults, global_lock_faults, lock_faults, passed_faults, last_faults, passed, along_faults, annotation_faults, protection_faults, members_faults, opening_faults, some_lacks, is_at, is_due, lacks, missing_faults, field_faults, named_faults, null_faults, init_faults, call_faults, item_faults, items_faults, decl_faults, each_faults}
-use Rattle.source.specs.Leasts.{IsAmong}
+use Rattle.resolution.specs.Working.FaultLists as list
+use Rattle.resolution.specs.Working.FaultLists.{one, one_if, unfit, index_faults, const_faults, argument_faults, type_faults, global_lock_faults, lock_faults, passed_faults, last_faults, passed, along_faults, annotation_faults, protection_faults, members_faults, opening_faults, some_lacks, is_at, is_due, lacks, missing_faults, field_faults, named_faults, null_faults, init_faults, call_faults, item_faults, items_faults, decl_faults, each_faults}
+use Rattle.source.specs.Theory.Leasts.{IsAmong}
 use Rattle.resolution.proofs.Members.{IsTrue_of, both, of_one, of_if}
 use Rattle.resolution.proofs.TrueExpressions.{true_type, true_const, true_arguments, none_is}
 use Rattle.resolution.proofs.TrueStatements.{true_section}
 use Rattle.resolution.proofs.Tests.{le_of}
-use Rattle.resolution.specs.Facts.{and_left, and_right}
+use Rattle.resolution.specs.Theory.Facts.{and_left, and_right}
 
 -- ---- annotations
 

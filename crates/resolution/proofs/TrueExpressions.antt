@@ -23,12 +23,12 @@ use Rattle.resolution.specs.Constants.{const_sort, want_of}
 use Rattle.resolution.specs.Where.{operand_want, prefix_want, side_want, HasLink, this_link, later_link, Within, itself, in_parentheses, in_prefix, in_first, in_operand, in_left, in_right, in_index, HasExpr, HasPlace, is_read, HasType, HasConst}
 use Rattle.resolution.specs.Faults as fault
 use Rattle.resolution.specs.Faults.{start_of, const_start, IsNoValue, HasNoElements, IsNoReference, IsNoStruct, IsPool, IsEquality, IsOfNumbers, AreUnlike, too_large, unknown, wrong_type, out_of_range, lock_as_value}
-use Rattle.resolution.specs.FaultLists as list
-use Rattle.resolution.specs.FaultLists.{one, one_if, unfit, number_faults, index_faults, own_faults, sort_misfit, const_faults, argument_faults, no_elements, no_member, no_field, step_faults, end_faults, walk_faults, path_faults, misfit, unlike, side_faults, operator_faults, expr_faults, place_faults, link_faults, wanted_faults, no_struct, type_faults}
-use Rattle.source.specs.Leasts.{IsAmong}
+use Rattle.resolution.specs.Working.FaultLists as list
+use Rattle.resolution.specs.Working.FaultLists.{one, one_if, unfit, number_faults, index_faults, own_faults, sort_misfit, const_faults, argument_faults, no_elements, no_member, no_field, step_faults, end_faults, walk_faults, path_faults, misfit, unlike, side_faults, operator_faults, expr_faults, place_faults, link_faults, wanted_faults, no_struct, type_faults}
+use Rattle.source.specs.Theory.Leasts.{IsAmong}
 use Rattle.resolution.proofs.Members.{IsTrue_of, both, of_one, of_if}
 use Rattle.resolution.proofs.Tests.{lt_of, le_of}
-use Rattle.resolution.specs.Facts.{and_left, and_right}
+use Rattle.resolution.specs.Theory.Facts.{and_left, and_right}
 
 -- ---- types
 

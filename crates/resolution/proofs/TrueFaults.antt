@@ -12,13 +12,13 @@ use Rattle.resolution.specs.Constants.{init_target_of, giver}
 use Rattle.resolution.specs.Where.{Has, first, further}
 use Rattle.resolution.specs.Faults as fault
 use Rattle.resolution.specs.Faults.{IsFault, declared_twice, over_limit, out_of_range}
-use Rattle.resolution.specs.FaultLists.{one_if, again, twice, twice_faults, member_twice_faults, struct_faults, first_too_many, lock_count, member_counts, count_faults, total_faults, given_before, init_target_again, repeated, repeated_faults, each_faults, declaration_faults}
-use Rattle.source.specs.Leasts.{IsAmong}
+use Rattle.resolution.specs.Working.FaultLists.{one_if, again, twice, twice_faults, member_twice_faults, struct_faults, first_too_many, lock_count, member_counts, count_faults, total_faults, given_before, init_target_again, repeated, repeated_faults, each_faults, declaration_faults}
+use Rattle.source.specs.Theory.Leasts.{IsAmong}
 use Rattle.resolution.proofs.Members.{IsTrue_of, both, of_one, of_if}
 use Rattle.resolution.proofs.TrueStatements.{length_push}
 use Rattle.resolution.proofs.TrueDeclarations.{true_each}
 use Rattle.resolution.proofs.Tests.{lt_of, le_of}
-use Rattle.resolution.specs.Facts.{and_left, and_right}
+use Rattle.resolution.specs.Theory.Facts.{and_left, and_right}
 
 -- ---- names
 

@@ -26,9 +26,9 @@ use Rattle.resolution.specs.Where as site
 use Rattle.resolution.specs.Where.{Has, first, further, Among, here, later, in_then, in_else, in_while, IsArgument, for_parameter, for_nothing, Asks, of_let, of_owned, of_let_call, of_var, of_assign, of_index, of_while, of_print, of_return, of_call_alone, HasBody, HasStmt, in_body, HasHelperCall, by_let, by_itself, HasExpr, in_stmt, HasPlace, is_written, Binds, parameter, a_let, an_owned_let, a_called_let, a_var, HasType, of_parameter, of_result, of_a_let, of_an_owned_let, of_a_called_let, of_a_var, NamesOwner, names_owner}
 use Rattle.resolution.specs.Faults as fault
 use Rattle.resolution.specs.Faults.{IsNoValue, IsNoHelper, declared_twice, unknown, wrong_type, miscounted, not_assignable, over_limit, lock_as_value}
-use Rattle.resolution.specs.FaultLists as list
-use Rattle.resolution.specs.FaultLists.{one, one_if, unfit, no_elements, path_faults, wanted_faults, type_faults, taken, local_faults, no_target, no_array, final_faults, target_faults, binding_faults, no_final_in, owner_field_faults, other_type, owner_faults, values_faults, each_value_faults, passed_values_faults, helper_call_faults, other_result, given_back_faults, called_faults, stmt_faults, else_faults, stmts_faults, param_faults, result_faults, section_faults}
-use Rattle.source.specs.Leasts.{IsAmong}
+use Rattle.resolution.specs.Working.FaultLists as list
+use Rattle.resolution.specs.Working.FaultLists.{one, one_if, unfit, no_elements, path_faults, wanted_faults, type_faults, taken, local_faults, no_target, no_array, final_faults, target_faults, binding_faults, no_final_in, owner_field_faults, other_type, owner_faults, values_faults, each_value_faults, passed_values_faults, helper_call_faults, other_result, given_back_faults, called_faults, stmt_faults, else_faults, stmts_faults, param_faults, result_faults, section_faults}
+use Rattle.source.specs.Theory.Leasts.{IsAmong}
 use Rattle.resolution.proofs.Members.{IsTrue_of, both, of_one, of_if}
 use Rattle.resolution.proofs.TrueExpressions.{misfit_if, true_type, true_elements, true_path, true_wanted, none_is}
 use Rattle.resolution.proofs.Tests.{le_of}

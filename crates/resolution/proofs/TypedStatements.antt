@@ -26,7 +26,7 @@ use Rattle.resolution.proofs.Typed.{types_of, global_in, array_in, pool_in, fina
 use Rattle.resolution.proofs.TypedResolvedExprs.{Sound, Have, IsLocal, meant_local, GoodValue, GoodTest, GoodPath, local_walk, value_good_of, test_good_of}
 use Rattle.resolution.proofs.TypedOwners.{owned_value_good}
 use Rattle.resolution.proofs.TypedCalls.{HasHelpers, taken_type, GoodAction, called_good}
-use Rattle.resolution.specs.Facts.{after_result}
+use Rattle.resolution.specs.Theory.Facts.{after_result}
 
 -- ---- locals stay
 

@@ -8,10 +8,10 @@ use Rattle.core_lang.specs.WellFormed.{IsChecked, IsWellFormed}
 use Rattle.resolution.specs.CoreViews.{core_section, core_of}
 use Rattle.resolution.specs.Limits.{section_limits, helper_limits}
 use Rattle.resolution.specs.Resolution.{resolved, typed_section}
-use Rattle.call_graph.specs.Programs.{CallsKeepLimits}
-use Rattle.call_graph.specs.Laws.{FaultlessKeepLimits, HasNoGraphFault}
+use Rattle.core_lang_calls.specs.Working.Programs.{CallsKeepLimits}
+use Rattle.core_lang_calls.specs.Working.Laws.{FaultlessKeepLimits, HasNoGraphFault}
 use Rattle.resolution.specs.CallGraphs.{tree_graph}
-use Rattle.resolution.specs.Laws.{DeclaresNoHelper}
+use Rattle.resolution.specs.Working.Laws.{DeclaresNoHelper}
 use Rattle.resolution.proofs.Typed.{get_map}
 use Rattle.resolution.proofs.FaultlessExpressions.{Clean}
 use Rattle.resolution.proofs.LaidProgram.{no_helpers, sound, helped, laid_out, protected, opens, sections_are, helpers_are, scripts}

@@ -20,7 +20,7 @@ use Rattle.resolution.specs.Numbers.{total, cells_of, calls_in, calls_in_all, ca
 use Rattle.resolution.specs.Expressions.{want}
 use Rattle.resolution.specs.Statements.{after, after_else, after_all}
 use Rattle.resolution.specs.Resolution.{ahead_of, entry, call_of, copies, typed_item, typed_items, resolved}
-use Rattle.resolution.specs.FaultLists.{one_if, local_faults, type_faults, wanted_faults, binding_faults, owner_faults, helper_call_faults, given_back_faults, stmt_faults, else_faults, stmts_faults, param_faults, result_faults, count_faults, total_faults}
+use Rattle.resolution.specs.Working.FaultLists.{one_if, local_faults, type_faults, wanted_faults, binding_faults, owner_faults, helper_call_faults, given_back_faults, stmt_faults, else_faults, stmts_faults, param_faults, result_faults, count_faults, total_faults}
 use Rattle.resolution.specs.declared.wanted.Want.TheVariants as wanted
 use Rattle.resolution.proofs.Parts.{of_place_at}
 use Rattle.resolution.proofs.AllFaults.{of_counts, of_totals}
@@ -40,7 +40,7 @@ use Rattle.resolution.proofs.LaidLocks.{few_classes}
 use Rattle.resolution.proofs.LaidObjects.{few_objects}
 use Rattle.resolution.proofs.LaidScripts.{one_got, joined_got, sectioned}
 use Rattle.resolution.proofs.Tests.{le_false}
-use Rattle.resolution.specs.Facts.{bodies_counted}
+use Rattle.resolution.specs.Theory.Facts.{bodies_counted}
 
 -- ---- cells
 

@@ -2,8 +2,8 @@
 -- wrong there. Behind as many helpers as there may be, no further ones are: the program is over the limit of sections and helpers.
 use Rattle.std.specs.Prelude.{ℕ, ◌+◌, Bool, true, false, List, [], ◌∷◌, ◌++◌, take, length, Option, Some, None, is_some}
 use Rattle.syntax.specs.Trees.{HelperCall, Stmt, let_local, let_owned, let_call, var_local, assign, if_then, while, print, return_value, call, Stmts, no_stmts, stmt, Otherwise, no_else, else_do, Section, Decl, atomic, helper}
-use Rattle.call_graph.specs.declared.graph.CallSite.{CallSite}
-use Rattle.call_graph.specs.Graphs.{Body, Graph}
+use Rattle.core_lang_calls.specs.declared.graph.CallSite.{CallSite}
+use Rattle.core_lang_calls.specs.Graphs.{Body, Graph}
 use Rattle.resolution.specs.Limits.{SECTION_LIMIT, section_limits, helper_limits}
 use Rattle.resolution.specs.Scopes.{Scope, meaning, helper_meant, number_at, entered, left}
 use Rattle.resolution.specs.Statements.{after, after_all}

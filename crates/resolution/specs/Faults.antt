@@ -33,7 +33,7 @@ use Rattle.resolution.specs.Owners.{owner_field}
 use Rattle.resolution.specs.Statements.{is_var, last_field, first_name}
 use Rattle.resolution.specs.Constants.{const_sort, members_of, pool_members, initialised, init_target_of, giver, given}
 use Rattle.resolution.specs.Annotations.{AnnotationCursor, through_member, cursor_at}
-use Rattle.call_graph.specs.Faults.{IsGraphFault}
+use Rattle.core_lang_calls.specs.Faults.{IsGraphFault}
 use Rattle.resolution.specs.CallGraphs.{tree_graph}
 use Rattle.resolution.specs.Where.{Has, HasLink, HasBody, HasStmt, HasHelperCall, HasExpr, HasPlace, Binds, HasType, NamesOwner, HasCall, HasConst, HasLock, Annotates}
 

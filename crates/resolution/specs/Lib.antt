@@ -13,10 +13,9 @@ pub mod Resolved
 pub mod Where
 pub mod CallGraphs
 pub mod Faults
-pub mod FaultLists
-pub mod Laws
-pub mod Facts
+pub mod Working
+pub mod Theory
 -- what the public clauses cite
 pub use Rattle.resolution.specs.Resolved.{Resolves}
 pub use Rattle.resolution.specs.Faults.{IsFault, IsRefusal, HasNoFault}
-pub use Rattle.resolution.specs.Laws.{TheLeastIsAFault, NoneGoesBeforeTheLeast, NoLeastIsNoFault, HaveAtMostOneLeast, FaultlessAreResolved, GraphOfResolved, ResolvedAreChecked, DeclaresNoHelper, WithoutHelpersAreWellFormed}
+pub use Rattle.resolution.specs.Working.Laws.{TheLeastIsAFault, NoneGoesBeforeTheLeast, NoLeastIsNoFault, HaveAtMostOneLeast, FaultlessAreResolved, GraphOfResolved, ResolvedAreChecked, DeclaresNoHelper, WithoutHelpersAreWellFormed}

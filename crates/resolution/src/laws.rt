@@ -1,8 +1,8 @@
 //! What holds of resolution and of faults: functions that do nothing, and whose contracts are the laws.
 
-ghost use Rattle.resolution.specs.Laws.{TheLeastIsAFault, NoneGoesBeforeTheLeast, NoLeastIsNoFault, HaveAtMostOneLeast, FaultlessAreResolved, GraphOfResolved, ResolvedAreChecked, WithoutHelpersAreWellFormed};
+ghost use Rattle.resolution.specs.Working.Laws.{TheLeastIsAFault, NoneGoesBeforeTheLeast, NoLeastIsNoFault, HaveAtMostOneLeast, FaultlessAreResolved, GraphOfResolved, ResolvedAreChecked, WithoutHelpersAreWellFormed};
 
-use call_graph::laws::{faultless_keep_limits, listed_faults};
+use core_lang_calls::laws::{faultless_keep_limits, listed_faults};
 
 /// The least fault of the list is a fault of the program, and no fault of the program goes before it; and where the
 /// list is empty, the program has no fault.

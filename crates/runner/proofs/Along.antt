@@ -1,6 +1,6 @@
 -- One instruction more.
 use Rattle.std.proofs.Common.{◌≡◌, ℕ, zero, suc, ◌+◌, ◌<◌, ◌≤◌, ap, ◌∙◌, subst, arith}
-use Rattle.runner.specs.Opens.{OpenOf, IsRunning, moved, moved_by, Ran}
+use Rattle.runner.specs.Working.Opens.{OpenOf, IsRunning, moved, moved_by, Ran}
 
 below_next : (P : ℕ → Type 0) (n : ℕ) → ((k : ℕ) → k < n → P k) → P n → (k : ℕ) → k < n + 1 → P k
 below_next P zero below last zero lt = last

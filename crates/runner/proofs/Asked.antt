@@ -15,7 +15,7 @@ use Rattle.lockpaths.specs.Paths.{ArePaths}
 use Rattle.lowering.specs.Plans.{Plan}
 use Rattle.worlds.specs.Asking.{among, insert, precedes, insert_new, lock_numbered, to_ask}
 use Rattle.worlds.specs.Worlds.{section_at}
-use Rattle.runner.specs.Asked.{lock_at, asked_at}
+use Rattle.runner.specs.Working.Asked.{lock_at, asked_at}
 
 -- within a list there is something at a place
 pub there : {X : Type 0} (xs : List X) (i : ℕ) → i < length xs → (x : X) × (slice_get xs i ≡ Some x)

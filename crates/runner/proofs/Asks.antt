@@ -14,19 +14,19 @@ use Rattle.locks.specs.Order.{PrecedesIsStrict}
 use Rattle.layout.specs.LockCells.{cells_of}
 use Rattle.layout.specs.Layouts.{LayoutOf}
 use Rattle.code.specs.Memory.{value_at, Agrees}
-use Rattle.moved_cells.specs.Grants.{GrantOf, IsWhole, numbered, values_on}
-use Rattle.moved_cells.specs.Laws.{ValuesAreWhole, ValuesAgree, HasItsCells}
-use Rattle.held_cells.specs.Held.{CanHold, with_grant}
+use Rattle.moved_cells.specs.Working.Grants.{GrantOf, IsWhole, numbered, values_on}
+use Rattle.moved_cells.specs.Working.Laws.{ValuesAreWhole, ValuesAgree, HasItsCells}
+use Rattle.runner_cells.specs.Working.Held.{CanHold, with_grant}
 use Rattle.lock_manager.specs.declared.places.Place.TheVariants.{Free}
-use Rattle.lock_manager.specs.Sessions.{TicketOf}
-use Rattle.lock_manager.specs.Managers.{Managed, place_of, IsKept, ComesAfter}
-use Rattle.lock_manager.specs.Calls.{CanAsk}
+use Rattle.lock_manager.specs.Working.Sessions.{TicketOf}
+use Rattle.lock_manager.specs.Working.Managers.{Managed, place_of, IsKept, ComesAfter}
+use Rattle.lock_manager.specs.Working.Calls.{CanAsk}
 use Rattle.worlds.specs.Worlds.{granted}
 use Rattle.worlds.specs.Waiting.{first_if}
-use Rattle.worlds.specs.InOrder.{SectionsStayInOrder, FitRoom, AreCellsOf}
-use Rattle.section_machine.specs.Machines.{RunOf, holding_of, with_holding}
-use Rattle.runner.specs.Opens.{OpenOf, IsOpen, IsKnown, further, ticket_of}
-use Rattle.runner.specs.Ties.{IsKeptOpen}
+use Rattle.worlds.specs.Working.InOrder.{SectionsStayInOrder, FitRoom, AreCellsOf}
+use Rattle.runner_machine.specs.Working.Machines.{RunOf, holding_of, with_holding}
+use Rattle.runner.specs.Working.Opens.{OpenOf, IsOpen, IsKnown, further, ticket_of}
+use Rattle.runner.specs.Working.Ties.{IsKeptOpen}
 
 -- an open section that is to be granted a lock
 pub record IsAsking (o : OpenOf) (lock : Lock) (rest : List Lock) : Type 0 where

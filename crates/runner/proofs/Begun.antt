@@ -9,17 +9,17 @@ use Rattle.core_lang.specs.Serial.{Invocation}
 use Rattle.core_lang.specs.WellFormed.{CanCall}
 use Rattle.core_lang.specs.Whole.{opening}
 use Rattle.layout.specs.declared.room.Room.{Room}
-use Rattle.lock_manager.specs.Sessions.{SessionOf, TicketOf, fresh}
-use Rattle.lock_manager.specs.Managers.{Managed}
-use Rattle.lock_manager.specs.Calls.{Begins}
+use Rattle.lock_manager.specs.Working.Sessions.{SessionOf, TicketOf, fresh}
+use Rattle.lock_manager.specs.Working.Managers.{Managed}
+use Rattle.lock_manager.specs.Working.Calls.{Begins}
 use Rattle.lowering.specs.Plans.{Plan}
-use Rattle.lowering.specs.Compiled.{IsRoomAt}
+use Rattle.lowering.specs.Working.Compiled.{IsRoomAt}
 use Rattle.worlds.specs.Worlds.{locals_at}
-use Rattle.worlds.specs.InOrder.{SectionsStayInOrder}
-use Rattle.section_machine.specs.Machines.{RunOf}
-use Rattle.runner.specs.Opens.{OpenOf, ReadyOf, IsOpen, Began}
+use Rattle.worlds.specs.Working.InOrder.{SectionsStayInOrder}
+use Rattle.runner_machine.specs.Working.Machines.{RunOf}
+use Rattle.runner.specs.Working.Opens.{OpenOf, ReadyOf, IsOpen, Began}
 use Rattle.runner.specs.declared.open.Prepared.{Prepared}
-use Rattle.runner.specs.Ties.{open_as, begun_as, cells_together, its_call, IsPrepared, IsKeptOpen}
+use Rattle.runner.specs.Working.Ties.{open_as, begun_as, cells_together, its_call, IsPrepared, IsKeptOpen}
 
 -- a call that fits has its section
 pub called : (program : Typed) (number : ℕ) (arguments : List Value) → CanCall program number arguments →

@@ -9,19 +9,19 @@ use Rattle.code.specs.Machine.{Machine}
 use Rattle.code.specs.Memory.{HeldCells}
 use Rattle.std.proofs.lemmas.List.Elements.{All-head, All-tail}
 use Rattle.layout.specs.LockCells.{cells_of}
-use Rattle.moved_cells.specs.Grants.{GrantOf, IsWhole, numbered, locks_of}
-use Rattle.lock_manager.specs.Managers.{Managed}
-use Rattle.lock_manager.specs.Calls.{CanRelease}
-use Rattle.held_cells.specs.Held.{cells_granted}
+use Rattle.moved_cells.specs.Working.Grants.{GrantOf, IsWhole, numbered, locks_of}
+use Rattle.lock_manager.specs.Working.Managers.{Managed}
+use Rattle.lock_manager.specs.Working.Calls.{CanRelease}
+use Rattle.runner_cells.specs.Working.Held.{cells_granted}
 use Rattle.history.specs.Commits.{Commit}
-use Rattle.lock_manager.specs.Sessions.{TicketOf}
+use Rattle.lock_manager.specs.Working.Sessions.{TicketOf}
 use Rattle.lowering.specs.Plans.{Plan}
 use Rattle.worlds.specs.Waiting.{first_if}
-use Rattle.worlds.specs.InOrder.{SectionsStayInOrder}
-use Rattle.section_machine.specs.declared.machine.Left.{Left}
-use Rattle.section_machine.specs.Machines.{RunOf, IsLeftOf}
-use Rattle.runner.specs.Opens.{OpenOf, IsOpen, CanGiveBack, entry_of, ticket_of, moved}
-use Rattle.runner.specs.Ties.{open_as, call_of, over_by, ended_as, IsKeptOpen, IsKeptEnded}
+use Rattle.worlds.specs.Working.InOrder.{SectionsStayInOrder}
+use Rattle.runner_machine.specs.declared.machine.Left.{Left}
+use Rattle.runner_machine.specs.Working.Machines.{RunOf, IsLeftOf}
+use Rattle.runner.specs.Working.Opens.{OpenOf, IsOpen, CanGiveBack, entry_of, ticket_of, moved}
+use Rattle.runner.specs.Working.Ties.{open_as, call_of, over_by, ended_as, IsKeptOpen, IsKeptEnded}
 use Rattle.runner.proofs.Opened.{RunsInOrder, moved_is_open}
 
 -- an entry as the code writes it

@@ -11,15 +11,15 @@ use Rattle.code.specs.declared.section_code.Code.{Code}
 use Rattle.code.specs.Lowering.{section_code}
 use Rattle.code.specs.Machine.{Machine, Effect, Moves, Asks, Finishes, Undefined, act, passed}
 use Rattle.code.specs.Memory.{HeldCells, value_at, load_held, store_held}
-use Rattle.code.specs.Laws.{KeepsHeld}
+use Rattle.code.specs.Working.Laws.{KeepsHeld}
 use Rattle.lowering.specs.Lowered.{IsCodeOf, lists_at}
 use Rattle.worlds.specs.Worlds.{code_at, locks_before, instructed, next_effect}
-use Rattle.worlds.specs.InOrder.{IsInOrder, SectionsStayInOrder}
+use Rattle.worlds.specs.Working.InOrder.{IsInOrder, SectionsStayInOrder}
 use Rattle.worlds.specs.Waiting.{first_if}
-use Rattle.lock_manager.specs.Sessions.{TicketOf}
-use Rattle.section_machine.specs.Machines.{RunOf, with_machine, FitsRoom, HasSmallCells}
-use Rattle.runner.specs.Opens.{OpenOf, IsOpen, further, moved}
-use Rattle.runner.specs.Ties.{IsKeptOpen}
+use Rattle.lock_manager.specs.Working.Sessions.{TicketOf}
+use Rattle.runner_machine.specs.Working.Machines.{RunOf, with_machine, FitsRoom, HasSmallCells}
+use Rattle.runner.specs.Working.Opens.{OpenOf, IsOpen, further, moved}
+use Rattle.runner.specs.Working.Ties.{IsKeptOpen}
 use Rattle.runner.proofs.Asked.{also_there}
 
 -- an open section that runs

@@ -4,7 +4,7 @@ use Rattle.code.specs.Machine.{Effect, Moves, Asks, Finishes, Undefined}
 use Rattle.code.specs.Memory.{HeldCells}
 use Rattle.lowering.specs.Plans.{Plan}
 use Rattle.worlds.specs.Worlds.{Activation, instructed, next_effect}
-use Rattle.runner.specs.Opens.{OpenOf, IsSame, moved, moved_by}
+use Rattle.runner.specs.Working.Opens.{OpenOf, IsSame, moved, moved_by}
 
 call_stays : (plan : Plan) (a : Activation) (e : Effect HeldCells) → (instructed plan a e).call ≡ a.call
 call_stays plan a (Moves m) = refl

@@ -1,7 +1,4 @@
-pub mod Asked
-pub mod Opens
-pub mod Ties
-pub mod Answers
-pub use Rattle.section_machine.specs.Operands.{OperandsOf, downward, pushed, popped, with_top}
-pub use Rattle.section_machine.specs.Prints.{IsPrinted}
-pub use Rattle.section_machine.specs.Machines.{RunOf, holding_of, with_machine, with_holding, FitsRoom, HasSmallCells, HasEffect}
+pub mod Working
+pub use Rattle.runner_machine.specs.Working.Operands.{OperandsOf, downward, pushed, popped, with_top}
+pub use Rattle.runner_machine.specs.Working.Prints.{IsPrinted}
+pub use Rattle.runner_machine.specs.Working.Machines.{RunOf, holding_of, with_machine, with_holding, FitsRoom, HasSmallCells, HasEffect}

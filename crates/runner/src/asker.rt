@@ -1,7 +1,7 @@
 //! A section that comes to a point.
 
 ghost use Rattle.std.specs.Prelude.{◌≡◌, ◌≤◌, ◌<◌, [], length, vec_capacity};
-ghost use Rattle.runner.specs.Asked.{lock_at, with_lock_of, asked_of, asked_before};
+ghost use Rattle.runner.specs.Working.Asked.{lock_at, with_lock_of, asked_of, asked_before};
 
 use crate::asking::{is_among, lock_named, put_in};
 use core_lang::value::Value;

@@ -4,7 +4,7 @@
 //!   state a type of its own (typestate).
 //!
 //! `specs/` defines open sections and what their calls do (`Opens`, `Answers`). `Asked` and `Ties` only say what the code
-//! relies on; nobody has to believe them. The machine of an open section is `section_machine`'s.
+//! relies on; nobody has to believe them. The machine of an open section is `runner_machine`'s.
 #![tactic(auto)]
 
 mod asker;

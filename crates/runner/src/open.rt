@@ -3,8 +3,8 @@
 ghost use Rattle.std.specs.Prelude.{◌≡◌, [], slice_get, Some};
 ghost use Rattle.code.specs.Machine.{Asks};
 ghost use Rattle.worlds.specs.Worlds.{next_effect};
-ghost use Rattle.runner.specs.Opens.{moved};
-ghost use Rattle.runner.specs.Ties.{effect_on, HasMoved};
+ghost use Rattle.runner.specs.Working.Opens.{moved};
+ghost use Rattle.runner.specs.Working.Ties.{effect_on, HasMoved};
 
 use crate::asker::Asker;
 use crate::asking::{put_last, take_first};
@@ -18,8 +18,8 @@ use lock_manager::ticket::Ticket;
 use locks::lock::Lock;
 use lowering::compiled::Program;
 use moved_cells::grant::Grant;
-use section_machine::answer::Answer;
-use section_machine::machine::Machine;
+use runner_machine::answer::Answer;
+use runner_machine::machine::Machine;
 use std::marker::Model;
 
 // A section that runs, or that is to be granted locks.
@@ -44,8 +44,8 @@ impl<'p> Model for Open<'p> {
     ghost use Rattle.core_lang.specs.contracts.tree.Condition as condition;
     ghost use Rattle.std.specs.Coded.{codes};
     ghost use Rattle.std.specs.Prelude.{vec_capacity};
-    ghost use Rattle.runner.specs.Opens.{OpenOf};
-    ghost use Rattle.runner.specs.Ties.{open_as, call_of, IsKeptOpen};
+    ghost use Rattle.runner.specs.Working.Opens.{OpenOf};
+    ghost use Rattle.runner.specs.Working.Ties.{open_as, call_of, IsKeptOpen};
 
     ghost Value = { OpenOf };
 
@@ -114,8 +114,8 @@ impl<'p> Open<'p> {
 
 impl<'p> Open<'p> {
     ghost use Rattle.std.specs.Prelude.{◌≢◌};
-    ghost use Rattle.runner.specs.Opens.{IsKnown};
-    ghost use Rattle.runner.specs.Ties.{HasAsked};
+    ghost use Rattle.runner.specs.Working.Opens.{IsKnown};
+    ghost use Rattle.runner.specs.Working.Ties.{HasAsked};
 
     // Asks for the first of its pending locks. It has it then, or this other thread holds it.
     pub(crate) fn ask(&mut self, manager: &mut Manager<'p>) -> Option<u32>
@@ -148,9 +148,9 @@ impl<'p> Open<'p> {
 impl<'p> Open<'p> {
     ghost use Rattle.std.specs.Prelude.{◌≢◌, ◌↔◌, IsTrue};
     ghost use Rattle.std.specs.List.{All};
-    ghost use Rattle.lock_manager.specs.Sessions.{TicketOf};
-    ghost use Rattle.lock_manager.specs.Calls.{Knows};
-    ghost use Rattle.runner.specs.Opens.{IsOpen, AreItsGrants, ticket_of, ready_again};
+    ghost use Rattle.lock_manager.specs.Working.Sessions.{TicketOf};
+    ghost use Rattle.lock_manager.specs.Working.Calls.{Knows};
+    ghost use Rattle.runner.specs.Working.Opens.{IsOpen, AreItsGrants, ticket_of, ready_again};
 
     // Whether the manager knows it.
     pub(crate) fn fits(&self, manager: &Manager<'p>) -> bool
@@ -231,8 +231,8 @@ pub(crate) struct Prepared<'p> {
 }
 
 impl<'p> Prepared<'p> {
-    ghost use Rattle.lock_manager.specs.Sessions.{fresh};
-    ghost use Rattle.runner.specs.Ties.{IsPrepared, its_call, begun_as};
+    ghost use Rattle.lock_manager.specs.Working.Sessions.{fresh};
+    ghost use Rattle.runner.specs.Working.Ties.{IsPrepared, its_call, begun_as};
 
     // Lets it go: it doesn't begin.
     pub(crate) fn let_go(self) {

@@ -2,19 +2,19 @@
 
 ghost use Rattle.std.specs.Prelude.{◌≡◌, ◌≤◌, [], IfOk, vec_capacity};
 ghost use Rattle.core_lang.specs.WellFormed.{CanCall};
-ghost use Rattle.runner.specs.Ties.{IsPrepared, its_call};
+ghost use Rattle.runner.specs.Working.Ties.{IsPrepared, its_call};
 
 use crate::open::{Prepared, let_go};
 use crate::opening::{copied, opening_locals};
 use core_lang::value::{Outcome, Value};
-use held_cells::spare::Spare as HeldSpare;
 use history::entry::Entry;
 use locks::lock::Lock;
 use lowering::compiled::Program;
 use moved_cells::grant_room::GrantRoom;
-use section_machine::machine::Machine;
-use section_machine::operands::Operands;
-use section_machine::spare::Spare as MachineSpare;
+use runner_cells::spare::Spare as HeldSpare;
+use runner_machine::machine::Machine;
+use runner_machine::operands::Operands;
+use runner_machine::spare::Spare as MachineSpare;
 use source::memory::NoMemory;
 use std::alloc::Global;
 use std::mem;

@@ -3,16 +3,15 @@
 ghost use Rattle.std.specs.Prelude.{◌≡◌, ◌≢◌, ◌<◌, ◌+◌, ◌^◌, ◌↔◌, [], slice_get, Some, None, IfOk, IfErr, OnErr, IsTrue};
 ghost use Rattle.core_lang.specs.Serial.{invocation};
 ghost use Rattle.core_lang.specs.WellFormed.{CanCall};
-ghost use Rattle.lock_manager.specs.Managers.{session_of};
-ghost use Rattle.runner.specs.Opens.{moved, IsOpen};
-ghost use Rattle.runner.specs.Ties.{over_by};
-ghost use Rattle.runner.specs.Answers as answers;
+ghost use Rattle.lock_manager.specs.Working.Managers.{session_of};
+ghost use Rattle.runner.specs.Working.Opens.{moved, IsOpen};
+ghost use Rattle.runner.specs.Working.Ties.{over_by};
+ghost use Rattle.runner.specs.Working.Answers as answers;
 
 use crate::open::{Open, Prepared};
 use crate::spare::{Kept, prepared_in, with_receipt};
 use core_lang::typed::Call;
 use core_lang::value::{Outcome, Value};
-use held_cells::parts::Parts;
 use history::entry::Entry;
 use lock_manager::manager::Manager;
 use lock_manager::ticket::{Memory, Receipt, Spare, Ticket};
@@ -20,7 +19,8 @@ use locks::lock::Lock;
 use lowering::compiled::Program;
 use moved_cells::grant::Grant;
 use moved_cells::grant_room::GrantRoom;
-use section_machine::machine::Left;
+use runner_cells::parts::Parts;
+use runner_machine::machine::Left;
 use std::alloc::Global;
 use std::marker::Model;
 
@@ -35,7 +35,7 @@ pub struct Ready {
 }
 
 impl Model for Ready {
-    ghost use Rattle.runner.specs.Opens.{ReadyOf};
+    ghost use Rattle.runner.specs.Working.Opens.{ReadyOf};
 
     ghost Value = { ReadyOf };
 
@@ -53,7 +53,7 @@ impl<'p> Model for Running<'p> {
     ghost use Rattle.core_lang.specs.contracts.tree.Condition as condition;
     ghost use Rattle.std.specs.Coded.{codes};
     ghost use Rattle.std.specs.Prelude.{◌≡◌, [], None};
-    ghost use Rattle.runner.specs.Opens.{OpenOf};
+    ghost use Rattle.runner.specs.Working.Opens.{OpenOf};
 
     ghost Value = { OpenOf };
 
@@ -75,7 +75,7 @@ impl<'p> Model for Asking<'p> {
     ghost use Rattle.core_lang.specs.contracts.tree.Condition as condition;
     ghost use Rattle.std.specs.Coded.{codes};
     ghost use Rattle.std.specs.Prelude.{◌≡◌, ◌≢◌, [], None};
-    ghost use Rattle.runner.specs.Opens.{OpenOf};
+    ghost use Rattle.runner.specs.Working.Opens.{OpenOf};
 
     ghost Value = { OpenOf };
 
@@ -103,8 +103,8 @@ impl<'p> Model for Ended<'p> {
     ghost use Rattle.core_lang.specs.contracts.tree.Expr as expr;
     ghost use Rattle.core_lang.specs.contracts.tree.Condition as condition;
     ghost use Rattle.std.specs.Coded.{codes};
-    ghost use Rattle.runner.specs.Opens.{OpenOf};
-    ghost use Rattle.runner.specs.Ties.{ended_as, IsKeptEnded};
+    ghost use Rattle.runner.specs.Working.Opens.{OpenOf};
+    ghost use Rattle.runner.specs.Working.Ties.{ended_as, IsKeptEnded};
 
     ghost Value = { OpenOf };
 
@@ -138,7 +138,7 @@ pub enum Asked<'p> {
 }
 
 impl Ready {
-    ghost use Rattle.runner.specs.Opens.{Began, Prepares};
+    ghost use Rattle.runner.specs.Working.Opens.{Began, Prepares};
 
     /// A thread before its first call.
     pub fn new(thread: u32) -> Ready
@@ -269,8 +269,8 @@ impl<'p> Model for Poised<'p> {
     ghost use Rattle.core_lang.specs.contracts.tree.Expr as expr;
     ghost use Rattle.core_lang.specs.contracts.tree.Condition as condition;
     ghost use Rattle.std.specs.Coded.{codes};
-    ghost use Rattle.runner.specs.Opens.{PoisedOf};
-    ghost use Rattle.runner.specs.Ties.{IsPrepared, its_call};
+    ghost use Rattle.runner.specs.Working.Opens.{PoisedOf};
+    ghost use Rattle.runner.specs.Working.Ties.{IsPrepared, its_call};
 
     ghost Value = { PoisedOf };
 
@@ -288,7 +288,7 @@ impl<'p> Model for Poised<'p> {
 }
 
 impl<'p> Poised<'p> {
-    ghost use Rattle.runner.specs.Opens.{Began, ready_of};
+    ghost use Rattle.runner.specs.Working.Opens.{Began, ready_of};
 
     /// The thread.
     #[inline]
@@ -427,8 +427,8 @@ fn end<'p>(opened: Open<'p>, outcome: Outcome) -> Ended<'p>
 
 impl<'p> Running<'p> {
     ghost use Rattle.worlds.specs.Waiting.{HasNext};
-    ghost use Rattle.runner.specs.Opens.{GivenUp, Ran, IsSame, ready_again};
-    ghost use Rattle.runner.specs.Answers.{open_of, IsNamed};
+    ghost use Rattle.runner.specs.Working.Opens.{GivenUp, Ran, IsSame, ready_again};
+    ghost use Rattle.runner.specs.Working.Answers.{open_of, IsNamed};
 
     /// How long the history was when it began.
     #[inline]
@@ -512,9 +512,9 @@ impl<'p> Running<'p> {
 }
 
 impl<'p> Asking<'p> {
-    ghost use Rattle.lock_manager.specs.Calls.{Knows};
-    ghost use Rattle.runner.specs.Opens.{IsKnown, NextRises, GivenUp, ticket_of, ready_again};
-    ghost use Rattle.runner.specs.Answers.{Answered, IsNamedAfter, GoesOnSame};
+    ghost use Rattle.lock_manager.specs.Working.Calls.{Knows};
+    ghost use Rattle.runner.specs.Working.Opens.{IsKnown, NextRises, GivenUp, ticket_of, ready_again};
+    ghost use Rattle.runner.specs.Working.Answers.{Answered, IsNamedAfter, GoesOnSame};
 
     /// The lock that it asks for.
     #[inline]
@@ -578,7 +578,7 @@ impl<'p> Asking<'p> {
 }
 
 impl<'p> Ended<'p> {
-    ghost use Rattle.runner.specs.Opens.{CanBeReleased, Released, GivenUp, IsItsEntry, HasTrueEntry, ready_again};
+    ghost use Rattle.runner.specs.Working.Opens.{CanBeReleased, Released, GivenUp, IsItsEntry, HasTrueEntry, ready_again};
 
     /// Whether it may be released.
     pub fn fits(&self, manager: &Manager<'p>) -> bool

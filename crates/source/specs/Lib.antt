@@ -3,7 +3,7 @@ pub mod Faults
 pub mod Tokens
 pub mod Texts
 pub mod Mistakes
-pub mod Leasts
+pub mod Theory
 -- what public clauses cite
 pub use Rattle.source.specs.Codes.{code_name, code_text}
 pub use Rattle.source.specs.Faults.{place_text, fault_text, shown_code, shown_fault, IsBare, IsFaultAt, IsGiven}

@@ -4,7 +4,7 @@ use Rattle.std.specs.Prelude.{not, if◌then◌else◌}
 use Rattle.std.specs.Result.{OnOk, is_ok}
 use Rattle.std.proofs.lemmas.List.{append-nil, at_drop_more, at_drop_all}
 use Rattle.syntax.specs.declared.printer.Printer.{Printer}
-use Rattle.syntax.specs.Adding.{Adds}
+use Rattle.syntax.specs.Working.Adding.{Adds}
 
 pub nothing_added : (p : Printer) → Adds p p []
 nothing_added p = record { unrefused = λ ok. ok; bytes = λ ok. sym (append-nil (string_bytes p.text)) }

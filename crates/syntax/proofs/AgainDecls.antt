@@ -8,8 +8,8 @@ use Rattle.source.specs.Tokens.{Tok}
 use Rattle.syntax.specs.Trees.{Protection, Variable, Array, Member, lock_member, final_member, field_member, Section, Call, Item, repeat, Items, no_items, item, Init, Decl, lock, struct, global, array, pool, init, atomic, helper, thread}
 use Rattle.syntax.specs.Views.{option_of}
 use Rattle.syntax.specs.Grammar.{IsOptional, AreMany, no_more, one_more, IsAfter, IsType, IsConst, IsProtection, is_protection, is_field, is_final, IsMember, is_lock_member, is_final_member, is_field_member, is_struct, IsVariable, is_variable, IsArray, is_array, is_pool, IsInit, is_init, IsParam, is_param, IsSection, is_section, is_block, IsCall, is_call, IsItem, is_call_item, is_repeat, IsItems, are_no_items, are_items, is_thread, IsDecl, is_lock, is_struct_decl, is_global, is_array_decl, is_pool_decl, is_init_decl, is_atomic, is_helper, is_thread_decl}
-use Rattle.syntax.specs.Printing.{many_text, listed_text, optional_text, index_text, type_text, const_text, field_text, indent, deeper, stmts_text, protection_text, value_text, result_text, member_text, param_text, call_text, item_text, items_text, decl_text}
-use Rattle.syntax.specs.Bare.{nowhere, bare_type, bare_const, bare_number, bare_variable, bare_array, bare_init, bare_protection, bare_member, bare_param, bare_section, bare_call, bare_item, bare_items, bare_decl, bare}
+use Rattle.syntax.specs.Working.Printing.{many_text, listed_text, optional_text, index_text, type_text, const_text, field_text, indent, deeper, stmts_text, protection_text, value_text, result_text, member_text, param_text, call_text, item_text, items_text, decl_text}
+use Rattle.syntax.specs.Working.Bare.{nowhere, bare_type, bare_const, bare_number, bare_variable, bare_array, bare_init, bare_protection, bare_member, bare_param, bare_section, bare_call, bare_item, bare_items, bare_decl, bare}
 use Rattle.syntax.proofs.Marks.{Apart}
 use Rattle.syntax.proofs.Good.{Good, type_good, const_good, index_good, optional_good, listed_good, protection_good, result_good, member_good, param_good, item_good, decl_good}
 use Rattle.syntax.proofs.Backward.{kinds, Reads, start_of, named, numbered, along, word_on, sign_on, name_on, number_on, paren_on, dot_on, gap_on, line_on, indent_on, Again, Rereads, many_apart, many_again, after_again, listed_again, optional_again}

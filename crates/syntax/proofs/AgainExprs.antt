@@ -11,8 +11,8 @@ use Rattle.syntax.specs.declared.tree.Prefix.{Prefix}
 use Rattle.syntax.specs.declared.tree.Prefix.TheVariants.{Negate, Not}
 use Rattle.syntax.specs.Trees.{Ident, int_type, ref_type, int_const, negative, null_const, member_const, Place, lone, element, path, Expr, int, null, place, paren, prefix, chain, compare, Links, no_links, link}
 use Rattle.syntax.specs.Grammar.{sign_of, comparison_sign, rank, below, AreMany, IsAfter, after, IsName, is_name, IsType, is_int_type, is_ref_type, IsConst, is_int_const, is_negative, is_null_const, is_member_const, IsIndex, is_index, IsExpr, is_int, is_null, is_place, is_paren, is_prefix, is_chain, is_compare, IsPlace, is_lone, is_element, is_path, IsLinks, are_no_links, is_link}
-use Rattle.syntax.specs.Printing.{many_text, index_text, type_text, const_text, field_text, prefix_text, comparison_text, expr_text, place_text, links_text}
-use Rattle.syntax.specs.Bare.{nowhere, bare_name, bare_number, bare_type, bare_const, bare_expr, bare_place, bare_links}
+use Rattle.syntax.specs.Working.Printing.{many_text, index_text, type_text, const_text, field_text, prefix_text, comparison_text, expr_text, place_text, links_text}
+use Rattle.syntax.specs.Working.Bare.{nowhere, bare_name, bare_number, bare_type, bare_const, bare_expr, bare_place, bare_links}
 use Rattle.syntax.proofs.Marks.{Apart, Begins, name_begins, number_begins, decimal_unit}
 use Rattle.syntax.proofs.Good.{Good, expr_good, dotted_good}
 use Rattle.syntax.proofs.Backward.{kinds, Reads, start_of, named, numbered, along, word_on, sign_on, name_on, number_on, paren_on, bracket_on, dot_on, minus_on, not_on, gap_on, Again, Rereads, many_apart, many_again}

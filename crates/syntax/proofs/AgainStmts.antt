@@ -6,8 +6,8 @@ use Rattle.source.specs.declared.token.Sign.TheVariants.{OpenBrace, CloseBrace, 
 use Rattle.source.specs.Tokens.{Tok}
 use Rattle.syntax.specs.Trees.{Local, HelperCall, Stmt, let_local, let_owned, let_call, var_local, assign, if_then, while, print, return_value, Stmts, no_stmts, stmt, Otherwise, no_else, else_do, Block}
 use Rattle.syntax.specs.Grammar.{ANY, IsExpr, IsLocal, is_local, IsOwner, is_owner, IsHelperCall, is_helper_call, IsStmt, is_let, is_let_owned, is_let_call, is_var, is_assign, is_if, is_while, is_print, is_return, is_call_stmt, IsStmts, are_no_stmts, are_stmts, IsBraced, is_braced, IsElse, is_no_else, is_else}
-use Rattle.syntax.specs.Printing.{listed_text, type_text, expr_text, place_text, indent, deeper, local_text, owner_text, helper_call_text, stmt_text, stmts_text, else_text}
-use Rattle.syntax.specs.Bare.{nowhere, bare_expr, bare_local, bare_owner, bare_helper_call, bare_stmt, bare_stmts, bare_else, bare_block}
+use Rattle.syntax.specs.Working.Printing.{listed_text, type_text, expr_text, place_text, indent, deeper, local_text, owner_text, helper_call_text, stmt_text, stmts_text, else_text}
+use Rattle.syntax.specs.Working.Bare.{nowhere, bare_expr, bare_local, bare_owner, bare_helper_call, bare_stmt, bare_stmts, bare_else, bare_block}
 use Rattle.syntax.proofs.Marks.{Apart}
 use Rattle.syntax.proofs.Good.{Good, type_good, expr_good, place_good, local_good, any_good, stmt_good, braced_good}
 use Rattle.syntax.proofs.Backward.{kinds, Reads, start_of, named, along, word_on, sign_on, name_on, paren_on, gap_on, line_on, indent_on, Again, Rereads, listed_again}

@@ -11,8 +11,8 @@ use Rattle.source.specs.declared.token.Number.{Number}
 use Rattle.syntax.specs.Trees.{Ident}
 use Rattle.syntax.specs.Views.{option_of}
 use Rattle.syntax.specs.Grammar.{IsOptional, left_out, given, AreMany, no_more, one_more, IsAfter, after, AreListed, none_listed, listed}
-use Rattle.syntax.specs.Printing.{many_text, after_comma, listed_text, optional_text, indent}
-use Rattle.syntax.specs.Bare.{nowhere}
+use Rattle.syntax.specs.Working.Printing.{many_text, after_comma, listed_text, optional_text, indent}
+use Rattle.syntax.specs.Working.Bare.{nowhere}
 use Rattle.syntax.proofs.Marks.{Apart, Begins, is_lone, put, put_lone, put_not, space, decimal_unit}
 use Rattle.syntax.proofs.Good.{GoodKind, Good, Keeps, after_good}
 

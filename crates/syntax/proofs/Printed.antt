@@ -5,8 +5,8 @@ use Rattle.source.specs.Tokens.{end, Tok}
 use Rattle.source.specs.Texts.{no_gap, end_at, AreTokens, at_end, HasTokens}
 use Rattle.syntax.specs.Trees.{Decl}
 use Rattle.syntax.specs.Grammar.{Spells, spells, open_after, nesting, IsOpening, LIMIT, IsShallow, HasTree}
-use Rattle.syntax.specs.Printing.{tree_text}
-use Rattle.syntax.specs.Bare.{HasTextOf}
+use Rattle.syntax.specs.Working.Printing.{tree_text}
+use Rattle.syntax.specs.Working.Bare.{HasTextOf}
 use Rattle.syntax.proofs.Good.{Good, tokens_good}
 use Rattle.syntax.proofs.Backward.{kinds, Reads}
 use Rattle.syntax.proofs.AgainDecls.{decls_again}

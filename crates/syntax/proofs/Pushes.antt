@@ -19,8 +19,8 @@ use Rattle.syntax.specs.declared.tree.Item.{Repeat}
 use Rattle.std.specs.Fmt.{decimal}
 use Rattle.syntax.specs.Trees.{Expr}
 use Rattle.syntax.specs.Views.{expr_of, pair_of, joined_of, links_of, stmt_of, if_of, stmts_of, else_of, item_of, items_of}
-use Rattle.syntax.specs.Printing.{many_text, after_comma, listed_text, op_text, expr_text, links_text, indent, deeper, braced, stmt_text, stmts_text, else_text, item_text, items_text}
-use Rattle.syntax.specs.Rows.{joined_of-Chain, while_of, stmt_of-While, if_of-out, item_of_Repeat}
+use Rattle.syntax.specs.Working.Printing.{many_text, after_comma, listed_text, op_text, expr_text, links_text, indent, deeper, braced, stmt_text, stmts_text, else_text, item_text, items_text}
+use Rattle.syntax.specs.Theory.Rows.{joined_of-Chain, while_of, stmt_of-While, if_of-out, item_of_Repeat}
 
 pub indent_is : (d : ℕ) → (d ≡ 0 → ⊥) → codes "    " ++ indent (d - 1) ≡ indent d
 indent_is zero some = absurd (some refl)

@@ -3,15 +3,13 @@ pub mod Views
 pub mod Grammar
 pub mod Returns
 pub mod Faults
-pub mod Printing
-pub mod Adding
-pub mod Bare
-pub mod Rows
+pub mod Working
+pub mod Theory
 -- what public clauses cite
 pub use Rattle.syntax.specs.Trees.{Decl}
 pub use Rattle.syntax.specs.Views.{tree_of}
 pub use Rattle.syntax.specs.Grammar.{HasTree}
 pub use Rattle.syntax.specs.Returns.{ReturnsRight}
 pub use Rattle.syntax.specs.Faults.{HasRightTree, IsMisplaced, IsRefusal, IsTooDeep, IsUnexpected}
-pub use Rattle.syntax.specs.Printing.{tree_text}
-pub use Rattle.syntax.specs.Bare.{HasTextOf, HasTextIfAny}
+pub use Rattle.syntax.specs.Working.Printing.{tree_text}
+pub use Rattle.syntax.specs.Working.Bare.{HasTextOf, HasTextIfAny}

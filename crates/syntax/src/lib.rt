@@ -5,7 +5,7 @@
 //! - `specs/Trees.antt`: the same trees as plain data, and `specs/Views.antt`, which tree a value is.
 //! - `specs/Grammar.antt`: which tokens spell which tree, the bound on nesting, and the faults of
 //!   tokens that spell none.
-//! - [`print_tree`]: a text of a tree, read again as that tree (`specs/Bare.antt`).
+//! - [`print_tree`]: a text of a tree, read again as that tree (`specs/Working/Bare.antt`).
 //! - `specs/Returns.antt`: where a `return` is misplaced or missing.
 #![tactic(auto)]
 

@@ -1,9 +1,9 @@
 //! The texts of trees.
 
 ghost use Rattle.std.specs.Prelude.{◌≡◌, ◌++◌, map};
-ghost use Rattle.syntax.specs.Adding.{Adds};
+ghost use Rattle.syntax.specs.Working.Adding.{Adds};
 ghost use Rattle.syntax.specs.Views.{ident, type_of, const_of, element_of, path_of, place_of, expr_of, joined_of, links_of};
-ghost use Rattle.syntax.specs.Printing.{many_text, index_text, type_text, const_text, field_text, op_text, comparison_text, prefix_text, place_text, expr_text, links_text};
+ghost use Rattle.syntax.specs.Working.Printing.{many_text, index_text, type_text, const_text, field_text, op_text, comparison_text, prefix_text, place_text, expr_text, links_text};
 
 use crate::printer::Printer;
 use crate::tree::{

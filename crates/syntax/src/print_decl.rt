@@ -1,9 +1,9 @@
 //! The texts of declarations.
 
 ghost use Rattle.std.specs.Prelude.{map};
-ghost use Rattle.syntax.specs.Adding.{Adds};
+ghost use Rattle.syntax.specs.Working.Adding.{Adds};
 ghost use Rattle.syntax.specs.Views.{protection_of, const_of, type_of, option_of, member_of, struct_of, variable_of, array_of, pool_of, init_of, param_of, section_of, decl_of};
-ghost use Rattle.syntax.specs.Printing.{many_text, after_comma, listed_text, optional_text, protection_text, value_text, result_text, member_text, struct_text, variable_text, array_text, pool_text, init_text, param_text, section_text, decl_text, tree_text};
+ghost use Rattle.syntax.specs.Working.Printing.{many_text, after_comma, listed_text, optional_text, protection_text, value_text, result_text, member_text, struct_text, variable_text, array_text, pool_text, init_text, param_text, section_text, decl_text, tree_text};
 
 use crate::print::{push_const, push_fields, push_index, push_type};
 use crate::print_stmt::push_stmts;

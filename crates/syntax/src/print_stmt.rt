@@ -1,10 +1,10 @@
 //! The texts of statements.
 
 ghost use Rattle.std.specs.Prelude.{◌≡◌, ◌++◌, codes, map};
-ghost use Rattle.syntax.specs.Adding.{Adds};
+ghost use Rattle.syntax.specs.Working.Adding.{Adds};
 ghost use Rattle.syntax.specs.Views.{place_of, expr_of, local_of, owner_of, owned_local_of, helper_call_of, called_local_of, stmt_of, if_of, stmts_of, else_of};
-ghost use Rattle.syntax.specs.Rows.{while_of};
-ghost use Rattle.syntax.specs.Printing.{many_text, after_comma, listed_text, place_text, expr_text, indent, deeper, local_text, owner_text, helper_call_text, called_text, stmt_text, stmts_text, braced, else_text};
+ghost use Rattle.syntax.specs.Theory.Rows.{while_of};
+ghost use Rattle.syntax.specs.Working.Printing.{many_text, after_comma, listed_text, place_text, expr_text, indent, deeper, local_text, owner_text, helper_call_text, called_text, stmt_text, stmts_text, braced, else_text};
 
 use crate::print::{push_expr, push_place, push_type};
 use crate::printer::Printer;

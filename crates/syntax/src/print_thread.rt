@@ -1,9 +1,9 @@
 //! The texts of threads.
 
 ghost use Rattle.std.specs.Prelude.{map};
-ghost use Rattle.syntax.specs.Adding.{Adds};
+ghost use Rattle.syntax.specs.Working.Adding.{Adds};
 ghost use Rattle.syntax.specs.Views.{const_of, call_of, item_of, items_of, thread_of};
-ghost use Rattle.syntax.specs.Printing.{many_text, after_comma, listed_text, const_text, call_text, item_text, items_text, thread_text};
+ghost use Rattle.syntax.specs.Working.Printing.{many_text, after_comma, listed_text, const_text, call_text, item_text, items_text, thread_text};
 
 use crate::print::push_const;
 use crate::print_stmt::{deeper, push_indent};

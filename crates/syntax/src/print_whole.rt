@@ -2,8 +2,8 @@
 
 ghost use Rattle.std.specs.Prelude.{◌≡◌, IfOk, string_bytes};
 ghost use Rattle.syntax.specs.Views.{tree_of};
-ghost use Rattle.syntax.specs.Bare.{HasTextIfAny};
-ghost use Rattle.syntax.specs.Printing.{tree_text};
+ghost use Rattle.syntax.specs.Working.Bare.{HasTextIfAny};
+ghost use Rattle.syntax.specs.Working.Printing.{tree_text};
 
 use crate::print_decl::push_decls;
 use crate::printer::Printer;

@@ -3,7 +3,7 @@
 ghost use Rattle.std.specs.Prelude.{◌≡◌, ◌++◌, [], IfOk, OnOk, false, string_bytes};
 ghost use Rattle.std.specs.Fmt.{decimal};
 ghost use Rattle.syntax.specs.Views.{ident};
-ghost use Rattle.syntax.specs.Adding.{Adds};
+ghost use Rattle.syntax.specs.Working.Adding.{Adds};
 
 use crate::tree::Name;
 use source::memory::NoMemory;

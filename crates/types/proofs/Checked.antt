@@ -7,14 +7,14 @@ use Rattle.resolution.specs.CoreViews.{core_of}
 use Rattle.syntax.specs.Trees.{Decl}
 use Rattle.resolution.specs.Core as core
 use Rattle.source.specs.Mistakes.{goes_before, least_of}
-use Rattle.source.specs.Leasts.{least_append}
+use Rattle.source.specs.Theory.Leasts.{least_append}
 use Rattle.resolution.specs.Resolution.{nothing_yet, resolved, resolved_from}
-use Rattle.resolution.specs.FaultLists.{twice_faults, struct_faults, total_faults, repeated_faults, each_faults}
-use Rattle.resolution.specs.Laws.{the_least}
-use Rattle.declarations.specs.Grown.{if_right}
-use Rattle.call_graph.specs.FaultLists.{graph_faults}
+use Rattle.resolution.specs.Working.FaultLists.{twice_faults, struct_faults, total_faults, repeated_faults, each_faults}
+use Rattle.resolution.specs.Working.Laws.{the_least}
+use Rattle.types_declarations.specs.Working.Grown.{if_right}
+use Rattle.core_lang_calls.specs.Working.FaultLists.{graph_faults}
 use Rattle.resolution.specs.CallGraphs.{tree_graph}
-use Rattle.types.specs.Whole.{judged_faults}
+use Rattle.types.specs.Working.Whole.{judged_faults}
 
 -- the least after the passes over all declarations
 abbrev pub least_after : Option Mistake → List Decl → Option Mistake

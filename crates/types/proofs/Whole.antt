@@ -7,7 +7,7 @@ use Rattle.syntax.specs.declared.tree.Struct as rust_struct
 use Rattle.syntax.specs.Trees.{Decl, Struct}
 use Rattle.syntax.specs.Views.{decl_of, struct_of}
 use Rattle.resolution.specs.Scopes.{number_at, the_struct}
-use Rattle.resolution.specs.Facts.{struct_at}
+use Rattle.resolution.specs.Theory.Facts.{struct_at}
 
 pub at_place : (decls : List Decl) (place number : ℕ) (d : rust.Decl) (s : rust_struct.Struct) (o : Option Struct) → slice_get decls place ≡ Some (decl_of d) → d ≡ variant.Struct s → number ≡ number_at decls place (decl_of d) → o ≡ the_struct decls number → o ≡ Some (struct_of s)
 at_place decls place number d s o there is at found =

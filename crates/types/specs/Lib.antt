@@ -1,5 +1,5 @@
-pub mod Whole
 -- what the public clauses cite
+pub mod Working
 pub use Rattle.syntax.specs.Views.{tree_of}
 pub use Rattle.syntax.specs.Returns.{ReturnsRight}
 pub use Rattle.core_lang.specs.WellFormed.{IsChecked, IsWellFormed}

@@ -1,8 +1,8 @@
 //! From the tree of a program to the program that it stands for: each name replaced by the number of what it means,
 //! every expression typed; or the program's first fault of names and types.
 //!
-//! - [`program::check`]: the pass. The tables of declarations are those of `symbols`; sections are judged by `sections`,
-//!   constants, `init`s and calls by `constants`; `declarations` adds one declaration after another to the program.
+//! - [`program::check`]: the pass. The tables of declarations are those of `types_symbols`; sections are judged by `types_sections`,
+//!   constants, `init`s and calls by `types_constants`; `types_declarations` adds one declaration after another to the program.
 //! - `specs/Resolution.antt` of `resolution`: the program that a tree stands for; `specs/Scopes.antt`: what names mean.
 //! - `specs/Faults.antt` of `resolution`: where each fault stands; `specs/Mistakes.antt` of `source`: which one is given.
 #![tactic(auto)]

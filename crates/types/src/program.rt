@@ -10,34 +10,34 @@ ghost use Rattle.resolution.specs.Resolution.{resolved_from, nothing_yet};
 ghost use Rattle.resolution.specs.Limits.{section_limits, helper_limits};
 ghost use Rattle.resolution.specs.Resolved.{Resolves};
 ghost use Rattle.resolution.specs.Faults.{IsFault, IsRefusal, HasNoFault};
-ghost use Rattle.resolution.specs.Laws.{DeclaresNoHelper};
+ghost use Rattle.resolution.specs.Working.Laws.{DeclaresNoHelper};
 ghost use Rattle.source.specs.Mistakes.{least_of, IsLeastOf};
-ghost use Rattle.resolution.specs.FaultLists.{global_faults, array_faults, section_faults, decl_faults, each_faults, items_faults};
-ghost use Rattle.symbols.specs.{decls_of};
-ghost use Rattle.declarations.specs.Grown.{built};
-ghost use Rattle.types.specs.Whole.{known, judged_faults, extended_if, global_if, array_if, section_if, helper_if, thread_if};
+ghost use Rattle.resolution.specs.Working.FaultLists.{global_faults, array_faults, section_faults, decl_faults, each_faults, items_faults};
+ghost use Rattle.types_symbols.specs.{decls_of};
+ghost use Rattle.types_declarations.specs.Working.Grown.{built};
+ghost use Rattle.types.specs.Working.Whole.{known, judged_faults, extended_if, global_if, array_if, section_if, helper_if, thread_if};
 
-use annotations::note_lock;
-use constants::constant::note_opening;
-use constants::initial::note_init;
-use constants::thread::{note_items, typed_calls};
 use core_lang::shape::Shape;
 use core_lang::typed::Typed;
 use core_lang::{shape, typed};
-use declarations::grown::{Builder, Grown, add_helper, add_lock, add_section};
-use declarations::pool::note_missing;
-use declarations::struct_builder::note_members;
-use expressions::wanted::want;
 use resolution::laws;
-use sections::section::{judge_helper, judge_section};
 use source::fault::{Fault, Refusal};
 use source::mistake::Mistake;
 use std::alloc::{AllocError, Global};
-use symbols::members::Structure;
-use symbols::scope::{note_target, note_type, type_outside};
-use symbols::table::SymbolTable;
 use syntax::tree::{Array, Decl, Pool, Section, Thread, Tree, Variable};
-use tree_calls::program::note_calls;
+use types_annotations::note_lock;
+use types_calls::program::note_calls;
+use types_constants::constant::note_opening;
+use types_constants::initial::note_init;
+use types_constants::thread::{note_items, typed_calls};
+use types_declarations::grown::{Builder, Grown, add_helper, add_lock, add_section};
+use types_declarations::pool::note_missing;
+use types_declarations::struct_builder::note_members;
+use types_expressions::wanted::want;
+use types_sections::section::{judge_helper, judge_section};
+use types_symbols::members::Structure;
+use types_symbols::scope::{note_target, note_type, type_outside};
+use types_symbols::table::SymbolTable;
 
 /// Goes over the declarations of a program: notes what is wrong with each, and builds it where nothing is.
 #[derive(Clone, Copy)]
@@ -47,7 +47,7 @@ struct Judge<'a> {
 
 impl<'a> Judge<'a> {
     // A struct, which has this place.
-    #[tactic(auto, using(source::specs::Leasts::least_append))]
+    #[tactic(auto, using(source::specs::Theory::Leasts::least_append))]
     fn judge_struct(
         &self,
         place: usize,
@@ -74,7 +74,7 @@ impl<'a> Judge<'a> {
     }
 
     // A global.
-    #[tactic(auto, using(source::specs::Leasts::least_append))]
+    #[tactic(auto, using(source::specs::Theory::Leasts::least_append))]
     fn judge_global(
         &self,
         v: &Variable,
@@ -96,7 +96,7 @@ impl<'a> Judge<'a> {
     }
 
     // An array.
-    #[tactic(auto, using(source::specs::Leasts::least_append))]
+    #[tactic(auto, using(source::specs::Theory::Leasts::least_append))]
     fn judge_array(
         &self,
         a: &Array,
@@ -116,7 +116,7 @@ impl<'a> Judge<'a> {
     }
 
     // A pool, which has this place.
-    #[tactic(auto, using(source::specs::Leasts::least_append))]
+    #[tactic(auto, using(source::specs::Theory::Leasts::least_append))]
     fn judge_pool(
         &self,
         place: usize,
@@ -188,7 +188,7 @@ impl<'a> Judge<'a> {
     }
 
     // A declaration, which has this place.
-    #[tactic(auto, using(source::specs::Leasts::least_append))]
+    #[tactic(auto, using(source::specs::Theory::Leasts::least_append))]
     fn judge_decl(
         &self,
         place: usize,
@@ -226,7 +226,7 @@ impl<'a> Judge<'a> {
     }
 
     // The declarations, one after another.
-    #[tactic(auto, using(source::specs::Leasts::least_append))]
+    #[tactic(auto, using(source::specs::Theory::Leasts::least_append))]
     fn judge_decls(&self, grown: &mut Grown, least: &mut Option<Mistake>) -> Result<(), AllocError>
         ensures value { OnOk result (built grown.new ≡ resolved_from (known self.now) 0 (built grown.old) (known self.now)) }
         ensures faults { OnOk result (least.new ≡ least_of least.old (each_faults (known self.now) 0 (known self.now))) }
@@ -261,7 +261,7 @@ fn nothing(alloc: Global) -> Typed
 }
 
 /// The declarations of a program, one after another, and then what their bodies call.
-#[tactic(auto, using(source::specs::Leasts::least_append))]
+#[tactic(auto, using(source::specs::Theory::Leasts::least_append))]
 fn judge_all(
     alloc: Global,
     symbols: &SymbolTable,

@@ -3,8 +3,8 @@ use Rattle.std.proofs.Common.{◌≡◌, ◌≢◌, ◌∙◌, ℕ, List, [], �
 use Rattle.std.proofs.lemmas.List.{append_assoc, take_at}
 use Rattle.std.proofs.lemmas.List.Elements.{All-append}
 use Rattle.history.specs.Commits.{Commit}
-use Rattle.entry_copies.specs.Logs.{Begins}
-use Rattle.entry_copies.specs.Rows.{SeesOthers, SeesOwn}
+use Rattle.workers_copies.specs.Logs.{Begins}
+use Rattle.workers_copies.specs.Working.Rows.{SeesOthers, SeesOwn}
 
 pub begins-trans : {X : Type 0} (xs ys zs : List X) → Begins xs ys → Begins ys zs → Begins xs zs
 begins-trans xs ys zs a b = record {

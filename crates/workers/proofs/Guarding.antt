@@ -10,15 +10,15 @@ use Rattle.core_lang.specs.Typing.{HaveTypes, IsHeap, HasCells, cell_types}
 use Rattle.layout.specs.Layouts.{LayoutOf}
 use Rattle.code.specs.Memory.{Agrees}
 use Rattle.history.specs.Commits.{committed, IsLegal, AreTrue}
-use Rattle.history.specs.Laws.{TrueOfOneMore}
-use Rattle.lock_manager.specs.Sessions.{ReceiptOf}
-use Rattle.lock_manager.specs.Managers.{Managed, IsKept}
-use Rattle.lock_manager.specs.Calls.{KeepsEntries}
+use Rattle.history.specs.Working.Laws.{TrueOfOneMore}
+use Rattle.lock_manager.specs.Working.Sessions.{ReceiptOf}
+use Rattle.lock_manager.specs.Working.Managers.{Managed, IsKept}
+use Rattle.lock_manager.specs.Working.Calls.{KeepsEntries}
 use Rattle.lowering.specs.Plans.{Plan}
-use Rattle.worlds.specs.InOrder.{SectionsStayInOrder}
-use Rattle.runner.specs.Opens.{OpenOf, ReadyOf, IsOpen, IsSame, CanBeReleased, Released, entry_of}
-use Rattle.workers.specs.Guarding.{IsManagerOf}
-use Rattle.workers.specs.Within.{IsEntered}
+use Rattle.worlds.specs.Working.InOrder.{SectionsStayInOrder}
+use Rattle.runner.specs.Working.Opens.{OpenOf, ReadyOf, IsOpen, IsSame, CanBeReleased, Released, entry_of}
+use Rattle.workers.specs.Working.Guarding.{IsManagerOf}
+use Rattle.workers.specs.Working.Within.{IsEntered}
 
 typed_length : (shape : Shape) (ts : List ValueType) (vs : List Value) → HaveTypes shape ts vs → length vs ≡ length ts
 typed_length shape [] [] h = refl

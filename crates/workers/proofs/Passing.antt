@@ -4,10 +4,10 @@ use Rattle.std.proofs.lemmas.List.{append-nil, drop_at}
 use Rattle.std.proofs.lemmas.List.Elements.{All-nil, All-cons, All-head, All-tail}
 use Rattle.history.specs.Commits.{Commit}
 use Rattle.workers.specs.Seats.{ReplyOf, SeatOf, AllBelow}
-use Rattle.entry_copies.specs.Logs.{Begins, NoneOf}
-use Rattle.entry_copies.specs.Rows.{SeenOf, SeesOwn}
+use Rattle.workers_copies.specs.Logs.{Begins, NoneOf}
+use Rattle.workers_copies.specs.Working.Rows.{SeenOf, SeesOwn}
 use Rattle.workers.specs.Answers.{reply_at, replies_of, in_step}
-use Rattle.workers.specs.Within.{IsSeat, IsIn}
+use Rattle.workers.specs.Working.Within.{IsSeat, IsIn}
 
 -- ---- answers
 

@@ -14,7 +14,7 @@ use Rattle.history.specs.Commits.{Commit, call_of}
 use Rattle.worlds.specs.Claims.{AreOfScripts}
 use Rattle.lowering.specs.Plans.{Plan}
 use Rattle.workers.specs.Seats.{SeatOf, ReplyOf}
-use Rattle.workers.specs.Within.{AreInOrder, HasCalls}
+use Rattle.workers.specs.Working.Within.{AreInOrder, HasCalls}
 use Rattle.workers.specs.Answers.{AnswersAreIn, IsSeated, HasScript, call_in, reply_at, replies_of, in_step, script_at}
 
 pub has_script : (plan : Plan) (count : ℕ) (seats : List SeatOf) (log : List Commit) → AreInOrder plan count seats → All (AnswersAreIn log) seats → (t : ℕ) → t < count → HasScript plan log t

@@ -10,13 +10,13 @@ use Rattle.core_lang.specs.declared.value.Outcome.{Outcome}
 use Rattle.history.specs.Commits.{Commit, call_of, committed}
 use Rattle.lowering.specs.Plans.{Plan}
 use Rattle.core_lang.specs.declared.value.Value.{Value}
-use Rattle.runner.specs.Opens.{OpenOf, PoisedOf, ReadyOf, Prepares, IsItsEntry, IsSame, entry_of}
+use Rattle.runner.specs.Working.Opens.{OpenOf, PoisedOf, ReadyOf, Prepares, IsItsEntry, IsSame, entry_of}
 use Rattle.workers.specs.Seats.{ReplyOf, SeatOf, AllBelow, Gains, reply}
 use Rattle.workers.specs.Answers.{IsAnswer, reply_at, replies_of}
-use Rattle.entry_copies.specs.Logs.{IsSound}
-use Rattle.workers.specs.Seen.{Sees}
-use Rattle.entry_copies.specs.Rows.{SeenOf, SeesOwn}
-use Rattle.workers.specs.Within.{IsSeat, IsBegun, HasBegun, IsEntered, IsNotedOf, HasAnswer}
+use Rattle.workers_copies.specs.Logs.{IsSound}
+use Rattle.workers.specs.Working.Seen.{Sees}
+use Rattle.workers_copies.specs.Working.Rows.{SeenOf, SeesOwn}
+use Rattle.workers.specs.Working.Within.{IsSeat, IsBegun, HasBegun, IsEntered, IsNotedOf, HasAnswer}
 use Rattle.workers.proofs.Passing.{replies-below, replies_more, steps_more}
 use Rattle.workers.specs.declared.seat.Done.{Done}
 

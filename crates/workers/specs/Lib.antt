@@ -1,5 +1,3 @@
 pub mod Seats
 pub mod Answers
-pub mod Seen
-pub mod Guarding
-pub mod Within
+pub mod Working

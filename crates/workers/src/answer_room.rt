@@ -1,7 +1,7 @@
 //! Room for an answer.
 
 ghost use Rattle.std.specs.Prelude.{◌≡◌, ◌≤◌, ◌+◌, ◌++◌, [], length, IfSome, vec_len, vec_capacity};
-ghost use Rattle.workers.specs.Within.{IsNotedOf};
+ghost use Rattle.workers.specs.Working.Within.{IsNotedOf};
 
 use crate::seat::Done;
 use history::copies::CopyRoom;

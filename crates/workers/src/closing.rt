@@ -3,13 +3,13 @@
 ghost use Rattle.std.specs.Prelude.{◌≤◌, IsTrue, drop, length};
 ghost use Rattle.std.specs.List.{All};
 ghost use Rattle.workers.specs.Answers.{IsSeated};
-ghost use Rattle.entry_copies.specs.Logs.{NoneOf};
-ghost use Rattle.workers.specs.Within.{IsIn};
+ghost use Rattle.workers_copies.specs.Logs.{NoneOf};
+ghost use Rattle.workers.specs.Working.Within.{IsIn};
 
 use crate::seat::Seat;
-use entry_copies::naming::Naming;
 use history::entries::History;
 use history::kept::Kept;
+use workers_copies::naming::Naming;
 
 /// Whether what each seat has seen begins the entries, none of those behind it is of the seat's thread, and each entry's
 /// thread has a seat.

@@ -2,18 +2,15 @@
 
 ghost use Rattle.std.specs.Prelude.{◌≡◌, ◌<◌, ◌+◌, ◌^◌, IfOk, IfErr, OnOk, IfSome};
 ghost use Rattle.locks.specs.Waiting.{HasNoCycle};
-ghost use Rattle.lock_manager.specs.Managers.{opened, askers_of, IsKept, IsQuiet};
-ghost use Rattle.runner.specs.Opens.{IsItsEntry, ready_of, ready_again};
-ghost use Rattle.runner.specs.Answers.{GoesOnSame};
-ghost use Rattle.workers.specs.Guarding.{IsManagerOf};
-ghost use Rattle.entry_copies.specs.Logs.{IsSound};
-ghost use Rattle.workers.specs.Within.{IsBegun, IsEntered};
-ghost use Rattle.entry_copies.specs.Rows.{IsSameSeen, SeesMore, SeesOwn};
+ghost use Rattle.lock_manager.specs.Working.Managers.{opened, askers_of, IsKept, IsQuiet};
+ghost use Rattle.runner.specs.Working.Opens.{IsItsEntry, ready_of, ready_again};
+ghost use Rattle.runner.specs.Working.Answers.{GoesOnSame};
+ghost use Rattle.workers.specs.Working.Guarding.{IsManagerOf};
+ghost use Rattle.workers_copies.specs.Logs.{IsSound};
+ghost use Rattle.workers.specs.Working.Within.{IsBegun, IsEntered};
+ghost use Rattle.workers_copies.specs.Working.Rows.{IsSameSeen, SeesMore, SeesOwn};
 
 use crate::seat::CallRefusal;
-use entry_copies::naming::Naming;
-use entry_copies::row::TrueCopy;
-use entry_copies::seen::Seen;
 use history::entry::Entry;
 use lock_manager::manager::Manager;
 use lock_manager::ticket::Receipt;
@@ -23,6 +20,9 @@ use source::memory::NoMemory;
 use std::alloc::Global;
 use std::marker::{Model, PhantomData};
 use std::sync::Wait;
+use workers_copies::naming::Naming;
+use workers_copies::row::TrueCopy;
+use workers_copies::seen::Seen;
 
 /// What the Mutex guards: a manager of the program that `J` names, whose entries are true. As a value it is the
 /// manager.
@@ -35,8 +35,8 @@ pub struct Guarded<'p, J: Naming> {
 }
 
 impl<'p, J: Naming> Model for Guarded<'p, J> {
-    ghost use Rattle.lock_manager.specs.Managers.{Managed};
-    ghost use Rattle.workers.specs.Guarding.{IsManagerOf};
+    ghost use Rattle.lock_manager.specs.Working.Managers.{Managed};
+    ghost use Rattle.workers.specs.Working.Guarding.{IsManagerOf};
 
     ghost Value = { Managed };
 

@@ -2,16 +2,16 @@
 
 ghost use Rattle.std.specs.Prelude.{◌≡◌, ◌<◌, [], IsTrue};
 ghost use Rattle.workers.specs.Seats.{new_seat};
-ghost use Rattle.entry_copies.specs.Logs.{IsSound};
+ghost use Rattle.workers_copies.specs.Logs.{IsSound};
 
 use crate::parking::Parking;
 use core_lang::value::Outcome;
-use entry_copies::naming::Naming;
-use entry_copies::seen::Seen;
 use runner::states::Ready;
 use source::memory::NoMemory;
 use std::alloc::AllocError;
 use std::marker::Model;
+use workers_copies::naming::Naming;
+use workers_copies::seen::Seen;
 
 /// What a call answers.
 #[derive(Drop)]
@@ -58,7 +58,7 @@ pub struct Seat<'r, J: Naming> {
 impl<'r, J: Naming> Model for Seat<'r, J> {
     ghost use Rattle.workers.specs.Seats.{SeatOf};
     ghost use Rattle.workers.specs.Answers.{replies_of};
-    ghost use Rattle.workers.specs.Within.{IsSeat};
+    ghost use Rattle.workers.specs.Working.Within.{IsSeat};
 
     ghost Value = { SeatOf };
 

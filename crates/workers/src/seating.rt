@@ -5,12 +5,12 @@ ghost use Rattle.workers.specs.Seats.{new_seat, new_seats};
 
 use crate::parking::{Parking, Waking};
 use crate::seat::Seat;
-use entry_copies::naming::Naming;
-use entry_copies::row::Row;
-use entry_copies::seen::Seen;
 use lowering::compiled::Program;
 use source::memory::NoMemory;
 use std::alloc::Global;
+use workers_copies::naming::Naming;
+use workers_copies::row::Row;
+use workers_copies::seen::Seen;
 
 /// Seats at a row, of the threads from 0 on, and what ends the waiting of each.
 #[derive(Drop)]

@@ -3,15 +3,15 @@
 ghost use Rattle.std.specs.Prelude.{◌≡◌, ◌<◌, ◌≤◌, ◌+◌, ◌^◌, ◌↔◌, length, IsTrue, MatchBool, IfOk, IfErr, OnOk, OnErr};
 ghost use Rattle.std.specs.List.{All};
 ghost use Rattle.core_lang.specs.WellFormed.{CanCall};
-ghost use Rattle.lock_manager.specs.Managers.{IsQuiet};
-ghost use Rattle.runner.specs.Opens.{IsItsEntry, IsSame, ready_again};
+ghost use Rattle.lock_manager.specs.Working.Managers.{IsQuiet};
+ghost use Rattle.runner.specs.Working.Opens.{IsItsEntry, IsSame, ready_again};
 ghost use Rattle.workers.specs.Seats.{AllBelow, Gains, new_seats};
 ghost use Rattle.workers.specs.Answers.{IsAnswer, IsSeated, IsHistoryOf, AnswersAreIn, as_call};
-ghost use Rattle.entry_copies.specs.Logs.{IsSound};
-ghost use Rattle.workers.specs.Seen.{Sees, SeenIsIn};
-ghost use Rattle.entry_copies.specs.Logs.{Begins};
-ghost use Rattle.workers.specs.Within.{HasAnswer, HasBegun, IsEntered};
-ghost use Rattle.entry_copies.specs.Rows.{IsSameSeen, SeesOwn};
+ghost use Rattle.workers_copies.specs.Logs.{IsSound};
+ghost use Rattle.workers.specs.Working.Seen.{Sees, SeenIsIn};
+ghost use Rattle.workers_copies.specs.Logs.{Begins};
+ghost use Rattle.workers.specs.Working.Within.{HasAnswer, HasBegun, IsEntered};
+ghost use Rattle.workers_copies.specs.Working.Rows.{IsSameSeen, SeesOwn};
 
 use crate::answer_room::AnswerRoom;
 use crate::closed::{Closed, Strange};
@@ -23,9 +23,6 @@ use crate::print_rooms::PrintRooms;
 use crate::seat::{CallRefusal, Done, Seat};
 use crate::seating::Seating;
 use core_lang::value::Value;
-use entry_copies::naming::Naming;
-use entry_copies::row::Row;
-use entry_copies::seen::Seen;
 use history::entry::Entry;
 use lock_manager::ticket::Receipt;
 use lowering::compiled::Program;
@@ -33,6 +30,9 @@ use runner::states::{Asked, Ended, Next, Ready, Running};
 use source::memory::NoMemory;
 use std::alloc::Global;
 use std::sync::{Mutex, Wait};
+use workers_copies::naming::Naming;
+use workers_copies::row::Row;
+use workers_copies::seen::Seen;
 
 /// A program whose sections threads run, each from its own [`Seat`]. The manager of its locks, with the cells and the
 /// history, lies under a Mutex.

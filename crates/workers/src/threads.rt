@@ -5,15 +5,13 @@ ghost use denote.Param.Send.{IsSend, IsSync};
 ghost use Rattle.lowering.specs.contracts.compiled.Program as program;
 ghost use Rattle.worlds.specs.Claims.{AreOfScripts};
 ghost use Rattle.workers.specs.Answers.{HasScript, IsHistoryOf, RunsAsAccepted, call_in, script_at};
-ghost use Rattle.workers.specs.Within.{AreInOrder, HasCalls, NoCall, IsCall};
+ghost use Rattle.workers.specs.Working.Within.{AreInOrder, HasCalls, NoCall, IsCall};
 
 use crate::closed::{Closed, Strange};
 use crate::gate::Gate;
 use crate::seat::{CallRefusal, Seat};
 use crate::shared::Shared;
 use core_lang::typed::Call;
-use entry_copies::naming::Naming;
-use entry_copies::row::Row;
 use lowering::compiled::Program;
 use source::memory::NoMemory;
 use std::alloc::Global;
@@ -21,6 +19,8 @@ use std::marker::Brand;
 use std::sync::Wait;
 use std::thread;
 use std::thread::Threads;
+use workers_copies::naming::Naming;
+use workers_copies::row::Row;
 
 /// Runs each script of the program in a thread of its own, to its end. The gate is told how far each call has come.
 ///

@@ -14,9 +14,9 @@ use Rattle.core_lang.specs.declared.typed.Thread.{Thread}
 use Rattle.core_lang.specs.declared.value.ValueType.TheVariants.{Integer}
 use Rattle.core_lang.specs.Typing.{IsWellTypedSection}
 use Rattle.core_lang.specs.Scopes.{IsWellScoped}
-use Rattle.core_lang.specs.Checked.{checked}
+use Rattle.core_lang.specs.Theory.Checked.{checked}
 use Rattle.core_lang.specs.Expansion.{entered, IsWrittenOut}
-use Rattle.expansion.specs.Data.{IsExpanded}
+use Rattle.core_lang_expansion.specs.Data.{IsExpanded}
 use Rattle.core_lang.specs.WellFormed.{IsWithinLimits, IsLaidOut, IsProtected, IsGlobalClass, IsCell, IsCellOf, IsClassOf, CanCall, IsWellFormed}
 use Rattle.locks.specs.LockPaths.{LockPath, global_path, lock_path, paths_of, each_once, Uses}
 use Rattle.locks.specs.Accesses.{Access, access, global, accesses}

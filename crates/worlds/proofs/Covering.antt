@@ -7,25 +7,25 @@ use Rattle.core_lang.specs.declared.tree.Section.{Section}
 use Rattle.core_lang.specs.declared.typed.Typed.{Typed}
 use Rattle.core_lang.specs.Meaning.{State}
 use Rattle.core_lang.specs.Typing.{local_types, IsHeap}
-use Rattle.core_lang.specs.Soundness.{IsTypedState, LeadsToTyped}
+use Rattle.core_lang.specs.Working.Soundness.{IsTypedState, LeadsToTyped}
 use Rattle.source.specs.declared.fault.Code.TheVariants.{UnstableBase}
 use Rattle.flow.specs.Points.{Point, points}
-use Rattle.flow.specs.Effects.{effect_at}
-use Rattle.flow.specs.Laws.{PointsStayTyped}
+use Rattle.flow.specs.Working.Effects.{effect_at}
+use Rattle.flow.specs.Working.Laws.{PointsStayTyped}
 use Rattle.locks.specs.declared.lock.Lock.{Lock}
 use Rattle.locks.specs.Accesses.{Access, accesses_at}
 use Rattle.locks.specs.Locks.{lock_of_cell}
 use Rattle.locks.specs.LockPaths.{LockPath, lock_path, Uses}
-use Rattle.locks.specs.Laws.{PathsNameTheLocks}
+use Rattle.locks.specs.Working.Laws.{PathsNameTheLocks}
 use Rattle.locks.specs.Faults.{HasSection, HasNoFault, unstable_base, unstable}
-use Rattle.inserter.specs.Laws.{IsOrdered, InRuns, UsedAreHeld}
-use Rattle.inserter.specs.Runs.{IsListed}
+use Rattle.inserter.specs.Working.Laws.{IsOrdered, InRuns, UsedAreHeld}
+use Rattle.inserter.specs.Working.Runs.{IsListed}
 use Rattle.code.specs.Machine.{Machine}
 use Rattle.code.specs.Memory.{HeldCells}
-use Rattle.code.specs.Seen.{held_value, IsSeen, Shows, Covers}
-use Rattle.code.specs.Ahead.{CanExecute}
+use Rattle.code.specs.Working.Seen.{held_value, IsSeen, Shows, Covers}
+use Rattle.code.specs.Working.Ahead.{CanExecute}
 use Rattle.lowering.specs.Plans.{Plan}
-use Rattle.worlds.specs.Ahead.{HasCome}
+use Rattle.worlds.specs.Working.Ahead.{HasCome}
 use Rattle.worlds.proofs.Cells.{some_or_none}
 use Rattle.worlds.proofs.InTurn.{in_rest, in_cases}
 

@@ -4,40 +4,40 @@ use Rattle.std.proofs.lemmas.Option.{slice_get_within}
 use Rattle.std.specs.Prelude.{unwrap_or}
 use Rattle.std.specs.Option.{option_map_or}
 use Rattle.std.specs.List.{Contains}
-use Rattle.core_lang.specs.Checked.{calls_nothing}
+use Rattle.core_lang.specs.Theory.Checked.{calls_nothing}
 use Rattle.core_lang.specs.declared.value.Value.{Value}
 use Rattle.core_lang.specs.declared.tree.Section.{Section}
 use Rattle.core_lang.specs.Serial.{Invocation}
 use Rattle.core_lang.specs.Whole.{opening}
 use Rattle.core_lang.specs.Typing.{local_types, cell_types, HaveTypes, Fit}
-use Rattle.core_lang.specs.Soundness.{IsTypedState, LeadsToTyped}
+use Rattle.core_lang.specs.Working.Soundness.{IsTypedState, LeadsToTyped}
 use Rattle.flow.specs.Skeletons.{Skeleton, Nil, Step, Fork, Loop, skeleton}
 use Rattle.flow.specs.Flow.{head}
 use Rattle.flow.specs.Points.{points, scopes, IsScopeAt}
-use Rattle.flow.specs.Laws.{ScopesAreCounted}
+use Rattle.flow.specs.Working.Laws.{ScopesAreCounted}
 use Rattle.locks.specs.declared.lock.Lock.{Lock}
 use Rattle.locks.specs.Locks.{lock_of_cell}
-use Rattle.locks.specs.Laws.{LetsAgreeAtFirst, LetsKeepAgreeing, NamesStay}
-use Rattle.inserter.specs.Runs.{IsListed, Run, begins, goes}
-use Rattle.inserter.specs.Laws.{IsOrdered, PlacementsAreOrdered}
+use Rattle.locks.specs.Working.Laws.{LetsAgreeAtFirst, LetsKeepAgreeing, NamesStay}
+use Rattle.inserter.specs.Working.Runs.{IsListed, Run, begins, goes}
+use Rattle.inserter.specs.Working.Laws.{IsOrdered, PlacementsAreOrdered}
 use Rattle.code.specs.declared.instr.Instr.{Instr}
 use Rattle.code.specs.declared.instr.Instr.TheVariants.{Acquire}
 use Rattle.code.specs.Machine.{Machine, Effect, Moves, Asks, Finishes, Undefined, act, passed}
 use Rattle.code.specs.Memory.{HeldCells, load_held, store_held, value_at}
-use Rattle.code.specs.Seen.{held_value, IsSeen}
-use Rattle.code.specs.Spots.{HasAt, Spot, InSection}
+use Rattle.code.specs.Working.Seen.{held_value, IsSeen}
+use Rattle.code.specs.Working.Spots.{HasAt, Spot, InSection}
 use Rattle.code.specs.Lowering.{acquire_any, acquire_code, section_code}
 use Rattle.code.specs.Needs.{operand_need}
-use Rattle.code.specs.Ahead.{there, finishes, Goes, Steps, between_points, MayEnd, HasComeOn}
-use Rattle.code.specs.Safety.{safe_steps, steps_more}
-use Rattle.code.specs.Laws.{HasWritten, KeepsUnwritten, KeepsSize}
-use Rattle.code.specs.PointLaws.{PointsGoOn, SpotsArePoints, FirstPointIsAtStart, EmptyHasEnd, SpotsAcquire}
+use Rattle.code.specs.Working.Ahead.{there, finishes, Goes, Steps, between_points, MayEnd, HasComeOn}
+use Rattle.code.specs.Theory.Safety.{safe_steps, steps_more}
+use Rattle.code.specs.Working.Laws.{HasWritten, KeepsUnwritten, KeepsSize}
+use Rattle.code.specs.Working.PointLaws.{PointsGoOn, SpotsArePoints, FirstPointIsAtStart, EmptyHasEnd, SpotsAcquire}
 use Rattle.lowering.specs.Lowered.{lists_at}
 use Rattle.lowering.specs.Plans.{Plan, IsCompiled}
 use Rattle.worlds.specs.Asking.{to_ask}
 use Rattle.worlds.specs.Worlds.{Activation, activation, granted, section_at, code_at, locals_at, locks_before, instructed, next_effect}
-use Rattle.worlds.specs.InTurn.{RiseBehind, AskedInTurn}
-use Rattle.worlds.specs.Ahead.{SeesTyped, Any, HasCome, IsAtPoint, IsAsking, IsRunning, CanGoOn, running, asking, over}
+use Rattle.worlds.specs.Working.InTurn.{RiseBehind, AskedInTurn}
+use Rattle.worlds.specs.Working.Ahead.{SeesTyped, Any, HasCome, IsAtPoint, IsAsking, IsRunning, CanGoOn, running, asking, over}
 use Rattle.worlds.proofs.Places.{get_within}
 use Rattle.worlds.proofs.Cells.{value_cases}
 use Rattle.worlds.proofs.InTurn.{behind, with_none}

@@ -15,9 +15,9 @@ use Rattle.core_lang.specs.Whole.{default_of, default_local}
 use Rattle.core_lang.specs.Typing.{HasType, HaveTypes, local_types, cell_types, IsHeap}
 use Rattle.core_lang.specs.WellFormed.{IsWellFormed}
 use Rattle.code.specs.Memory.{HeldCells, value_at, overwritten}
-use Rattle.code.specs.Seen.{held_value, Shows}
-use Rattle.code.specs.Laws.{HasWritten, KeepsUnwritten, KeepsSize}
-use Rattle.worlds.specs.Ahead.{SeesTyped}
+use Rattle.code.specs.Working.Seen.{held_value, Shows}
+use Rattle.code.specs.Working.Laws.{HasWritten, KeepsUnwritten, KeepsSize}
+use Rattle.worlds.specs.Working.Ahead.{SeesTyped}
 use Rattle.worlds.proofs.Cells.{some_or_none}
 
 -- ---- a value for each type

@@ -8,17 +8,17 @@ use Rattle.core_lang.specs.Serial.{Invocation}
 use Rattle.core_lang.specs.WellFormed.{CanCall}
 use Rattle.locks.specs.declared.lock.Lock.{Lock}
 use Rattle.locks.specs.LockPaths.{LockPath, lock_paths, lock_named}
-use Rattle.locks.specs.Laws.{NamedAreLocks, UsedAreListed}
+use Rattle.locks.specs.Working.Laws.{NamedAreLocks, UsedAreListed}
 use Rattle.inserter.specs.Placement.{IsPath}
-use Rattle.inserter.specs.Laws.{InRuns, HeldAreNamed, FewAreHeld}
+use Rattle.inserter.specs.Working.Laws.{InRuns, HeldAreNamed, FewAreHeld}
 use Rattle.layout.specs.declared.room.Room.{Room}
 use Rattle.layout.specs.LockCells.{cells_of}
 use Rattle.lowering.specs.Lowered.{lists_at}
 use Rattle.lowering.specs.Plans.{Plan, IsCompiled}
-use Rattle.lowering.specs.Rooms.{most_cells, IsRoomOf}
+use Rattle.lowering.specs.Working.Rooms.{most_cells, IsRoomOf}
 use Rattle.worlds.specs.Worlds.{Activation, activation, section_at, granted, instructed, next_effect}
-use Rattle.worlds.specs.Ahead.{IsAsking, CanGoOn, running, asking, over, IsReady}
-use Rattle.worlds.specs.InOrder.{IsInOrder, AreCellsOf, FitRoom, SectionsStayInOrder}
+use Rattle.worlds.specs.Working.Ahead.{IsAsking, CanGoOn, running, asking, over, IsReady}
+use Rattle.worlds.specs.Working.InOrder.{IsInOrder, AreCellsOf, FitRoom, SectionsStayInOrder}
 use Rattle.worlds.proofs.Cells.{Among, cells_of_has, cells_of_only, key_only, key_has}
 use Rattle.worlds.proofs.Well.{Laws, well_begun, well_instructed, well_granted, well_asked, true_commit}
 use Rattle.worlds.proofs.Steps.{can_call}

@@ -16,14 +16,14 @@ use Rattle.locks.specs.declared.lock.Lock.{Lock}
 use Rattle.locks.specs.declared.path.Root.{Root}
 use Rattle.locks.specs.declared.path.Root.TheVariants.{GlobalLock, Local as AtLocal}
 use Rattle.locks.specs.LockPaths.{LockPath, lock_paths, lock_from, lock_named, object_at}
-use Rattle.locks.specs.Laws.{PathsHaveClasses, UsedAreListed}
+use Rattle.locks.specs.Working.Laws.{PathsHaveClasses, UsedAreListed}
 use Rattle.locks.specs.Order.{Precedes, PrecedesIsStrict}
 use Rattle.layout.specs.LockCells.{same_lock}
 use Rattle.lockorder.specs.Edges.{AreRanksOf}
-use Rattle.inserter.specs.Runs.{IsListed, Asks, Run, gets}
-use Rattle.inserter.specs.Laws.{IsOrdered, InRuns, AsksRise}
+use Rattle.inserter.specs.Working.Runs.{IsListed, Asks, Run, gets}
+use Rattle.inserter.specs.Working.Laws.{IsOrdered, InRuns, AsksRise}
 use Rattle.worlds.specs.Asking.{among, precedes, insert, insert_new, lock_numbered, to_ask}
-use Rattle.worlds.specs.InTurn.{RiseBehind, AskedInTurn}
+use Rattle.worlds.specs.Working.InTurn.{RiseBehind, AskedInTurn}
 use Rattle.worlds.proofs.Cells.{same_is, same_refl, contains_among, among_contains}
 
 pub record OrderLaws : Type 0 where

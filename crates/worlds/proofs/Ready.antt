@@ -6,7 +6,7 @@ use Rattle.core_lang.specs.declared.value.Value.{Value}
 use Rattle.core_lang.specs.declared.value.Outcome.{Outcome}
 use Rattle.core_lang.specs.declared.tree.Section.{Section}
 use Rattle.core_lang.specs.Laws.{StaysTyped, NeverGoAstray}
-use Rattle.core_lang.specs.Checked.{checked}
+use Rattle.core_lang.specs.Theory.Checked.{checked}
 use Rattle.core_lang.specs.Typing.{cell_types, IsHeap, Fit}
 use Rattle.locks.specs.declared.lock.Lock.{Lock}
 use Rattle.locks.specs.Locks.{lock_of_cell}
@@ -14,18 +14,18 @@ use Rattle.locks.specs.Order.{Precedes}
 use Rattle.layout.specs.LockCells.{cells_of}
 use Rattle.code.specs.Machine.{Effect, Moves, Asks, Finishes, Undefined}
 use Rattle.code.specs.Memory.{HeldCells, value_at, overwritten, Agrees}
-use Rattle.code.specs.Seen.{held_value, IsSeen}
-use Rattle.code.specs.RunLaws.{EndsOnlyAsSection}
+use Rattle.code.specs.Working.Seen.{held_value, IsSeen}
+use Rattle.code.specs.Working.RunLaws.{EndsOnlyAsSection}
 use Rattle.history.specs.Commits.{Commit, committed}
-use Rattle.history.specs.Laws.{CommittedOfOneMore, CommittedKeepsSize}
+use Rattle.history.specs.Working.Laws.{CommittedOfOneMore, CommittedKeepsSize}
 use Rattle.lowering.specs.Lowered.{lists_at}
 use Rattle.lowering.specs.Plans.{Plan, IsCompiled}
 use Rattle.worlds.specs.declared.event.Event.{Event}
 use Rattle.worlds.specs.Worlds.{World, ThreadState, Activation, HasOpen, commit, activation, granted, taken, without, with_back, instructed, next_effect, happens, opening_world, scripts}
-use Rattle.worlds.specs.States.{IsWell, IsSound}
-use Rattle.worlds.specs.InTurn.{RiseBehind}
+use Rattle.worlds.specs.Working.States.{IsWell, IsSound}
+use Rattle.worlds.specs.Working.InTurn.{RiseBehind}
 use Rattle.worlds.specs.Waiting.{PendingRises, AllHaveNext}
-use Rattle.worlds.specs.Ahead.{SeesTyped, CanGoOn, running, asking, over, IsReady, IsReadyWorld, WorldsStayReady}
+use Rattle.worlds.specs.Working.Ahead.{SeesTyped, CanGoOn, running, asking, over, IsReady, IsReadyWorld, WorldsStayReady}
 use Rattle.worlds.proofs.Turns.{Turn, idles, starts, gets, waits, over as ends, moves, turn}
 use Rattle.worlds.proofs.Cells.{contains_among, taken_only}
 use Rattle.worlds.proofs.Sound.{changed, now_open, still_open}

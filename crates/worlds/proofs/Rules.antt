@@ -14,7 +14,7 @@ use Rattle.worlds.specs.Asking.{among}
 use Rattle.worlds.specs.Worlds.{World, ThreadState, Activation, HasOpen, scripts, instructed, next_effect, happens, opening_world}
 use Rattle.worlds.specs.Waiting.{PendingRises}
 use Rattle.worlds.specs.Claims.{HoldsCell, KeepsTheRules}
-use Rattle.worlds.specs.States.{IsSound}
+use Rattle.worlds.specs.Working.States.{IsSound}
 use Rattle.worlds.proofs.Places.{get_set_is, get_push}
 use Rattle.worlds.proofs.Turns.{Turn, idles, starts, gets, waits, over, moves, turn}
 use Rattle.worlds.proofs.Cells.{contains_among, among_contains}

@@ -7,7 +7,7 @@ use Rattle.history.specs.Commits.{Commit, committed, IsLegal, AreTrue}
 use Rattle.lowering.specs.Plans.{Plan}
 use Rattle.worlds.specs.Asking.{among}
 use Rattle.worlds.specs.Worlds.{World, ThreadState, Activation, HasOpen}
-use Rattle.worlds.specs.States.{IsWell, IsFit, IsSound}
+use Rattle.worlds.specs.Working.States.{IsWell, IsFit, IsSound}
 use Rattle.worlds.specs.Claims.{HoldsCell}
 use Rattle.worlds.proofs.Places.{get_set_other, get_set_same, get_set_is}
 

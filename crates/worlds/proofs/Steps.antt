@@ -19,7 +19,7 @@ use Rattle.lowering.specs.Plans.{Plan, IsCompiled}
 use Rattle.worlds.specs.declared.event.Event.{Event}
 use Rattle.worlds.specs.Asking.{among}
 use Rattle.worlds.specs.Worlds.{World, ThreadState, Activation, activation, commit, granted, taken, without, with_back, holds, holder_from, holder, instructed, next_effect, script_of, scripts, call_at, section_at, at_first, happens, opening_world, HasOpen}
-use Rattle.worlds.specs.States.{IsWell, IsFit, IsSound}
+use Rattle.worlds.specs.Working.States.{IsWell, IsFit, IsSound}
 use Rattle.worlds.specs.Claims.{HoldsCell}
 use Rattle.worlds.proofs.Turns.{Active, Turn, idles, starts, gets, waits, over, moves, turn}
 use Rattle.worlds.proofs.Cells.{among_more, among_last, among_push, cells_of_has, cells_of_only, taken_only, taken_has, some_or_none, length-without, without_some, without_none, without_none_cases, length-with_back, back_other, back_some, back_none, overwritten_cong, agrees_kept}

@@ -14,7 +14,7 @@ use Rattle.locks.specs.declared.path.Root.TheVariants.{GlobalLock, Local as AtLo
 use Rattle.locks.specs.Locks.{global_lock}
 use Rattle.locks.specs.LockPaths.{LockPath, object_at, lock_from, lock_named}
 use Rattle.layout.specs.LockCells.{cells_of}
-use Rattle.lowering.specs.Rooms.{most_among}
+use Rattle.lowering.specs.Working.Rooms.{most_among}
 use Rattle.worlds.proofs.Places.{get_set_other}
 
 -- ---- sums

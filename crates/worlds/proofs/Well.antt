@@ -5,7 +5,7 @@ use Rattle.std.proofs.Common.{nat_eq}
 use Rattle.std.proofs.lemmas.Bool.{cases_eq, cond-true, cond-false, eq-eqb, ne_eqb}
 use Rattle.std.proofs.lemmas.Option.{slice_get_within}
 use Rattle.std.specs.Option.{option_map_or}
-use Rattle.core_lang.specs.Checked.{calls_nothing}
+use Rattle.core_lang.specs.Theory.Checked.{calls_nothing}
 use Rattle.core_lang.specs.declared.value.Value.{Value}
 use Rattle.core_lang.specs.declared.value.Outcome.{Outcome}
 use Rattle.core_lang.specs.declared.tree.Section.{Section}
@@ -18,14 +18,14 @@ use Rattle.code.specs.Machine.{Effect, Moves, Asks, Finishes, Undefined, At, Hal
 use Rattle.code.specs.Memory.{HeldCells, value_at, load_from, store_to, overwritten, Agrees, IsCovered, IsConsistent, IsPartOf}
 use Rattle.code.specs.Alone.{alone, starting}
 use Rattle.code.specs.Lowering.{section_code}
-use Rattle.code.specs.Laws.{KeepsHeld, MovesAlike, AsksAlike, FinishesAlike, KeepsUnwritten, on_heap}
-use Rattle.code.specs.RunLaws.{EndsOnlyAsSection}
-use Rattle.history.specs.Laws.{CommittedOfOneMore, LegalOfOneMore, TrueOfOneMore}
+use Rattle.code.specs.Working.Laws.{KeepsHeld, MovesAlike, AsksAlike, FinishesAlike, KeepsUnwritten, on_heap}
+use Rattle.code.specs.Working.RunLaws.{EndsOnlyAsSection}
+use Rattle.history.specs.Working.Laws.{CommittedOfOneMore, LegalOfOneMore, TrueOfOneMore}
 use Rattle.history.specs.Commits.{IsTrueCommit}
 use Rattle.lowering.specs.Lowered.{lists_at}
 use Rattle.lowering.specs.Plans.{Plan, IsCompiled}
 use Rattle.worlds.specs.Worlds.{Activation, activation, commit, granted, taken, section_at, code_at, locals_at, instructed, next_effect}
-use Rattle.worlds.specs.States.{standing, IsWell, IsFit}
+use Rattle.worlds.specs.Working.States.{standing, IsWell, IsFit}
 use Rattle.worlds.specs.Claims.{HoldsCell}
 use Rattle.worlds.proofs.Alone.{one_more}
 use Rattle.worlds.proofs.Cells.{among_more, among_last, among_push, value_more, value_behind, value_cases, some_or_none, taken_only, without_none, without_away}

@@ -2,10 +2,10 @@
 
 ghost use Rattle.worlds.specs.Claims.{EveryRunHasIt, EveryWorldKeepsTheRules, OfScriptsRunAlike};
 ghost use Rattle.worlds.specs.Waiting.{RisingHasNoCycle, RisingWaitsForHolders, RisingGoesOn, InstructionsHaveTheirCase};
-ghost use Rattle.worlds.specs.InTurn.{AskedInTurn};
-ghost use Rattle.worlds.specs.States.{OpeningIsSound, StepsKeepSound};
-ghost use Rattle.worlds.specs.Ahead.{WorldsStayReady};
-ghost use Rattle.worlds.specs.InOrder.{SectionsStayInOrder};
+ghost use Rattle.worlds.specs.Working.InTurn.{AskedInTurn};
+ghost use Rattle.worlds.specs.Working.States.{OpeningIsSound, StepsKeepSound};
+ghost use Rattle.worlds.specs.Working.Ahead.{WorldsStayReady};
+ghost use Rattle.worlds.specs.Working.InOrder.{SectionsStayInOrder};
 
 /// Before any step a world is sound, and each step of a thread of a compiled program keeps it so: its history is legal and true, each open
 /// section keeps the rules, and each cell is either as the history leaves it or with exactly one section.

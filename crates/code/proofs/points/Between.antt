@@ -13,8 +13,8 @@ use Rattle.flow.specs.Points.{Point, statement, result}
 use Rattle.code.specs.declared.instr.Instr.{Instr}
 use Rattle.code.specs.declared.instr.Instr.TheVariants.{Jump, JumpBack, JumpIfFalse, Return, End}
 use Rattle.code.specs.Lowering.{expr_code, test_code, points_of, points_in, acquire_code, stmt_code, block_code, body_code, section_code}
-use Rattle.code.specs.Spots.{HasAt, Spot, spot, InBlock, InAction, InBody, InSection}
-use Rattle.code.specs.PointLaws.{FirstPointIsAtStart, EmptyHasEnd, SpotsAcquire}
+use Rattle.code.specs.Working.Spots.{HasAt, Spot, spot, InBlock, InAction, InBody, InSection}
+use Rattle.code.specs.Working.PointLaws.{FirstPointIsAtStart, EmptyHasEnd, SpotsAcquire}
 use Rattle.code.proofs.points.Places.{has_front, has_back, has_both, has_all}
 
 -- as many points as in the skeleton

@@ -10,11 +10,11 @@ use Rattle.core_lang.specs.declared.shape.Shape.{Shape}
 use Rattle.core_lang.specs.declared.tree.Section.{Section}
 use Rattle.core_lang.specs.Meaning.{State, Flow, GoesOn, Traps, Beyond, Astray, given, value_of}
 use Rattle.flow.specs.Points.{Point, statement, result}
-use Rattle.flow.specs.Effects.{effect_at}
+use Rattle.flow.specs.Working.Effects.{effect_at}
 use Rattle.code.specs.Machine.{Machine}
-use Rattle.code.specs.Seen.{IsMemory}
-use Rattle.code.specs.Ahead.{MayEnd, HasComeOn}
-use Rattle.code.specs.PointLaws.{PointsGoOn}
+use Rattle.code.specs.Working.Seen.{IsMemory}
+use Rattle.code.specs.Working.Ahead.{MayEnd, HasComeOn}
+use Rattle.code.specs.Working.PointLaws.{PointsGoOn}
 use Rattle.code.proofs.points.Results.{Gives, Leads}
 use Rattle.code.proofs.points.Points.{Does, point_safe}
 

@@ -7,7 +7,7 @@ use Rattle.core_lang.specs.declared.tree.Return.{Return as Result_of}
 use Rattle.core_lang.specs.declared.tree.Section.{Section}
 use Rattle.flow.specs.Points.{Point, statement, result}
 use Rattle.code.specs.Needs.{expr_need, test_need, stmt_need, block_need, end_need, body_need, operand_need}
-use Rattle.code.specs.Spots.{Spot, spot, Inside, InBlock, InBody, InSection}
+use Rattle.code.specs.Working.Spots.{Spot, spot, Inside, InBlock, InBody, InSection}
 
 abbrev pub own_need : Action → ℕ
 own_need (If' c m block) = test_need c

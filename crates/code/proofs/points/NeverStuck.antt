@@ -13,13 +13,13 @@ use Rattle.core_lang.specs.declared.typed.Typed.{Typed}
 use Rattle.core_lang.specs.Meaning.{State}
 use Rattle.core_lang.specs.Whole.{opening, default_of, default_local}
 use Rattle.core_lang.specs.Typing.{HasType, HaveTypes, local_types, cell_types}
-use Rattle.core_lang.specs.Soundness.{IsTypedState, LeadsToTyped}
+use Rattle.core_lang.specs.Working.Soundness.{IsTypedState, LeadsToTyped}
 use Rattle.core_lang.specs.WellFormed.{IsWellFormed}
-use Rattle.core_lang.specs.Checked.{calls_nothing}
+use Rattle.core_lang.specs.Theory.Checked.{calls_nothing}
 use Rattle.flow.specs.Skeletons.{skeleton}
 use Rattle.flow.specs.Flow.{head}
-use Rattle.flow.specs.Effects.{effect_at}
-use Rattle.flow.specs.Laws.{PointsStayTyped}
+use Rattle.flow.specs.Working.Effects.{effect_at}
+use Rattle.flow.specs.Working.Laws.{PointsStayTyped}
 use Rattle.locks.specs.Faults.{HasSection}
 use Rattle.code.specs.declared.instr.Instr.{Instr}
 use Rattle.code.specs.Machine.{Machine, Effect, Moves, Asks, Finishes, Undefined, act, proceed, exec}
@@ -27,11 +27,11 @@ use Rattle.code.specs.Memory.{load_from, store_to}
 use Rattle.code.specs.Lowering.{acquire_any, acquire_code, section_code}
 use Rattle.code.specs.Needs.{operand_need}
 use Rattle.code.specs.Alone.{IsNeverStuck}
-use Rattle.code.specs.Seen.{IsSeen, Shows}
-use Rattle.code.specs.Spots.{HasAt, Spot, InSection}
-use Rattle.code.specs.Ahead.{Safe, there, moves, finishes, Goes, Steps, between_points, CanExecute, MayEnd, HasComeOn}
-use Rattle.code.specs.PointLaws.{SectionsGoOn}
-use Rattle.code.specs.Safety.{safe, steps_more}
+use Rattle.code.specs.Working.Seen.{IsSeen, Shows}
+use Rattle.code.specs.Working.Spots.{HasAt, Spot, InSection}
+use Rattle.code.specs.Working.Ahead.{Safe, there, moves, finishes, Goes, Steps, between_points, CanExecute, MayEnd, HasComeOn}
+use Rattle.code.specs.Working.PointLaws.{SectionsGoOn}
+use Rattle.code.specs.Theory.Safety.{safe, steps_more}
 use Rattle.code.proofs.points.Memories.{heap_is_memory}
 use Rattle.code.proofs.points.Numbers.{spot_is_point}
 use Rattle.code.proofs.points.Between.{first_point_is_at_start, empty_has_end, spots_acquire}

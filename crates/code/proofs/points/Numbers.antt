@@ -11,7 +11,7 @@ use Rattle.flow.specs.Points.{Point, statement, result, inner_points, points_of_
 use Rattle.flow.specs.Points as flow
 use Rattle.code.specs.Lowering.{points_of, points_in}
 use Rattle.flow.specs.Skeletons.{block_skeleton}
-use Rattle.code.specs.Spots.{Spot, spot, Inside, InBlock, InBody, InSection}
+use Rattle.code.specs.Working.Spots.{Spot, spot, Inside, InBlock, InBody, InSection}
 use Rattle.code.proofs.points.Between.{count_action}
 
 -- a point stands among points behind so many others

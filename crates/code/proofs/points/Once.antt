@@ -6,8 +6,8 @@ use Rattle.core_lang.specs.declared.tree.Return.{Return as Result_of}
 use Rattle.flow.specs.Points.{Point, result, inner_points}
 use Rattle.flow.specs.Points as flow
 use Rattle.code.specs.Lowering.{points_of, points_in}
-use Rattle.code.specs.Spots.{Spot, Inside, InBlock, InAction, InBody}
-use Rattle.code.specs.PointLaws.{SpotsHaveNumbers}
+use Rattle.code.specs.Working.Spots.{Spot, Inside, InBlock, InAction, InBody}
+use Rattle.code.specs.Working.PointLaws.{SpotsHaveNumbers}
 use Rattle.code.proofs.points.Numbers.{Numbered, length_inner, length_block, inside_numbered, block_numbered, body_numbered}
 
 module _ {P : Type 0} (lists : List (List P)) where

@@ -3,7 +3,7 @@ use Rattle.std.proofs.Common.{◌≡◌, ℕ, ◌+◌, ◌<◌, List, [], ◌∷
 use Rattle.std.proofs.Math.Seq.{get_or-append_seam}
 use Rattle.std.proofs.lemmas.Option.{slice_get-get_or}
 use Rattle.code.specs.declared.instr.Instr.{Instr}
-use Rattle.code.specs.Spots.{HasAt}
+use Rattle.code.specs.Working.Spots.{HasAt}
 
 pub has_front : (code : List Instr) (place : ℕ) (a b : List Instr) → HasAt code place (a ++ b) → HasAt code place a
 has_front code place [] b h = tt

@@ -13,7 +13,7 @@ use Rattle.core_lang.specs.Helpers.{NoHelper, CallsNothing}
 use Rattle.flow.specs.Skeletons.{skeleton}
 use Rattle.flow.specs.Flow.{Follows}
 use Rattle.flow.specs.Points.{Point, statement, result}
-use Rattle.flow.specs.Effects.{effect_at}
+use Rattle.flow.specs.Working.Effects.{effect_at}
 use Rattle.flow.specs.Theory.PointCalls.{PointCalls, point_calls}
 use Rattle.locks.specs.Accesses.{in_condition, in_action, accesses_at}
 use Rattle.code.specs.declared.instr.Instr.{Instr}
@@ -23,9 +23,9 @@ use Rattle.code.specs.Lowering.{expr_code, test_code, acquire_code, section_code
 use Rattle.code.specs.Needs.{test_need, stmt_need, operand_need}
 use Rattle.code.proofs.points.Numbers.{spot_is_point}
 use Rattle.code.proofs.points.Needed.{point_need, spot_within}
-use Rattle.code.specs.Seen.{IsMemory, Shows, IsSeen, Covers}
-use Rattle.code.specs.Spots.{HasAt, Spot, InSection}
-use Rattle.code.specs.Ahead.{Safe, there, Steps}
+use Rattle.code.specs.Working.Seen.{IsMemory, Shows, IsSeen, Covers}
+use Rattle.code.specs.Working.Spots.{HasAt, Spot, InSection}
+use Rattle.code.specs.Working.Ahead.{Safe, there, Steps}
 use Rattle.code.proofs.points.Covered.{CoversEach, covers_each}
 use Rattle.code.proofs.points.Places.{has_front, has_back}
 use Rattle.code.proofs.points.Results.{Gives, Leads, gives-given, gives-more, leads-more}

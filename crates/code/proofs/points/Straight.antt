@@ -22,19 +22,19 @@ use Rattle.core_lang.specs.Meaning.{State, GoesOn, Traps, given, written, stored
 use Rattle.core_lang.specs.Meaning as meaning
 use Rattle.locks.specs.Accesses.{Access, in_path, in_expr, in_operations, in_condition, in_conditions, in_action}
 use Rattle.locks.specs.Accesses as accesses
-use Rattle.locks.specs.Reached.{Reaches, to_global, to_element, to_field}
+use Rattle.locks.specs.Working.Reached.{Reaches, to_global, to_element, to_field}
 use Rattle.code.specs.declared.instr.Instr.{Instr}
 use Rattle.code.specs.declared.instr.Instr.TheVariants.{PushNumber, PushNull, GetLocal, PutLocal, LoadGlobal, PutGlobal, LoadElement, Bound, PutElement, GetMember, LoadFinal, LoadField, NonNull, PutField, Where, NegateTop, NotTop, Operate, Test, Jump, JumpIfFalse, JumpIfTrue, PrintTop, Return}
 use Rattle.code.specs.Machine.{Machine, Effect, truth, printed, act, or_trap, if_there, loads, stores, advances}
 use Rattle.code.specs.Lowering.{fields_code, path_code, expr_code, chain_code, test_code, all_code, any_code}
 use Rattle.code.specs.Needs.{expr_need, chain_need, test_need, tests_need, stmt_need}
-use Rattle.code.specs.Seen.{IsMemory, Shows, IsSeen}
-use Rattle.code.specs.Spots.{HasAt}
-use Rattle.code.specs.Ahead.{Safe, Goes, Steps}
+use Rattle.code.specs.Working.Seen.{IsMemory, Shows, IsSeen}
+use Rattle.code.specs.Working.Spots.{HasAt}
+use Rattle.code.specs.Working.Ahead.{Safe, Goes, Steps}
 use Rattle.code.proofs.points.Places.{has_front, has_back}
 use Rattle.code.proofs.points.Results.{Gives, Leads, gives-with, gives-given, gives-more, gives-noted}
 use Rattle.code.proofs.points.Taken.{steps, takes, goes-trap, goes-ok}
-use Rattle.code.specs.Safety.{safe}
+use Rattle.code.specs.Theory.Safety.{safe}
 use Rattle.code.proofs.points.Covered.{shows-set, seen-set, CoversEach, covers-front, covers-back, with-with, along-append}
 
 -- a statement's own code, without what is acquired before it; of an `if` or a `while` nothing

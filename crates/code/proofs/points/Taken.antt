@@ -8,8 +8,8 @@ use Rattle.core_lang.specs.declared.value.Outcome.{Outcome}
 use Rattle.core_lang.specs.declared.shape.Shape.{Shape}
 use Rattle.code.specs.declared.instr.Instr.{Instr}
 use Rattle.code.specs.Machine.{Machine, Effect, act, or_trap}
-use Rattle.code.specs.Ahead.{Safe, Goes, Steps}
-use Rattle.code.specs.Safety.{goes_on}
+use Rattle.code.specs.Working.Ahead.{Safe, Goes, Steps}
+use Rattle.code.specs.Theory.Safety.{goes_on}
 use Rattle.code.proofs.points.Results.{Gives}
 
 module _ {M : Type 0} (load : M → ℕ → Option (Value × M)) (store : M → ℕ → Value → Option M) (shape : Shape) (code : List Instr)

@@ -10,7 +10,7 @@ use Rattle.code.specs.Memory.{load_from, store_to}
 use Rattle.core_lang.specs.Helpers.{CallsNothing}
 use Rattle.code.specs.Lowering.{section_code}
 use Rattle.code.specs.Alone.{starting, alone, halted}
-use Rattle.code.specs.Laws.{IsOver}
+use Rattle.code.specs.Working.Laws.{IsOver}
 use Rattle.code.proofs.Over.{ends_once}
 use Rattle.code.proofs.runs.Places.{has_all}
 use Rattle.code.proofs.runs.Settling.{IsGoing, stands, Settles}

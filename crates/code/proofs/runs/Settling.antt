@@ -12,7 +12,7 @@ use Rattle.code.specs.declared.instr.Instr.{Instr}
 use Rattle.code.specs.Machine.{Machine, Effect, Moves, Asks, Finishes, Undefined, Standing, At, Halted, Stuck, passed, or_trap, act, proceed, exec}
 use Rattle.code.specs.Memory.{load_from, store_to}
 use Rattle.code.specs.Alone.{halted}
-use Rattle.code.specs.Laws.{IsOver}
+use Rattle.code.specs.Working.Laws.{IsOver}
 use Rattle.code.proofs.Over.{stays_over}
 
 -- ---- where a run goes on

@@ -10,12 +10,12 @@ use Rattle.core_lang.specs.declared.tree.Section.{Section}
 use Rattle.core_lang.specs.declared.typed.Typed.{Typed}
 use Rattle.core_lang.specs.Meaning.{State, GoesOn, given, value_of, truth_of}
 use Rattle.core_lang.specs.Typing.{local_types, HasType, IsOf, IsWellTyped, AreWellTyped, AllWellTyped, IsResult, IsWellTypedSection}
-use Rattle.core_lang.specs.Soundness.{Gives, IsTypedState, LeadsToTyped, ValuesHaveTheirTypes, TestsDecide, EffectsStayTyped}
+use Rattle.core_lang.specs.Working.Soundness.{Gives, IsTypedState, LeadsToTyped, ValuesHaveTheirTypes, TestsDecide, EffectsStayTyped}
 use Rattle.core_lang.specs.WellFormed.{IsChecked}
-use Rattle.core_lang.specs.Checked.{checked}
+use Rattle.core_lang.specs.Theory.Checked.{checked}
 use Rattle.flow.specs.Points.{Point, statement, result, inner_points, points_in, points_of_all, point_of_return, points}
-use Rattle.flow.specs.Effects.{effect_at}
-use Rattle.flow.specs.Laws.{PointsStayTyped}
+use Rattle.flow.specs.Working.Effects.{effect_at}
+use Rattle.flow.specs.Working.Laws.{PointsStayTyped}
 use Rattle.flow.specs.Theory.Each.{Each, each_append, each_there}
 
 module _ (program : Typed) (types : List ValueType) where

@@ -11,8 +11,8 @@ use Rattle.syntax.specs.Grammar.{level_of}
 use Rattle.syntax.specs.Trees.{Expr, chain, Links, no_links, link}
 use Rattle.syntax.specs.Views.{expr_of, links_of}
 use Rattle.parser.specs.declared.stop.Stop.{Stop}
-use Rattle.parser.specs.Reading.{◌>>=◌, Fails, Reader, turn}
-use Rattle.parser.specs.Expressions.{op_of, before_rest, op_at, link_from, next_link, add_link, links_at, chained, chain_at, links_behind}
+use Rattle.parser.specs.Working.Reading.{◌>>=◌, Fails, Reader, turn}
+use Rattle.parser.specs.Working.Expressions.{op_of, before_rest, op_at, link_from, next_link, add_link, links_at, chained, chain_at, links_behind}
 use Rattle.parser.specs.Theory.Readers.{OnValue, on_then, fails_on, Shortens}
 use Rattle.parser.specs.Theory.Many.{NextShortens, many_at-turn, with_front, goes_on, ends, stops}
 use Rattle.parser.specs.Theory.Productions.{op_meant}

@@ -15,8 +15,8 @@ use Rattle.syntax.specs.declared.tree.Comparison.TheVariants.{Equal, NotEqual, L
 use Rattle.source.specs.declared.token.Number.{Number}
 use Rattle.syntax.specs.Trees.{Ident, Place, lone, element, path, Expr, int, null, place, paren, prefix, chain, compare, Links, no_links, link}
 use Rattle.syntax.specs.Grammar.{tok, name_tok, int_tok, sign_of, level_of, prefix_sign, comparison_sign, rank, below, PRIM, SUM, COMPARED, ANY, AreMany, IsAfter, AreListed, IsName, is_name, IsPlace, is_lone, is_element, is_path, IsExpr, is_int, is_null, is_place, is_paren, is_prefix, is_chain, is_compare, IsLinks, are_no_links, is_link}
-use Rattle.parser.specs.Reading.{◌>>=◌, Reader, turn, sign_at, open_at, name_at, skip_at, is_next, listed_at, choose}
-use Rattle.parser.specs.Expressions.{op_at, next_link, add_link, links_at, chained, chain_at, element_at, fields_at, path_at, alone_at, place_at, prefix_at, unary_from, unary_with, prim_with, comparison_at, compared_from, compared_with, sum_with, inside_at, prim_at, operand_at, level_at, expr_at, ended_at, condition_at}
+use Rattle.parser.specs.Working.Reading.{◌>>=◌, Reader, turn, sign_at, open_at, name_at, skip_at, is_next, listed_at, choose}
+use Rattle.parser.specs.Working.Expressions.{op_at, next_link, add_link, links_at, chained, chain_at, element_at, fields_at, path_at, alone_at, place_at, prefix_at, unary_from, unary_with, prim_with, comparison_at, compared_from, compared_with, sum_with, inside_at, prim_at, operand_at, level_at, expr_at, ended_at, condition_at}
 use Rattle.parser.specs.Theory.Readers.{Shortens}
 use Rattle.parser.specs.Theory.Many.{many_at-turn}
 use Rattle.parser.specs.Theory.Chains.{next_link_shortens}

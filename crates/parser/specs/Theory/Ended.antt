@@ -5,7 +5,7 @@ use Rattle.source.specs.declared.token.Sign.{Sign}
 use Rattle.source.specs.Tokens.{Tok}
 use Rattle.parser.specs.declared.stop.Stop.{Stop}
 use Rattle.parser.specs.declared.stop.Stop.TheVariants.{Unexpected, TooDeep, NoMemory}
-use Rattle.parser.specs.Reading.{◌>>=◌, Fails, Gives, Reader, sign_at, closed_at, closing}
+use Rattle.parser.specs.Working.Reading.{◌>>=◌, Fails, Gives, Reader, sign_at, closed_at, closing}
 use Rattle.parser.specs.Theory.Readers.{fails_on}
 
 -- the tokens between a part and its sign

@@ -8,7 +8,7 @@ use Rattle.source.specs.Tokens.{Lexeme, word, mark, Tok}
 use Rattle.syntax.specs.Grammar.{tok, IsName, is_name, IsOptional, left_out, given, AreMany, no_more, one_more, IsAfter, after, AreListed, none_listed, listed}
 use Rattle.parser.specs.declared.stop.Stop.{Stop}
 use Rattle.parser.specs.declared.stop.Stop.TheVariants.{TooDeep}
-use Rattle.parser.specs.Reading.{chosen, choose, ◌>>=◌, Reader, turn, many_at, refused, sign_at, opened, open_at, word_at, name_at, int_at, is_next, next_unless, next_until, skip_at, behind, next_after, after_each, listed_from, listed_at, maybe_from, maybe_at}
+use Rattle.parser.specs.Working.Reading.{chosen, choose, ◌>>=◌, Reader, turn, many_at, refused, sign_at, opened, open_at, word_at, name_at, int_at, is_next, next_unless, next_until, skip_at, behind, next_after, after_each, listed_from, listed_at, maybe_from, maybe_at}
 use Rattle.parser.specs.Theory.Law.{IsTok, is_tok, IsInt, is_int_tok, same_sign-refl, same_keyword-refl}
 use Rattle.parser.specs.Theory.Many.{NextShortens, many_at-turn}
 use Rattle.parser.specs.Theory.Joined.{Done, done, Both, both}

@@ -11,7 +11,7 @@ use Rattle.source.specs.Tokens.{Lexeme, Tok, word, mark, seen, seen_token}
 use Rattle.syntax.specs.declared.tree.Name as tree
 use Rattle.syntax.specs.Views.{ident}
 use Rattle.parser.specs.declared.stop.Stop.TheVariants.{Unexpected, TooDeep}
-use Rattle.parser.specs.Reading.{Reader, first_at, refused, same_sign, same_keyword, sign_at, sign_from, open_at, open_from, opened, word_at, word_from, skip_at, is_next}
+use Rattle.parser.specs.Working.Reading.{Reader, first_at, refused, same_sign, same_keyword, sign_at, sign_from, open_at, open_from, opened, word_at, word_from, skip_at, is_next}
 
 -- ---- the first, and those behind it
 

@@ -6,7 +6,7 @@ use Rattle.source.specs.declared.token.Sign.{Sign}
 use Rattle.source.specs.declared.token.Sign.TheVariants.{CloseParen, Comma}
 use Rattle.source.specs.Tokens.{Lexeme, name, int, word, mark, end, Tok}
 use Rattle.syntax.specs.Grammar.{tok, IsName, is_name, IsOptional, left_out, given, AreMany, no_more, one_more, IsAfter, after, AreListed, none_listed, listed, open_after, IsOpening}
-use Rattle.parser.specs.Reading.{chosen, choose, ◌>>=◌, Reader, is_sign, sign_at, open_at, word_at, name_at, int_at, skip_at, is_next, next_unless, next_until, behind, next_after, after_each, listed_from, listed_at, maybe_from, maybe_at}
+use Rattle.parser.specs.Working.Reading.{chosen, choose, ◌>>=◌, Reader, is_sign, sign_at, open_at, word_at, name_at, int_at, skip_at, is_next, next_unless, next_until, behind, next_after, after_each, listed_from, listed_at, maybe_from, maybe_at}
 use Rattle.parser.specs.Theory.Law.{SameNext, LawAt, Then, Says, Law, then_law, give_law, at_rest, said, implies, prefixed, same_sign-true, IsTok, is_tok, IsInt, is_int_tok, after_sign, sign_law, word_law, name_law, int_law, open_then_law}
 use Rattle.parser.specs.Theory.Laws.{NextAt, NextLaw, SaysNext, many_law, weaken_at}
 

@@ -14,7 +14,7 @@ use Rattle.syntax.specs.Grammar.{tok, int_tok, IsName, is_name, open_after, nest
 use Rattle.syntax.specs.Faults.{NoEnd}
 use Rattle.parser.specs.declared.stop.Stop.{Stop}
 use Rattle.parser.specs.declared.stop.Stop.TheVariants.{Unexpected, TooDeep, NoMemory}
-use Rattle.parser.specs.Reading.{◌>>=◌, Reader, refused, too_deep, first_at, sign_code, same_sign, keyword_code, same_keyword, sign_from, sign_at, word_from, word_at, opened, open_from, open_at, name_from, name_at, int_from, int_at}
+use Rattle.parser.specs.Working.Reading.{◌>>=◌, Reader, refused, too_deep, first_at, sign_code, same_sign, keyword_code, same_keyword, sign_from, sign_at, word_from, word_at, opened, open_from, open_at, name_from, name_at, int_from, int_at}
 
 -- ---- stretches of tokens
 

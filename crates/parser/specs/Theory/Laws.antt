@@ -4,7 +4,7 @@ use Rattle.std.specs.Prelude.{IfSome}
 use Rattle.source.specs.Tokens.{Tok}
 use Rattle.parser.specs.declared.stop.Stop.{Stop}
 use Rattle.parser.specs.declared.stop.Stop.TheVariants.{Unexpected, TooDeep, NoMemory}
-use Rattle.parser.specs.Reading.{◌>>=◌, Reader, Next, turn, many_at}
+use Rattle.parser.specs.Working.Reading.{◌>>=◌, Reader, Next, turn, many_at}
 use Rattle.parser.specs.Theory.Readers.{OnValue, Shortens}
 use Rattle.parser.specs.Theory.Many.{NextShortens, many_at-turn}
 use Rattle.parser.specs.Theory.Law.{SameNext, Took, LawAt, Then, then_at, Says, Law}

@@ -6,7 +6,7 @@ use Rattle.source.specs.declared.token.Sign.TheVariants.{CloseParen, Comma}
 use Rattle.source.specs.declared.token.Token.{Token}
 use Rattle.source.specs.Tokens.{Lexeme, mark, Tok, seen_token, seen}
 use Rattle.parser.specs.declared.stop.Stop.{Stop}
-use Rattle.parser.specs.Reading.{◌>>=◌, Fails, Reader, Next, many_at, is_next, next_unless, next_until, skip_at, behind, next_after, after_each, listed_from, listed_at}
+use Rattle.parser.specs.Working.Reading.{◌>>=◌, Fails, Reader, Next, many_at, is_next, next_unless, next_until, skip_at, behind, next_after, after_each, listed_from, listed_at}
 use Rattle.parser.specs.Theory.Readers.{OnValue, Shortens, fails_on}
 use Rattle.parser.specs.Theory.Many.{NextShortens, with_front, goes_on, ends, stops}
 

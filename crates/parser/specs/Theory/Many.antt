@@ -4,7 +4,7 @@ use Rattle.std.specs.Prelude.{IfSome}
 use Rattle.source.specs.Tokens.{Tok}
 use Rattle.parser.specs.declared.stop.Stop.{Stop}
 use Rattle.parser.specs.declared.stop.Stop.TheVariants.{Unexpected, TooDeep, NoMemory}
-use Rattle.parser.specs.Reading.{◌>>=◌, Fails, Reader, Next, turn, many_in, many_at}
+use Rattle.parser.specs.Working.Reading.{◌>>=◌, Fails, Reader, Next, turn, many_in, many_at}
 use Rattle.parser.specs.Theory.Readers.{OnValue, on_then, then_same, Bounds}
 
 -- an item takes a token at least

@@ -9,8 +9,8 @@ use Rattle.source.specs.Tokens as lexeme
 use Rattle.source.specs.declared.token.Number.{Number}
 use Rattle.syntax.specs.Trees.{Ident, ValueType, int_type, ref_type, Const, int_const, negative, null_const, member_const, Protection, Param}
 use Rattle.syntax.specs.Grammar.{tok, name_tok, IsOpening, IsOptional, AreMany, no_more, IsAfter, after, AreListed, none_listed, IsName, is_name, IsType, is_int_type, is_ref_type, IsConst, is_int_const, is_negative, is_null_const, is_member_const, IsIndex, is_index, IsProtection, is_protection, IsParam, is_param}
-use Rattle.parser.specs.Reading.{Reader, same_sign, refused, after_at}
-use Rattle.parser.specs.Parts.{type_from, type_at, negative_from, index_at, const_from, const_at, protection_at, maybe_protection, param_at, params_at}
+use Rattle.parser.specs.Working.Reading.{Reader, same_sign, refused, after_at}
+use Rattle.parser.specs.Working.Parts.{type_from, type_at, negative_from, index_at, const_from, const_at, protection_at, maybe_protection, param_at, params_at}
 use Rattle.parser.specs.Theory.Law.{same_sign-true, Law, give_law, at_rest, Head, refuses, takes, first_law, IsTok, is_tok, IsInt, is_int_tok, after_sign}
 use Rattle.parser.specs.Theory.Joined.{Done, done, Both, both, nowhere, Part, ends_with, then_part, then_open, production, sign_part, word_part, name_part, int_part, maybe_part, listed_part, after_each_part}
 

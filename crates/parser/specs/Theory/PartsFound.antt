@@ -8,8 +8,8 @@ use Rattle.source.specs.Tokens.{word, mark, Tok}
 use Rattle.source.specs.declared.token.Number.{Number}
 use Rattle.syntax.specs.Trees.{Const, member_const, Protection, Param}
 use Rattle.syntax.specs.Grammar.{tok, int_tok, IsOptional, AreMany, IsAfter, after, AreListed, IsName, is_name, IsType, is_int_type, is_ref_type, IsConst, is_int_const, is_negative, is_null_const, is_member_const, IsIndex, is_index, IsProtection, is_protection, IsParam, is_param}
-use Rattle.parser.specs.Reading.{Reader, name_at, int_at, skip_at, after_at}
-use Rattle.parser.specs.Parts.{type_at, index_at, const_at, protection_at, maybe_protection, param_at, params_at}
+use Rattle.parser.specs.Working.Reading.{Reader, name_at, int_at, skip_at, after_at}
+use Rattle.parser.specs.Working.Parts.{type_at, index_at, const_at, protection_at, maybe_protection, param_at, params_at}
 use Rattle.parser.specs.Theory.Law.{IsTok, is_tok, IsInt, is_int_tok}
 use Rattle.parser.specs.Theory.Joined.{Done, done, Both, both}
 use Rattle.parser.specs.Theory.PartLaws.{IsParams, is_params}

@@ -18,8 +18,8 @@ use Rattle.syntax.specs.declared.tree.Comparison.{Comparison}
 use Rattle.syntax.specs.declared.tree.Comparison.TheVariants.{Equal, NotEqual, Less, LessOrEqual, Greater, GreaterOrEqual}
 use Rattle.syntax.specs.Trees.{Ident, Place, lone, element, path, Expr, int, null, place, paren, prefix, compare, Links, no_links, link}
 use Rattle.syntax.specs.Grammar.{tok, name_tok, sign_of, level_of, prefix_sign, comparison_sign, rank, below, PRIM, UNARY, SUM, COMPARED, ANY, AreMany, no_more, IsAfter, IsName, is_name, IsPlace, is_lone, is_element, is_path, IsExpr, is_int, is_null, is_place, is_paren, is_prefix, is_chain, is_compare, IsLinks, are_no_links, is_link, open_after, IsOpening}
-use Rattle.parser.specs.Reading.{◌>>=◌, Reader, same_sign, refused, choose}
-use Rattle.parser.specs.Expressions.{op_of, before_rest, op_at, link_from, next_link, add_link, links_at, chained, chain_at, element_at, fields_at, path_at, alone_at, place_at, in_parens, parens_at, prim_from, prim_with, prefix_of, prefix_from, prefix_at, unary_from, unary_with, comparison_of, comparison_at, compared_from, compared_with, sum_with, operand_with, level_with, inside_at, prim_at, operand_at, expr_at, ended_at, condition_at}
+use Rattle.parser.specs.Working.Reading.{◌>>=◌, Reader, same_sign, refused, choose}
+use Rattle.parser.specs.Working.Expressions.{op_of, before_rest, op_at, link_from, next_link, add_link, links_at, chained, chain_at, element_at, fields_at, path_at, alone_at, place_at, in_parens, parens_at, prim_from, prim_with, prefix_of, prefix_from, prefix_at, unary_from, unary_with, comparison_of, comparison_at, compared_from, compared_with, sum_with, operand_with, level_with, inside_at, prim_at, operand_at, expr_at, ended_at, condition_at}
 use Rattle.parser.specs.Theory.Law.{same_sign-true, LawAt, Then, Says, Law, then_law, last_law, give_law, at_rest, said, implies, Head, refuses, deepens, takes, first_law, prefixed, IsTok, is_tok}
 use Rattle.parser.specs.Theory.Laws.{NextAt, NextLaw, SaysNext, many_law, weaken_at}
 use Rattle.parser.specs.Theory.Joined.{Done, done, Both, both, nowhere, Part, ends_with, then_part, then_open, production, sign_part, name_part, after_each_part, choose_law, weaken_law}

@@ -8,8 +8,8 @@ use Rattle.source.specs.declared.token.Token.{Token}
 use Rattle.source.specs.Tokens.{Tok, seen_token, seen}
 use Rattle.syntax.specs.Grammar.{IsAfter, IsName, IsConst, IsParam}
 use Rattle.parser.specs.declared.stop.Stop.{Stop}
-use Rattle.parser.specs.Reading.{Reader, next_after, skip_at, is_sign, name_at}
-use Rattle.parser.specs.Parts.{const_at, param_at}
+use Rattle.parser.specs.Working.Reading.{Reader, next_after, skip_at, is_sign, name_at}
+use Rattle.parser.specs.Working.Parts.{const_at, param_at}
 use Rattle.parser.specs.Theory.Readers.{OnValue, Shortens}
 use Rattle.parser.specs.Theory.Many.{NextShortens}
 use Rattle.parser.specs.Theory.Laws.{law_shortens, next_shortens}

@@ -10,8 +10,8 @@ use Rattle.syntax.specs.declared.tree.Level.{Level}
 use Rattle.syntax.specs.Trees.{Expr}
 use Rattle.syntax.specs.Grammar.{below, ANY, IsAfter, IsExpr}
 use Rattle.parser.specs.declared.stop.Stop.{Stop}
-use Rattle.parser.specs.Reading.{next_after}
-use Rattle.parser.specs.Expressions.{op_at, operand_at, expr_at}
+use Rattle.parser.specs.Working.Reading.{next_after}
+use Rattle.parser.specs.Working.Expressions.{op_at, operand_at, expr_at}
 use Rattle.parser.specs.Theory.Readers.{OnValue, Shortens}
 use Rattle.parser.specs.Theory.Many.{NextShortens}
 use Rattle.parser.specs.Theory.Laws.{law_shortens, next_shortens}

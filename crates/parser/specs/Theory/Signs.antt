@@ -4,7 +4,7 @@ use Rattle.source.specs.declared.span.Span.{Span}
 use Rattle.source.specs.declared.token.Sign.{Sign}
 use Rattle.source.specs.Tokens.{Lexeme, name, int, word, mark, end, Tok}
 use Rattle.parser.specs.declared.stop.Stop.{Stop}
-use Rattle.parser.specs.Reading.{◌>>=◌, Reader, same_kind, is_sign, sign_at, closed_at}
+use Rattle.parser.specs.Working.Reading.{◌>>=◌, Reader, same_kind, is_sign, sign_at, closed_at}
 
 abbrev kept : {A : Type 0} → A → Span × List Tok → Result (A × List Tok) Stop
 kept x c = Ok (x, c.1)

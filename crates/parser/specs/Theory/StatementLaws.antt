@@ -6,9 +6,9 @@ use Rattle.source.specs.declared.token.Sign.TheVariants.{OpenBrace, CloseBrace, 
 use Rattle.source.specs.Tokens.{Lexeme, name, word, mark, Tok}
 use Rattle.syntax.specs.Trees.{Ident, ValueType, int_type, Expr, Local, Owner, HelperCall, Stmt, let_local, let_owned, let_call, var_local, assign, if_then, while, print, return_value, Stmts, no_stmts, stmt, Otherwise, no_else, else_do}
 use Rattle.syntax.specs.Grammar.{tok, name_tok, AreListed, none_listed, ANY, IsName, is_name, IsType, is_int_type, IsPlace, IsExpr, is_int, IsLocal, is_local, IsOwner, is_owner, IsHelperCall, is_helper_call, IsStmt, is_let, is_let_owned, is_let_call, is_var, is_assign, is_if, is_while, is_print, is_return, is_call_stmt, IsStmts, are_no_stmts, are_stmts, IsBraced, is_braced, IsElse, is_no_else, is_else}
-use Rattle.parser.specs.Reading.{Reader, next_until}
-use Rattle.parser.specs.Expressions.{inside_at, expr_at}
-use Rattle.parser.specs.Statements.{TypedName, local_with, called_with, typed_at, owner_at, owned_at, plain_at, helper_call_at, called_at, valued_at, let_at, var_at, call_stmt_at, assign_at, braced_with, some_else, nothing_else, else_with, if_with, while_with, stmt_from, stmt_with, stmt_at, stmts_with, stmts_in, braced_at}
+use Rattle.parser.specs.Working.Reading.{Reader, next_until}
+use Rattle.parser.specs.Working.Expressions.{inside_at, expr_at}
+use Rattle.parser.specs.Working.Statements.{TypedName, local_with, called_with, typed_at, owner_at, owned_at, plain_at, helper_call_at, called_at, valued_at, let_at, var_at, call_stmt_at, assign_at, braced_with, some_else, nothing_else, else_with, if_with, while_with, stmt_from, stmt_with, stmt_at, stmts_with, stmts_in, braced_at}
 use Rattle.parser.specs.Theory.Law.{Law, give_law, at_rest, Head, refuses, takes, first_law, IsTok, is_tok}
 use Rattle.parser.specs.Theory.Laws.{many_law}
 use Rattle.parser.specs.Theory.Joined.{Done, done, Both, both, nowhere, Part, Rest, ends_with, then_part, then_open, production, sign_part, word_part, name_part, listed_part, until_law, choose_law, weaken_law, either}

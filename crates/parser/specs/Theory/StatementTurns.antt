@@ -4,8 +4,8 @@ use Rattle.source.specs.declared.token.Sign.TheVariants.{CloseBrace}
 use Rattle.source.specs.Tokens.{Tok, mark}
 use Rattle.syntax.specs.Grammar.{IsStmt}
 use Rattle.parser.specs.declared.stop.Stop.{Stop}
-use Rattle.parser.specs.Reading.{next_until, Fails, is_next}
-use Rattle.parser.specs.Statements.{stmt_at, stmts_with}
+use Rattle.parser.specs.Working.Reading.{next_until, Fails, is_next}
+use Rattle.parser.specs.Working.Statements.{stmt_at, stmts_with}
 use Rattle.parser.specs.Theory.Readers.{Shortens}
 use Rattle.parser.specs.Theory.Many.{NextShortens, with_front}
 use Rattle.parser.specs.Theory.Laws.{law_shortens, next_shortens}

@@ -7,9 +7,9 @@ use Rattle.source.specs.Tokens.{Lexeme, name, word, mark, end, Tok}
 use Rattle.source.specs.Tokens as lexeme
 use Rattle.syntax.specs.Trees.{Ident, Place, Expr, Local, Owner, HelperCall, CalledLocal, Stmt, let_local, let_owned, let_call, var_local, assign, if_then, while, print, return_value, Stmts, no_stmts, stmt, Otherwise, no_else, else_do}
 use Rattle.syntax.specs.Grammar.{tok, name_tok, AreListed, ANY, IsName, is_name, IsType, IsPlace, is_lone, is_element, is_path, IsExpr, IsLocal, is_local, IsOwner, is_owner, IsHelperCall, is_helper_call, IsStmt, is_let, is_let_owned, is_let_call, is_var, is_assign, is_if, is_while, is_print, is_return, is_call_stmt, IsStmts, are_no_stmts, are_stmts, IsBraced, is_braced, IsElse, is_no_else, is_else}
-use Rattle.parser.specs.Reading.{◌>>=◌, same_kind, sign_at, open_at, word_at, skip_at, choose}
-use Rattle.parser.specs.Expressions.{inside_at, place_at, expr_at, ended_at, condition_at}
-use Rattle.parser.specs.Statements.{TypedName, local_with, called_with, typed_at, owner_at, owned_at, plain_at, helper_call_at, called_at, valued_at, let_at, var_at, call_stmt_at, assign_at, braced_with, some_else, nothing_else, else_with, if_with, while_with, stmt_with, stmt_at, stmts_with, stmts_in, braced_at}
+use Rattle.parser.specs.Working.Reading.{◌>>=◌, same_kind, sign_at, open_at, word_at, skip_at, choose}
+use Rattle.parser.specs.Working.Expressions.{inside_at, place_at, expr_at, ended_at, condition_at}
+use Rattle.parser.specs.Working.Statements.{TypedName, local_with, called_with, typed_at, owner_at, owned_at, plain_at, helper_call_at, called_at, valued_at, let_at, var_at, call_stmt_at, assign_at, braced_with, some_else, nothing_else, else_with, if_with, while_with, stmt_with, stmt_at, stmts_with, stmts_in, braced_at}
 use Rattle.parser.specs.Theory.Law.{IsTok, is_tok}
 use Rattle.parser.specs.Theory.Joined.{Done, done, Both, both}
 use Rattle.parser.specs.Theory.Productions.{IsEnded, ended}

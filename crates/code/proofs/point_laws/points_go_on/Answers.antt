@@ -1,6 +1,6 @@
 use Rattle.std.specs.Prelude.{slice_get}
 use Rattle.code.specs.Memory.{load_from, store_to, load_held, store_held}
-use Rattle.code.specs.Seen.{held_value}
+use Rattle.code.specs.Working.Seen.{held_value}
 use Rattle.code.proofs.points.Memories.{heap_is_memory, held_is_memory}
 use Rattle.code.proofs.points.Exact.{points_go_on}
 use Rattle.code.proofs.point_laws.points_go_on.Goals as goal

@@ -1,4 +1,4 @@
-use Rattle.core_lang.specs.Checked.{calls_nothing}
+use Rattle.core_lang.specs.Theory.Checked.{calls_nothing}
 use Rattle.code.proofs.run_laws.sections_behave.Goals as goal
 
 pub returns : goal.returns

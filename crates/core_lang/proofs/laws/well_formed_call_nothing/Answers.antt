@@ -1,4 +1,4 @@
-use Rattle.core_lang.specs.Checked.{checked, calls_nothing}
+use Rattle.core_lang.specs.Theory.Checked.{checked, calls_nothing}
 use Rattle.core_lang.proofs.laws.well_formed_call_nothing.Goals as goal
 
 pub returns : goal.returns

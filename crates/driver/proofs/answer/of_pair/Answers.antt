@@ -1,5 +1,5 @@
 use Rattle.std.proofs.Common.{sym, subst, IfOk}
-use Rattle.driver.specs.Answering.{Meets, PairWanted}
+use Rattle.driver.specs.Working.Answering.{Meets, PairWanted}
 use Rattle.driver.proofs.answer.of_pair.Goals as goal
 
 pub returns-in-Simulate : goal.returns-in-Simulate

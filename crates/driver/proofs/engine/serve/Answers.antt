@@ -2,7 +2,7 @@ use Rattle.std.proofs.Common.{sym, subst, ◌∙◌, ℕ, List, [], refl, take, 
 use Rattle.std.specs.Prelude.{IfSome}
 use Rattle.std.proofs.lemmas.Result.{IfOk-weaker}
 use Rattle.source.specs.Texts.{SOURCE_LIMIT}
-use Rattle.driver.specs.Answering.{RequestAnswers}
+use Rattle.driver.specs.Working.Answering.{RequestAnswers}
 use Rattle.driver.specs.Answers.{Alone, TextAnswers}
 use Rattle.driver.specs.Engines.{reading_of}
 use Rattle.driver.specs.Streams.{name_of, reader_of}

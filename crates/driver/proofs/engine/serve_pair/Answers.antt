@@ -2,7 +2,7 @@ use Rattle.std.proofs.Common.{sym, subst, ◌∙◌, ◌≡◌, ◌+◌, ◌<◌
 use Rattle.std.specs.Prelude.{IfSome}
 use Rattle.std.proofs.lemmas.Result.{IfOk-weaker}
 use Rattle.source.specs.Texts.{SOURCE_LIMIT}
-use Rattle.driver.specs.Answering.{PairWanted}
+use Rattle.driver.specs.Working.Answering.{PairWanted}
 use Rattle.driver.specs.Answers.{Beside, TextAnswers}
 use Rattle.driver.specs.Engines.{reading_of, IsReadOut, IsUnread}
 use Rattle.driver.specs.Streams.{name_of, reader_of}

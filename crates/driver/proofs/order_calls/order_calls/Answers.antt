@@ -2,7 +2,7 @@ use Rattle.std.proofs.Common.{◌≡◌, ◌∙◌, ℕ, ◌+◌, ◌<◌, List,
 use Rattle.std.proofs.lemmas.List.{map-append}
 use Rattle.core_lang.specs.Serial.{Scheduled}
 use Rattle.driver.specs.Outcomes.{scheduled_next}
-use Rattle.driver.specs.Running.{scheduled_of}
+use Rattle.driver.specs.Working.Running.{scheduled_of}
 use Rattle.driver.proofs.OrderLemmas.{IsAlong, along_further, never_stuck, step_is}
 use Rattle.driver.proofs.order_calls.order_calls.Goals as goal
 use Rattle.driver.proofs.order_calls.order_calls.Goals.{in-Some+in_ok-push, in_default}

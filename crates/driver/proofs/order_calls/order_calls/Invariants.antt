@@ -1,5 +1,5 @@
 use Rattle.std.proofs.Common.{map, drop}
-use Rattle.driver.specs.Running.{scheduled_of}
+use Rattle.driver.specs.Working.Running.{scheduled_of}
 use Rattle.driver.proofs.OrderLemmas.{IsAlong}
 use Rattle.driver.proofs.order_calls.order_calls.Given as goal
 

@@ -1,6 +1,6 @@
 use Rattle.std.proofs.Common.{◌∙◌, map, take}
 use Rattle.std.proofs.lemmas.List.{map-append}
-use Rattle.driver.specs.Running.{scheduled_of}
+use Rattle.driver.specs.Working.Running.{scheduled_of}
 use Rattle.driver.proofs.CallLemmas.{can_make_at, drop_next, map_parts}
 use Rattle.driver.proofs.RunningLemmas.{goes_further, goes_beyond}
 use Rattle.driver.proofs.running.run_calls.Goals as goal

@@ -1,7 +1,7 @@
 use Rattle.std.proofs.Common.{map, drop}
 use Rattle.core_lang.specs.Typing.{IsHeap, HasCells}
 use Rattle.report.specs.Entry.{entry_of}
-use Rattle.driver.specs.Running.{scheduled_of}
+use Rattle.driver.specs.Working.Running.{scheduled_of}
 use Rattle.driver.proofs.RunningLemmas.{GoesOn}
 use Rattle.driver.proofs.running.run_calls.Given as goal
 

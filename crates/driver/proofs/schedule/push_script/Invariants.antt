@@ -1,6 +1,6 @@
 use Rattle.std.proofs.Common.{◌≡◌, ◌++◌, map, drop}
 use Rattle.core_lang.specs.Serial.{script_from}
-use Rattle.driver.specs.Running.{scheduled_of}
+use Rattle.driver.specs.Working.Running.{scheduled_of}
 use Rattle.driver.proofs.schedule.push_script.Given as goal
 
 -- what is there and the calls that are left are all of them

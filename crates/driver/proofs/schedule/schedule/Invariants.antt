@@ -1,6 +1,6 @@
 use Rattle.std.proofs.Common.{◌≡◌, ◌++◌, map, drop}
 use Rattle.core_lang.specs.Serial.{scripts_from, all_calls}
-use Rattle.driver.specs.Running.{scheduled_of}
+use Rattle.driver.specs.Working.Running.{scheduled_of}
 use Rattle.driver.proofs.schedule.schedule.Given as goal
 
 -- what is there and the scripts that are left are all of them

@@ -1,7 +1,7 @@
 use Rattle.std.proofs.Common.{◌≡◌, map, length, ap, ◌∙◌, arith}
 use Rattle.std.specs.Prelude.{slice_index}
 use Rattle.std.proofs.lemmas.List.{length-map}
-use Rattle.inserter.specs.Keys.{first_keys}
+use Rattle.inserter.specs.Working.Keys.{first_keys}
 use Rattle.inserter.proofs.KeyLists.{sorted_are_keys}
 use Rattle.inserter.proofs.keys.sorted_keys.Goals as goal
 

@@ -1,6 +1,6 @@
 use Rattle.std.proofs.Common.{◌≡◌, map}
 use Rattle.std.specs.Prelude.{slice_index}
-use Rattle.inserter.specs.Keys.{first_keys}
+use Rattle.inserter.specs.Working.Keys.{first_keys}
 use Rattle.inserter.proofs.keys.sorted_keys.Given as goal
 
 abbrev pub invariant-loop-path : goal.invariant-loop-path

@@ -1,7 +1,7 @@
 use Rattle.std.proofs.Common.{◌≡◌, ℕ, List, map, length, Some}
 use Rattle.std.specs.Prelude.{slice_get}
 use Rattle.locks.specs.declared.path_set.PathSet.{PathSet}
-use Rattle.inserter.specs.Keys.{IsLeft}
+use Rattle.inserter.specs.Working.Keys.{IsLeft}
 use Rattle.inserter.proofs.section_lists.due.Given as goal
 
 abbrev pub invariant-loop-p : goal.invariant-loop-p

@@ -1,5 +1,5 @@
 use Rattle.std.proofs.Common.{◌≡◌, ◌++◌, drop}
-use Rattle.inserter.specs.Keys.{numbers_in}
+use Rattle.inserter.specs.Working.Keys.{numbers_in}
 use Rattle.inserter.proofs.section_lists.listed.Given as goal
 
 abbrev pub invariant-loop-key : goal.invariant-loop-key

@@ -1,6 +1,6 @@
 use Rattle.std.proofs.Common.{map, subst, arith}
 use Rattle.std.specs.Prelude.{slice_index}
-use Rattle.inserter.specs.Keys.{AreKeys, AreDue}
+use Rattle.inserter.specs.Working.Keys.{AreKeys, AreDue}
 use Rattle.inserter.proofs.DueLists.{are_lists}
 use Rattle.inserter.proofs.section_lists.lists_before.Goals as goal
 

@@ -1,5 +1,5 @@
 use Rattle.std.proofs.Common.{◌≤◌, vec_capacity}
-use Rattle.interleavings.specs.States.{AreReady}
+use Rattle.interleavings.specs.Working.States.{AreReady}
 use Rattle.interleavings.proofs.stepping.all_ready.Given as goal
 
 abbrev pub invariant-loop-thread : goal.invariant-loop-thread

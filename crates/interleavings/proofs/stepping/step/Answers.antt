@@ -1,7 +1,7 @@
 use Rattle.std.proofs.Common.{sym, subst, refl}
 use Rattle.worlds.specs.declared.event.Event.TheVariants as event
 use Rattle.interleavings.specs.declared.state.State.{State}
-use Rattle.interleavings.specs.Steps.{Steps}
+use Rattle.interleavings.specs.Working.Steps.{Steps}
 use Rattle.interleavings.proofs.stepping.step.Goals as goal
 
 pub returns-in-Running : goal.returns-in-Running

@@ -2,7 +2,7 @@ use Rattle.std.proofs.Common.{◌≡◌, take, length}
 use Rattle.core_lang.specs.Serial.{opening_heap}
 use Rattle.layout.proofs.Laid.{AreLocked}
 use Rattle.layout.specs.Layouts.{all_locks}
-use Rattle.layout.specs.Numbers.{program_finals}
+use Rattle.layout.specs.Working.Numbers.{program_finals}
 use Rattle.layout.proofs.program_layout.lay_out.Given as goal
 
 abbrev pub invariant-loop-cell : goal.invariant-loop-cell

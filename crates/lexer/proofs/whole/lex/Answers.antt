@@ -1,6 +1,6 @@
 use Rattle.std.proofs.Common.{ℕ, List, ◌-◌, length, sym, ap, ◌∙◌, arith}
 use Rattle.source.specs.declared.token.Token.TheVariants.{End}
-use Rattle.lexer.specs.Reading.{seen_kind}
+use Rattle.lexer.specs.Working.Reading.{seen_kind}
 use Rattle.source.specs.Texts.{too_big}
 use Rattle.lexer.proofs.Steps.{begun, skip_le, unit_shortens}
 use Rattle.lexer.proofs.Ends.{tok_of, none_left, some_left, end_seen, went_on, all_found, all_rise, all_sliced, all_only, none_refused, stop_fault, stop_only, stop_refused}

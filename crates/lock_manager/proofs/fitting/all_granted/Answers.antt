@@ -1,6 +1,6 @@
 use Rattle.std.specs.List.{Contains}
 use Rattle.std.proofs.lemmas.List.Elements.{All-more}
-use Rattle.moved_cells.specs.Grants.{locks_of}
+use Rattle.moved_cells.specs.Working.Grants.{locks_of}
 use Rattle.lock_manager.proofs.Lists.{all_fails, all_whole, never_both}
 use Rattle.lock_manager.proofs.fitting.all_granted.Goals as goal
 

@@ -1,7 +1,7 @@
 use Rattle.std.proofs.Common.{sym, subst}
 use Rattle.std.specs.List.{Contains}
 use Rattle.locks.specs.declared.lock.Lock.{Lock}
-use Rattle.moved_cells.specs.Grants.{GrantOf}
+use Rattle.moved_cells.specs.Working.Grants.{GrantOf}
 use Rattle.lock_manager.proofs.Lists.{item_fails, item_more, all_whole, never_both}
 use Rattle.lock_manager.proofs.fitting.all_held.Goals as goal
 

@@ -1,6 +1,6 @@
 use Rattle.std.proofs.Common.{take}
 use Rattle.std.specs.List.{Contains, All}
-use Rattle.moved_cells.specs.Grants.{GrantOf}
+use Rattle.moved_cells.specs.Working.Grants.{GrantOf}
 use Rattle.lock_manager.proofs.fitting.all_held.Given as goal
 
 abbrev pub invariant-loop-grant : goal.invariant-loop-grant

@@ -2,7 +2,7 @@ use Rattle.std.proofs.Common.{◌∙◌, sym, subst, length, ap}
 use Rattle.std.specs.List.{Contains}
 use Rattle.locks.specs.declared.lock.Lock.{Lock}
 use Rattle.layout.specs.LockCells.{cells_of}
-use Rattle.moved_cells.specs.Grants.{GrantOf, IsWhole}
+use Rattle.moved_cells.specs.Working.Grants.{GrantOf, IsWhole}
 use Rattle.lock_manager.proofs.Lists.{item_at, item_fails, item_more, all_whole}
 use Rattle.lock_manager.proofs.fitting.are_whole.Goals as goal
 

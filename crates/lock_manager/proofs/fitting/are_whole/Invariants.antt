@@ -1,6 +1,6 @@
 use Rattle.std.proofs.Common.{take}
 use Rattle.std.specs.List.{All}
-use Rattle.moved_cells.specs.Grants.{IsWhole}
+use Rattle.moved_cells.specs.Working.Grants.{IsWhole}
 use Rattle.lock_manager.proofs.fitting.are_whole.Given as goal
 
 abbrev pub invariant-loop-grant : goal.invariant-loop-grant

@@ -1,5 +1,5 @@
 use Rattle.std.proofs.Common.{sym, ◌∙◌}
-use Rattle.moved_cells.specs.Grants.{GrantOf}
+use Rattle.moved_cells.specs.Working.Grants.{GrantOf}
 use Rattle.lock_manager.proofs.Lists.{is_mapped, not_mapped_more, not_mapped}
 use Rattle.lock_manager.proofs.Numbers.{same_is, other_than}
 use Rattle.lock_manager.proofs.fitting.has_grant.Goals as goal

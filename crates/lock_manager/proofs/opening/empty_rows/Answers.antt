@@ -1,6 +1,6 @@
 use Rattle.std.proofs.Common.{◌++◌, ◌∷◌, [], List, ℕ, replicate, ap, ◌∙◌, Vec, Global}
 use Rattle.std.proofs.lemmas.List.{map-append, replicate_more}
-use Rattle.lock_manager.specs.Committed.{rows}
+use Rattle.lock_manager.specs.Working.Committed.{rows}
 use Rattle.lock_manager.proofs.Lists.{same_bound}
 use Rattle.lock_manager.proofs.opening.empty_rows.Goals as goal
 

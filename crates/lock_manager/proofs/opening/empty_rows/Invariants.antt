@@ -1,5 +1,5 @@
 use Rattle.std.proofs.Common.{◌≡◌, replicate, []}
-use Rattle.lock_manager.specs.Committed.{rows}
+use Rattle.lock_manager.specs.Working.Committed.{rows}
 use Rattle.lock_manager.proofs.opening.empty_rows.Given as goal
 
 abbrev pub invariant-loop : goal.invariant-loop

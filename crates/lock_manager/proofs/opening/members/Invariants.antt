@@ -1,7 +1,7 @@
 use Rattle.std.proofs.Common.{◌≡◌, take, map}
 use Rattle.locks.specs.declared.lock.Lock.{Lock}
 use Rattle.layout.specs.LockCells.{cells_of}
-use Rattle.lock_manager.specs.Committed.{rows}
+use Rattle.lock_manager.specs.Working.Committed.{rows}
 use Rattle.lock_manager.proofs.opening.members.Given as goal
 
 abbrev pub invariant-loop-cell : goal.invariant-loop-cell

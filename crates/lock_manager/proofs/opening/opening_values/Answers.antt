@@ -2,7 +2,7 @@ use Rattle.std.proofs.Common.{◌≡◌, ◌∙◌, length, sym, ap, arith}
 use Rattle.std.proofs.lemmas.List.{length-map, take_all}
 use Rattle.core_lang.specs.declared.typed.Cell.{Cell}
 use Rattle.layout.specs.Layouts.{LayoutOf}
-use Rattle.lock_manager.specs.Managers.{IsLayout}
+use Rattle.lock_manager.specs.Working.Managers.{IsLayout}
 use Rattle.lock_manager.proofs.Lists.{one_more_taken}
 use Rattle.lock_manager.proofs.opening.opening_values.Goals as goal
 

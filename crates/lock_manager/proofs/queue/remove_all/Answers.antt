@@ -2,7 +2,7 @@ use Rattle.std.proofs.Common.{◌≢◌, ◌∙◌, ◌+◌, ◌<◌, ◌≤◌,
 use Rattle.std.specs.List.{All}
 use Rattle.std.proofs.lemmas.List.{take_all}
 use Rattle.lock_manager.specs.declared.queue.Waiter.{Waiter}
-use Rattle.lock_manager.specs.Queues.{leaving}
+use Rattle.lock_manager.specs.Working.Queues.{leaving}
 use Rattle.lock_manager.proofs.Queued.{leaving-removed, take-removed, leaving-others}
 use Rattle.std.proofs.lemmas.List.Elements.{All-more}
 use Rattle.lock_manager.proofs.queue.remove_all.Goals as goal

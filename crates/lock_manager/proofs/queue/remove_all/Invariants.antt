@@ -1,7 +1,7 @@
 use Rattle.std.proofs.Common.{◌≡◌, ◌≢◌, ◌-◌, ◌≤◌, take, vec_len, vec_capacity}
 use Rattle.std.specs.List.{All}
 use Rattle.lock_manager.specs.declared.queue.Waiter.{Waiter}
-use Rattle.lock_manager.specs.Queues.{leaving}
+use Rattle.lock_manager.specs.Working.Queues.{leaving}
 use Rattle.lock_manager.proofs.queue.remove_all.Given as goal
 
 abbrev pub invariant-loop-i : goal.invariant-loop-i

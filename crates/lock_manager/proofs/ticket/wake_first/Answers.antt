@@ -1,7 +1,7 @@
 use Rattle.std.proofs.Common.{◌≡◌, ◌∙◌, ◌++◌, List, [], ◌∷◌, length, ℕ, refl, sym, ap, append-nil, arith, vec_len, vec_capacity}
 use Rattle.std.proofs.lemmas.List.{at_drop_all}
 use Rattle.locks.specs.declared.lock.Lock.{Lock}
-use Rattle.lock_manager.specs.Calls.{first_waiters}
+use Rattle.lock_manager.specs.Working.Calls.{first_waiters}
 use Rattle.lock_manager.proofs.ticket.wake_first.Goals.{in-Some, in_default}
 use Rattle.lock_manager.proofs.Queued.{one_woken, none_woken, one_longer}
 use Rattle.lock_manager.proofs.ticket.wake_first.Goals as goal

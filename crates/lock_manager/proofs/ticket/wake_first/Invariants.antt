@@ -1,5 +1,5 @@
 use Rattle.std.proofs.Common.{◌≡◌, ◌≤◌, ◌++◌, drop, length, vec_len, vec_capacity}
-use Rattle.lock_manager.specs.Calls.{first_waiters}
+use Rattle.lock_manager.specs.Working.Calls.{first_waiters}
 use Rattle.lock_manager.proofs.ticket.wake_first.Given as goal
 
 abbrev pub invariant-loop-lock : goal.invariant-loop-lock

@@ -1,7 +1,7 @@
 use Rattle.lock_manager.proofs.Heaps.{one_value_more}
 use Rattle.std.proofs.lemmas.List.{take_all}
 use Rattle.std.proofs.Common.{ap, ◌∙◌}
-use Rattle.moved_cells.specs.Grants.{values_on}
+use Rattle.moved_cells.specs.Working.Grants.{values_on}
 use Rattle.lock_manager.proofs.values.cells_with.Goals as goal
 
 pub loop-cell-preserved : goal.loop-cell-preserved

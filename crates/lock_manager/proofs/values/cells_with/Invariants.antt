@@ -1,5 +1,5 @@
 use Rattle.std.proofs.Common.{take, ◌≡◌}
-use Rattle.moved_cells.specs.Grants.{values_on}
+use Rattle.moved_cells.specs.Working.Grants.{values_on}
 use Rattle.lock_manager.proofs.values.cells_with.Given as goal
 
 abbrev pub invariant-loop-cell : goal.invariant-loop-cell

@@ -4,7 +4,7 @@ use Rattle.lock_manager.proofs.Heaps.{have_at, have_more}
 use Rattle.lock_manager.proofs.Lists.{never_both, both_false, some_same}
 use Rattle.std.proofs.lemmas.List.{take_all}
 use Rattle.core_lang.specs.declared.value.Value.{Value}
-use Rattle.moved_cells.specs.Grants.{numbered}
+use Rattle.moved_cells.specs.Working.Grants.{numbered}
 use Rattle.lock_manager.proofs.values.have.Goals as goal
 
 pub returns-then-not-same : goal.returns-then-not-same

@@ -1,5 +1,5 @@
 use Rattle.std.proofs.Common.{take, ◌≡◌, length}
-use Rattle.moved_cells.specs.Grants.{values_on}
+use Rattle.moved_cells.specs.Working.Grants.{values_on}
 use Rattle.lock_manager.proofs.values.reset.Given as goal
 
 abbrev pub invariant-loop-offset : goal.invariant-loop-offset

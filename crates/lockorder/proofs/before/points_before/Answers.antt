@@ -1,7 +1,7 @@
 use Rattle.std.proofs.Common.{◌≡◌, ◌<◌, false, length, sym, ap, ◌∙◌, subst, arith}
 use Rattle.std.proofs.lemmas.Bool.{both_ways}
 use Rattle.std.proofs.lemmas.List.{length-replicate}
-use Rattle.lockorder.specs.Sections.{is_found, unfound}
+use Rattle.lockorder.specs.Working.Sections.{is_found, unfound}
 use Rattle.lockorder.proofs.Spreading.{all_before, none_found, put_back}
 use Rattle.lockorder.proofs.before.points_before.Goals as goal
 

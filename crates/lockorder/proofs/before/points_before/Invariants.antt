@@ -1,5 +1,5 @@
 use Rattle.std.proofs.Common.{◌≡◌, length}
-use Rattle.lockorder.specs.Sections.{AreBefore, unfound}
+use Rattle.lockorder.specs.Working.Sections.{AreBefore, unfound}
 use Rattle.lockorder.proofs.before.points_before.Given as goal
 
 abbrev pub invariant-loop : goal.invariant-loop

@@ -1,7 +1,7 @@
 use Rattle.std.proofs.Common.{◌≡◌, ℕ, ◌+◌, ◌-◌, ◌<◌, get_or, length, subst, arith}
 use Rattle.std.proofs.lemmas.Bool.{both_ways}
 use Rattle.std.proofs.lemmas.List.Elements.{All-get_or}
-use Rattle.lockorder.specs.Sections.{is_found}
+use Rattle.lockorder.specs.Working.Sections.{is_found}
 use Rattle.lockorder.proofs.Spreading.{IsTurn, turn_takes, turn_skips, pair_read}
 use Rattle.lockorder.proofs.before.spread.Goals as goal
 use Rattle.lockorder.proofs.before.spread.Goals.{else-not-found-from-via-then-not-found-from+else-leads_on, else-not-found-from-via-else-not-found-from}

@@ -1,7 +1,7 @@
 use Rattle.std.proofs.Common.{◌≡◌, List, ℕ, sym, subst, ◌∙◌}
 use Rattle.std.specs.List.{AllPairs, Contains}
 use Rattle.lockorder.specs.ClassPairs.{Precedes}
-use Rattle.lockorder.specs.Tellings.{AreEdges}
+use Rattle.lockorder.specs.Working.Tellings.{AreEdges}
 use Rattle.lockorder.proofs.class_order.class_pairs.Goals as goal
 
 pub told-requires-clause-pairs : goal.told-requires-clause-pairs

@@ -2,7 +2,7 @@ use Rattle.std.proofs.Common.{length, sym, subst}
 use Rattle.std.proofs.lemmas.Option.{MatchOption-at_some}
 use Rattle.lockorder.specs.Edges.{Edge}
 use Rattle.lockorder.specs.Ranks.{AreRanks, IsCycle}
-use Rattle.lockorder.specs.Tables.{InTable, AreRanksIn}
+use Rattle.lockorder.specs.Working.Tables.{InTable, AreRanksIn}
 use Rattle.lockorder.proofs.Rising.{ranks_by, cycle_by, ranks_rise}
 use Rattle.lockorder.proofs.Blame.{no_fault}
 use Rattle.lockorder.proofs.class_order.order.Goals as goal

@@ -2,8 +2,8 @@ use Rattle.std.proofs.Common.{◌<◌, inl, inr, sym, ◌∙◌, subst, arith}
 use Rattle.std.specs.List.{All}
 use Rattle.std.proofs.lemmas.Bool.{both_ways}
 use Rattle.std.proofs.lemmas.Option.{slice_get_within}
-use Rattle.lockorder.specs.Tables.{has_edge}
-use Rattle.lockorder.specs.Sections.{MakesSomewhere}
+use Rattle.lockorder.specs.Working.Tables.{has_edge}
+use Rattle.lockorder.specs.Working.Sections.{MakesSomewhere}
 use Rattle.lockorder.proofs.Lists.{item_at}
 use Rattle.lockorder.proofs.InSection.{joined_by}
 use Rattle.lockorder.proofs.Bridge.{MakesIn, classes_within, somewhere_makes, makes_somewhere}

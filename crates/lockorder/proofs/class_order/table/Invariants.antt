@@ -1,6 +1,6 @@
 use Rattle.std.proofs.Common.{◌≡◌, ◌⊎◌, ℕ, length}
 use Rattle.std.specs.Bool.{Decides}
-use Rattle.lockorder.specs.Tables.{has_edge}
+use Rattle.lockorder.specs.Working.Tables.{has_edge}
 use Rattle.lockorder.proofs.InSection.{Below}
 use Rattle.lockorder.proofs.Bridge.{MakesIn}
 use Rattle.lockorder.proofs.class_order.table.Given as goal

@@ -1,5 +1,5 @@
 use Rattle.std.proofs.Common.{◌<◌, ℕ, List, length, ◌∙◌, sym, ap, subst, arith}
-use Rattle.lockorder.specs.Tellings.{IsToldMore, AreBetween, AreClosed, pair_at, told_at}
+use Rattle.lockorder.specs.Working.Tellings.{IsToldMore, AreBetween, AreClosed, pair_at, told_at}
 use Rattle.lockorder.proofs.Lists.{item_at}
 use Rattle.std.specs.List.{All}
 use Rattle.std.proofs.lemmas.Option.{slice_get_within}

@@ -1,5 +1,5 @@
 use Rattle.std.proofs.Common.{◌≡◌}
-use Rattle.lockorder.specs.Tellings.{AreTold}
+use Rattle.lockorder.specs.Working.Tellings.{AreTold}
 use Rattle.lockorder.proofs.class_order.told.Given as goal
 
 abbrev pub invariant-loop-section : goal.invariant-loop-section

@@ -1,7 +1,7 @@
 use Rattle.std.proofs.Common.{sym, subst, ap, map, ◌∙◌}
 use Rattle.lockorder.specs.declared.ranks.ClassPair.{ClassPair}
 use Rattle.lockorder.specs.Faults.{IsCycleOf}
-use Rattle.lockorder.specs.Tellings.{AreEdges}
+use Rattle.lockorder.specs.Working.Tellings.{AreEdges}
 use Rattle.lockorder.proofs.Tells.{cycle_leads, told_cycle}
 use Rattle.lockorder.proofs.class_order.told_cycle.Goals as goal
 

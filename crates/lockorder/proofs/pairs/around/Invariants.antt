@@ -1,5 +1,5 @@
 use Rattle.std.proofs.Common.{◌≡◌, ◌++◌, drop}
-use Rattle.lockorder.specs.Tellings.{around}
+use Rattle.lockorder.specs.Working.Tellings.{around}
 use Rattle.lockorder.proofs.pairs.around.Given as goal
 
 -- what is pushed and the pairs of what is left are all

@@ -1,7 +1,7 @@
 use Rattle.std.proofs.Common.{◌∙◌, map, ap}
-use Rattle.flow.specs.PointList.{point_at}
+use Rattle.flow.specs.Working.PointList.{point_at}
 use Rattle.locks.specs.LockPaths.{lock_path_of}
-use Rattle.normal_forms.specs.Forms.{replacements_of}
+use Rattle.lockpaths_forms.specs.Working.Forms.{replacements_of}
 use Rattle.lockpaths.proofs.Reading.{met_there, gathered_there}
 use Rattle.lockpaths.proofs.program.found_in.Goals as goal
 

@@ -4,9 +4,9 @@ use Rattle.std.proofs.lemmas.List.{take_all}
 use Rattle.source.specs.Mistakes.{least_of}
 use Rattle.core_lang.specs.declared.tree.Section.{Section}
 use Rattle.lockpaths.specs.declared.table.SectionPaths.{SectionPaths}
-use Rattle.lockpaths.specs.Faulted.{faults_in}
-use Rattle.lockpaths.specs.Numbers.{AreEach}
-use Rattle.lockpaths.specs.Gathering.{Gathered}
+use Rattle.lockpaths.specs.Working.Faulted.{faults_in}
+use Rattle.lockpaths.specs.Working.Numbers.{AreEach}
+use Rattle.lockpaths.specs.Working.Gathering.{Gathered}
 use Rattle.lockpaths.proofs.Used.{IsFound, found_none}
 use Rattle.lockpaths.proofs.Turns.{not_some, not_none, least_next, each_next}
 use Rattle.lockpaths.proofs.program.gather.Goals as goal

@@ -1,8 +1,8 @@
 use Rattle.std.proofs.Common.{◌≡◌, None, take}
 use Rattle.std.specs.List.{flat_map}
 use Rattle.source.specs.Mistakes.{least_of}
-use Rattle.lockpaths.specs.Faulted.{faults_in}
-use Rattle.lockpaths.specs.Numbers.{AreEach}
+use Rattle.lockpaths.specs.Working.Faulted.{faults_in}
+use Rattle.lockpaths.specs.Working.Numbers.{AreEach}
 use Rattle.lockpaths.proofs.program.gather.Given as goal
 
 abbrev pub invariant-loop-section : goal.invariant-loop-section

@@ -2,7 +2,7 @@ use Rattle.std.proofs.Common.{◌≡◌, ◌∙◌, ℕ, Some, None, false, sym,
 use Rattle.source.specs.declared.fault.Code.{Code}
 use Rattle.source.specs.Mistakes.{goes_before, least_of}
 use Rattle.locks.specs.Faults.{IsFault}
-use Rattle.lockpaths.specs.Faulted.{faults_of}
+use Rattle.lockpaths.specs.Working.Faulted.{faults_of}
 use Rattle.lockpaths.proofs.Faulty.{least_is_fault, least_is_least, none_is_none}
 use Rattle.lockpaths.proofs.Used.{are_paths}
 use Rattle.lockpaths.proofs.program.paths.Goals as goal

@@ -1,7 +1,7 @@
 use Rattle.std.proofs.Common.{◌∙◌, List, ℕ, ap, subst}
 use Rattle.std.specs.List.{AllZip}
-use Rattle.lockpaths.specs.Gathering.{Gathered}
-use Rattle.lockpaths.specs.Numbers.{IsSetOf, cut}
+use Rattle.lockpaths.specs.Working.Gathering.{Gathered}
+use Rattle.lockpaths.specs.Working.Numbers.{IsSetOf, cut}
 use Rattle.lockpaths.proofs.program.section_paths.Goals as goal
 
 pub returns : goal.returns

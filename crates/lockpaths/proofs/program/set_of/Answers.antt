@@ -1,5 +1,5 @@
 use Rattle.locks.specs.Sets.{has}
-use Rattle.lockpaths.specs.Numbers.{is_number}
+use Rattle.lockpaths.specs.Working.Numbers.{is_number}
 use Rattle.lockpaths.proofs.Reading.{set_next}
 use Rattle.lockpaths.proofs.program.set_of.Goals as goal
 

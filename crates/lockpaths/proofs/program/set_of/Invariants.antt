@@ -1,6 +1,6 @@
 use Rattle.std.proofs.Common.{◌≡◌, ℕ, ◌||◌, drop}
 use Rattle.locks.specs.Sets.{has}
-use Rattle.lockpaths.specs.Numbers.{is_number}
+use Rattle.lockpaths.specs.Working.Numbers.{is_number}
 use Rattle.lockpaths.proofs.program.set_of.Given as goal
 
 abbrev pub invariant-loop-number : goal.invariant-loop-number

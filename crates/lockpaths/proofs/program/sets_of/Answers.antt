@@ -3,7 +3,7 @@ use Rattle.std.specs.List.{AllZip}
 use Rattle.std.proofs.lemmas.List.{drop_all}
 use Rattle.std.proofs.lemmas.List.Elements.{All-take, All-drop}
 use Rattle.locks.specs.declared.path_set.PathSet.{PathSet}
-use Rattle.lockpaths.specs.Numbers.{IsSetOf, cut}
+use Rattle.lockpaths.specs.Working.Numbers.{IsSetOf, cut}
 use Rattle.lockpaths.proofs.Cuts.{rising_at, cut_more}
 use Rattle.lockpaths.proofs.program.sets_of.Goals as goal
 

@@ -1,7 +1,7 @@
 use Rattle.std.proofs.Common.{List, ◌++◌, length, drop}
 use Rattle.std.specs.List.{AllZip}
 use Rattle.locks.specs.declared.path_set.PathSet.{PathSet}
-use Rattle.lockpaths.specs.Numbers.{IsSetOf, cut, AreRising}
+use Rattle.lockpaths.specs.Working.Numbers.{IsSetOf, cut, AreRising}
 use Rattle.lockpaths.proofs.program.sets_of.Given as goal
 
 abbrev pub invariant-loop-end : goal.invariant-loop-end

@@ -1,5 +1,5 @@
 use Rattle.std.proofs.Common.{◌≡◌, max, drop}
-use Rattle.lowering.specs.NeedLists.{conditions_need}
+use Rattle.lowering.specs.Working.NeedLists.{conditions_need}
 use Rattle.lowering.proofs.needs.+condition.Given as goal
 
 abbrev pub invariant-of_conditions-loop-c : goal.invariant-of_conditions-loop-c

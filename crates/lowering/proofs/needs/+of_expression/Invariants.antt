@@ -1,6 +1,6 @@
 use Rattle.std.proofs.Common.{◌≡◌, max, drop}
 use Rattle.code.specs.Needs.{expr_need}
-use Rattle.lowering.specs.NeedLists.{operations_need}
+use Rattle.lowering.specs.Working.NeedLists.{operations_need}
 use Rattle.lowering.proofs.needs.+of_expression.Given as goal
 
 abbrev pub invariant-loop-operation : goal.invariant-loop-operation

@@ -1,5 +1,5 @@
 use Rattle.std.proofs.Common.{◌≡◌, ℕ, length, take, slice_index}
-use Rattle.lowering.specs.Rooms.{most_among}
+use Rattle.lowering.specs.Working.Rooms.{most_among}
 use Rattle.lowering.proofs.program_rooms.most_by_class.Given as goal
 
 abbrev pub invariant-loop-lock : goal.invariant-loop-lock

@@ -10,7 +10,7 @@ use Rattle.lockpaths.specs.declared.table.Paths.{Paths}
 use Rattle.lockpaths.specs.declared.table.SectionPaths.{SectionPaths}
 use Rattle.lockpaths.specs.Paths.{AreSectionPaths, ArePaths}
 use Rattle.layout.specs.declared.room.Room.{Room}
-use Rattle.lowering.specs.Rooms.{IsRoomOf, most_cells}
+use Rattle.lowering.specs.Working.Rooms.{IsRoomOf, most_cells}
 use Rattle.lowering.proofs.Pushes.{push_cases}
 use Rattle.lowering.proofs.Most.{cells_same}
 use Rattle.lowering.proofs.program_rooms.rooms.Goals as goal

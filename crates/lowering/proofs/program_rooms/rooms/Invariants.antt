@@ -2,7 +2,7 @@ use Rattle.std.proofs.Common.{◌≡◌, ℕ, length, Some}
 use Rattle.std.specs.Prelude.{slice_get}
 use Rattle.core_lang.specs.declared.tree.Section.{Section}
 use Rattle.layout.specs.declared.room.Room.{Room}
-use Rattle.lowering.specs.Rooms.{IsRoomOf}
+use Rattle.lowering.specs.Working.Rooms.{IsRoomOf}
 use Rattle.lowering.proofs.program_rooms.rooms.Given as goal
 
 abbrev pub invariant-loop-k : goal.invariant-loop-k

@@ -1,5 +1,5 @@
 use Rattle.std.proofs.Common.{◌≡◌, drop}
-use Rattle.outcomes.specs.Hashes.{mixed_cells, hash}
+use Rattle.outcomes.specs.Working.Hashes.{mixed_cells, hash}
 use Rattle.outcomes.proofs.hash.hash.Given as goal
 
 -- what is left, mixed into what there is so far, gives the whole

@@ -1,5 +1,5 @@
 use Rattle.std.proofs.Common.{◌≡◌, drop}
-use Rattle.outcomes.specs.Hashes.{mixed_all}
+use Rattle.outcomes.specs.Working.Hashes.{mixed_all}
 use Rattle.outcomes.proofs.hash.mixed_counts.Given as goal
 
 -- what is left, mixed into what there is so far, gives the whole

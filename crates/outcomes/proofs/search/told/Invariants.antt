@@ -1,6 +1,6 @@
 use Rattle.std.proofs.Common.{◌≡◌, map, take}
 use Rattle.outcomes.specs.Ends.{told_of}
-use Rattle.outcomes.specs.Searching.{as_told}
+use Rattle.outcomes.specs.Working.Searching.{as_told}
 use Rattle.outcomes.proofs.search.told.Given as goal
 
 abbrev pub invariant-loop-number : goal.invariant-loop-number

@@ -3,7 +3,7 @@ use Rattle.std.proofs.lemmas.Result.{err_from_is_err_and}
 use Rattle.source.specs.declared.token.Sign.TheVariants.{Comma}
 use Rattle.source.specs.Tokens.{seen}
 use Rattle.syntax.specs.Views.{expr_of}
-use Rattle.parser.specs.Expressions.{expr_at}
+use Rattle.parser.specs.Working.Expressions.{expr_at}
 use Rattle.parser.specs.Theory.Loops.{each_goes_on, each_ends, each_stops, none_listed_at, first_stops, first_listed}
 use Rattle.parser.specs.Theory.Shorter.{each_less}
 use Rattle.parser.specs.Theory.ShorterStatements.{expr_shortens, next_argument_shortens}

@@ -2,8 +2,8 @@ use Rattle.std.proofs.Common.{◌≡◌, ◌∷◌, length}
 use Rattle.source.specs.declared.token.Sign.TheVariants.{Comma}
 use Rattle.source.specs.Tokens.{seen}
 use Rattle.syntax.specs.Views.{expr_of}
-use Rattle.parser.specs.Expressions.{expr_at}
-use Rattle.parser.specs.Reading.{listed_at, after_each}
+use Rattle.parser.specs.Working.Expressions.{expr_at}
+use Rattle.parser.specs.Working.Reading.{listed_at, after_each}
 use Rattle.parser.specs.Theory.Many.{with_front}
 use Rattle.parser.specs.Theory.Loops.{before}
 use Rattle.parser.proofs.call.arguments.Given as goal

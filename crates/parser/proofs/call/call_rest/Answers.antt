@@ -3,7 +3,7 @@ use Rattle.std.proofs.lemmas.Result.{err_from_is_err_and}
 use Rattle.source.specs.declared.token.Sign.TheVariants.{Semicolon}
 use Rattle.source.specs.Tokens.{seen}
 use Rattle.syntax.specs.Views.{helper_call_of}
-use Rattle.parser.specs.Statements.{helper_call_at, call_stmt_at}
+use Rattle.parser.specs.Working.Statements.{helper_call_at, call_stmt_at}
 use Rattle.parser.specs.Theory.Ended.{ended, unended}
 use Rattle.parser.proofs.call.call_rest.Goals as goal
 

@@ -3,9 +3,9 @@ use Rattle.std.proofs.lemmas.Result.{err_from_is_err_and}
 use Rattle.source.specs.declared.token.Sign.TheVariants.{CloseParen}
 use Rattle.source.specs.Tokens.{seen}
 use Rattle.syntax.specs.Views.{expr_of}
-use Rattle.parser.specs.Reading.{listed_at}
-use Rattle.parser.specs.Expressions.{expr_at}
-use Rattle.parser.specs.Statements.{helper_call_at}
+use Rattle.parser.specs.Working.Reading.{listed_at}
+use Rattle.parser.specs.Working.Expressions.{expr_at}
+use Rattle.parser.specs.Working.Statements.{helper_call_at}
 use Rattle.parser.specs.Theory.Readers.{fails_on}
 use Rattle.parser.specs.Theory.Ended.{ended, unended}
 use Rattle.parser.proofs.Rooms.{inside_at_some}

@@ -2,7 +2,7 @@ use Rattle.std.proofs.Common.{sym, ◌∙◌}
 use Rattle.std.proofs.lemmas.Result.{err_from_is_err_and}
 use Rattle.source.specs.Tokens.{seen}
 use Rattle.syntax.specs.Views.{decl_of}
-use Rattle.parser.specs.Declarations.{decl_at}
+use Rattle.parser.specs.Working.Declarations.{decl_at}
 use Rattle.parser.specs.Theory.Loops.{fewer}
 use Rattle.parser.proofs.Turns.{decl_shortens, decls_go_on, decls_end, decls_stop}
 use Rattle.parser.proofs.decl.decls.Goals as goal

@@ -1,7 +1,7 @@
 use Rattle.std.proofs.Common.{◌≡◌, ◌∷◌, length}
 use Rattle.source.specs.Tokens.{seen}
 use Rattle.syntax.specs.Views.{decl_of}
-use Rattle.parser.specs.Declarations.{decls_at}
+use Rattle.parser.specs.Working.Declarations.{decls_at}
 use Rattle.parser.specs.Theory.Many.{with_front}
 use Rattle.parser.specs.Theory.Loops.{before}
 use Rattle.parser.proofs.decl.decls.Given as goal

@@ -1,6 +1,6 @@
 use Rattle.std.proofs.Common.{sym, ◌∙◌}
-use Rattle.parser.specs.Reading.{choose}
-use Rattle.parser.specs.Declarations.{global_at}
+use Rattle.parser.specs.Working.Reading.{choose}
+use Rattle.parser.specs.Working.Declarations.{global_at}
 use Rattle.parser.proofs.decl.global.Goals as goal
 
 pub returns : goal.returns

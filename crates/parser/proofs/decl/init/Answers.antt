@@ -2,9 +2,9 @@ use Rattle.std.proofs.lemmas.Result.{err_from_is_err_and}
 use Rattle.source.specs.declared.token.Sign.TheVariants.{Dot, Equals, Semicolon}
 use Rattle.source.specs.Tokens.{seen}
 use Rattle.syntax.specs.Views.{const_of, ident}
-use Rattle.parser.specs.Parts.{const_at, index_at}
-use Rattle.parser.specs.Reading.{name_at}
-use Rattle.parser.specs.Declarations.{init_at}
+use Rattle.parser.specs.Working.Parts.{const_at, index_at}
+use Rattle.parser.specs.Working.Reading.{name_at}
+use Rattle.parser.specs.Working.Declarations.{init_at}
 use Rattle.parser.specs.Theory.Readers.{fails_on}
 use Rattle.parser.specs.Theory.Ended.{ended, unended}
 use Rattle.parser.proofs.Done.{init_done}

@@ -1,8 +1,8 @@
 use Rattle.std.proofs.lemmas.Result.{err_from_is_err_and}
 use Rattle.source.specs.declared.token.Sign.TheVariants.{Semicolon}
 use Rattle.source.specs.Tokens.{seen}
-use Rattle.parser.specs.Parts.{index_at}
-use Rattle.parser.specs.Declarations.{pool_at}
+use Rattle.parser.specs.Working.Parts.{index_at}
+use Rattle.parser.specs.Working.Declarations.{pool_at}
 use Rattle.parser.specs.Theory.Readers.{fails_on}
 use Rattle.parser.specs.Theory.Ended.{ended, unended}
 use Rattle.parser.proofs.Done.{pool_done}

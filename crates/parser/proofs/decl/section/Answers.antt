@@ -1,6 +1,6 @@
 use Rattle.source.specs.Tokens.{seen}
 use Rattle.std.proofs.lemmas.Result.{err_from_is_err_and}
-use Rattle.parser.specs.Declarations.{section_at}
+use Rattle.parser.specs.Working.Declarations.{section_at}
 use Rattle.parser.specs.Theory.Readers.{fails_on}
 use Rattle.parser.proofs.Done.{section_done}
 use Rattle.parser.proofs.decl.section.Goals as goal

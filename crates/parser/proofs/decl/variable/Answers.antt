@@ -2,9 +2,9 @@ use Rattle.std.proofs.lemmas.Result.{err_from_is_err_and}
 use Rattle.source.specs.declared.token.Sign.TheVariants.{Equals, Semicolon}
 use Rattle.source.specs.Tokens.{mark, seen}
 use Rattle.syntax.specs.Views.{const_of, option_of, type_of, ident}
-use Rattle.parser.specs.Reading.{after_at, maybe_at}
-use Rattle.parser.specs.Parts.{const_at}
-use Rattle.parser.specs.Declarations.{variable_at}
+use Rattle.parser.specs.Working.Reading.{after_at, maybe_at}
+use Rattle.parser.specs.Working.Parts.{const_at}
+use Rattle.parser.specs.Working.Declarations.{variable_at}
 use Rattle.parser.specs.Theory.Readers.{fails_on}
 use Rattle.parser.specs.Theory.Ended.{ended, unended}
 use Rattle.parser.proofs.Done.{variable_done}

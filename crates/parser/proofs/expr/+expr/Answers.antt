@@ -6,10 +6,10 @@ use Rattle.source.specs.Tokens.{seen, Tok}
 use Rattle.syntax.specs.declared.tree.Element as the_element
 use Rattle.syntax.specs.declared.tree.Expr as the_expr
 use Rattle.syntax.specs.declared.tree.Path as the_path
-use Rattle.syntax.specs.Rows.{joined_of-Chain}
+use Rattle.syntax.specs.Theory.Rows.{joined_of-Chain}
 use Rattle.syntax.specs.Trees.{paren, Place, Ident, Expr, int, place, prefix}
 use Rattle.syntax.specs.Views.{ident, expr_of, path_of, element_of}
-use Rattle.parser.specs.Expressions.{operand_at, inside_at, expr_at, place_at, unary_with, compared_with, prim_at, prim_with, prim_from, parens_at}
+use Rattle.parser.specs.Working.Expressions.{operand_at, inside_at, expr_at, place_at, unary_with, compared_with, prim_at, prim_with, prim_from, parens_at}
 use Rattle.parser.specs.Theory.Chains.{links_before, link_goes_on, link_ends, link_stops, operand_alone, operand_stops, pair_done, chain_done, links_stop, none_found}
 use Rattle.parser.specs.Theory.ShorterStatements.{operand_shortens, one_turn_less}
 use Rattle.parser.proofs.Closed.{element_done, element_unopened, element_stops, parens_done, parens_stop, path_stops, path_done}
@@ -19,7 +19,7 @@ use Rattle.source.specs.declared.token.Number.{Number}
 use Rattle.source.specs.declared.token.Token.TheVariants as token
 use Rattle.std.specs.Rc.{rc_str_bytes}
 use Rattle.parser.specs.Theory.Readers.{fails_on}
-use Rattle.parser.specs.Reading.{◌>>=◌, refused, choose}
+use Rattle.parser.specs.Working.Reading.{◌>>=◌, refused, choose}
 use Rattle.parser.specs.Theory.First.{word_first, at_first, refused_first, named_is, behind_first}
 use Rattle.parser.proofs.expr.+expr.Goals as goal
 

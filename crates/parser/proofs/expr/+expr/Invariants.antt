@@ -2,7 +2,7 @@ use Rattle.std.proofs.Common.{◌≡◌, ◌+◌, ◌*◌, length}
 use Rattle.source.specs.Tokens.{seen}
 use Rattle.syntax.specs.Grammar.{rank}
 use Rattle.syntax.specs.Views.{link_of}
-use Rattle.parser.specs.Expressions.{operand_at, links_at, links_behind}
+use Rattle.parser.specs.Working.Expressions.{operand_at, links_at, links_behind}
 use Rattle.parser.specs.Theory.Many.{with_front}
 use Rattle.parser.specs.Theory.Chains.{links_before}
 use Rattle.parser.proofs.expr.+expr.Given as goal

@@ -2,7 +2,7 @@ use Rattle.std.proofs.Common.{ap, sym, ◌∙◌}
 use Rattle.source.specs.declared.token.Sign.TheVariants.{Plus, Minus, Star, Slash, Percent, And, Or}
 use Rattle.source.specs.Tokens.{mark, seen}
 use Rattle.syntax.specs.declared.tree.Level.{Level}
-use Rattle.parser.specs.Expressions.{op_at, op_of, before_rest}
+use Rattle.parser.specs.Working.Expressions.{op_at, op_of, before_rest}
 use Rattle.parser.specs.Theory.First.{mark_first, behind_first}
 use Rattle.parser.proofs.expr.operator.Goals as goal
 

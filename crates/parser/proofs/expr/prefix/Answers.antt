@@ -1,6 +1,6 @@
 use Rattle.std.proofs.Common.{sym}
 use Rattle.source.specs.declared.token.Sign.TheVariants.{Minus, Not}
-use Rattle.parser.specs.Expressions.{prefix_at}
+use Rattle.parser.specs.Working.Expressions.{prefix_at}
 use Rattle.parser.specs.Theory.First.{mark_first}
 use Rattle.parser.proofs.expr.prefix.Goals as goal
 

@@ -1,7 +1,7 @@
 use Rattle.std.proofs.Common.{sym, ◌∙◌}
 use Rattle.std.proofs.lemmas.Result.{err_from_is_err_and}
-use Rattle.parser.specs.Reading.{choose}
-use Rattle.parser.specs.Statements.{let_at}
+use Rattle.parser.specs.Working.Reading.{choose}
+use Rattle.parser.specs.Working.Statements.{let_at}
 use Rattle.parser.specs.Theory.Readers.{fails_on}
 use Rattle.parser.proofs.local.let_rest.Goals as goal
 

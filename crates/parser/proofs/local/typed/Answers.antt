@@ -3,9 +3,9 @@ use Rattle.std.proofs.lemmas.Result.{err_from_is_err_and}
 use Rattle.source.specs.declared.token.Sign.TheVariants.{Colon, Equals}
 use Rattle.source.specs.Tokens.{seen}
 use Rattle.syntax.specs.Views.{ident, type_of}
-use Rattle.parser.specs.Reading.{name_at}
-use Rattle.parser.specs.Parts.{type_at}
-use Rattle.parser.specs.Statements.{typed_at}
+use Rattle.parser.specs.Working.Reading.{name_at}
+use Rattle.parser.specs.Working.Parts.{type_at}
+use Rattle.parser.specs.Working.Statements.{typed_at}
 use Rattle.parser.specs.Theory.Ended.{ended, unended}
 use Rattle.parser.proofs.local.typed.Goals as goal
 

@@ -2,8 +2,8 @@ use Rattle.std.proofs.lemmas.Result.{err_from_is_err_and}
 use Rattle.source.specs.declared.token.Sign.TheVariants.{Semicolon}
 use Rattle.source.specs.Tokens.{seen}
 use Rattle.syntax.specs.Views.{ident}
-use Rattle.parser.specs.Reading.{name_at}
-use Rattle.parser.specs.Declarations.{final_at}
+use Rattle.parser.specs.Working.Reading.{name_at}
+use Rattle.parser.specs.Working.Declarations.{final_at}
 use Rattle.parser.specs.Theory.Readers.{fails_on}
 use Rattle.parser.specs.Theory.Ended.{ended, unended}
 use Rattle.parser.proofs.Done.{final_done}

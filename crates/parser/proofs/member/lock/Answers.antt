@@ -1,8 +1,8 @@
 use Rattle.source.specs.declared.token.Sign.TheVariants.{Semicolon}
 use Rattle.source.specs.Tokens.{seen}
 use Rattle.syntax.specs.Views.{ident}
-use Rattle.parser.specs.Reading.{name_at}
-use Rattle.parser.specs.Declarations.{lock_at}
+use Rattle.parser.specs.Working.Reading.{name_at}
+use Rattle.parser.specs.Working.Declarations.{lock_at}
 use Rattle.parser.specs.Theory.Ended.{ended_gives}
 use Rattle.parser.proofs.member.lock.Goals as goal
 

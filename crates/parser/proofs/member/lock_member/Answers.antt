@@ -1,6 +1,6 @@
 use Rattle.std.proofs.Common.{refl}
 use Rattle.std.proofs.lemmas.Result.{err_from_is_err_and}
-use Rattle.parser.specs.Declarations.{lock_member_at}
+use Rattle.parser.specs.Working.Declarations.{lock_member_at}
 use Rattle.parser.specs.Theory.Readers.{fails_on}
 use Rattle.parser.proofs.member.lock_member.Goals as goal
 

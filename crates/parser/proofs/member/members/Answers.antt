@@ -2,7 +2,7 @@ use Rattle.std.proofs.Common.{sym, ◌∙◌}
 use Rattle.std.proofs.lemmas.Result.{err_from_is_err_and}
 use Rattle.source.specs.Tokens.{seen}
 use Rattle.syntax.specs.Views.{member_of}
-use Rattle.parser.specs.Declarations.{member_at}
+use Rattle.parser.specs.Working.Declarations.{member_at}
 use Rattle.parser.specs.Theory.Loops.{fewer}
 use Rattle.parser.proofs.Turns.{member_shortens, members_go_on, members_end, members_stop}
 use Rattle.parser.proofs.member.members.Goals as goal

@@ -1,7 +1,7 @@
 use Rattle.std.proofs.Common.{◌≡◌, ◌∷◌, length}
 use Rattle.source.specs.Tokens.{seen}
 use Rattle.syntax.specs.Views.{member_of}
-use Rattle.parser.specs.Declarations.{member_at, members_with}
+use Rattle.parser.specs.Working.Declarations.{member_at, members_with}
 use Rattle.parser.specs.Theory.Many.{with_front}
 use Rattle.parser.specs.Theory.Loops.{before}
 use Rattle.parser.proofs.member.members.Given as goal

@@ -3,7 +3,7 @@ use Rattle.std.proofs.lemmas.Result.{err_from_is_err_and}
 use Rattle.source.specs.declared.token.Sign.TheVariants.{CloseBrace}
 use Rattle.source.specs.Tokens.{seen}
 use Rattle.syntax.specs.Views.{member_of}
-use Rattle.parser.specs.Declarations.{member_at, members_with, struct_at}
+use Rattle.parser.specs.Working.Declarations.{member_at, members_with, struct_at}
 use Rattle.parser.specs.Theory.Readers.{fails_on}
 use Rattle.parser.proofs.Done.{members_in_some}
 use Rattle.parser.specs.Theory.Ended.{ended, unended}

@@ -5,8 +5,8 @@ use Rattle.source.specs.declared.token.Number.{Number}
 use Rattle.source.specs.declared.token.Token.TheVariants as token
 use Rattle.source.specs.Tokens.{seen}
 use Rattle.syntax.specs.Trees.{Ident, int_const}
-use Rattle.parser.specs.Parts.{const_at, const_from, member_from, negative_from}
-use Rattle.parser.specs.Reading.{refused}
+use Rattle.parser.specs.Working.Parts.{const_at, const_from, member_from, negative_from}
+use Rattle.parser.specs.Working.Reading.{refused}
 use Rattle.parser.specs.Theory.First.{at_first, refused_first, named_is, behind_first}
 use Rattle.parser.proofs.parts.constant.Goals as goal
 

@@ -3,7 +3,7 @@ use Rattle.std.proofs.lemmas.Result.{err_from_is_err_and}
 use Rattle.source.specs.declared.token.Sign.TheVariants.{Comma}
 use Rattle.source.specs.Tokens.{seen}
 use Rattle.syntax.specs.Views.{const_of}
-use Rattle.parser.specs.Parts.{const_at}
+use Rattle.parser.specs.Working.Parts.{const_at}
 use Rattle.parser.specs.Theory.Loops.{each_goes_on, each_ends, each_stops, none_listed_at, first_stops, first_listed}
 use Rattle.parser.specs.Theory.Shorter.{const_shortens, next_const_shortens, each_less}
 use Rattle.parser.proofs.parts.constants.Goals as goal

@@ -1,7 +1,7 @@
 use Rattle.source.specs.declared.token.Sign.TheVariants.{CloseBracket}
 use Rattle.source.specs.Tokens.{seen}
-use Rattle.parser.specs.Parts.{index_at}
-use Rattle.parser.specs.Reading.{int_at}
+use Rattle.parser.specs.Working.Parts.{index_at}
+use Rattle.parser.specs.Working.Reading.{int_at}
 use Rattle.std.proofs.lemmas.Result.{err_from_is_err_and}
 use Rattle.parser.specs.Theory.Readers.{fails_on}
 use Rattle.parser.specs.Theory.Ended.{ended_gives}

@@ -3,7 +3,7 @@ use Rattle.std.proofs.lemmas.Result.{err_from_is_err_and}
 use Rattle.source.specs.declared.token.Sign.TheVariants.{Dot}
 use Rattle.source.specs.Tokens.{seen}
 use Rattle.syntax.specs.Views.{ident}
-use Rattle.parser.specs.Reading.{name_at}
+use Rattle.parser.specs.Working.Reading.{name_at}
 use Rattle.parser.specs.Theory.Loops.{each_goes_on, each_ends, each_stops}
 use Rattle.parser.specs.Theory.Shorter.{name_shortens, next_name_shortens, each_less}
 use Rattle.parser.proofs.parts.names_after_dots.Goals as goal

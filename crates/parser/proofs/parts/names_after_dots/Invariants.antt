@@ -2,7 +2,7 @@ use Rattle.std.proofs.Common.{◌≡◌, ◌∷◌, length}
 use Rattle.source.specs.declared.token.Sign.TheVariants.{Dot}
 use Rattle.source.specs.Tokens.{seen}
 use Rattle.syntax.specs.Views.{ident}
-use Rattle.parser.specs.Reading.{name_at, after_each}
+use Rattle.parser.specs.Working.Reading.{name_at, after_each}
 use Rattle.parser.specs.Theory.Many.{with_front}
 use Rattle.parser.specs.Theory.Loops.{before}
 use Rattle.parser.proofs.parts.names_after_dots.Given as goal

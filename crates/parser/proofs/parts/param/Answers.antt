@@ -1,6 +1,6 @@
 use Rattle.std.proofs.Common.{refl}
 use Rattle.std.proofs.lemmas.Result.{err_from_is_err_and}
-use Rattle.parser.specs.Parts.{param_at}
+use Rattle.parser.specs.Working.Parts.{param_at}
 use Rattle.parser.specs.Theory.Readers.{fails_on}
 use Rattle.parser.proofs.parts.param.Goals as goal
 

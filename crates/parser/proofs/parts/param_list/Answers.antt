@@ -3,7 +3,7 @@ use Rattle.std.proofs.lemmas.Result.{err_from_is_err_and}
 use Rattle.source.specs.declared.token.Sign.TheVariants.{Comma}
 use Rattle.source.specs.Tokens.{seen}
 use Rattle.syntax.specs.Views.{param_of}
-use Rattle.parser.specs.Parts.{param_at}
+use Rattle.parser.specs.Working.Parts.{param_at}
 use Rattle.parser.specs.Theory.Loops.{each_goes_on, each_ends, each_stops, none_listed_at, first_stops, first_listed}
 use Rattle.parser.specs.Theory.Shorter.{param_shortens, next_param_shortens, each_less}
 use Rattle.parser.proofs.parts.param_list.Goals as goal

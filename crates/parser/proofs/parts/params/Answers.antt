@@ -2,8 +2,8 @@ use Rattle.source.specs.declared.token.Sign.TheVariants.{CloseParen}
 use Rattle.source.specs.Tokens.{seen}
 use Rattle.std.proofs.Common.{map}
 use Rattle.syntax.specs.Views.{param_of}
-use Rattle.parser.specs.Reading.{listed_at}
-use Rattle.parser.specs.Parts.{params_at, param_at}
+use Rattle.parser.specs.Working.Reading.{listed_at}
+use Rattle.parser.specs.Working.Parts.{params_at, param_at}
 use Rattle.std.proofs.lemmas.Result.{err_from_is_err_and}
 use Rattle.parser.specs.Theory.Readers.{fails_on}
 use Rattle.parser.specs.Theory.Ended.{ended_gives}

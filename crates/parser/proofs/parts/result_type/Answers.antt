@@ -2,7 +2,7 @@ use Rattle.std.proofs.Common.{sym}
 use Rattle.std.proofs.lemmas.Result.{err_from_is_err_and}
 use Rattle.source.specs.declared.token.Sign.TheVariants.{Colon}
 use Rattle.source.specs.Tokens.{seen}
-use Rattle.parser.specs.Parts.{type_at}
+use Rattle.parser.specs.Working.Parts.{type_at}
 use Rattle.parser.proofs.Optional.{without_part, part_read, part_stops}
 use Rattle.parser.proofs.parts.result_type.Goals as goal
 

@@ -3,8 +3,8 @@ use Rattle.std.proofs.lemmas.Result.{err_from_is_err_and}
 use Rattle.source.specs.declared.token.Sign.TheVariants.{CloseParen, Dot}
 use Rattle.source.specs.Tokens.{seen}
 use Rattle.syntax.specs.Views.{ident}
-use Rattle.parser.specs.Reading.{after_each, name_at}
-use Rattle.parser.specs.Parts.{protection_at}
+use Rattle.parser.specs.Working.Reading.{after_each, name_at}
+use Rattle.parser.specs.Working.Parts.{protection_at}
 use Rattle.parser.specs.Theory.Readers.{fails_on}
 use Rattle.parser.specs.Theory.Ended.{ended, unended}
 use Rattle.parser.proofs.parts.some_protection.Goals as goal

@@ -2,7 +2,7 @@ use Rattle.parser.specs.Theory.Readers.{fails_on}
 use Rattle.std.proofs.lemmas.Result.{err_from_is_err_and}
 use Rattle.std.proofs.Common.{refl}
 use Rattle.source.specs.declared.token.Keyword.TheVariants.{Int, Ref}
-use Rattle.parser.specs.Parts.{type_at}
+use Rattle.parser.specs.Working.Parts.{type_at}
 use Rattle.parser.specs.Theory.First.{word_first}
 use Rattle.parser.proofs.parts.value_type.Goals as goal
 

@@ -2,7 +2,7 @@ use Rattle.std.proofs.Common.{List, refl, sym, ap, ◌∙◌}
 use Rattle.syntax.specs.declared.tree.Stmt as the_stmt
 use Rattle.syntax.specs.declared.tree.While as the_while
 use Rattle.syntax.specs.Views.{stmts_of}
-use Rattle.parser.specs.Returning.{least_return}
+use Rattle.parser.specs.Working.Returning.{least_return}
 use Rattle.parser.proofs.Least.{inner_while, inner_if}
 use Rattle.parser.proofs.returns.+returns.Goals as goal
 

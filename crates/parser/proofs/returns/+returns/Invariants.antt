@@ -1,6 +1,6 @@
 use Rattle.std.proofs.Common.{◌≡◌, drop}
 use Rattle.syntax.specs.Views.{stmts_of}
-use Rattle.parser.specs.Returning.{earlier, least_return}
+use Rattle.parser.specs.Working.Returning.{earlier, least_return}
 use Rattle.parser.proofs.returns.+returns.Given as goal
 
 abbrev pub invariant-least_return-loop-stmt : goal.invariant-least_return-loop-stmt

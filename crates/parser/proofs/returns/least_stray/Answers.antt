@@ -1,5 +1,5 @@
 use Rattle.std.proofs.Common.{ap, ◌∙◌}
-use Rattle.parser.specs.Returning.{earlier}
+use Rattle.parser.specs.Working.Returning.{earlier}
 use Rattle.parser.proofs.Least.{stray_of}
 use Rattle.parser.proofs.returns.least_stray.Goals as goal
 

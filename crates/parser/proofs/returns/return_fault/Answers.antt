@@ -2,7 +2,7 @@ use Rattle.std.proofs.Common.{ℕ, ◌+◌, Option, List, ◌∷◌, map, drop, 
 use Rattle.std.proofs.lemmas.List.{at_drop_more}
 use Rattle.syntax.specs.declared.tree.Decl.{Decl}
 use Rattle.syntax.specs.Views.{decl_of}
-use Rattle.parser.specs.Returning.{earlier, least_fault}
+use Rattle.parser.specs.Working.Returning.{earlier, least_fault}
 use Rattle.parser.proofs.Least.{earlier-assoc}
 use Rattle.parser.proofs.returns.return_fault.Goals as goal
 

@@ -1,6 +1,6 @@
 use Rattle.std.proofs.Common.{◌≡◌, map, drop}
 use Rattle.syntax.specs.Views.{decl_of}
-use Rattle.parser.specs.Returning.{earlier, least_fault}
+use Rattle.parser.specs.Working.Returning.{earlier, least_fault}
 use Rattle.parser.proofs.returns.return_fault.Given as goal
 
 abbrev pub invariant-loop-decl : goal.invariant-loop-decl

@@ -2,11 +2,11 @@ use Rattle.parser.specs.declared.stop.Stop.{Stop}
 use Rattle.std.proofs.Common.{refl, ap, sym, ◌∙◌, List, Result, Ok}
 use Rattle.parser.proofs.StatementsDone.{while_done, if_done, stmts_in_some}
 use Rattle.std.proofs.lemmas.Result.{err_from_is_err_and}
-use Rattle.syntax.specs.Rows.{stmt_of-made_While, stmt_of-made_If}
+use Rattle.syntax.specs.Theory.Rows.{stmt_of-made_While, stmt_of-made_If}
 use Rattle.source.specs.Tokens.{seen, Tok}
 use Rattle.syntax.specs.Views.{stmt_of}
-use Rattle.parser.specs.Statements.{stmt_at, braced_with, while_with, if_with, stmt_with, assign_at}
-use Rattle.parser.specs.Reading.{choose, ◌>>=◌}
+use Rattle.parser.specs.Working.Statements.{stmt_at, braced_with, while_with, if_with, stmt_with, assign_at}
+use Rattle.parser.specs.Working.Reading.{choose, ◌>>=◌}
 use Rattle.parser.specs.Theory.Readers.{fails_on}
 use Rattle.parser.specs.Theory.Loops.{fewer}
 use Rattle.parser.specs.Theory.StatementTurns.{stmt_shortens, stmts_go_on, stmts_end, stmts_stop}

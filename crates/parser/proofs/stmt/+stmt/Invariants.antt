@@ -2,7 +2,7 @@ use Rattle.std.proofs.Common.{◌≡◌, ◌+◌, ◌*◌, length}
 use Rattle.source.specs.Tokens.{seen}
 use Rattle.syntax.specs.Trees.{stmt}
 use Rattle.syntax.specs.Views.{stmt_of}
-use Rattle.parser.specs.Statements.{stmt_at, stmts_with}
+use Rattle.parser.specs.Working.Statements.{stmt_at, stmts_with}
 use Rattle.parser.specs.Theory.Many.{with_front}
 use Rattle.parser.specs.Theory.Loops.{before}
 use Rattle.parser.proofs.stmt.+stmt.Given as goal

@@ -3,8 +3,8 @@ use Rattle.std.proofs.lemmas.Result.{err_from_is_err_and}
 use Rattle.source.specs.declared.token.Sign.TheVariants.{Equals}
 use Rattle.source.specs.Tokens.{seen}
 use Rattle.syntax.specs.Views.{ident, place_of}
-use Rattle.parser.specs.Statements.{assign_at}
-use Rattle.parser.specs.Expressions.{inside_at, place_at}
+use Rattle.parser.specs.Working.Statements.{assign_at}
+use Rattle.parser.specs.Working.Expressions.{inside_at, place_at}
 use Rattle.parser.specs.Theory.Readers.{fails_on}
 use Rattle.parser.specs.Theory.Ended.{ended, unended}
 use Rattle.parser.proofs.stmt.assignment.Goals as goal

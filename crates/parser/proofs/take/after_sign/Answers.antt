@@ -1,5 +1,5 @@
 use Rattle.std.proofs.Common.{sym, ◌∙◌}
-use Rattle.parser.specs.Reading.{skip_at}
+use Rattle.parser.specs.Working.Reading.{skip_at}
 use Rattle.parser.specs.Theory.First.{sign_skipped, sign_unskipped, no_sign_skipped, none_left}
 use Rattle.parser.proofs.take.after_sign.Goals as goal
 use Rattle.parser.proofs.take.after_sign.Goals.{in_default, in-len1-up+in-Mark+else-is_same, in-len1-up+in_default-first}

@@ -4,7 +4,7 @@ use Rattle.std.specs.Prelude.{◌==◌}
 use Rattle.source.specs.contracts.token.Sign.{the_type}
 use Rattle.source.specs.declared.token.Sign.{Sign}
 use Rattle.source.specs.declared.token.Sign.TheVariants.{OpenBrace, CloseBrace, OpenParen, CloseParen, OpenBracket, CloseBracket, Semicolon, Comma, Colon, Dot, Equals, DoubleEquals, NotEquals, Less, LessEquals, Greater, GreaterEquals, Plus, Minus, Star, Slash, Percent, And, Or, Not}
-use Rattle.parser.specs.Reading.{sign_code}
+use Rattle.parser.specs.Working.Reading.{sign_code}
 use Rattle.parser.proofs.take.is_same.Goals as goal
 
 -- a sign's code is its place among the signs

@@ -1,6 +1,6 @@
 use Rattle.std.proofs.Common.{sym, ◌∙◌}
 use Rattle.source.specs.Tokens.{mark}
-use Rattle.parser.specs.Reading.{is_next}
+use Rattle.parser.specs.Working.Reading.{is_next}
 use Rattle.parser.specs.Theory.First.{sign_next, no_sign_next, none_left}
 use Rattle.parser.proofs.take.is_sign_next.Goals as goal
 

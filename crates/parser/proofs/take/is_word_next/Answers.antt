@@ -1,6 +1,6 @@
 use Rattle.std.proofs.Common.{sym, ◌∙◌}
 use Rattle.source.specs.Tokens.{word}
-use Rattle.parser.specs.Reading.{is_next}
+use Rattle.parser.specs.Working.Reading.{is_next}
 use Rattle.parser.specs.Theory.First.{word_next, no_word_next, none_left}
 use Rattle.parser.proofs.take.is_word_next.Goals as goal
 

@@ -3,7 +3,7 @@ use Rattle.std.specs.Rc.{rc_str_bytes}
 use Rattle.source.specs.declared.token.Token.TheVariants as token
 use Rattle.source.specs.Tokens.{seen}
 use Rattle.syntax.specs.Trees.{Ident}
-use Rattle.parser.specs.Reading.{name_at}
+use Rattle.parser.specs.Working.Reading.{name_at}
 use Rattle.parser.specs.Theory.First.{at_first, named_is, behind_first}
 use Rattle.parser.proofs.take.take_name.Goals as goal
 

@@ -1,5 +1,5 @@
 use Rattle.std.proofs.Common.{sym, ◌∙◌}
-use Rattle.parser.specs.Reading.{open_at, open_from}
+use Rattle.parser.specs.Working.Reading.{open_at, open_from}
 use Rattle.parser.specs.Theory.First.{sign_opened, sign_too_deep, sign_unopened, no_sign_opened, refused_none}
 use Rattle.parser.proofs.take.take_open.Goals as goal
 use Rattle.parser.proofs.take.take_open.Goals.{in_default, in-len1-up+in-Mark+else-is_same, in-len1-up+in_default-first}

@@ -1,5 +1,5 @@
 use Rattle.std.proofs.Common.{sym, ◌∙◌}
-use Rattle.parser.specs.Reading.{sign_at, sign_from}
+use Rattle.parser.specs.Working.Reading.{sign_at, sign_from}
 use Rattle.parser.specs.Theory.First.{sign_taken, sign_other, no_sign, refused_none}
 use Rattle.parser.proofs.take.take_sign.Goals as goal
 use Rattle.parser.proofs.take.take_sign.Goals.{in_default, in-len1-up+in-Mark+else-is_same, in-len1-up+in_default-first}

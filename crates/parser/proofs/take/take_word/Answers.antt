@@ -1,5 +1,5 @@
 use Rattle.std.proofs.Common.{sym, ◌∙◌}
-use Rattle.parser.specs.Reading.{word_at, word_from}
+use Rattle.parser.specs.Working.Reading.{word_at, word_from}
 use Rattle.parser.specs.Theory.First.{word_taken, word_other, no_word_here, refused_none}
 use Rattle.parser.proofs.take.take_word.Goals as goal
 use Rattle.parser.proofs.take.take_word.Goals.{in_default, in-len1-up+in-Word+else-is_same_word, in-len1-up+in_default-first}

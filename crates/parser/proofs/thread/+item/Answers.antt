@@ -1,14 +1,14 @@
 use Rattle.std.proofs.Common.{◌-◌, sym, ◌∙◌, refl}
-use Rattle.parser.specs.Reading.{choose}
+use Rattle.parser.specs.Working.Reading.{choose}
 use Rattle.source.specs.declared.token.Sign.TheVariants.{CloseBrace}
 use Rattle.parser.specs.Theory.Readers.{fails_on}
 use Rattle.parser.specs.Theory.Ended.{ended, unended}
 use Rattle.parser.proofs.Done.{repeat_done, items_in_some}
-use Rattle.syntax.specs.Rows.{item_of_Repeat}
+use Rattle.syntax.specs.Theory.Rows.{item_of_Repeat}
 use Rattle.std.proofs.lemmas.Result.{err_from_is_err_and}
 use Rattle.source.specs.Tokens.{seen}
 use Rattle.syntax.specs.Views.{item_of, items_of}
-use Rattle.parser.specs.Declarations.{item_at, item_with, items_with, repeat_with}
+use Rattle.parser.specs.Working.Declarations.{item_at, item_with, items_with, repeat_with}
 use Rattle.parser.specs.Theory.Loops.{fewer}
 use Rattle.parser.proofs.Turns.{item_shortens, items_go_on, items_end, items_stop}
 use Rattle.parser.proofs.thread.+item.Goals as goal

@@ -2,7 +2,7 @@ use Rattle.std.proofs.Common.{◌≡◌, ◌+◌, ◌*◌, length}
 use Rattle.source.specs.Tokens.{seen}
 use Rattle.syntax.specs.Trees.{item}
 use Rattle.syntax.specs.Views.{item_of}
-use Rattle.parser.specs.Declarations.{item_at, items_with}
+use Rattle.parser.specs.Working.Declarations.{item_at, items_with}
 use Rattle.parser.specs.Theory.Many.{with_front}
 use Rattle.parser.specs.Theory.Loops.{before}
 use Rattle.parser.proofs.thread.+item.Given as goal

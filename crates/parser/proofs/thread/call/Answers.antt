@@ -3,9 +3,9 @@ use Rattle.std.proofs.lemmas.Result.{err_from_is_err_and}
 use Rattle.source.specs.declared.token.Sign.TheVariants.{CloseParen}
 use Rattle.source.specs.Tokens.{seen}
 use Rattle.syntax.specs.Views.{const_of}
-use Rattle.parser.specs.Parts.{const_at}
-use Rattle.parser.specs.Reading.{listed_at}
-use Rattle.parser.specs.Declarations.{call_at}
+use Rattle.parser.specs.Working.Parts.{const_at}
+use Rattle.parser.specs.Working.Reading.{listed_at}
+use Rattle.parser.specs.Working.Declarations.{call_at}
 use Rattle.parser.specs.Theory.Readers.{fails_on}
 use Rattle.parser.proofs.Done.{consts_in_some, call_done}
 use Rattle.parser.specs.Theory.Ended.{ended, unended}

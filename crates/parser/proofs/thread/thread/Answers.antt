@@ -3,7 +3,7 @@ use Rattle.std.proofs.lemmas.Result.{err_from_is_err_and}
 use Rattle.source.specs.declared.token.Sign.TheVariants.{CloseBrace}
 use Rattle.source.specs.Tokens.{seen}
 use Rattle.syntax.specs.Views.{items_of}
-use Rattle.parser.specs.Declarations.{item_at, items_with, thread_at}
+use Rattle.parser.specs.Working.Declarations.{item_at, items_with, thread_at}
 use Rattle.parser.specs.Theory.Readers.{fails_on}
 use Rattle.parser.proofs.Done.{items_in_some}
 use Rattle.parser.specs.Theory.Ended.{ended, unended}

@@ -3,7 +3,7 @@ use Rattle.flow.specs.Skeletons.{count, Nil}
 use Rattle.flow.specs.Flow.{head, pairs_from}
 use Rattle.std.proofs.lemmas.List.{take_rest, at_drop_all}
 use Rattle.std.proofs.lemmas.Result.{on_ok_weaker}
-use Rattle.flow.specs.Parts.{skeleton_of, part_in_front}
+use Rattle.flow.specs.Working.Parts.{skeleton_of, part_in_front}
 use Rattle.flow.specs.Theory.Joined.{count_turn, count_drop}
 use Rattle.points.proofs.Arms.{as_if, as_while}
 use Rattle.points.proofs.PairLists.{has_point, pairs_turn, fork_pairs, loop_pairs}

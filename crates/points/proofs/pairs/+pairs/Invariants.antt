@@ -1,7 +1,7 @@
 use Rattle.std.proofs.Common.{◌≡◌, ◌+◌, ◌*◌, ◌++◌, drop}
 use Rattle.flow.specs.Skeletons.{count, Nil}
 use Rattle.flow.specs.Flow.{pairs_from}
-use Rattle.flow.specs.Parts.{skeleton_of, part_in_front}
+use Rattle.flow.specs.Working.Parts.{skeleton_of, part_in_front}
 use Rattle.points.proofs.pairs.+pairs.Given as goal
 
 abbrev pub invariant-push_pairs-loop-i : goal.invariant-push_pairs-loop-i

@@ -1,6 +1,6 @@
 use Rattle.std.proofs.Common.{rules, ◌+◌, ◌*◌, ◌<◌, refl, ap, arith}
 use Rattle.flow.specs.Skeletons.{count, Nil}
-use Rattle.flow.specs.Parts.{skeleton_of, part_in_front}
+use Rattle.flow.specs.Working.Parts.{skeleton_of, part_in_front}
 use Rattle.flow.specs.Theory.Joined.{count_turn, count_drop}
 use Rattle.points.proofs.Arms.{as_if, as_while}
 use Rattle.std.proofs.lemmas.List.{at_drop_all}

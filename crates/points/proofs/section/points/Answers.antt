@@ -8,19 +8,19 @@ use Rattle.core_lang.specs.declared.typed.Typed.{Typed}
 use Rattle.flow.specs.Skeletons.{count, skeleton}
 use Rattle.flow.specs.Points.{points, scopes}
 use Rattle.flow.specs.Flow.{Follows, pairs}
-use Rattle.flow.specs.Parts.{skeleton_of}
+use Rattle.flow.specs.Working.Parts.{skeleton_of}
 use Rattle.locks.specs.declared.path_set.PathSet.{PathSet}
-use Rattle.flow.specs.PointList.{point_at}
+use Rattle.flow.specs.Working.PointList.{point_at}
 use Rattle.locks.specs.declared.path.LockPath as written
 use Rattle.locks.specs.LockPaths.{LockPath, Uses, IsInScope, BindsRoot, lock_path_of, lock_paths}
 use Rattle.locks.specs.Sets.{AreSets}
-use Rattle.points.specs.Passes.{column}
-use Rattle.points.specs.Scoping.{binds, in_scope}
+use Rattle.points.specs.Working.Passes.{column}
+use Rattle.points.specs.Working.Scoping.{binds, in_scope}
 use Rattle.flow.specs.declared.points.PointRef.{PointRef}
 use Rattle.lockpaths.specs.declared.table.Paths.{Paths}
 use Rattle.lockpaths.specs.declared.table.SectionPaths.{SectionPaths}
 use Rattle.lockpaths.specs.Paths.{AreSectionPaths, ArePaths}
-use Rattle.flow.specs.Laws.{PointsAreCounted, ScopesAreCounted}
+use Rattle.flow.specs.Working.Laws.{PointsAreCounted, ScopesAreCounted}
 use Rattle.points.proofs.Exact.{before_sets, later_sets, bound_sets, scope_sets, classes_are, points_of_same}
 use Rattle.points.proofs.section.points.Goals as goal
 

@@ -1,10 +1,10 @@
 use Rattle.std.proofs.Common.{inl, inr, subst}
 use Rattle.source.specs.declared.mistake.Mistake.{Mistake}
-use Rattle.source.specs.Leasts.{least_in, least_none, none_before, IsAmong}
-use Rattle.call_graph.specs.FaultLists.{graph_faults}
+use Rattle.source.specs.Theory.Leasts.{least_in, least_none, none_before, IsAmong}
+use Rattle.core_lang_calls.specs.Working.FaultLists.{graph_faults}
 use Rattle.resolution.specs.Faults.{of_calls}
 use Rattle.resolution.specs.CallGraphs.{tree_graph}
-use Rattle.resolution.specs.FaultLists.{declaration_faults, program_faults}
+use Rattle.resolution.specs.Working.FaultLists.{declaration_faults, program_faults}
 use Rattle.resolution.proofs.TrueFaults.{true_faults}
 use Rattle.resolution.proofs.AllFaults.{all_faults}
 use Rattle.resolution.proofs.GraphFaults.{in_either, of_declarations, of_graph}

@@ -1,4 +1,4 @@
-use Rattle.source.specs.Leasts.{neither_before}
+use Rattle.source.specs.Theory.Leasts.{neither_before}
 use Rattle.resolution.proofs.laws.one_least.Goals as goal
 
 pub returns : goal.returns

@@ -1,8 +1,8 @@
 use Rattle.std.specs.Prelude.{◌≡◌, vec_capacity}
 use Rattle.std.proofs.Common.{sym, ap, ◌∙◌, subst}
-use Rattle.section_machine.specs.Machines.{RunOf, IsLeftOf}
-use Rattle.runner.specs.Opens.{OpenOf, moved}
-use Rattle.runner.specs.Ties.{over_by, ended_as, IsKeptEnded}
+use Rattle.runner_machine.specs.Working.Machines.{RunOf, IsLeftOf}
+use Rattle.runner.specs.Working.Opens.{OpenOf, moved}
+use Rattle.runner.specs.Working.Ties.{over_by, ended_as, IsKeptEnded}
 use Rattle.runner.specs.declared.spare.Kept.{Kept}
 use Rattle.runner.proofs.Endings.{IsTakenApart, ended_is, kept_ended}
 use Rattle.runner.proofs.states.end.Goals as goal

@@ -1,6 +1,6 @@
 use Rattle.std.proofs.Common.{refl, map}
 use Rattle.syntax.specs.Views.{ident}
-use Rattle.syntax.specs.Printing.{many_text, field_text}
+use Rattle.syntax.specs.Working.Printing.{many_text, field_text}
 use Rattle.syntax.proofs.Added.{at_first, item_added, all_added}
 use Rattle.syntax.proofs.print.push_fields.Goals as goal
 

@@ -1,6 +1,6 @@
 use Rattle.std.proofs.Common.{refl, map}
 use Rattle.syntax.specs.Views.{decl_of}
-use Rattle.syntax.specs.Printing.{many_text, decl_text}
+use Rattle.syntax.specs.Working.Printing.{many_text, decl_text}
 use Rattle.syntax.proofs.Added.{at_first, item_added, all_added}
 use Rattle.syntax.proofs.print_decl.push_decls.Goals as goal
 

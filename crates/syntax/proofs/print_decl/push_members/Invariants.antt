@@ -1,6 +1,6 @@
 use Rattle.std.proofs.Common.{drop, map}
 use Rattle.syntax.specs.Views.{member_of}
-use Rattle.syntax.specs.Printing.{many_text, member_text}
+use Rattle.syntax.specs.Working.Printing.{many_text, member_text}
 use Rattle.syntax.proofs.Added.{Leads}
 use Rattle.syntax.proofs.print_decl.push_members.Given as goal
 

@@ -1,6 +1,6 @@
 use Rattle.std.proofs.Common.{refl, map}
 use Rattle.syntax.specs.Views.{param_of}
-use Rattle.syntax.specs.Printing.{many_text, after_comma, param_text}
+use Rattle.syntax.specs.Working.Printing.{many_text, after_comma, param_text}
 use Rattle.syntax.proofs.Added.{followed_by, at_first, item_added, all_added}
 use Rattle.syntax.proofs.print_decl.push_more_params.Goals as goal
 

@@ -1,5 +1,5 @@
 use Rattle.syntax.specs.Views.{param_of}
-use Rattle.syntax.specs.Printing.{param_text}
+use Rattle.syntax.specs.Working.Printing.{param_text}
 use Rattle.syntax.proofs.Added.{nothing_added, followed_by, spelled}
 use Rattle.syntax.proofs.Pushes.{none_listed, some_listed}
 use Rattle.syntax.proofs.print_decl.push_params.Goals as goal

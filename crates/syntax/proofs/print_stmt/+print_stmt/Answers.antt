@@ -1,6 +1,6 @@
 use Rattle.std.proofs.Common.{refl}
 use Rattle.syntax.specs.Views.{stmts_of}
-use Rattle.syntax.specs.Printing.{stmts_text}
+use Rattle.syntax.specs.Working.Printing.{stmts_text}
 use Rattle.syntax.proofs.Added.{nothing_added, followed_by, spelled, at_first, item_added, all_added}
 use Rattle.syntax.proofs.Pushes.{while_is, loop_is, if_is}
 use Rattle.syntax.proofs.print_stmt.+print_stmt.Goals as goal

@@ -1,6 +1,6 @@
 use Rattle.std.proofs.Common.{drop}
 use Rattle.syntax.specs.Views.{stmts_of}
-use Rattle.syntax.specs.Printing.{stmts_text}
+use Rattle.syntax.specs.Working.Printing.{stmts_text}
 use Rattle.syntax.proofs.Added.{Leads}
 use Rattle.syntax.proofs.print_stmt.+print_stmt.Given as goal
 

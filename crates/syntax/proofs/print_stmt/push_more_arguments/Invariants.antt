@@ -1,6 +1,6 @@
 use Rattle.std.proofs.Common.{drop, map}
 use Rattle.syntax.specs.Views.{expr_of}
-use Rattle.syntax.specs.Printing.{many_text, after_comma, expr_text}
+use Rattle.syntax.specs.Working.Printing.{many_text, after_comma, expr_text}
 use Rattle.syntax.proofs.Added.{Leads}
 use Rattle.syntax.proofs.print_stmt.push_more_arguments.Given as goal
 

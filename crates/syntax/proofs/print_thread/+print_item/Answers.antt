@@ -1,6 +1,6 @@
 use Rattle.std.proofs.Common.{refl}
 use Rattle.syntax.specs.Views.{items_of}
-use Rattle.syntax.specs.Printing.{items_text}
+use Rattle.syntax.specs.Working.Printing.{items_text}
 use Rattle.syntax.proofs.Added.{followed_by, spelled, at_first, item_added, all_added}
 use Rattle.syntax.proofs.Pushes.{repeat_is}
 use Rattle.syntax.proofs.print_thread.+print_item.Goals as goal

@@ -1,6 +1,6 @@
 use Rattle.std.proofs.Common.{drop}
 use Rattle.syntax.specs.Views.{items_of}
-use Rattle.syntax.specs.Printing.{items_text}
+use Rattle.syntax.specs.Working.Printing.{items_text}
 use Rattle.syntax.proofs.Added.{Leads}
 use Rattle.syntax.proofs.print_thread.+print_item.Given as goal
 

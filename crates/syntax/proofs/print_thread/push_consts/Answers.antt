@@ -1,5 +1,5 @@
 use Rattle.syntax.specs.Views.{const_of}
-use Rattle.syntax.specs.Printing.{const_text}
+use Rattle.syntax.specs.Working.Printing.{const_text}
 use Rattle.syntax.proofs.Added.{nothing_added, followed_by, spelled}
 use Rattle.syntax.proofs.Pushes.{none_listed, some_listed}
 use Rattle.syntax.proofs.print_thread.push_consts.Goals as goal

@@ -1,6 +1,6 @@
 use Rattle.std.proofs.Common.{drop, map}
 use Rattle.syntax.specs.Views.{const_of}
-use Rattle.syntax.specs.Printing.{many_text, after_comma, const_text}
+use Rattle.syntax.specs.Working.Printing.{many_text, after_comma, const_text}
 use Rattle.syntax.proofs.Added.{Leads}
 use Rattle.syntax.proofs.print_thread.push_more_consts.Given as goal
 

@@ -1,7 +1,7 @@
 use Rattle.std.proofs.Common.{ap, ◌∙◌, string_bytes, ◌≡◌}
 use Rattle.std.proofs.lemmas.Result.{IfOk-weaker}
 use Rattle.syntax.specs.Views.{tree_of}
-use Rattle.syntax.specs.Printing.{tree_text}
+use Rattle.syntax.specs.Working.Printing.{tree_text}
 use Rattle.syntax.proofs.Added.{all_there}
 use Rattle.syntax.proofs.Printed.{text_again}
 use Rattle.syntax.proofs.print_whole.print_tree.Goals as goal

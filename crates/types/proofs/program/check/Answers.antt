@@ -1,9 +1,9 @@
 use Rattle.std.proofs.Common.{sym, ap, ◌∙◌, None}
 use Rattle.std.specs.Prelude.{map}
 use Rattle.syntax.specs.Views.{tree_of, decl_of}
-use Rattle.types.specs.Whole.{judged_faults}
-use Rattle.symbols.specs.Views.{decls_of}
-use Rattle.declarations.specs.Grown.{if_right, built}
+use Rattle.types.specs.Working.Whole.{judged_faults}
+use Rattle.types_symbols.specs.Working.Views.{decls_of}
+use Rattle.types_declarations.specs.Working.Grown.{if_right, built}
 use Rattle.types.proofs.Checked.{least_after, whole_least, was_none, whole_built, none_built, begun}
 use Rattle.types.proofs.program.check.Goals as goal
 

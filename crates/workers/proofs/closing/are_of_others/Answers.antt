@@ -4,7 +4,7 @@ use Rattle.std.proofs.lemmas.List.{drop_more, drop_all}
 use Rattle.std.proofs.lemmas.List.Elements.{All-nil, All-cons}
 use Rattle.std.proofs.lemmas.Option.{slice_get_within, get_or_from_slice_get}
 use Rattle.history.specs.Commits.{Commit}
-use Rattle.entry_copies.specs.Logs.{NoneOf}
+use Rattle.workers_copies.specs.Logs.{NoneOf}
 use Rattle.workers.proofs.closing.are_of_others.Goals as goal
 
 pub loop-at-init : goal.loop-at-init

@@ -1,5 +1,5 @@
 use Rattle.std.proofs.Common.{drop}
-use Rattle.entry_copies.specs.Logs.{NoneOf}
+use Rattle.workers_copies.specs.Logs.{NoneOf}
 use Rattle.workers.proofs.closing.are_of_others.Given as goal
 
 -- what is left decides

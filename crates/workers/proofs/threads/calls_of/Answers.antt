@@ -1,6 +1,6 @@
 use Rattle.std.proofs.Common.{rules, ◌≡◌, sym, subst, length, slice_get, refl, Some}
 use Rattle.std.proofs.lemmas.Option.{slice_get_read}
-use Rattle.workers.specs.Within.{HasCalls}
+use Rattle.workers.specs.Working.Within.{HasCalls}
 use Rattle.workers.proofs.Scripts.{has_calls}
 use Rattle.workers.proofs.threads.calls_of.Goals as goal
 

@@ -1,5 +1,5 @@
 use Rattle.std.proofs.Common.{arith, ◌≡◌, length, subst}
-use Rattle.workers.specs.Within.{AreInOrder}
+use Rattle.workers.specs.Working.Within.{AreInOrder}
 use Rattle.lowering.specs.Plans.{IsCompiled}
 use Rattle.workers.proofs.Scripts.{has_script, all_of_scripts}
 use Rattle.workers.proofs.threads.run_named.Goals as goal

@@ -1,6 +1,6 @@
 use Rattle.std.proofs.Common.{rules, ◌≡◌, ◌∙◌, sym, ap, subst, ℕ, List, map, Some, arith, take}
 use Rattle.core_lang.specs.Serial.{Invocation}
-use Rattle.workers.specs.Within.{HasCalls, IsCall}
+use Rattle.workers.specs.Working.Within.{HasCalls, IsCall}
 use Rattle.workers.specs.Answers.{call_in, script_at, as_call}
 use Rattle.workers.specs.Seats.{SeatOf, Gains, reply}
 use Rattle.core_lang.specs.Serial.{invocation}

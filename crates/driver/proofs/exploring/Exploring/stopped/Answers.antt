@@ -6,7 +6,7 @@ use Rattle.outcomes.specs.Orders.{none_done}
 use Rattle.report.specs.{entry_of, unsettled_of}
 use Rattle.report.specs.Entry.{Entry}
 use Rattle.driver.specs.Outcomes.{scheduled_in}
-use Rattle.driver.specs.Running.{scheduled_of, progress_of, CanMake, IsRan}
+use Rattle.driver.specs.Working.Running.{scheduled_of, progress_of, CanMake, IsRan}
 use Rattle.driver.specs.Serial.{entries}
 use Rattle.driver.proofs.OrderLemmas.{can_make_order, stops_inside, stops_behind}
 use Rattle.driver.proofs.exploring.Exploring.stopped.Goals as goal

@@ -1,6 +1,6 @@
 use Rattle.std.proofs.Common.{subst, sym}
 use Rattle.std.proofs.lemmas.List.Elements.{All-push}
-use Rattle.explanation.specs.Marks.{AreOf, IsOf}
+use Rattle.explanation.specs.Working.Marks.{AreOf, IsOf}
 use Rattle.explanation.proofs.marks.Marks.of.Goals as goal
 
 pub loop-number-preserved : goal.loop-number-preserved

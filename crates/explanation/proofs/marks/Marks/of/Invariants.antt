@@ -1,5 +1,5 @@
 use Rattle.std.proofs.Common.{◌≡◌}
-use Rattle.explanation.specs.Marks.{AreOf}
+use Rattle.explanation.specs.Working.Marks.{AreOf}
 use Rattle.explanation.proofs.marks.Marks.of.Given as goal
 
 abbrev pub invariant-loop-number : goal.invariant-loop-number

@@ -1,6 +1,6 @@
 use Rattle.std.proofs.Common.{◌≡◌, ◌++◌, map, string_bytes, take}
 use Rattle.explanation.specs.Notes.{note_of}
-use Rattle.explanation.specs.Values.{note_texts_of}
+use Rattle.explanation.specs.Working.Values.{note_texts_of}
 use Rattle.explanation.proofs.notes.Notes.push.Given as goal
 
 abbrev pub invariant-loop-note : goal.invariant-loop-note

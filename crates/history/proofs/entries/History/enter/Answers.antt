@@ -1,5 +1,5 @@
 use Rattle.std.proofs.Common.{ap, ◌∙◌, arith, ◌++◌, ◌∷◌, []}
-use Rattle.history.specs.Histories.{HistoryOf, PromisedOf}
+use Rattle.history.specs.Working.Histories.{HistoryOf, PromisedOf}
 use Rattle.history.proofs.Storing.{stored_one_more, commits_one_more}
 use Rattle.history.proofs.entries.History.enter.Goals as goal
 

@@ -1,8 +1,8 @@
 use Rattle.std.proofs.Common.{◌≡◌, ap, sym, ◌∙◌, length, subst, ℕ, arith}
 use Rattle.core_lang.specs.declared.typed.Typed.{Typed}
 use Rattle.layout.specs.Layouts.{LayoutOf, IsLayoutOf}
-use Rattle.lock_manager.specs.Managers.{opened}
-use Rattle.interleavings.specs.States.{AreReady}
+use Rattle.lock_manager.specs.Working.Managers.{opened}
+use Rattle.interleavings.specs.Working.States.{AreReady}
 use Rattle.interleavings.specs.Threads.{threads_of}
 use Rattle.interleavings.proofs.Opening.{tied_at_first, world_is}
 use Rattle.interleavings.proofs.world.World.open.Goals as goal

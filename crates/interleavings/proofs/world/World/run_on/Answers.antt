@@ -4,7 +4,7 @@ use Rattle.std.proofs.lemmas.List.{set-set}
 use Rattle.std.proofs.lemmas.Option.{slice_get_read}
 use Rattle.interleavings.specs.declared.state.State.{State}
 use Rattle.interleavings.specs.declared.state.State.TheVariants as state
-use Rattle.interleavings.specs.States.{state_of}
+use Rattle.interleavings.specs.Working.States.{state_of}
 use Rattle.interleavings.proofs.Along.{ran_tied, ran_steps}
 use Rattle.interleavings.proofs.world.World.run_on.Goals as goal
 

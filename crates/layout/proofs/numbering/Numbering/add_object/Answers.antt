@@ -5,7 +5,7 @@ use Rattle.core_lang.specs.declared.typed.LockField.{LockField}
 use Rattle.locks.specs.declared.lock.Lock.{Lock}
 use Rattle.layout.specs.declared.places.ClassPlace.TheVariants as place
 use Rattle.layout.specs.declared.places.ObjectPlace.{ObjectPlace}
-use Rattle.layout.specs.Numbers.{first_finals, locks_at}
+use Rattle.layout.specs.Working.Numbers.{first_finals, locks_at}
 use Rattle.layout.proofs.Lists.{read_at, last_at, taken_whole}
 use Rattle.layout.proofs.Listed.{one_more_lock}
 use Rattle.layout.proofs.Numbered.{object_added, field_added}

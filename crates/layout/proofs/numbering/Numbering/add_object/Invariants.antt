@@ -1,5 +1,5 @@
 use Rattle.std.proofs.Common.{◌≡◌, ◌∷◌, [], ◌++◌, take}
-use Rattle.layout.specs.Numbers.{locks_at}
+use Rattle.layout.specs.Working.Numbers.{locks_at}
 use Rattle.layout.proofs.numbering.Numbering.add_object.Given as goal
 
 abbrev pub invariant-loop-field : goal.invariant-loop-field

@@ -2,7 +2,7 @@ use Rattle.std.proofs.Common.{◌≡◌, Some, ap, subst, ◌∙◌, arith}
 use Rattle.std.specs.Prelude.{slice_get}
 use Rattle.std.proofs.lemmas.Option.{slice_get_within}
 use Rattle.layout.specs.declared.places.ClassPlace.{ClassPlace}
-use Rattle.layout.specs.Numbers.{number_at}
+use Rattle.layout.specs.Working.Numbers.{number_at}
 use Rattle.layout.proofs.Numbered.{found_at, class_read, in_global, distinct}
 use Rattle.layout.proofs.numbering.Numbering.find.Goals as goal
 

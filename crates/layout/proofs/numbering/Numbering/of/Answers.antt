@@ -4,7 +4,7 @@ use Rattle.std.proofs.lemmas.List.{append-nil, length-map}
 use Rattle.core_lang.specs.declared.shape.Object.{Object}
 use Rattle.layout.specs.declared.places.ObjectPlace.{ObjectPlace}
 use Rattle.layout.specs.Layouts.{global_locks, object_locks, lock_fields, object_struct, if_global_lock}
-use Rattle.layout.specs.Numbers.{KnowFields, AreFields, first_finals, program_finals, locks_at}
+use Rattle.layout.specs.Working.Numbers.{KnowFields, AreFields, first_finals, program_finals, locks_at}
 use Rattle.layout.proofs.Lists.{read_at, map_at, take_one_more, taken_whole}
 use Rattle.layout.proofs.Found.{below_end, at_end, all_taken, few_objects}
 use Rattle.layout.proofs.Numbered.{distinct}

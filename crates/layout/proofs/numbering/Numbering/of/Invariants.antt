@@ -1,6 +1,6 @@
 use Rattle.std.proofs.Common.{◌≡◌, [], ◌++◌, take, length}
 use Rattle.layout.specs.Layouts.{global_locks, object_locks}
-use Rattle.layout.specs.Numbers.{KnowFields, first_finals, program_finals}
+use Rattle.layout.specs.Working.Numbers.{KnowFields, first_finals, program_finals}
 use Rattle.layout.proofs.numbering.Numbering.of.Given as goal
 
 abbrev pub invariant-loop-class : goal.invariant-loop-class

@@ -4,7 +4,7 @@ use Rattle.std.proofs.lemmas.List.{length-map}
 use Rattle.std.proofs.lemmas.Option.{slice_get_within}
 use Rattle.layout.specs.declared.places.CellPlace.{CellPlace}
 use Rattle.layout.specs.Layouts.{LayoutOf}
-use Rattle.layout.specs.Numbers.{first_finals, ArePlaced}
+use Rattle.layout.specs.Working.Numbers.{first_finals, ArePlaced}
 use Rattle.layout.proofs.Lists.{read_at}
 use Rattle.layout.proofs.Numbered.{distinct}
 use Rattle.layout.proofs.Placed.{offset_few, cell_added, one_longer, size_within}

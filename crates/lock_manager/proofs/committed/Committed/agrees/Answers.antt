@@ -1,7 +1,7 @@
 use Rattle.std.proofs.Common.{List, subst, sym, ap, ◌∙◌}
 use Rattle.core_lang.specs.declared.value.Value.{Value}
 use Rattle.code.specs.Memory.{Agrees}
-use Rattle.lock_manager.specs.Committed.{CommittedOf}
+use Rattle.lock_manager.specs.Working.Committed.{CommittedOf}
 use Rattle.lock_manager.proofs.committed.Committed.agrees.Goals as goal
 
 pub returns : goal.returns

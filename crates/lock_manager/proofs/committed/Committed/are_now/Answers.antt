@@ -4,8 +4,8 @@ use Rattle.core_lang.specs.declared.value.Value.{Value}
 use Rattle.locks.specs.declared.lock.Lock.{Lock}
 use Rattle.code.specs.Memory.{overwritten, Agrees}
 use Rattle.layout.specs.LockCells.{cells_of}
-use Rattle.moved_cells.specs.Grants.{GrantOf, numbered, cells_in, IsWhole}
-use Rattle.lock_manager.specs.Committed.{CommittedOf}
+use Rattle.moved_cells.specs.Working.Grants.{GrantOf, numbered, cells_in, IsWhole}
+use Rattle.lock_manager.specs.Working.Committed.{CommittedOf}
 use Rattle.lock_manager.proofs.Lists.{item_at, item_more, all_whole, item_fails, never_both}
 use Rattle.lock_manager.proofs.Members.{within_same}
 use Rattle.lock_manager.proofs.committed.Committed.are_now.Goals as goal

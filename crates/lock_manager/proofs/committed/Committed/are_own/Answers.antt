@@ -5,8 +5,8 @@ use Rattle.std.proofs.lemmas.Option.{slice_get_within}
 use Rattle.std.proofs.lemmas.List.Elements.{All-more}
 use Rattle.core_lang.specs.declared.value.Value.{Value}
 use Rattle.locks.specs.declared.lock.Lock.{Lock}
-use Rattle.lock_manager.specs.Calls.{IsOwnWrite}
-use Rattle.lock_manager.specs.Committed.{CommittedOf}
+use Rattle.lock_manager.specs.Working.Calls.{IsOwnWrite}
+use Rattle.lock_manager.specs.Working.Committed.{CommittedOf}
 use Rattle.lock_manager.proofs.Lists.{all_fails, all_whole, never_both, one_place}
 use Rattle.lock_manager.proofs.committed.Committed.are_own.Goals as goal
 

@@ -1,6 +1,6 @@
 use Rattle.std.proofs.Common.{take}
 use Rattle.std.specs.List.{All}
-use Rattle.lock_manager.specs.Calls.{IsOwnWrite}
+use Rattle.lock_manager.specs.Working.Calls.{IsOwnWrite}
 use Rattle.lock_manager.proofs.committed.Committed.are_own.Given as goal
 
 abbrev pub invariant-loop-cell : goal.invariant-loop-cell

@@ -1,7 +1,7 @@
 use Rattle.std.proofs.Common.{take, map, ◌≡◌, List, ℕ}
-use Rattle.moved_cells.specs.Grants.{values_on}
+use Rattle.moved_cells.specs.Working.Grants.{values_on}
 use Rattle.lock_manager.specs.declared.places.Place.TheVariants.{Free}
-use Rattle.lock_manager.specs.Committed.{rows}
+use Rattle.lock_manager.specs.Working.Committed.{rows}
 use Rattle.lock_manager.proofs.committed.Committed.free_places.Given as goal
 
 abbrev pub invariant-loop-row : goal.invariant-loop-row

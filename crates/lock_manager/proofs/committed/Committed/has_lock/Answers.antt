@@ -1,6 +1,6 @@
 use Rattle.std.proofs.Common.{subst, sym}
 use Rattle.std.specs.List.{Contains}
-use Rattle.lock_manager.specs.Committed.{CommittedOf}
+use Rattle.lock_manager.specs.Working.Committed.{CommittedOf}
 use Rattle.lock_manager.proofs.committed.Committed.has_lock.Goals as goal
 
 pub returns : goal.returns

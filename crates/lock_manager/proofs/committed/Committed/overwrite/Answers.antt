@@ -1,6 +1,6 @@
 use Rattle.std.proofs.Common.{◌∙◌, length, ap, subst, sym}
 use Rattle.lock_manager.proofs.Heaps.{length-overwritten}
-use Rattle.lock_manager.specs.Committed.{CommittedOf, IsWithin}
+use Rattle.lock_manager.specs.Working.Committed.{CommittedOf, IsWithin}
 use Rattle.lock_manager.proofs.committed.Committed.overwrite.Goals as goal
 
 pub invariant_of-self : goal.invariant_of-self

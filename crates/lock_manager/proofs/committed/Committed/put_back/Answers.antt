@@ -1,7 +1,7 @@
 use Rattle.std.proofs.Common.{◌∙◌, ◌∷◌, [], sym, subst, arith}
 use Rattle.std.specs.List.{All, Contains}
 use Rattle.std.proofs.Math.ListN.{length-set}
-use Rattle.moved_cells.specs.Grants.{GrantOf}
+use Rattle.moved_cells.specs.Working.Grants.{GrantOf}
 use Rattle.locks.specs.declared.lock.Lock.{Lock}
 use Rattle.lock_manager.proofs.Lists.{all_front, all_last}
 use Rattle.lock_manager.proofs.GivenBack.{one_given_back}

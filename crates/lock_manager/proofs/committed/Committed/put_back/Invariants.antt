@@ -1,7 +1,7 @@
 use Rattle.std.proofs.Common.{◌≡◌, length, vec_len}
 use Rattle.std.specs.List.{Contains, All}
-use Rattle.moved_cells.specs.Grants.{GrantOf}
-use Rattle.lock_manager.specs.Managers.{given_back}
+use Rattle.moved_cells.specs.Working.Grants.{GrantOf}
+use Rattle.lock_manager.specs.Working.Managers.{given_back}
 use Rattle.lock_manager.proofs.committed.Committed.put_back.Given as goal
 
 abbrev pub invariant-loop-grant : goal.invariant-loop-grant

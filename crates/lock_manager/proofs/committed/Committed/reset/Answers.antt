@@ -1,5 +1,5 @@
 use Rattle.std.proofs.Common.{◌∙◌, length, sym, ap}
-use Rattle.lock_manager.specs.Committed.{CommittedOf}
+use Rattle.lock_manager.specs.Working.Committed.{CommittedOf}
 use Rattle.lock_manager.proofs.Members.{within_same}
 use Rattle.lock_manager.proofs.committed.Committed.reset.Goals as goal
 

@@ -1,7 +1,7 @@
 use Rattle.std.proofs.Common.{◌∙◌, ◌∷◌, [], length, sym, ap, subst, arith}
 use Rattle.std.specs.List.{All, Contains}
 use Rattle.std.proofs.Math.ListN.{length-set}
-use Rattle.moved_cells.specs.Grants.{GrantOf, IsWhole}
+use Rattle.moved_cells.specs.Working.Grants.{GrantOf, IsWhole}
 use Rattle.locks.specs.declared.lock.Lock.{Lock}
 use Rattle.layout.specs.LockCells.{cells_of}
 use Rattle.lock_manager.proofs.Lists.{all_front, all_last}

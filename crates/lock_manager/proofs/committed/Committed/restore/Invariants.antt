@@ -1,8 +1,8 @@
 use Rattle.std.proofs.Common.{◌≡◌, length, map, vec_len}
 use Rattle.std.specs.List.{Contains, All}
-use Rattle.moved_cells.specs.Grants.{GrantOf, IsWhole, locks_of}
-use Rattle.lock_manager.specs.Committed.{restored}
-use Rattle.lock_manager.specs.Managers.{given_back}
+use Rattle.moved_cells.specs.Working.Grants.{GrantOf, IsWhole, locks_of}
+use Rattle.lock_manager.specs.Working.Committed.{restored}
+use Rattle.lock_manager.specs.Working.Managers.{given_back}
 use Rattle.lock_manager.proofs.committed.Committed.restore.Given as goal
 
 abbrev pub invariant-loop-grant : goal.invariant-loop-grant

@@ -3,7 +3,7 @@ use Rattle.std.specs.Prelude.{slice_get}
 use Rattle.std.specs.List.{All}
 use Rattle.std.proofs.lemmas.Option.{slice_get_within}
 use Rattle.layout.specs.LockCells.{cells_of}
-use Rattle.lock_manager.specs.Committed.{CommittedOf}
+use Rattle.lock_manager.specs.Working.Committed.{CommittedOf}
 use Rattle.lock_manager.proofs.Lists.{read_at}
 use Rattle.lock_manager.proofs.Members.{rows_count, row_is, cells_within, within_same}
 use Rattle.lock_manager.proofs.committed.Committed.row.Goals.{After-as_slice}

@@ -1,8 +1,8 @@
 use Rattle.std.proofs.Common.{List, ap, subst, sym}
 use Rattle.std.specs.List.{All, Contains}
 use Rattle.locks.specs.declared.lock.Lock.{Lock}
-use Rattle.moved_cells.specs.Grants.{GrantOf, IsWhole}
-use Rattle.lock_manager.specs.Managers.{Managed}
+use Rattle.moved_cells.specs.Working.Grants.{GrantOf, IsWhole}
+use Rattle.lock_manager.specs.Working.Managers.{Managed}
 use Rattle.lock_manager.proofs.Lists.{all_contained, all_from, both_false, never_both}
 use Rattle.lock_manager.proofs.manager.Manager.are_of.Goals as goal
 

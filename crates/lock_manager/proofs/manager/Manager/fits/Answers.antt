@@ -3,14 +3,14 @@ use Rattle.std.specs.Prelude.{is_some}
 use Rattle.std.proofs.lemmas.Bool.{false≢true}
 use Rattle.std.specs.List.{All, Contains}
 use Rattle.locks.specs.declared.lock.Lock.{Lock}
-use Rattle.lock_manager.specs.Sessions.{SessionOf}
-use Rattle.lock_manager.specs.Managers.{Managed, managed}
-use Rattle.lock_manager.specs.Calls.{AreOf, Knows, IsOwnWrite}
+use Rattle.lock_manager.specs.Working.Sessions.{SessionOf}
+use Rattle.lock_manager.specs.Working.Managers.{Managed, managed}
+use Rattle.lock_manager.specs.Working.Calls.{AreOf, Knows, IsOwnWrite}
 use Rattle.lock_manager.proofs.Rules.{listed_held, listed_grants}
 use Rattle.lock_manager.proofs.manager.Manager.fits.Goals.{then-thread-via-then-thread, then-thread-via-else-thread+then-begun}
 use Rattle.core_lang.specs.declared.value.Value.{Value}
 use Rattle.code.specs.Memory.{overwritten, Agrees}
-use Rattle.moved_cells.specs.Grants.{GrantOf, cells_in}
+use Rattle.moved_cells.specs.Working.Grants.{GrantOf, cells_in}
 use Rattle.lock_manager.proofs.manager.Manager.fits.Goals as goal
 
 pub are_of-requires : goal.are_of-requires

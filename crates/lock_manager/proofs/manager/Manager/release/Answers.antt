@@ -1,11 +1,11 @@
 use Rattle.std.proofs.Common.{◌<◌, ℕ, None, set, subst, sym, ap, ◌∙◌, length, ◌≡◌}
 use Rattle.std.specs.List.{All, Contains}
 use Rattle.code.specs.Memory.{overwritten}
-use Rattle.moved_cells.specs.Grants.{GrantOf}
-use Rattle.lock_manager.specs.Committed.{CommittedOf, IsWithin, with_writes}
-use Rattle.lock_manager.specs.Managers.{Managed, managed, given_back, threads, session_in}
-use Rattle.lock_manager.specs.Ties.{cells_if_open}
-use Rattle.lock_manager.specs.Calls.{Knows, Fits, after_release, first_waiters}
+use Rattle.moved_cells.specs.Working.Grants.{GrantOf}
+use Rattle.lock_manager.specs.Working.Committed.{CommittedOf, IsWithin, with_writes}
+use Rattle.lock_manager.specs.Working.Managers.{Managed, managed, given_back, threads, session_in}
+use Rattle.lock_manager.specs.Working.Ties.{cells_if_open}
+use Rattle.lock_manager.specs.Working.Calls.{Knows, Fits, after_release, first_waiters}
 use Rattle.lock_manager.proofs.Rules.{listed_held, listed_grants, thread_within, writes_within}
 use Rattle.lock_manager.proofs.Sound.{Sound, promised_one, sound_release}
 use Rattle.lock_manager.proofs.manager.Manager.release.Goals as goal

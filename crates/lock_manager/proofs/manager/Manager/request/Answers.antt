@@ -1,16 +1,16 @@
 use Rattle.std.proofs.Common.{ℕ, Option, Some, set, ◌∙◌, sym, ap, subst, ◌≡◌}
 use Rattle.locks.specs.declared.lock.Lock.{Lock}
 use Rattle.lock_manager.specs.declared.places.Place.TheVariants.{Taken, Free}
-use Rattle.lock_manager.specs.Sessions.{with_lock, with_ask}
-use Rattle.lock_manager.specs.Queues.{leaving, joining}
-use Rattle.lock_manager.specs.Managers.{Managed, managed, session_in, place_of}
-use Rattle.lock_manager.specs.Calls.{Knows, CanAsk, Refuses, after_grant}
+use Rattle.lock_manager.specs.Working.Sessions.{with_lock, with_ask}
+use Rattle.lock_manager.specs.Working.Queues.{leaving, joining}
+use Rattle.lock_manager.specs.Working.Managers.{Managed, managed, session_in, place_of}
+use Rattle.lock_manager.specs.Working.Calls.{Knows, CanAsk, Refuses, after_grant}
 use Rattle.lock_manager.proofs.GivenBack.{place_at, put_at}
 use Rattle.lock_manager.proofs.Rules.{held_by_another, place_within}
 use Rattle.lock_manager.proofs.Sound.{sound_grant, sound_refusal, room_to_wait}
 use Rattle.std.specs.List.{Contains}
 use Rattle.std.proofs.lemmas.Option.{none-some}
-use Rattle.moved_cells.specs.Grants.{GrantOf}
+use Rattle.moved_cells.specs.Working.Grants.{GrantOf}
 use Rattle.lock_manager.proofs.manager.Manager.request.Goals as goal
 
 pub invariant_of-self : goal.invariant_of-self

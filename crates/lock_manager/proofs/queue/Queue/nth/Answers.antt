@@ -3,7 +3,7 @@ use Rattle.lock_manager.specs.declared.queue.Waiter.{Waiter}
 use Rattle.lock_manager.proofs.Queued.{nth_found}
 use Rattle.std.specs.Prelude.{slice_get}
 use Rattle.std.proofs.lemmas.List.{at_drop_all}
-use Rattle.lock_manager.specs.Queues.{waiting_in}
+use Rattle.lock_manager.specs.Working.Queues.{waiting_in}
 use Rattle.lock_manager.proofs.queue.Queue.nth.Goals as goal
 
 pub returns-then-left-eq0 : goal.returns-then-left-eq0

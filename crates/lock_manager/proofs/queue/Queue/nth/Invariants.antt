@@ -1,6 +1,6 @@
 use Rattle.std.proofs.Common.{◌≡◌, drop}
 use Rattle.std.specs.Prelude.{slice_get}
-use Rattle.lock_manager.specs.Queues.{waiting_in}
+use Rattle.lock_manager.specs.Working.Queues.{waiting_in}
 use Rattle.lock_manager.proofs.queue.Queue.nth.Given as goal
 
 abbrev pub invariant-loop-waiter : goal.invariant-loop-waiter

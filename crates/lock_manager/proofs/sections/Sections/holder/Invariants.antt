@@ -1,5 +1,5 @@
 use Rattle.std.proofs.Common.{ℕ, ◌<◌}
-use Rattle.lock_manager.specs.Managers.{Holds}
+use Rattle.lock_manager.specs.Working.Managers.{Holds}
 use Rattle.lock_manager.proofs.sections.Sections.holder.Given as goal
 
 abbrev pub invariant-loop-thread : goal.invariant-loop-thread

@@ -1,7 +1,7 @@
 use Rattle.std.proofs.Common.{◌≡◌, ◌+◌, ◌<◌, length, sym, ◌∙◌, subst, arith}
 use Rattle.std.proofs.lemmas.Bool.{both_ways}
-use Rattle.lockorder.specs.Tables.{has_edge}
-use Rattle.lockorder.specs.Reached.{IsNearestBelow}
+use Rattle.lockorder.specs.Working.Tables.{has_edge}
+use Rattle.lockorder.specs.Working.Reached.{IsNearestBelow}
 use Rattle.lockorder.proofs.Reaching.{nearest_skip, nearest_take, distance_read, distance_unread}
 use Rattle.lockorder.proofs.cycles.Reached.nearest.Goals as goal
 use Rattle.lockorder.proofs.cycles.Reached.nearest.Goals.{then-has_edge+in-Some, then-has_edge+in_default, else-has_edge}

@@ -1,4 +1,4 @@
-use Rattle.lockorder.specs.Reached.{IsNearestBelow}
+use Rattle.lockorder.specs.Working.Reached.{IsNearestBelow}
 use Rattle.lockorder.proofs.cycles.Reached.nearest.Given as goal
 
 abbrev pub invariant-loop-next : goal.invariant-loop-next

@@ -1,6 +1,6 @@
 use Rattle.std.proofs.Common.{◌<◌, not, length, sym, ap, ◌∙◌, arith}
 use Rattle.std.proofs.lemmas.Bool.{both_ways}
-use Rattle.lockorder.specs.Tables.{has_edge}
+use Rattle.lockorder.specs.Working.Tables.{has_edge}
 use Rattle.lockorder.specs.declared.cycles.Reached.{Reached}
 use Rattle.lockorder.proofs.Reaching.{all_kept, reached_within, reached_room, reaching_take, reaching_skip, distance_read, distance_none, distance_some}
 use Rattle.lockorder.proofs.cycles.Reached.reach.Goals as goal

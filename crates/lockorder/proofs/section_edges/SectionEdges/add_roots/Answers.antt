@@ -4,8 +4,8 @@ use Rattle.std.proofs.lemmas.Bool.{both_ways, and_parts, and_from}
 use Rattle.std.proofs.lemmas.Option.{slice_get_within}
 use Rattle.locks.specs.Sets.{has}
 use Rattle.lockorder.specs.declared.table.Table.{Table}
-use Rattle.lockorder.specs.Tables.{has_class, has_edge, InSet, InTable}
-use Rattle.lockorder.specs.Sections.{IsIn, IsOfClass}
+use Rattle.lockorder.specs.Working.Tables.{has_class, has_edge, InSet, InTable}
+use Rattle.lockorder.specs.Working.Sections.{IsIn, IsOfClass}
 use Rattle.lockorder.proofs.Added.{below_end}
 use Rattle.lockorder.proofs.InSection.{joined, not_joined, class_read, class_decides}
 use Rattle.lockorder.proofs.section_edges.SectionEdges.add_roots.Goals as goal

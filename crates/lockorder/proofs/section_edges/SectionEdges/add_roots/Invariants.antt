@@ -1,7 +1,7 @@
 use Rattle.std.proofs.Common.{◌≡◌, ℕ, ◌⊎◌, length}
 use Rattle.std.specs.Bool.{Decides}
-use Rattle.lockorder.specs.Tables.{InSet, has_edge, InTable}
-use Rattle.lockorder.specs.Sections.{IsIn, IsOfClass}
+use Rattle.lockorder.specs.Working.Tables.{InSet, has_edge, InTable}
+use Rattle.lockorder.specs.Working.Sections.{IsIn, IsOfClass}
 use Rattle.lockorder.proofs.InSection.{Below}
 use Rattle.lockorder.proofs.section_edges.SectionEdges.add_roots.Given as goal
 

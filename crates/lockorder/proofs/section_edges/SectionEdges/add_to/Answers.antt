@@ -7,8 +7,8 @@ use Rattle.std.proofs.lemmas.Bool.{both_ways, not-false, eqb-true}
 use Rattle.locks.specs.Sets.{has}
 use Rattle.std.specs.Prelude.{◌==◌}
 use Rattle.lockorder.specs.declared.table.Table.{Table}
-use Rattle.lockorder.specs.Tables.{has_edge, InSet, InTable}
-use Rattle.lockorder.specs.Sections.{UsesSoFar, BindsAt, HasClass, set_at}
+use Rattle.lockorder.specs.Working.Tables.{has_edge, InSet, InTable}
+use Rattle.lockorder.specs.Working.Sections.{UsesSoFar, BindsAt, HasClass, set_at}
 use Rattle.lockorder.proofs.Added.{below_few}
 use Rattle.lockorder.proofs.InSection.{joined_by, not_joined, used_in_union, union_has, set_read, same_set, set_within, same_bits}
 use Rattle.lockorder.proofs.section_edges.SectionEdges.add_to.Goals as goal

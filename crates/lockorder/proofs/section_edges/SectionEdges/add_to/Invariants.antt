@@ -1,7 +1,7 @@
 use Rattle.std.proofs.Common.{◌≡◌, ℕ, ◌⊎◌, length}
 use Rattle.std.specs.Bool.{Decides}
-use Rattle.lockorder.specs.Tables.{has_edge, InTable}
-use Rattle.lockorder.specs.Sections.{UsesSoFar, BindsAt}
+use Rattle.lockorder.specs.Working.Tables.{has_edge, InTable}
+use Rattle.lockorder.specs.Working.Sections.{UsesSoFar, BindsAt}
 use Rattle.lockorder.proofs.InSection.{Below}
 use Rattle.lockorder.proofs.section_edges.SectionEdges.add_to.Given as goal
 

@@ -4,8 +4,8 @@ use Rattle.std.proofs.lemmas.Bool.{both_ways}
 use Rattle.std.proofs.lemmas.Option.{slice_get_within}
 use Rattle.locks.specs.Sets.{has}
 use Rattle.lockorder.specs.declared.class_set.ClassSet.{ClassSet}
-use Rattle.lockorder.specs.Tables.{has_class}
-use Rattle.lockorder.specs.Sections.{IsIn, IsOfClass}
+use Rattle.lockorder.specs.Working.Tables.{has_class}
+use Rattle.lockorder.specs.Working.Sections.{IsIn, IsOfClass}
 use Rattle.lockorder.proofs.InSection.{joined, not_joined, class_read, class_decides}
 use Rattle.lockorder.proofs.section_edges.SectionEdges.classes_of.Goals as goal
 use Rattle.lockorder.proofs.section_edges.SectionEdges.classes_of.Goals.{then-contains, else-contains}

@@ -1,7 +1,7 @@
 use Rattle.std.proofs.Common.{ℕ, ◌⊎◌}
 use Rattle.std.specs.Bool.{Decides}
-use Rattle.lockorder.specs.Tables.{has_class}
-use Rattle.lockorder.specs.Sections.{IsIn, IsOfClass}
+use Rattle.lockorder.specs.Working.Tables.{has_class}
+use Rattle.lockorder.specs.Working.Sections.{IsIn, IsOfClass}
 use Rattle.lockorder.proofs.InSection.{Below}
 use Rattle.lockorder.proofs.section_edges.SectionEdges.classes_of.Given as goal
 

@@ -2,7 +2,7 @@ use Rattle.std.proofs.Common.{ℕ, ◌+◌, ◌<◌, length, sym, subst, arith}
 use Rattle.std.proofs.lemmas.Bool.{both_ways}
 use Rattle.lockorder.proofs.InSection.{set_read, set_within, same_set, shared_class, class_shared}
 use Rattle.std.proofs.lemmas.Option.{MatchOption-at_some}
-use Rattle.lockorder.specs.Sections.{IsFirstUseFor, MakesAt}
+use Rattle.lockorder.specs.Working.Sections.{IsFirstUseFor, MakesAt}
 use Rattle.lockorder.proofs.Making.{IsFirstOrNone, making_skip, making_take, made_at, made_first, match_none}
 use Rattle.lockorder.proofs.section_edges.SectionEdges.first_made.Goals as goal
 use Rattle.lockorder.proofs.section_edges.SectionEdges.first_made.Goals.{then-share+in_ok-used+in-Some, then-share+in_ok-used+in_default, else-share}

@@ -1,7 +1,7 @@
 use Rattle.std.proofs.Common.{◌<◌, List, Bool, length, inl, inr, sym, subst, arith}
 use Rattle.std.proofs.lemmas.Bool.{both_ways, cases_lt}
 use Rattle.locks.specs.declared.path_set.PathSet.{PathSet}
-use Rattle.lockorder.specs.Sections.{IsUseFor, LeadsOn, Share, ComesBefore}
+use Rattle.lockorder.specs.Working.Sections.{IsUseFor, LeadsOn, Share, ComesBefore}
 use Rattle.lockorder.proofs.Added.{below_end}
 use Rattle.lockorder.proofs.InSection.{none_next, set_read, set_within}
 use Rattle.lockorder.proofs.section_edges.SectionEdges.first_use.Goals as goal

@@ -1,5 +1,5 @@
 use Rattle.std.proofs.Common.{ℕ, ◌<◌}
-use Rattle.lockorder.specs.Sections.{IsUseFor}
+use Rattle.lockorder.specs.Working.Sections.{IsUseFor}
 use Rattle.lockorder.proofs.section_edges.SectionEdges.first_use.Given as goal
 
 abbrev pub invariant-loop-used : goal.invariant-loop-used

@@ -2,7 +2,7 @@ use Rattle.std.proofs.Common.{◌∙◌, ◌+◌, ◌<◌, length, ap, sym, subs
 use Rattle.std.specs.Bool.{Decides}
 use Rattle.locks.specs.declared.path_set.PathSet.{PathSet}
 use Rattle.locks.specs.Sets.{has}
-use Rattle.lockorder.specs.Sections.{IsOfClass}
+use Rattle.lockorder.specs.Working.Sections.{IsOfClass}
 use Rattle.lockorder.proofs.InSection.{class_read}
 use Rattle.lockorder.proofs.Added.{below_end, end_passed, each_path, path_with, path_without}
 use Rattle.lockorder.proofs.section_edges.SectionEdges.paths_of.Goals as goal

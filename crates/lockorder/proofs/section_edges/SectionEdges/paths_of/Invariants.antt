@@ -1,7 +1,7 @@
 use Rattle.std.proofs.Common.{◌<◌, ℕ}
 use Rattle.std.specs.Bool.{Decides}
 use Rattle.locks.specs.Sets.{has}
-use Rattle.lockorder.specs.Sections.{IsOfClass}
+use Rattle.lockorder.specs.Working.Sections.{IsOfClass}
 use Rattle.lockorder.proofs.section_edges.SectionEdges.paths_of.Given as goal
 
 abbrev pub invariant-loop-path : goal.invariant-loop-path

@@ -1,5 +1,5 @@
 use Rattle.std.proofs.Common.{◌<◌, ℕ}
-use Rattle.lockorder.specs.Tables.{IsOnCycle}
+use Rattle.lockorder.specs.Working.Tables.{IsOnCycle}
 use Rattle.lockorder.proofs.table.Table.cycle.Given as goal
 
 abbrev pub invariant-loop-class : goal.invariant-loop-class

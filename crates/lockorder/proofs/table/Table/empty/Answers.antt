@@ -2,7 +2,7 @@ use Rattle.std.proofs.Common.{sym, subst}
 use Rattle.std.specs.List.{All}
 use Rattle.std.proofs.lemmas.Bool.{both_ways}
 use Rattle.std.proofs.lemmas.List.Elements.{All-replicate}
-use Rattle.lockorder.specs.Tables.{has_edge}
+use Rattle.lockorder.specs.Working.Tables.{has_edge}
 use Rattle.lockorder.proofs.Edges.{IsEmpty, no_edges}
 use Rattle.lockorder.proofs.table.Table.empty.Goals as goal
 

@@ -1,5 +1,5 @@
 use Rattle.std.proofs.Common.{◌<◌, ℕ}
-use Rattle.lockorder.specs.Tables.{InSet, InTable}
+use Rattle.lockorder.specs.Working.Tables.{InSet, InTable}
 use Rattle.lockorder.proofs.table.Table.is_behind.Given as goal
 
 abbrev pub invariant-loop-before : goal.invariant-loop-before

@@ -1,6 +1,6 @@
 use Rattle.std.proofs.Common.{inl, inr, sym, ◌∙◌, arith}
 use Rattle.std.proofs.lemmas.Bool.{cases_lt, both_ways}
-use Rattle.lockorder.specs.Tables.{IsReadyIn, has_class}
+use Rattle.lockorder.specs.Working.Tables.{IsReadyIn, has_class}
 use Rattle.lockorder.proofs.InSection.{none_next}
 use Rattle.lockorder.proofs.table.Table.next.Goals as goal
 use Rattle.lockorder.proofs.table.Table.next.Goals.{else-not-contains-via-then-not-contains+else-is_behind, else-not-contains-via-else-not-contains}

@@ -1,5 +1,5 @@
 use Rattle.std.proofs.Common.{◌<◌, ℕ}
-use Rattle.lockorder.specs.Tables.{IsReadyIn}
+use Rattle.lockorder.specs.Working.Tables.{IsReadyIn}
 use Rattle.lockorder.proofs.table.Table.next.Given as goal
 
 abbrev pub invariant-loop-class : goal.invariant-loop-class

@@ -1,5 +1,5 @@
 use Rattle.std.proofs.Common.{ap, ◌∙◌}
-use Rattle.lockorder.specs.Tellings.{told_at}
+use Rattle.lockorder.specs.Working.Tellings.{told_at}
 use Rattle.lockorder.proofs.Lists.{none_only}
 use Rattle.lockorder.proofs.Tells.{none_told}
 use Rattle.lockorder.proofs.telling.Telling.open.Goals as goal

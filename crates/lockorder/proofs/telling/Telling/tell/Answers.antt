@@ -1,9 +1,9 @@
 use Rattle.std.proofs.Common.{◌<◌, ℕ, List, Some, set, not, length, refl, sym, ap, ◌∙◌, subst, arith}
 use Rattle.std.proofs.lemmas.Bool.{both_ways}
 use Rattle.lockorder.specs.declared.telling.Telling.{Telling}
-use Rattle.lockorder.specs.Tables.{has_edge}
-use Rattle.lockorder.specs.Sections.{MakesSomewhere, MakesFirstAt}
-use Rattle.lockorder.specs.Tellings.{pair_at}
+use Rattle.lockorder.specs.Working.Tables.{has_edge}
+use Rattle.lockorder.specs.Working.Sections.{MakesSomewhere, MakesFirstAt}
+use Rattle.lockorder.specs.Working.Tellings.{pair_at}
 use Rattle.lockorder.proofs.Tells.{tell_starts, tell_here, tell_none, tell_kept, told_read, not_told, is_told}
 use Rattle.lockorder.proofs.telling.Telling.tell.Goals as goal
 use Rattle.lockorder.proofs.telling.Telling.tell.Goals.{then-is_none+then-has_edge+in_ok-made, else-is_none, else-is_none-via-then-is_none+else-has_edge, else-is_none-via-else-is_none}

@@ -1,5 +1,5 @@
 use Rattle.std.proofs.Common.{◌≡◌, drop}
-use Rattle.lockpaths.specs.Finding.{over, in_all}
+use Rattle.lockpaths.specs.Working.Finding.{over, in_all}
 use Rattle.lockpaths.proofs.finder.Finder.+conditions.Given as goal
 
 abbrev pub invariant-conditions-loop-condition : goal.invariant-conditions-loop-condition

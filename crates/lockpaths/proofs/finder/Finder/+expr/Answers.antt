@@ -1,5 +1,5 @@
 use Rattle.std.proofs.Common.{◌∙◌}
-use Rattle.locks.specs.Lists.{in_operand}
+use Rattle.locks.specs.Theory.Lists.{in_operand}
 use Rattle.lockpaths.proofs.Going.{over_chain, over_next}
 use Rattle.lockpaths.proofs.finder.Finder.+expr.Goals as goal
 

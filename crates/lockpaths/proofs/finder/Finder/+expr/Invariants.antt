@@ -1,5 +1,5 @@
 use Rattle.std.proofs.Common.{◌≡◌, drop}
-use Rattle.lockpaths.specs.Finding.{over, in_operands}
+use Rattle.lockpaths.specs.Working.Finding.{over, in_operands}
 use Rattle.lockpaths.proofs.finder.Finder.+expr.Given as goal
 
 abbrev pub invariant-loop-operation : goal.invariant-loop-operation

@@ -1,5 +1,5 @@
 use Rattle.std.specs.Option.{option_map}
-use Rattle.normal_forms.specs.Forms.{stable_path_of}
+use Rattle.lockpaths_forms.specs.Working.Forms.{stable_path_of}
 use Rattle.locks.specs.LockPaths.{lock_path_of}
 use Rattle.lockpaths.proofs.Going.{over_element, over_field}
 use Rattle.lockpaths.proofs.finder.Finder.action.Goals as goal

@@ -1,7 +1,7 @@
 use Rattle.std.proofs.Common.{◌≡◌, take, drop, true, None}
 use Rattle.locks.specs.Accesses.{along, in_path}
 use Rattle.locks.specs.LockPaths.{all_final}
-use Rattle.lockpaths.specs.Finding.{over}
+use Rattle.lockpaths.specs.Working.Finding.{over}
 use Rattle.lockpaths.proofs.finder.Finder.along.Given as goal
 
 abbrev pub invariant-loop-k : goal.invariant-loop-k

@@ -3,7 +3,7 @@ use Rattle.std.specs.Prelude.{slice_get}
 use Rattle.std.specs.Option.{option_map}
 use Rattle.std.proofs.lemmas.Result.{on_ok_weaker}
 use Rattle.locks.specs.LockPaths.{LockPath, lock_path_of}
-use Rattle.lockpaths.specs.Gathering.{met}
+use Rattle.lockpaths.specs.Working.Gathering.{met}
 use Rattle.lockpaths.proofs.Reading.{item_here, item_past, of_array, element_here, element_past}
 use Rattle.lockpaths.proofs.finder.Finder.element.Goals as goal
 use Rattle.lockpaths.proofs.finder.Finder.element.Goals.{in-Some, in-None}

@@ -1,6 +1,6 @@
 use Rattle.std.proofs.Common.{◌≡◌, drop}
 use Rattle.locks.specs.Accesses.{in_exprs}
-use Rattle.lockpaths.specs.Finding.{over}
+use Rattle.lockpaths.specs.Working.Finding.{over}
 use Rattle.lockpaths.proofs.finder.Finder.exprs.Given as goal
 
 abbrev pub invariant-loop-e : goal.invariant-loop-e

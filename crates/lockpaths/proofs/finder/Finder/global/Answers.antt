@@ -3,7 +3,7 @@ use Rattle.std.specs.Prelude.{slice_get}
 use Rattle.std.specs.Option.{option_map}
 use Rattle.std.proofs.lemmas.Result.{on_ok_weaker}
 use Rattle.locks.specs.LockPaths.{LockPath, lock_path_of}
-use Rattle.lockpaths.specs.Gathering.{met}
+use Rattle.lockpaths.specs.Working.Gathering.{met}
 use Rattle.lockpaths.proofs.Reading.{item_here, item_past, of_cell, cell_past, global_here, global_past, no_global, not_global}
 use Rattle.lockpaths.proofs.finder.Finder.global.Goals as goal
 use Rattle.lockpaths.proofs.finder.Finder.global.Goals.{in-Some+in-Global+in-Some-get, in-Some+in-Global+in-None-get, in-Some+in-Element, in-None}

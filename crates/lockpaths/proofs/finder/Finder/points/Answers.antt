@@ -1,5 +1,5 @@
 use Rattle.std.proofs.Common.{◌∙◌}
-use Rattle.flow.specs.PointList.{point_at}
+use Rattle.flow.specs.Working.PointList.{point_at}
 use Rattle.lockpaths.proofs.Going.{points_next, points_past}
 use Rattle.lockpaths.proofs.finder.Finder.points.Goals as goal
 

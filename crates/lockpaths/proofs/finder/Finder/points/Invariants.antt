@@ -1,6 +1,6 @@
 use Rattle.std.proofs.Common.{◌≡◌, map, drop}
-use Rattle.flow.specs.PointList.{point_at}
-use Rattle.lockpaths.specs.Finding.{over_points}
+use Rattle.flow.specs.Working.PointList.{point_at}
+use Rattle.lockpaths.specs.Working.Finding.{over_points}
 use Rattle.lockpaths.proofs.finder.Finder.points.Given as goal
 
 abbrev pub invariant-loop-point : goal.invariant-loop-point

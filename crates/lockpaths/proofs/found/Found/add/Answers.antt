@@ -1,6 +1,6 @@
 use Rattle.std.proofs.Common.{◌≡◌, ◌∙◌, ◌++◌, ◌∷◌, [], refl, ap}
 use Rattle.lockpaths.specs.declared.found.Found.TheInside.{Inside}
-use Rattle.lockpaths.specs.Gathering.{Gathered}
+use Rattle.lockpaths.specs.Working.Gathering.{Gathered}
 use Rattle.locks.specs.LockPaths.{lock_path_of}
 use Rattle.lockpaths.proofs.Reading.{seen, past_all, added_below, added_last, still_few, one_more_few}
 use Rattle.lockpaths.proofs.found.Found.add.Goals as goal

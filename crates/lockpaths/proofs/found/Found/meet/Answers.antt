@@ -1,5 +1,5 @@
 use Rattle.std.proofs.Common.{ap}
-use Rattle.lockpaths.specs.Gathering.{Gathered}
+use Rattle.lockpaths.specs.Working.Gathering.{Gathered}
 use Rattle.lockpaths.proofs.Reading.{number_small}
 use Rattle.lockpaths.proofs.found.Found.meet.Goals as goal
 

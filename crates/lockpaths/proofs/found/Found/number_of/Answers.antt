@@ -1,6 +1,6 @@
 use Rattle.std.proofs.Common.{◌∙◌, ap}
 use Rattle.locks.specs.LockPaths.{lock_path_of}
-use Rattle.lockpaths.specs.Gathering.{Gathered}
+use Rattle.lockpaths.specs.Working.Gathering.{Gathered}
 use Rattle.lockpaths.proofs.Reading.{below_all, place_next, below_end}
 use Rattle.lockpaths.proofs.found.Found.number_of.Goals as goal
 

@@ -1,6 +1,6 @@
 use Rattle.std.proofs.Common.{◌≡◌, map, drop}
 use Rattle.locks.specs.LockPaths.{lock_path_of}
-use Rattle.lockpaths.specs.Gathering.{place_from}
+use Rattle.lockpaths.specs.Working.Gathering.{place_from}
 use Rattle.lockpaths.proofs.found.Found.number_of.Given as goal
 
 abbrev pub invariant-loop-k : goal.invariant-loop-k

@@ -1,7 +1,7 @@
 use Rattle.std.proofs.Common.{◌<◌, length, refl, sym, subst}
 use Rattle.std.proofs.lemmas.Option.{slice_get_read}
 use Rattle.lowering.specs.Plans.{Plan}
-use Rattle.lowering.specs.Compiled.{IsRoomAt}
+use Rattle.lowering.specs.Working.Compiled.{IsRoomAt}
 use Rattle.lowering.proofs.compiled.Program.room.Goals as goal
 
 pub returns : goal.returns

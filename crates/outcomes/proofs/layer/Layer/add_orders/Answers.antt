@@ -2,7 +2,7 @@ use Rattle.std.proofs.Common.{◌≡◌, ◌∙◌, ◌<◌, length, Some, slice
 use Rattle.std.proofs.lemmas.Option.{slice_get_read}
 use Rattle.std.proofs.lemmas.List.{map-set, length-map}
 use Rattle.std.proofs.lemmas.List.Sums.{get_or-le-sum_by}
-use Rattle.outcomes.specs.States.{Reached, entry_state, with_more, at, nowhere}
+use Rattle.outcomes.specs.Working.States.{Reached, entry_state, with_more, at, nowhere}
 use Rattle.outcomes.proofs.TableLemmas.{table_set, at_entry}
 use Rattle.outcomes.proofs.layer.Layer.add_orders.Goals as goal
 

@@ -2,8 +2,8 @@ use Rattle.std.proofs.Common.{◌≡◌, ◌∙◌, ◌<◌, Some, List, length,
 use Rattle.std.proofs.lemmas.Option.{slice_get_read}
 use Rattle.std.specs.HashMap.{get}
 use Rattle.std.proofs.lemmas.List.{length-map}
-use Rattle.outcomes.specs.States.{Reached, IsAlike, NoneIsAlike, at, entry_state}
-use Rattle.outcomes.specs.Tables.{IsLeft}
+use Rattle.outcomes.specs.Working.States.{Reached, IsAlike, NoneIsAlike, at, entry_state}
+use Rattle.outcomes.specs.Working.Tables.{IsLeft}
 use Rattle.outcomes.proofs.TableLemmas.{left_at_first, left_within, left_next, left_smaller, none_alike, at_entry}
 use Rattle.outcomes.proofs.layer.Layer.find.Goals as goal
 

@@ -1,4 +1,4 @@
-use Rattle.outcomes.specs.Tables.{IsLeft, left_count}
+use Rattle.outcomes.specs.Working.Tables.{IsLeft, left_count}
 use Rattle.outcomes.proofs.layer.Layer.find.Given as goal
 
 abbrev pub invariant-loop-last : goal.invariant-loop-last

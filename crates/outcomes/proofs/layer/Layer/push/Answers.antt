@@ -2,8 +2,8 @@ use Rattle.std.proofs.Common.{◌≡◌, ◌∙◌, ℕ, List, length, Some, con
 use Rattle.std.specs.HashMap.{get}
 use Rattle.outcomes.specs.declared.layer.Entry.{Entry}
 use Rattle.core_lang.specs.declared.value.Value.{Value}
-use Rattle.outcomes.specs.Hashes.{hash}
-use Rattle.outcomes.specs.Tables.{hash_of}
+use Rattle.outcomes.specs.Working.Hashes.{hash}
+use Rattle.outcomes.specs.Working.Tables.{hash_of}
 use Rattle.outcomes.proofs.TableLemmas.{table_push}
 use Rattle.outcomes.proofs.layer.Layer.push.Goals as goal
 

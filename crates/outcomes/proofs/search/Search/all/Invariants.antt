@@ -2,7 +2,7 @@ use Rattle.std.proofs.Common.{◌≡◌, ℕ, ◌+◌, List, [], length}
 use Rattle.core_lang.specs.Typing.{HasCells}
 use Rattle.core_lang.specs.Serial.{opening_heap}
 use Rattle.outcomes.specs.Orders.{none_done}
-use Rattle.outcomes.specs.Searching.{AreGood, weight, total, Summand}
+use Rattle.outcomes.specs.Working.Searching.{AreGood, weight, total, Summand}
 use Rattle.outcomes.specs.Ends.{Place}
 use Rattle.outcomes.proofs.Places.{ArePlacesBelow}
 use Rattle.outcomes.proofs.search.Search.all.Given as goal

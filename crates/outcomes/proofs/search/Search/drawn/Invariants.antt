@@ -1,4 +1,4 @@
-use Rattle.outcomes.specs.Drawing.{AreEndsOf}
+use Rattle.outcomes.specs.Working.Drawing.{AreEndsOf}
 use Rattle.outcomes.proofs.search.Search.drawn.Given as goal
 
 -- the ends of the orders so far

@@ -1,5 +1,5 @@
 use Rattle.std.proofs.Common.{◌+◌, arith}
-use Rattle.outcomes.specs.Steps.{made_below, made_by, made_from}
+use Rattle.outcomes.specs.Working.Steps.{made_below, made_by, made_from}
 use Rattle.outcomes.proofs.Going.{goes_again, below_more, below_all, stop_further}
 use Rattle.outcomes.proofs.search.Search.expand.Goals as goal
 

@@ -1,4 +1,4 @@
-use Rattle.outcomes.specs.Steps.{GoesOn, made_below}
+use Rattle.outcomes.specs.Working.Steps.{GoesOn, made_below}
 use Rattle.outcomes.proofs.search.Search.expand.Given as goal
 
 -- the calls of the threads so far were made

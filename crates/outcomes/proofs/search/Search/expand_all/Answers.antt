@@ -1,5 +1,5 @@
 use Rattle.std.proofs.Common.{◌+◌, take, arith}
-use Rattle.outcomes.specs.Steps.{made_from, made_from_all}
+use Rattle.outcomes.specs.Working.Steps.{made_from, made_from_all}
 use Rattle.outcomes.proofs.Going.{goes_again, all_more, states_all, stop_further}
 use Rattle.outcomes.proofs.search.Search.expand_all.Goals as goal
 

@@ -1,5 +1,5 @@
 use Rattle.std.proofs.Common.{take}
-use Rattle.outcomes.specs.Steps.{GoesOn, made_from_all}
+use Rattle.outcomes.specs.Working.Steps.{GoesOn, made_from_all}
 use Rattle.outcomes.proofs.search.Search.expand_all.Given as goal
 
 -- the calls from the states so far were made

@@ -1,5 +1,5 @@
 use Rattle.std.proofs.Common.{◌≤◌, ◌-◌, length}
-use Rattle.outcomes.specs.Drawing.{IsWalk}
+use Rattle.outcomes.specs.Working.Drawing.{IsWalk}
 use Rattle.outcomes.proofs.search.Search.walk.Given as goal
 
 -- the calls so far lead here

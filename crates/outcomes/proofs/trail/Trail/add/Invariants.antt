@@ -1,5 +1,5 @@
 use Rattle.std.proofs.Common.{◌≡◌, ◌<◌, [], length, take, get_or}
-use Rattle.outcomes.specs.Trails.{IsLonger}
+use Rattle.outcomes.specs.Working.Trails.{IsLonger}
 use Rattle.outcomes.proofs.trail.Trail.add.Given as goal
 
 -- the order so far is there

@@ -1,5 +1,5 @@
 use Rattle.std.proofs.Common.{◌≡◌, ◌≤◌, [], ◌∷◌, suc, length, ap, arith}
-use Rattle.outcomes.specs.Trails.{orders_of}
+use Rattle.outcomes.specs.Working.Trails.{orders_of}
 use Rattle.outcomes.proofs.TrailLemmas.{grown_one_more, length-orders, backward_one_more}
 use Rattle.outcomes.proofs.trail.Trail.extend.Goals as goal
 

@@ -1,5 +1,5 @@
 use Rattle.std.proofs.Common.{◌≡◌, suc, length, ap, arith}
-use Rattle.outcomes.specs.Trails.{orders_of}
+use Rattle.outcomes.specs.Working.Trails.{orders_of}
 use Rattle.outcomes.proofs.TrailLemmas.{length-orders}
 use Rattle.outcomes.proofs.trail.Trail.len.Goals as goal
 

@@ -1,6 +1,6 @@
 use Rattle.std.proofs.Common.{◌≡◌, ◌∙◌, ℕ, List, reverse, ◌<◌, ◌-◌, ◌++◌, [], suc, length, get_or, slice_get, Some, ap, sym, refl, arith}
 use Rattle.std.proofs.lemmas.Option.{slice_get_read}
-use Rattle.outcomes.specs.Trails.{orders_of}
+use Rattle.outcomes.specs.Working.Trails.{orders_of}
 use Rattle.outcomes.proofs.TrailLemmas.{length-orders, first_order, order_at, found_more}
 use Rattle.outcomes.proofs.trail.Trail.order.Goals as goal
 

@@ -1,13 +1,13 @@
 use Rattle.std.proofs.Common.{rules, ◌+◌, ◌*◌, ◌<◌, ◌++◌, ◌∙◌, refl, sym, ap, arith, append-nil}
 use Rattle.flow.specs.Skeletons.{count, Nil}
-use Rattle.flow.specs.Parts.{skeleton_of, part_in_front}
+use Rattle.flow.specs.Working.Parts.{skeleton_of, part_in_front}
 use Rattle.flow.specs.Theory.Held.{holds, through}
 use Rattle.locks.specs.Sets.{has}
-use Rattle.points.specs.Passes.{column}
+use Rattle.points.specs.Working.Passes.{column}
 use Rattle.flow.specs.Theory.HeldLists.{held_turn, through_turn}
 use Rattle.flow.specs.Theory.Joined.{count_turn, count_drop}
 use Rattle.flow.specs.Theory.MustHold.{and}
-use Rattle.points.specs.HeldPasses.{past_point}
+use Rattle.points.specs.Working.HeldPasses.{past_point}
 use Rattle.points.proofs.Arms.{as_point, as_if, as_while}
 use Rattle.points.proofs.HeldArms.{past_of, through_step, through_fork, through_loop, held_step, held_fork, held_loop}
 use Rattle.points.proofs.PairLists.{has_point}

@@ -1,11 +1,11 @@
 use Rattle.std.proofs.Common.{◌≡◌, ◌+◌, ◌*◌, ◌++◌, ℕ, drop, vec_len}
 use Rattle.flow.specs.Skeletons.{count, Nil}
-use Rattle.flow.specs.Parts.{skeleton_of, part_in_front}
+use Rattle.flow.specs.Working.Parts.{skeleton_of, part_in_front}
 use Rattle.flow.specs.Theory.Held.{through, holds}
 use Rattle.flow.specs.Theory.MustHold.{and}
 use Rattle.locks.specs.Sets.{has}
-use Rattle.points.specs.Passes.{column}
-use Rattle.points.specs.HeldPasses.{past_point}
+use Rattle.points.specs.Working.Passes.{column}
+use Rattle.points.specs.Working.HeldPasses.{past_point}
 use Rattle.points.proofs.held.Held.+push.Given as goal
 
 abbrev pub invariant-push-loop-part : goal.invariant-push-loop-part

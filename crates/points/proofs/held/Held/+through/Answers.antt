@@ -1,10 +1,10 @@
 use Rattle.std.proofs.Common.{rules, ◌+◌, ◌*◌, ◌<◌, ◌∙◌, refl, ap, arith, sym}
 use Rattle.flow.specs.Skeletons.{count, Nil}
-use Rattle.flow.specs.Parts.{skeleton_of, part_in_front}
+use Rattle.flow.specs.Working.Parts.{skeleton_of, part_in_front}
 use Rattle.flow.specs.Theory.HeldLists.{through_turn}
 use Rattle.flow.specs.Theory.Joined.{count_turn, count_drop}
 use Rattle.flow.specs.Theory.MustHold.{and}
-use Rattle.points.specs.HeldPasses.{past_point}
+use Rattle.points.specs.Working.HeldPasses.{past_point}
 use Rattle.points.proofs.Arms.{as_point, as_if, as_while}
 use Rattle.points.proofs.HeldArms.{through_step, through_fork, through_loop}
 use Rattle.points.proofs.PairLists.{has_point}

@@ -1,10 +1,10 @@
 use Rattle.std.proofs.Common.{◌≡◌, ◌+◌, ◌*◌, ℕ, drop}
 use Rattle.flow.specs.Skeletons.{count, Nil}
-use Rattle.flow.specs.Parts.{skeleton_of, part_in_front}
+use Rattle.flow.specs.Working.Parts.{skeleton_of, part_in_front}
 use Rattle.flow.specs.Theory.Held.{through}
 use Rattle.flow.specs.Theory.MustHold.{and}
 use Rattle.locks.specs.Sets.{has}
-use Rattle.points.specs.HeldPasses.{past_point}
+use Rattle.points.specs.Working.HeldPasses.{past_point}
 use Rattle.points.proofs.held.Held.+through.Given as goal
 
 abbrev pub invariant-through-loop-part : goal.invariant-through-loop-part

@@ -1,7 +1,7 @@
 use Rattle.std.proofs.Common.{ap, ◌∙◌}
 use Rattle.std.specs.Prelude.{◌||◌, ◌&&◌, not}
 use Rattle.locks.specs.Sets.{has}
-use Rattle.points.specs.HeldPasses.{wanted_at}
+use Rattle.points.specs.Working.HeldPasses.{wanted_at}
 use Rattle.points.proofs.held.Held.past.Goals as goal
 
 pub returns : goal.returns

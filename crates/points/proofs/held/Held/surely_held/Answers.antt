@@ -1,4 +1,4 @@
-use Rattle.flow.specs.Parts.{skeleton_of}
+use Rattle.flow.specs.Working.Parts.{skeleton_of}
 use Rattle.points.proofs.HeldArms.{held_whole}
 use Rattle.points.proofs.held.Held.surely_held.Goals as goal
 

@@ -1,5 +1,5 @@
 use Rattle.std.proofs.Common.{◌≡◌, ◌+◌, ◌∙◌, length, sym, subst, arith}
-use Rattle.points.specs.Ranks.{IsGreatest}
+use Rattle.points.specs.Working.Ranks.{IsGreatest}
 use Rattle.points.proofs.RankLists.{greatest_more, greatest_same}
 use Rattle.points.proofs.ranking.Ranking.greatest.Goals as goal
 use Rattle.points.proofs.ranking.Ranking.greatest.Goals.{then-contains, else-contains}

@@ -1,4 +1,4 @@
-use Rattle.points.specs.Ranks.{IsGreatest}
+use Rattle.points.specs.Working.Ranks.{IsGreatest}
 use Rattle.points.proofs.ranking.Ranking.greatest.Given as goal
 
 abbrev pub invariant-loop-i : goal.invariant-loop-i

@@ -1,6 +1,6 @@
 use Rattle.std.proofs.Common.{subst}
 use Rattle.std.proofs.lemmas.List.{take_all}
-use Rattle.points.specs.Scoping.{AreScopes, IsAfter, of_block, behind_block}
+use Rattle.points.specs.Working.Scoping.{AreScopes, IsAfter, of_block, behind_block}
 use Rattle.points.proofs.Scopings.{scopes_none, scopes_if, scopes_if_else, scopes_while, scopes_turn, behind_turn}
 use Rattle.points.proofs.roots.Roots.+scopes.Goals as goal
 

@@ -1,5 +1,5 @@
 use Rattle.std.proofs.Common.{take}
-use Rattle.points.specs.Scoping.{AreScopes, IsAfter, of_block, behind_block}
+use Rattle.points.specs.Working.Scoping.{AreScopes, IsAfter, of_block, behind_block}
 use Rattle.points.proofs.roots.Roots.+scopes.Given as goal
 
 abbrev pub invariant-push_block-loop-statement : goal.invariant-push_block-loop-statement

@@ -1,6 +1,6 @@
 use Rattle.std.proofs.Common.{◌+◌, ◌∙◌, sym, subst, arith}
 use Rattle.core_lang.specs.Scopes.{numbers_from}
-use Rattle.points.specs.Scoping.{is_among, test_root}
+use Rattle.points.specs.Working.Scoping.{is_among, test_root}
 use Rattle.points.proofs.Sets.{IsUpTo, up_to_yes, up_to_no, up_to_all}
 use Rattle.points.proofs.Scopings.{test_here, test_past}
 use Rattle.points.proofs.roots.Roots.among_parameters.Goals as goal

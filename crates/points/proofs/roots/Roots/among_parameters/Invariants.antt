@@ -1,5 +1,5 @@
 use Rattle.core_lang.specs.Scopes.{numbers_from}
-use Rattle.points.specs.Scoping.{is_among, test_root}
+use Rattle.points.specs.Working.Scoping.{is_among, test_root}
 use Rattle.points.proofs.Sets.{IsUpTo}
 use Rattle.points.proofs.roots.Roots.among_parameters.Given as goal
 

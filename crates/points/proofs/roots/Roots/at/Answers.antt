@@ -1,5 +1,5 @@
 use Rattle.std.proofs.Common.{◌+◌, ◌∙◌, sym, subst, arith}
-use Rattle.points.specs.Scoping.{is_at, test_root}
+use Rattle.points.specs.Working.Scoping.{is_at, test_root}
 use Rattle.points.proofs.Sets.{IsUpTo, up_to_yes, up_to_no, up_to_all}
 use Rattle.points.proofs.Scopings.{test_here, test_past}
 use Rattle.points.proofs.roots.Roots.at.Goals as goal

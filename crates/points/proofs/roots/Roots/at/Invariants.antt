@@ -1,4 +1,4 @@
-use Rattle.points.specs.Scoping.{is_at, test_root}
+use Rattle.points.specs.Working.Scoping.{is_at, test_root}
 use Rattle.points.proofs.Sets.{IsUpTo}
 use Rattle.points.proofs.roots.Roots.at.Given as goal
 

@@ -1,6 +1,6 @@
 use Rattle.std.proofs.Common.{List, ℕ, ap}
 use Rattle.core_lang.specs.declared.tree.Action.{Action}
-use Rattle.points.specs.Scoping.{behind_action}
+use Rattle.points.specs.Working.Scoping.{behind_action}
 use Rattle.points.proofs.Scopings.{behind_bind}
 use Rattle.points.proofs.roots.Roots.behind.Goals as goal
 

@@ -1,7 +1,7 @@
 use Rattle.std.proofs.Common.{◌∙◌, ap, map}
 use Rattle.std.proofs.lemmas.List.{take_all}
-use Rattle.flow.specs.PointList.{point_at}
-use Rattle.points.specs.Scoping.{binds}
+use Rattle.flow.specs.Working.PointList.{point_at}
+use Rattle.points.specs.Working.Scoping.{binds}
 use Rattle.points.proofs.Scopings.{bound_more}
 use Rattle.points.proofs.roots.Roots.bound.Goals as goal
 

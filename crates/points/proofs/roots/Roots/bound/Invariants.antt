@@ -1,7 +1,7 @@
 use Rattle.std.proofs.Common.{◌≡◌, ℕ, map, take}
-use Rattle.flow.specs.PointList.{point_at}
-use Rattle.points.specs.Passes.{column}
-use Rattle.points.specs.Scoping.{binds}
+use Rattle.flow.specs.Working.PointList.{point_at}
+use Rattle.points.specs.Working.Passes.{column}
+use Rattle.points.specs.Working.Scoping.{binds}
 use Rattle.points.proofs.roots.Roots.bound.Given as goal
 
 abbrev pub invariant-loop-point : goal.invariant-loop-point

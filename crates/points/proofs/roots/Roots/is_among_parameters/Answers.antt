@@ -1,6 +1,6 @@
 use Rattle.std.proofs.Common.{◌∙◌, sym, ap}
 use Rattle.core_lang.specs.Scopes.{numbers_from}
-use Rattle.points.specs.Scoping.{is_among}
+use Rattle.points.specs.Working.Scoping.{is_among}
 use Rattle.points.proofs.Scopings.{among_parameters}
 use Rattle.points.proofs.roots.Roots.is_among_parameters.Goals as goal
 

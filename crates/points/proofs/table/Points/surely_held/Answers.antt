@@ -1,7 +1,7 @@
 use Rattle.std.proofs.Common.{◌∙◌, map, refl, sym, ap, subst, length}
 use Rattle.std.specs.Prelude.{slice_index}
 use Rattle.flow.specs.Skeletons.{count}
-use Rattle.flow.specs.Parts.{skeleton_of}
+use Rattle.flow.specs.Working.Parts.{skeleton_of}
 use Rattle.locks.specs.Sets.{AreSets}
 use Rattle.points.specs.Wanted.{IsWanted}
 use Rattle.points.proofs.WantedSets.{wanted_sets, held_sets}

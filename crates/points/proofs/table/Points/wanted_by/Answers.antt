@@ -2,7 +2,7 @@ use Rattle.std.proofs.Common.{◌<◌, ◌≡◌, ◌∙◌, length, map, sym, a
 use Rattle.std.specs.Prelude.{slice_index}
 use Rattle.std.proofs.lemmas.List.{get_or_read, length-map}
 use Rattle.locks.specs.declared.path_set.PathSet.{PathSet}
-use Rattle.points.specs.Ranks.{AreWantedBy, ranks_by_path}
+use Rattle.points.specs.Working.Ranks.{AreWantedBy, ranks_by_path}
 use Rattle.points.proofs.WantedSets.{wanted_more}
 use Rattle.points.proofs.table.Points.wanted_by.Goals as goal
 

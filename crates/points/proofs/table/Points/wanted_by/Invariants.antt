@@ -1,5 +1,5 @@
 use Rattle.std.proofs.Common.{◌≡◌, vec_len}
-use Rattle.points.specs.Ranks.{AreWantedBy}
+use Rattle.points.specs.Working.Ranks.{AreWantedBy}
 use Rattle.points.proofs.table.Points.wanted_by.Given as goal
 
 abbrev pub invariant-loop-p : goal.invariant-loop-p

@@ -1,10 +1,10 @@
 use Rattle.std.proofs.Common.{◌≡◌, ◌+◌, ◌*◌, ◌++◌, ℕ, drop, vec_len}
 use Rattle.flow.specs.Skeletons.{count, Nil}
-use Rattle.flow.specs.Parts.{skeleton_of, part_in_front}
+use Rattle.flow.specs.Working.Parts.{skeleton_of, part_in_front}
 use Rattle.flow.specs.Theory.Gather.{or}
 use Rattle.flow.specs.Theory.Passes.{gather, befores}
 use Rattle.locks.specs.Sets.{has}
-use Rattle.points.specs.Passes.{column, uses}
+use Rattle.points.specs.Working.Passes.{column, uses}
 use Rattle.points.proofs.uses.Uses.+before.Given as goal
 
 abbrev pub invariant-before-loop-part : goal.invariant-before-loop-part

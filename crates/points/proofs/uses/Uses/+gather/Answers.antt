@@ -1,9 +1,9 @@
 use Rattle.std.proofs.Common.{rules, ◌+◌, ◌*◌, ◌<◌, ◌∙◌, refl, ap, arith, sym}
 use Rattle.flow.specs.Skeletons.{count, Nil}
-use Rattle.flow.specs.Parts.{skeleton_of, part_in_front}
+use Rattle.flow.specs.Working.Parts.{skeleton_of, part_in_front}
 use Rattle.flow.specs.Theory.Gather.{or}
 use Rattle.flow.specs.Theory.Joined.{count_turn, count_drop, gather_turn}
-use Rattle.points.specs.Passes.{uses}
+use Rattle.points.specs.Working.Passes.{uses}
 use Rattle.points.proofs.Arms.{as_point, as_if, as_while, with_point, gathered_step, gathered_fork, gathered_loop}
 use Rattle.points.proofs.PairLists.{has_point}
 use Rattle.std.proofs.lemmas.List.{at_drop_all}

@@ -1,10 +1,10 @@
 use Rattle.std.proofs.Common.{◌≡◌, ◌+◌, ◌*◌, ℕ, drop}
 use Rattle.flow.specs.Skeletons.{count, Nil}
-use Rattle.flow.specs.Parts.{skeleton_of, part_in_front}
+use Rattle.flow.specs.Working.Parts.{skeleton_of, part_in_front}
 use Rattle.flow.specs.Theory.Gather.{or}
 use Rattle.flow.specs.Theory.Passes.{gather}
 use Rattle.locks.specs.Sets.{has}
-use Rattle.points.specs.Passes.{uses}
+use Rattle.points.specs.Working.Passes.{uses}
 use Rattle.points.proofs.uses.Uses.+gather.Given as goal
 
 abbrev pub invariant-gather-loop-part : goal.invariant-gather-loop-part

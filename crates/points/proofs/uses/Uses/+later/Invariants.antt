@@ -1,11 +1,11 @@
 use Rattle.std.proofs.Common.{◌≡◌, ◌+◌, ◌*◌, ◌≤◌, ◌++◌, ℕ, drop, length}
 use Rattle.std.specs.Prelude.{reverse}
 use Rattle.flow.specs.Skeletons.{count, Nil}
-use Rattle.flow.specs.Parts.{skeleton_of, part_in_front}
+use Rattle.flow.specs.Working.Parts.{skeleton_of, part_in_front}
 use Rattle.flow.specs.Theory.Gather.{or}
 use Rattle.flow.specs.Theory.Passes.{behind, laters}
 use Rattle.locks.specs.Sets.{has}
-use Rattle.points.specs.Passes.{column, uses}
+use Rattle.points.specs.Working.Passes.{column, uses}
 use Rattle.points.proofs.uses.Uses.+later.Given as goal
 
 abbrev pub invariant-later-loop-i : goal.invariant-later-loop-i

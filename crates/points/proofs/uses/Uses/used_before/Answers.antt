@@ -1,4 +1,4 @@
-use Rattle.flow.specs.Parts.{skeleton_of}
+use Rattle.flow.specs.Working.Parts.{skeleton_of}
 use Rattle.points.proofs.Whole.{before_whole}
 use Rattle.points.proofs.uses.Uses.used_before.Goals as goal
 

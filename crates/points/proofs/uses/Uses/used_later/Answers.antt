@@ -1,5 +1,5 @@
 use Rattle.std.proofs.Common.{◌≡◌, ◌∙◌, arith}
-use Rattle.flow.specs.Parts.{skeleton_of}
+use Rattle.flow.specs.Working.Parts.{skeleton_of}
 use Rattle.points.proofs.Whole.{later_whole, later_length}
 use Rattle.points.proofs.uses.Uses.used_later.Goals as goal
 

@@ -1,6 +1,6 @@
 use Rattle.std.proofs.Common.{◌≡◌, ◌<◌, ℕ, length}
 use Rattle.replay.specs.Readers.{script_of}
-use Rattle.replay.specs.Reading.{called_at}
+use Rattle.replay.specs.Working.Reading.{called_at}
 use Rattle.replay.proofs.candidate.Replay.all_called.Given as goal
 
 -- the seats of the threads so far are full

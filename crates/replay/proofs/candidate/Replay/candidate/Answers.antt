@@ -1,6 +1,6 @@
 use Rattle.std.proofs.Common.{◌≡◌, ◌∙◌, sym, ap, false, true, arith, refl}
 use Rattle.std.specs.Option.{option_copied}
-use Rattle.replay.specs.Reading.{begins_at}
+use Rattle.replay.specs.Working.Reading.{begins_at}
 use Rattle.replay.proofs.Candidates.{no_told, no_seat, no_call, no_begin, only_call}
 use Rattle.replay.proofs.candidate.Replay.candidate.Goals as goal
 

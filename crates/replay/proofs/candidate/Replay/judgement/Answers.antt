@@ -2,7 +2,7 @@ use Rattle.std.proofs.Common.{◌≡◌, ◌+◌, [], ◌∷◌, length, map, dr
 use Rattle.std.proofs.lemmas.List.{length-map}
 use Rattle.replay.specs.Verdicts.{Holds, IsDiffering}
 use Rattle.replay.specs.declared.wanted.Wanted.TheVariants.{Line}
-use Rattle.replay.specs.Reading.{IsAt}
+use Rattle.replay.specs.Working.Reading.{IsAt}
 use Rattle.replay.specs.Wanted.{IsWantedAt}
 use Rattle.replay.proofs.Replays.{read_more, read_other, read_beyond, read_same, read_short, wanted_here, wanted_short, explained}
 use Rattle.replay.proofs.candidate.Replay.judgement.Goals as goal

@@ -1,4 +1,4 @@
-use Rattle.recorded.specs.Histories.{recorded_lines}
+use Rattle.source_histories.specs.Histories.{recorded_lines}
 use Rattle.replay.proofs.Replays.{HasRead}
 use Rattle.replay.proofs.candidate.Replay.judgement.Given as goal
 

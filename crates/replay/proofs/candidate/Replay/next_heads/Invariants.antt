@@ -1,7 +1,7 @@
 use Rattle.std.proofs.Common.{◌≡◌, map}
 use Rattle.std.specs.Prelude.{string_bytes}
 use Rattle.replay.specs.Readers.{Reader}
-use Rattle.replay.specs.Reading.{IsAt}
+use Rattle.replay.specs.Working.Reading.{IsAt}
 use Rattle.replay.specs.Wanted.{next_heads}
 use Rattle.replay.proofs.candidate.Replay.next_heads.Given as goal
 

@@ -3,7 +3,7 @@ use Rattle.std.specs.Option.{option_copied}
 use Rattle.std.proofs.lemmas.List.{map-append}
 use Rattle.core_lang.specs.Serial.{Scheduled}
 use Rattle.report.specs.History.{call_head}
-use Rattle.replay.specs.Reading.{call_in, called_at}
+use Rattle.replay.specs.Working.Reading.{call_in, called_at}
 use Rattle.replay.proofs.NextHeads.{no_next, some_next}
 use Rattle.replay.proofs.Scripts.{scheduled_at}
 use Rattle.replay.proofs.candidate.Replay.push_next_head.Goals as goal

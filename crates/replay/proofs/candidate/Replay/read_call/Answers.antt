@@ -1,7 +1,7 @@
 use Rattle.std.proofs.Common.{◌∙◌, List, ℕ, sym, refl, subst}
 use Rattle.replay.proofs.Findings.{other_no_call}
 use Rattle.std.specs.Prelude.{codes, string_bytes}
-use Rattle.replay.specs.Reading.{Leaves}
+use Rattle.replay.specs.Working.Reading.{Leaves}
 use Rattle.replay.proofs.Naming.{no_call_names_none}
 use Rattle.replay.proofs.Steps.{none_due, reads_otherwise, reads_so}
 use Rattle.replay.proofs.candidate.Replay.read_call.Goals as goal

@@ -2,7 +2,7 @@ use Rattle.std.specs.Prelude.{◌-◌, get_or, List, length}
 use Rattle.std.proofs.Common.{ap, arith}
 use Rattle.locks.specs.declared.lock.Lock.{Lock}
 use Rattle.worlds.specs.Asking.{insert_new}
-use Rattle.runner.specs.Asked.{lock_at}
+use Rattle.runner.specs.Working.Asked.{lock_at}
 use Rattle.runner.proofs.Asked.{has_room}
 use Rattle.runner.proofs.asker.Asker.ask.Goals as goal
 

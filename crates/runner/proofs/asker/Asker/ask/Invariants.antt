@@ -1,5 +1,5 @@
 use Rattle.std.proofs.Common.{◌≡◌, ◌≤◌, drop, length, vec_capacity}
-use Rattle.runner.specs.Asked.{asked_at}
+use Rattle.runner.specs.Working.Asked.{asked_at}
 use Rattle.runner.proofs.asker.Asker.ask.Given as goal
 
 abbrev pub invariant-loop-left : goal.invariant-loop-left

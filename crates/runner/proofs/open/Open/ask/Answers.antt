@@ -2,15 +2,15 @@ use Rattle.std.specs.Prelude.{◌≡◌, true, false, List, ◌++◌, length, dr
 use Rattle.std.proofs.Common.{refl, sym, ap, ◌∙◌, subst, arith}
 use Rattle.locks.specs.declared.lock.Lock.{Lock}
 use Rattle.layout.specs.LockCells.{cells_of}
-use Rattle.moved_cells.specs.Grants.{numbered}
-use Rattle.held_cells.specs.Held.{CanHold, with_grant}
-use Rattle.lock_manager.specs.Sessions.{TicketOf, with_lock, with_ask}
-use Rattle.lock_manager.specs.Calls.{CanAsk, ticket_with}
+use Rattle.moved_cells.specs.Working.Grants.{numbered}
+use Rattle.runner_cells.specs.Working.Held.{CanHold, with_grant}
+use Rattle.lock_manager.specs.Working.Sessions.{TicketOf, with_lock, with_ask}
+use Rattle.lock_manager.specs.Working.Calls.{CanAsk, ticket_with}
 use Rattle.worlds.specs.Worlds.{granted}
 use Rattle.worlds.specs.Waiting.{first_if}
-use Rattle.section_machine.specs.Machines.{RunOf, holding_of, with_holding}
-use Rattle.runner.specs.Opens.{OpenOf, IsKnown, further, ticket_of}
-use Rattle.runner.specs.Ties.{open_as, call_of, IsKeptOpen}
+use Rattle.runner_machine.specs.Working.Machines.{RunOf, holding_of, with_holding}
+use Rattle.runner.specs.Working.Opens.{OpenOf, IsKnown, further, ticket_of}
+use Rattle.runner.specs.Working.Ties.{open_as, call_of, IsKeptOpen}
 use Rattle.runner.proofs.Asks.{IsAsking, first_and_rest, may_ask, lock_fits, are_lent, can_hold, kept_granted, kept_waiting}
 use Rattle.runner.proofs.open.Open.ask.Goals as goal
 

@@ -6,9 +6,9 @@ use Rattle.code.specs.declared.section_code.SectionCode.{SectionCode}
 use Rattle.code.specs.Machine.{act}
 use Rattle.code.specs.Memory.{load_held, store_held}
 use Rattle.worlds.specs.Worlds.{code_at, next_effect}
-use Rattle.section_machine.specs.Machines.{RunOf}
-use Rattle.runner.specs.Opens.{OpenOf}
-use Rattle.runner.specs.Ties.{open_as, call_of}
+use Rattle.runner_machine.specs.Working.Machines.{RunOf}
+use Rattle.runner.specs.Working.Opens.{OpenOf}
+use Rattle.runner.specs.Working.Ties.{open_as, call_of}
 use Rattle.runner.proofs.Opened.{RunsInOrder, has_code, code_read, place_there}
 use Rattle.runner.proofs.open.Open.instruction.Goals as goal
 

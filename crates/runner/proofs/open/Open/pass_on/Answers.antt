@@ -3,9 +3,9 @@ use Rattle.std.proofs.Common.{refl, sym, ap, ◌∙◌, subst, arith}
 use Rattle.locks.specs.declared.lock.Lock.{Lock}
 use Rattle.code.specs.Machine.{passed}
 use Rattle.worlds.specs.Worlds.{locks_before, next_effect}
-use Rattle.section_machine.specs.Machines.{RunOf, with_machine}
-use Rattle.runner.specs.Opens.{OpenOf}
-use Rattle.runner.specs.Ties.{open_as, call_of, IsKeptOpen}
+use Rattle.runner_machine.specs.Working.Machines.{RunOf, with_machine}
+use Rattle.runner.specs.Working.Opens.{OpenOf}
+use Rattle.runner.specs.Working.Ties.{open_as, call_of, IsKeptOpen}
 use Rattle.runner.proofs.Opened.{RunsInOrder, has_code, place_there, code_is_short, asked_fits, kept_asking}
 use Rattle.runner.proofs.open.Open.pass_on.Goals as goal
 

@@ -4,9 +4,9 @@ use Rattle.core_lang.specs.declared.typed.Typed.{Typed}
 use Rattle.code.specs.Machine.{Effect, Moves, act}
 use Rattle.code.specs.Memory.{HeldCells, load_held, store_held}
 use Rattle.worlds.specs.Worlds.{next_effect}
-use Rattle.section_machine.specs.Machines.{RunOf, FitsRoom, HasSmallCells, with_machine}
-use Rattle.runner.specs.Opens.{OpenOf}
-use Rattle.runner.specs.Ties.{open_as, call_of, IsKeptOpen}
+use Rattle.runner_machine.specs.Working.Machines.{RunOf, FitsRoom, HasSmallCells, with_machine}
+use Rattle.runner.specs.Working.Opens.{OpenOf}
+use Rattle.runner.specs.Working.Ties.{open_as, call_of, IsKeptOpen}
 use Rattle.runner.proofs.Opened.{RunsInOrder, next_fits, cells_small, kept_moving}
 use Rattle.runner.proofs.open.Open.step.Goals as goal
 

@@ -5,8 +5,8 @@ use Rattle.core_lang.specs.declared.typed.Typed.{Typed}
 use Rattle.core_lang.specs.WellFormed.{CanCall}
 use Rattle.core_lang.specs.Whole.{opening}
 use Rattle.worlds.specs.Worlds.{locals_at}
-use Rattle.section_machine.specs.Machines.{at_first}
-use Rattle.runner.specs.Ties.{call_of}
+use Rattle.runner_machine.specs.Working.Machines.{at_first}
+use Rattle.runner.specs.Working.Ties.{call_of}
 use Rattle.runner.proofs.Begun.{called_within, first_locals}
 use Rattle.runner.proofs.spare.Spare.prepare.Goals as goal
 

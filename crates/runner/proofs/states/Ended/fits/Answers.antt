@@ -1,9 +1,9 @@
 use Rattle.std.specs.Prelude.{◌↔◌, List, IsTrue}
 use Rattle.std.proofs.Common.{arith, refl, subst}
-use Rattle.moved_cells.specs.Grants.{GrantOf}
-use Rattle.lock_manager.specs.Calls.{CanRelease}
-use Rattle.runner.specs.Opens.{OpenOf, CanBeReleased}
-use Rattle.runner.specs.Ties.{ended_as}
+use Rattle.moved_cells.specs.Working.Grants.{GrantOf}
+use Rattle.lock_manager.specs.Working.Calls.{CanRelease}
+use Rattle.runner.specs.Working.Opens.{OpenOf, CanBeReleased}
+use Rattle.runner.specs.Working.Ties.{ended_as}
 use Rattle.runner.specs.declared.spare.Kept.{Kept}
 use Rattle.runner.proofs.Endings.{can_end, own_release}
 use Rattle.runner.proofs.states.Ended.fits.Goals as goal

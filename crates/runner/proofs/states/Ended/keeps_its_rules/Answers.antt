@@ -1,6 +1,6 @@
 use Rattle.std.proofs.Common.{subst}
-use Rattle.runner.specs.Opens.{HasTrueEntry}
-use Rattle.runner.specs.Ties.{ended_as}
+use Rattle.runner.specs.Working.Opens.{HasTrueEntry}
+use Rattle.runner.specs.Working.Ties.{ended_as}
 use Rattle.runner.proofs.states.Ended.keeps_its_rules.Goals as goal
 
 pub returns-clause-true_entry : goal.returns-clause-true_entry

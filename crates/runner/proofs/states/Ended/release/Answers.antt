@@ -1,10 +1,10 @@
 use Rattle.std.specs.Prelude.{◌+◌}
 use Rattle.std.proofs.Common.{◌≡◌, ◌∙◌, refl, sym, ap, subst}
-use Rattle.lock_manager.specs.Sessions.{TicketOf}
+use Rattle.lock_manager.specs.Working.Sessions.{TicketOf}
 use Rattle.history.specs.Commits.{Commit}
-use Rattle.lock_manager.specs.Calls.{Fits, Releases}
-use Rattle.runner.specs.Opens.{OpenOf, CanGiveBack, Released, entry_of}
-use Rattle.runner.specs.Ties.{ended_as}
+use Rattle.lock_manager.specs.Working.Calls.{Fits, Releases}
+use Rattle.runner.specs.Working.Opens.{OpenOf, CanGiveBack, Released, entry_of}
+use Rattle.runner.specs.Working.Ties.{ended_as}
 use Rattle.runner.specs.declared.spare.Kept.{Kept}
 use Rattle.runner.proofs.Endings.{own_release}
 use Rattle.runner.proofs.states.Ended.release.Goals as goal

@@ -1,6 +1,6 @@
 use Rattle.std.proofs.Common.{subst}
 use Rattle.worlds.specs.Waiting.{HasNext}
-use Rattle.runner.specs.Opens.{OpenOf}
+use Rattle.runner.specs.Working.Opens.{OpenOf}
 use Rattle.runner.proofs.states.Running.keeps_its_rules.Goals as goal
 
 pub returns-clause-next : goal.returns-clause-next

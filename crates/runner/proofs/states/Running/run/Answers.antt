@@ -1,7 +1,7 @@
 use Rattle.std.proofs.Common.{◌≡◌, ℕ, ◌<◌, sym, ap, ◌∙◌, subst, true≢false}
 use Rattle.std.proofs.lemmas.Option.{none-some}
-use Rattle.runner.specs.Opens.{OpenOf, IsRunning, moved, moved_by}
-use Rattle.runner.specs.Ties.{over_by}
+use Rattle.runner.specs.Working.Opens.{OpenOf, IsRunning, moved, moved_by}
+use Rattle.runner.specs.Working.Ties.{over_by}
 use Rattle.runner.proofs.Along.{ran_on, ran_all, one_more_runs}
 use Rattle.runner.proofs.Same.{moved_once_more, often_moved}
 use Rattle.runner.proofs.states.Running.run.Goals as goal

@@ -1,5 +1,5 @@
 use Rattle.std.proofs.Common.{◌≡◌, ◌<◌, ℕ}
-use Rattle.runner.specs.Opens.{IsRunning, moved_by}
+use Rattle.runner.specs.Working.Opens.{IsRunning, moved_by}
 use Rattle.runner.proofs.states.Running.run.Given as goal
 
 abbrev pub invariant-loop-done : goal.invariant-loop-done

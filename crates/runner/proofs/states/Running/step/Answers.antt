@@ -1,7 +1,7 @@
 use Rattle.std.proofs.Common.{ap, ◌∙◌}
-use Rattle.runner.specs.Opens.{moved}
+use Rattle.runner.specs.Working.Opens.{moved}
 use Rattle.runner.proofs.Same.{once_moved}
-use Rattle.runner.specs.Answers.{open_of}
+use Rattle.runner.specs.Working.Answers.{open_of}
 use Rattle.runner.proofs.states.Running.step.Goals as goal
 
 pub returns-in-None-clause-same : goal.returns-in-None-clause-same

@@ -3,10 +3,10 @@ use Rattle.std.specs.Prelude.{option_map}
 use Rattle.syntax.specs.Trees.{Decl, struct}
 use Rattle.syntax.specs.Views.{struct_of, decl_of}
 use Rattle.source.specs.Mistakes.{least_of}
-use Rattle.resolution.specs.FaultLists.{decl_faults}
-use Rattle.symbols.specs.Views.{decls_of}
-use Rattle.declarations.specs.Grown.{built}
-use Rattle.types.specs.Whole.{extended_if}
+use Rattle.resolution.specs.Working.FaultLists.{decl_faults}
+use Rattle.types_symbols.specs.Working.Views.{decls_of}
+use Rattle.types_declarations.specs.Working.Grown.{built}
+use Rattle.types.specs.Working.Whole.{extended_if}
 use Rattle.types.proofs.Whole.{at_place, some_is, none_some}
 use Rattle.types.proofs.program.Judge.judge_decl.Goals as goal
 

@@ -2,10 +2,10 @@ use Rattle.std.proofs.Common.{◌+◌, drop, ap}
 use Rattle.syntax.specs.Views.{decl_of}
 use Rattle.resolution.specs.Resolution.{resolved_from}
 use Rattle.source.specs.Mistakes.{least_of}
-use Rattle.resolution.specs.FaultLists.{decl_faults, each_faults}
-use Rattle.symbols.specs.Views.{decls_of}
-use Rattle.declarations.specs.Grown.{built}
-use Rattle.symbols.specs.Steps.{step, noted_one}
+use Rattle.resolution.specs.Working.FaultLists.{decl_faults, each_faults}
+use Rattle.types_symbols.specs.Working.Views.{decls_of}
+use Rattle.types_declarations.specs.Working.Grown.{built}
+use Rattle.types_symbols.specs.Theory.Steps.{step, noted_one}
 use Rattle.types.proofs.program.Judge.judge_decls.Goals as goal
 
 pub loop-place-preserved : goal.loop-place-preserved

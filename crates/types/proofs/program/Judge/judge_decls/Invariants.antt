@@ -1,9 +1,9 @@
 use Rattle.std.proofs.Common.{◌≡◌, drop}
 use Rattle.resolution.specs.Resolution.{resolved_from}
 use Rattle.source.specs.Mistakes.{least_of}
-use Rattle.resolution.specs.FaultLists.{each_faults}
-use Rattle.symbols.specs.Views.{decls_of}
-use Rattle.declarations.specs.Grown.{built}
+use Rattle.resolution.specs.Working.FaultLists.{each_faults}
+use Rattle.types_symbols.specs.Working.Views.{decls_of}
+use Rattle.types_declarations.specs.Working.Grown.{built}
 use Rattle.types.proofs.program.Judge.judge_decls.Given as goal
 
 abbrev pub invariant-loop-place : goal.invariant-loop-place

@@ -1,9 +1,9 @@
 use Rattle.std.proofs.Common.{◌≡◌, ◌≤◌, ◌∙◌, length, List, sym, ap, subst, arith, rules}
 use Rattle.history.specs.Commits.{Commit, IsTrueCommit}
 use Rattle.lowering.specs.Plans.{Plan}
-use Rattle.runner.specs.Opens.{CanBeReleased}
-use Rattle.workers.specs.Guarding.{IsManagerOf}
-use Rattle.workers.specs.Within.{IsEntered}
+use Rattle.runner.specs.Working.Opens.{CanBeReleased}
+use Rattle.workers.specs.Working.Guarding.{IsManagerOf}
+use Rattle.workers.specs.Working.Within.{IsEntered}
 use Rattle.workers.proofs.Guarding.{released_manager, entered}
 use Rattle.workers.proofs.Copies.{own_at}
 use Rattle.workers.proofs.guarded.Guarded.finish.Goals as goal

@@ -1,6 +1,6 @@
 use Rattle.std.proofs.Common.{sym, subst}
-use Rattle.runner.specs.Opens.{ReadyOf}
-use Rattle.workers.specs.Within.{IsSeat, HasAnswer}
+use Rattle.runner.specs.Working.Opens.{ReadyOf}
+use Rattle.workers.specs.Working.Within.{IsSeat, HasAnswer}
 use Rattle.workers.specs.Answers.{as_call}
 use Rattle.workers.proofs.Seats.{seat_after, gains, sees, all_below}
 use Rattle.workers.proofs.shared.Shared.call.Goals as goal

@@ -1,6 +1,6 @@
 use Rattle.std.proofs.Common.{◌≡◌, ◌∙◌, sym, ap, subst, ℕ}
 use Rattle.history.specs.Commits.{Commit}
-use Rattle.entry_copies.specs.Rows.{SeesOthers, SeesOwn}
+use Rattle.workers_copies.specs.Working.Rows.{SeesOthers, SeesOwn}
 use Rattle.workers.proofs.Copies.{others_own, others_begin, begins-trans, gone_back}
 use Rattle.workers.proofs.shared.Shared.finish.Goals as goal
 

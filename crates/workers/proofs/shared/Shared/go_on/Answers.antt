@@ -1,6 +1,6 @@
 use Rattle.std.proofs.Common.{subst}
-use Rattle.runner.specs.Opens.{IsSame}
-use Rattle.runner.specs.Answers.{open_of}
+use Rattle.runner.specs.Working.Opens.{IsSame}
+use Rattle.runner.specs.Working.Answers.{open_of}
 use Rattle.runner.specs.declared.states.Next.{Next}
 use Rattle.workers.proofs.Guarding.{same-trans}
 use Rattle.workers.proofs.shared.Shared.go_on.Goals as goal

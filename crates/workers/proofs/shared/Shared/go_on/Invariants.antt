@@ -1,5 +1,5 @@
-use Rattle.runner.specs.Answers.{open_of}
-use Rattle.runner.specs.Opens.{IsSame}
+use Rattle.runner.specs.Working.Answers.{open_of}
+use Rattle.runner.specs.Working.Opens.{IsSame}
 use Rattle.workers.proofs.shared.Shared.go_on.Given as goal
 
 abbrev pub invariant-loop : goal.invariant-loop

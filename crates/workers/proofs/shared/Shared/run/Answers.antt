@@ -1,7 +1,7 @@
 use Rattle.std.proofs.Common.{subst, ◌∙◌, List, length}
 use Rattle.history.specs.Commits.{Commit}
-use Rattle.entry_copies.specs.Rows.{SeesOwn}
-use Rattle.workers.specs.Within.{IsEntered}
+use Rattle.workers_copies.specs.Working.Rows.{SeesOwn}
+use Rattle.workers.specs.Working.Within.{IsEntered}
 use Rattle.workers.proofs.Seats.{answered}
 use Rattle.workers.proofs.shared.Shared.run.Goals as goal
 

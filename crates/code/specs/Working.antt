@@ -1,0 +1,9 @@
+-- What the code computes and values of its types, for proofs and for the crates above. Nobody has to believe these files: no promise
+-- cites them.
+pub mod Laws
+pub mod Seen
+pub mod Spots
+pub mod Ahead
+pub mod PointLaws
+pub mod RunLaws
+pub mod Naming

@@ -1,0 +1,11 @@
+use Rattle.std.proofs.Common.{◌≡◌, ◌++◌, drop}
+use Rattle.code.specs.Lowering.{expr_code}
+use Rattle.code_emission.specs.Working.CodeLists.{operations_code}
+use Rattle.code_emission.proofs.assembler.Assembler.+expression.Given as goal
+
+abbrev pub invariant-loop-operation : goal.invariant-loop-operation
+invariant-loop-operation l =
+    l.self.instructions.items ++ operations_code (drop l.operation-index l.operation-items) ≡ l.fn.self.instructions.items ++ expr_code l.fn.e
+
+abbrev pub decreases-expression : goal.decreases-expression
+decreases-expression l = goal.size-expression l

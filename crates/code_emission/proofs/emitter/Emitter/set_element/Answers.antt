@@ -1,0 +1,16 @@
+use Rattle.std.proofs.Common.{◌∷◌, ◌++◌, []}
+use Rattle.code.specs.declared.instr.Instr.TheVariants.{Bound, PutElement}
+use Rattle.code.specs.Lowering.{expr_code}
+use Rattle.code_emission.proofs.Pieces.{four_added, then_adds}
+use Rattle.code_emission.proofs.emitter.Emitter.set_element.Goals as goal
+
+pub returns : goal.returns
+returns c =
+    let b = c.acquire.new.self in
+    let index = expr_code c.args.index.now in
+    let value = expr_code c.args.value.now in
+    let array = c.args.array in
+    then_adds c.args.self.now b c.in_ok-acquire.ensures c.put-2.new.self (index ++ (Bound array ∷ (value ++ PutElement array ∷ [])))
+    (four_added b.code.instructions.items c.expression.new.self.instructions.items c.put.new.self.instructions.items c.expression-2.new.self.instructions.items
+    c.put-2.new.self.instructions.items index value (Bound array) (PutElement array)
+    c.in_ok-expression.ensures c.in_ok-put.ensures c.in_ok-expression-2.ensures c.in_ok-put-2.ensures)

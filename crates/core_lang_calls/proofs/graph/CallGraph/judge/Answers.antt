@@ -1,0 +1,24 @@
+use Rattle.std.proofs.Common.{◌≡◌, List, ap, sym, ◌∙◌, Option}
+use Rattle.std.specs.List.{flat_map}
+use Rattle.source.specs.declared.mistake.Mistake.{Mistake}
+use Rattle.source.specs.Mistakes.{least_of}
+use Rattle.source.specs.Theory.Leasts.{least_append}
+use Rattle.core_lang_calls.specs.declared.graph.Body as code
+use Rattle.core_lang_calls.specs.Graphs.{bodies_of}
+use Rattle.core_lang_calls.specs.Working.FaultLists.{helpers_faults, section_faults}
+use Rattle.core_lang_calls.proofs.graph.CallGraph.judge.Goals as goal
+
+pub returns : goal.returns
+returns c =
+    let start = c.args.least.now in
+    let helpers = bodies_of c.args.self.now.helpers.items in
+    let sections = bodies_of c.args.self.now.sections.items in
+    let middle = c.note_helpers.new.least in
+    let first : middle ≡ least_of start (helpers_faults helpers 0 helpers) =
+    c.note_helpers.ensures ∙ ap (λ (l : List code.Body). least_of start (helpers_faults (bodies_of l) 0 (bodies_of l))) c.deref-3.ensures.value in
+    let second : c.note_sections.new.least ≡ least_of middle (flat_map (section_faults helpers) sections) =
+    c.note_sections.ensures
+    ∙ ap (λ (l : List code.Body). least_of middle (flat_map (section_faults (bodies_of l)) (bodies_of c.deref-4.result.now))) c.deref-3.ensures.value
+    ∙ ap (λ (l : List code.Body). least_of middle (flat_map (section_faults helpers) (bodies_of l))) c.deref-4.ensures.value in
+    second ∙ ap (λ (f : Option Mistake). least_of f (flat_map (section_faults helpers) sections)) first
+    ∙ sym (least_append start (helpers_faults helpers 0 helpers) (flat_map (section_faults helpers) sections))

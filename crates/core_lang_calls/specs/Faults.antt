@@ -1,0 +1,50 @@
+-- The faults of a graph: recursion, and the limits of depth and of what calls bring.
+use Rattle.std.specs.Prelude.{◌≡◌, ℕ, ◌+◌, ◌<◌, ◌≤◌, List, ◌∷◌, ◌++◌, slice_get, Some, false}
+use Rattle.std.specs.List.{sum_by}
+use Rattle.source.specs.declared.fault.Code.{Code}
+use Rattle.source.specs.declared.fault.Code.TheVariants.{LimitExceeded, RecursiveHelper}
+use Rattle.core_lang_calls.specs.declared.graph.CallSite.{CallSite}
+use Rattle.core_lang_calls.specs.Graphs.{Body, Graph}
+use Rattle.core_lang_calls.specs.Recursion.{LeadsTo}
+use Rattle.core_lang_calls.specs.Depths.{depth, is_endless}
+use Rattle.core_lang_calls.specs.Counts.{brought_locals, brought_points}
+
+-- the calls of a section may go so deep
+abbrev pub DEPTH_LIMIT : ℕ
+DEPTH_LIMIT = 8
+
+-- a section may have so many locals, those of its helpers included
+abbrev pub LOCAL_LIMIT : ℕ
+LOCAL_LIMIT = 64
+
+-- and so many points from its helpers
+abbrev pub POINT_LIMIT : ℕ
+POINT_LIMIT = 65536
+
+-- in helper f, a call of a helper that is f or reaches it
+pub data IsRecursive (graph : Graph) : ℕ → Type 0 where
+  recursive_call : (f k : ℕ) {body : Body} {c : CallSite} →
+      slice_get graph.helpers f ≡ Some body → slice_get body.calls k ≡ Some c → LeadsTo graph.helpers c.helper f →
+      IsRecursive graph c.start
+
+pub data IsOverLimit (graph : Graph) : ℕ → Type 0 where
+  -- a helper that reaches no recursion, and is too deep
+  too_deep : (f : ℕ) {body : Body} →
+      slice_get graph.helpers f ≡ Some body → is_endless graph.helpers f ≡ false → DEPTH_LIMIT < depth graph.helpers f →
+      IsOverLimit graph body.start
+  -- the call of a section by which there are first too many: of locals, all that the section has itself come first
+  too_many_locals : (s : ℕ) (before behind : List CallSite) (c : CallSite) {section : Body} →
+      slice_get graph.sections s ≡ Some section → section.calls ≡ before ++ c ∷ behind →
+      section.locals + sum_by (brought_locals graph.helpers) before ≤ LOCAL_LIMIT →
+      LOCAL_LIMIT < section.locals + sum_by (brought_locals graph.helpers) before + brought_locals graph.helpers c →
+      IsOverLimit graph c.start
+  too_many_points : (s : ℕ) (before behind : List CallSite) (c : CallSite) {section : Body} →
+      slice_get graph.sections s ≡ Some section → section.calls ≡ before ++ c ∷ behind →
+      sum_by (brought_points graph.helpers) before ≤ POINT_LIMIT →
+      POINT_LIMIT < sum_by (brought_points graph.helpers) before + brought_points graph.helpers c →
+      IsOverLimit graph c.start
+
+-- a fault of this code stands at this byte
+pub data IsGraphFault (graph : Graph) : Code → ℕ → Type 0 where
+  recursive : {p : ℕ} → IsRecursive graph p → IsGraphFault graph RecursiveHelper p
+  over_limit : {p : ℕ} → IsOverLimit graph p → IsGraphFault graph LimitExceeded p

@@ -1,0 +1,117 @@
+//! Programs with their helpers written out.
+
+ghost use Rattle.std.specs.Prelude.{◌≡◌, [], map, IfOk};
+ghost use Rattle.std.specs.List.{AllZip};
+ghost use Rattle.core_lang.specs.WellFormed.{IsChecked, IsWellFormed};
+ghost use Rattle.core_lang.specs.Expansion.{HasSamePlaces, IsWrittenOut};
+ghost use Rattle.core_lang.specs.WrittenLocals.{AreWrittenLocals};
+ghost use Rattle.core_lang_expansion.specs.Data.{head_data, IsExpanded};
+
+use crate::body::Body;
+use crate::copies::{arrays, cells, classes, globals, pools, structs, threads};
+use crate::idle::Idle;
+use crate::stop::Stop;
+use core_lang::laws;
+use core_lang::shape::Shape;
+use core_lang::tree::Section;
+use core_lang::typed::Typed;
+use source::memory::NoMemory;
+use std::alloc::Global;
+
+// How deep the calls of a section go at most.
+const DEEPEST: u32 = 8;
+
+// A section with the helpers that it calls written out.
+pub(crate) fn written_out(
+    alloc: Global,
+    shape: &Shape,
+    idle: &Idle,
+    section: &Section,
+) -> Result<Section, Stop>
+    requires { idle.now.helpers.now ≡ shape.now.helpers.items }
+    ensures written { IfOk result (IsWrittenOut shape.now section.now) }
+    ensures locals { IfOk result (AreWrittenLocals shape.now section.now) }
+    ensures head { IfOk result (λ made. head_data made ≡ head_data section.now) }
+{
+    let body = Body {
+        alloc,
+        shape,
+        idle,
+        section,
+        depth: DEEPEST,
+    };
+    let mut locals = Vec::new(alloc);
+    body.keep_parameters(&mut locals)?;
+    let mut written = Vec::new(alloc);
+    let result = body.body(0, &mut locals, &mut written)?;
+    Ok(Section {
+        name: section.name.clone()?,
+        parameters: section.parameters,
+        locals,
+        result_type: section.result_type,
+        body: written,
+        result,
+    })
+}
+
+// All sections, one after another.
+fn all_written_out(alloc: Global, shape: &Shape, sections: &[Section]) -> Result<Vec<Section>, Stop>
+    ensures written { IfOk result (λ made. AllZip (IsWrittenOut shape.now) sections.now made.items) }
+    ensures locals { IfOk result (λ made. AllZip (AreWrittenLocals shape.now) sections.now made.items) }
+    ensures heads { IfOk result (λ made. map head_data made.items ≡ map head_data sections.now) }
+{
+    let idle = Idle::new(alloc, &shape.helpers)?;
+    let mut made = Vec::new(alloc);
+    for section in sections {
+        made.push(written_out(alloc, shape, &idle, section)?)?;
+    }
+    Ok(made)
+}
+
+// The same places, and no helpers.
+fn places(alloc: Global, shape: &Shape) -> Result<Shape, NoMemory>
+    ensures same { IfOk result (HasSamePlaces shape.now) }
+    ensures helpers { IfOk result (λ made. made.helpers.items ≡ []) }
+{
+    let arrays = arrays(alloc, &shape.arrays)?;
+    let pools = pools(alloc, &shape.pools)?;
+    let objects = shape.objects.clone()?;
+    let finals = shape.finals.clone()?;
+    Ok(Shape {
+        arrays,
+        pools,
+        objects,
+        finals,
+        helpers: Vec::new(alloc),
+    })
+}
+
+/// The program with the helpers of all its sections written out. The one error is a refused growth. (A section of which
+/// the calls lead nowhere, or too deep, would be answered as one too: a checked program has none.)
+pub fn expand(alloc: Global, program: &Typed) -> Result<Typed, NoMemory>
+    requires { IsChecked program.now }
+    // Each section is written out, over the same places and cells, no helpers are left, and the rest is as it was.
+    ensures expanded { IfOk result (IsExpanded program.now) }
+    // It is well formed.
+    ensures well_formed { IfOk result IsWellFormed }
+{
+    laws::writing_out_changes_nothing();
+    let Ok(sections) = all_written_out(alloc, &program.shape, &program.sections) else {
+        return Err(NoMemory);
+    };
+    let shape = places(alloc, &program.shape)?;
+    let classes = classes(alloc, &program.classes)?;
+    let structs = structs(alloc, &program.structs)?;
+    let globals = globals(alloc, &program.globals)?;
+    let cells = cells(&program.cells)?;
+    let threads = threads(alloc, &program.threads)?;
+    Ok(Typed {
+        classes,
+        structs,
+        globals,
+        shape,
+        cells,
+        sections,
+        threads,
+    })
+}

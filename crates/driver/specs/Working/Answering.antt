@@ -1,0 +1,99 @@
+-- What this crate's functions compute of an answer. It mirrors the code: nobody has to believe it.
+use Rattle.std.specs.Prelude.{◌≡◌, ℕ, Bool, List, [], map, string_bytes, Option, Result, Ok, Err}
+use Rattle.code.specs.Listing.{line}
+use Rattle.compiler.specs.Programs.{Accepts}
+use Rattle.core_lang.specs.declared.typed.Typed.{Typed}
+use Rattle.lowering.specs.Plans.{Plan, IsCompiled}
+use Rattle.outcomes.specs.Ends.{Told}
+use Rattle.report_outcomes.specs.Outcomes.{outcomes_text}
+use Rattle.source.specs.declared.fault.Fault.{Fault}
+use Rattle.explanation.specs.declared.explanation.Acceptance.{Acceptance}
+use Rattle.explanation.specs.declared.explanation.Explanation.{Explanation}
+use Rattle.explanation.specs.Notes.{note_of}
+use Rattle.source.specs.Faults.{fault_text}
+use Rattle.source_steps.specs.declared.refusal.StepsFault.{StepsFault}
+use Rattle.source_steps.specs.Steps.{steps_fault_text}
+use Rattle.driver.specs.declared.answer.Answer.{Answer}
+use Rattle.driver.specs.declared.request.PairRequest.{PairRequest}
+use Rattle.driver.specs.declared.request.PairRequest.TheVariants.{Simulate, Trace, Replay}
+use Rattle.driver.specs.declared.request.Request.{Request}
+use Rattle.driver.specs.declared.request.Request.TheVariants.{Check, OrderGraph, Listing, Serial, Outcomes}
+use Rattle.driver.specs.declared.status.Status.{Status}
+use Rattle.driver.specs.declared.status.Status.TheVariants.{Done, Refused, BadInput}
+use Rattle.driver.specs.Answers.{IsRefused}
+use Rattle.driver.specs.Checks.{IsCheckReport}
+use Rattle.driver.specs.Explanations.{acceptance_told, fault_told}
+use Rattle.driver.specs.Listings.{IsListed}
+use Rattle.driver.specs.OrderGraphs.{IsOrderGraph}
+use Rattle.driver.specs.Outcomes.{IsLookedAt}
+use Rattle.driver.specs.Replays.{IsReplayed, verdict_status, judgement_text}
+use Rattle.driver.specs.Serial.{IsRun}
+use Rattle.driver.specs.Simulations.{IsSimulated}
+use Rattle.driver.specs.ThreadRuns.{IsStrange}
+use Rattle.driver.specs.Traces.{IsTraceAnswer}
+use Rattle.source_histories.specs.declared.refusal.HistoryFault.{HistoryFault}
+use Rattle.source_histories.specs.Refusals.{history_fault_text}
+use Rattle.replay.specs.declared.verdict.Judgement.{Judgement}
+
+-- the answer's status and outputs are what is wanted of them
+abbrev pub Meets : (Status → List ℕ → List ℕ → Type 0) → Answer → Type 0
+Meets Wanted answer = Wanted answer.status (string_bytes answer.out) (string_bytes answer.err)
+
+-- the answer to a fault
+abbrev pub IsFaultAnswer : List ℕ → List ℕ → Fault → Answer → Type 0
+IsFaultAnswer file text fault answer =
+    (answer.status ≡ Refused) × (string_bytes answer.out ≡ []) × (string_bytes answer.err ≡ line (fault_text file text fault))
+
+-- what explains a fault, and what tells of a program without one, of values of the code
+abbrev pub fault_told_of : Bool → Explanation → List ℕ
+fault_told_of json x = fault_told json x.file.now x.text.now x.fault.now (map note_of x.notes.now)
+
+abbrev pub acceptance_told_of : Bool → Acceptance → List ℕ
+acceptance_told_of json x = acceptance_told json x.file.now x.text.now (map note_of x.notes.now)
+
+-- to a fault that is explained
+abbrev pub IsExplainedAnswer : Bool → Explanation → Answer → Type 0
+IsExplainedAnswer json explanation answer =
+    (answer.status ≡ Refused) × (string_bytes answer.out ≡ fault_told_of json explanation) × (string_bytes answer.err ≡ [])
+
+abbrev pub IsBadStepsAnswer : List ℕ → List ℕ → StepsFault → Answer → Type 0
+IsBadStepsAnswer steps_file items fault answer =
+    (answer.status ≡ BadInput) × (string_bytes answer.out ≡ []) × (string_bytes answer.err ≡ line (steps_fault_text steps_file items fault))
+
+abbrev pub IsBadHistoryAnswer : List ℕ → HistoryFault → Answer → Type 0
+IsBadHistoryAnswer history_file fault answer =
+    (answer.status ≡ BadInput) × (string_bytes answer.out ≡ []) × (string_bytes answer.err ≡ line (history_fault_text history_file fault))
+
+-- to a judgement on these lines
+abbrev pub IsJudgementAnswer : Bool → Judgement → List (List ℕ) → Answer → Type 0
+IsJudgementAnswer why judgement lines answer =
+    (answer.status ≡ verdict_status judgement.verdict)
+    × (string_bytes answer.out ≡ judgement_text why judgement.verdict judgement.wanted lines) × (string_bytes answer.err ≡ [])
+
+-- to ends of all orders, or of some that were drawn
+abbrev pub IsToldAnswer : Typed → Option ℕ → List Told → Answer → Type 0
+IsToldAnswer program states ends answer =
+    (answer.status ≡ Done) × (string_bytes answer.out ≡ outcomes_text program states ends) × (string_bytes answer.err ≡ [])
+
+-- to threads that found another history than they had left
+abbrev pub IsStrangeAnswer : Answer → Type 0
+IsStrangeAnswer answer = Meets IsStrange answer
+
+-- a text was accepted, or this is the answer to its fault
+abbrev pub IsAccepted : List ℕ → List ℕ → Result Plan Answer → Type 0
+IsAccepted file text (Ok plan) = Accepts text plan.accepted × IsCompiled plan
+IsAccepted file text (Err answer) = Meets (IsRefused file text) answer
+
+-- what is answered to a request for a program
+abbrev pub RequestAnswers : Request → List ℕ → Plan → Status → List ℕ → List ℕ → Type 0
+RequestAnswers Check text plan = IsCheckReport text plan
+RequestAnswers OrderGraph text plan = IsOrderGraph text plan
+RequestAnswers Listing text plan = IsListed plan
+RequestAnswers (Serial turns) text plan = IsRun turns plan.accepted
+RequestAnswers (Outcomes looking) text plan = IsLookedAt looking plan.accepted
+
+-- to one for a program with this text, and the text of another file
+abbrev pub PairWanted : PairRequest → List ℕ → List ℕ → List ℕ → Plan → Status → List ℕ → List ℕ → Type 0
+PairWanted Simulate text other_file other = IsSimulated other_file other
+PairWanted (Trace moves) text other_file other = IsTraceAnswer moves other_file text other
+PairWanted (Replay judging) text other_file other = IsReplayed judging other_file other

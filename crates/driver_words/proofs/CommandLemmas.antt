@@ -1,0 +1,24 @@
+-- What a command is after one more argument or subcommand.
+use Rattle.std.proofs.Common.{◌≡◌, ◌∙◌, ap, ap₂, refl, true, false}
+use Rattle.clap.specs.Words.{App, Rule, AddsArg, AddsSubcommand, is_simple, is_simple_and_free, rule_of, with_rule, with_subcommand}
+use Rattle.clap.specs.declared.builder.arg.Arg.{Arg}
+use Rattle.clap.specs.declared.builder.command.Command.{Command}
+use Rattle.driver_words.specs.Commands.{IsCommand, autolock}
+
+pub arg_is : (old new : Command) (arg : Arg) (a : App) (r : Rule) → IsCommand a old → rule_of arg ≡ r → arg.global ≡ false
+    → AddsArg old arg new → IsCommand (with_rule a r) new
+arg_is old new arg a r is rule local adds =
+    (adds.shape local ∙ ap₂ with_rule is.0 rule, adds.globals ∙ rw (is.1, local) refl)
+
+pub subcommand_is : (old sub new : Command) (a b : App) → IsCommand a old → IsCommand b sub → AddsSubcommand old sub new
+    → IsCommand (with_subcommand a b.top) new
+subcommand_is old sub new a b is sub_is adds =
+    (adds.shape sub_is.1 ∙ ap₂ with_subcommand is.0 (ap (λ (x : App). x.top) sub_is.0), adds.globals ∙ rw (is.1, sub_is.1) refl)
+
+-- clap's definitions cover the command
+pub is_simple-autolock : is_simple autolock ≡ true
+is_simple-autolock = refl
+
+-- and the kinds of its errors
+pub is_simple_and_free-autolock : is_simple_and_free autolock ≡ true
+is_simple_and_free-autolock = refl

@@ -1,0 +1,26 @@
+use Rattle.std.proofs.Common.{rules}
+use Rattle.driver_words.specs.Commands.{IsCommand, program, with_check, with_explain, with_order, with_listing, with_serial, with_outcomes, with_simulate, with_trace, with_run}
+use Rattle.driver_words.proofs.command.command.Goals as goal
+
+pub returns : goal.returns
+returns c =
+    let top : IsCommand program c.subcommand_required-line.result = search rules in
+    let check = with_check program in
+    let explain = with_explain check in
+    let order = with_order explain in
+    let listing = with_listing order in
+    let serial = with_serial listing in
+    let outcomes = with_outcomes serial in
+    let simulate = with_simulate outcomes in
+    let trace = with_trace simulate in
+    let run = with_run trace in
+    let first = c.with_command-line.ensures program _ top c.file_command.ensures in
+    let second = c.with_command-line-2.ensures check _ first c.explain_command.ensures in
+    let third = c.with_command-line-3.ensures explain _ second c.file_command-2.ensures in
+    let fourth = c.with_command-line-4.ensures order _ third c.file_command-3.ensures in
+    let fifth = c.with_command-line-5.ensures listing _ fourth c.serial_command.ensures in
+    let sixth = c.with_command-line-6.ensures serial _ fifth c.outcomes_command.ensures in
+    let seventh = c.with_command-line-7.ensures outcomes _ sixth c.simulate_command.ensures in
+    let eighth = c.with_command-line-8.ensures simulate _ seventh c.trace_command.ensures in
+    let ninth = c.with_command-line-9.ensures trace _ eighth c.run_command.ensures in
+    c.with_command.ensures run _ ninth c.replay_command.ensures

@@ -1,0 +1,5 @@
+pub mod Commands
+pub mod Lines
+-- what the public clauses cite
+pub use Rattle.driver_words.specs.Commands.{autolock}
+pub use Rattle.driver_words.specs.Lines.{IsLineOf, IsRefused}

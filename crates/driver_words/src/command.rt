@@ -1,0 +1,228 @@
+//! The commands and their arguments.
+
+ghost use Rattle.std.specs.Prelude.{◌≡◌, IfOk, codes, false};
+ghost use Rattle.clap.specs.Words.{rule_of};
+ghost use Rattle.driver_words.specs.Commands.{IsCommand, file_rule, number_rule, turns_rule, count_rule, seed_rule, why_rule, sections_rule, json_rule, with_file, with_turns, with_count, with_seed, with_steps, with_history, with_why, with_sections, with_json, Adds, AddsRule, autolock};
+
+use clap::builder::ValueParser;
+use clap::{Arg, ArgAction, Command};
+use std::alloc::{AllocError, Global};
+
+/// The version that `--version` prints behind the program's name.
+const VERSION: &str = "0.1.0";
+
+/// An argument that must be given, and stands for itself.
+fn file_argument<'a>(alloc: Global, id: &'a str) -> Arg<'a>
+    ensures rule { rule_of result ≡ file_rule id.entry.now }
+    ensures local { result.global ≡ false }
+{
+    Arg::new(alloc, id).required(true)
+}
+
+/// An option with a number, and what stands for it where it isn't given.
+fn number_argument<'a>(alloc: Global, id: &'a str, default: &'a str) -> Arg<'a>
+    ensures rule { rule_of result ≡ number_rule id.entry.now default.entry.now }
+    ensures local { result.global ≡ false }
+{
+    Arg::new(alloc, id)
+        .long(id)
+        .value_name("N")
+        .value_parser(ValueParser::unsigned(0, 1_000_000_000))
+        .default_value(default)
+}
+
+/// `--turns N`.
+fn turns_argument<'a>(alloc: Global) -> Arg<'a>
+    ensures rule { rule_of result ≡ turns_rule }
+    ensures local { result.global ≡ false }
+{
+    number_argument(alloc, "turns", "1000000").help(
+        "How many turns an execution of a loop may take",
+    )
+}
+
+/// `--count N`.
+fn count_argument<'a>(alloc: Global) -> Arg<'a>
+    ensures rule { rule_of result ≡ count_rule }
+    ensures local { result.global ≡ false }
+{
+    number_argument(alloc, "count", "100000").help("How many orders to look at, at most")
+}
+
+/// `--seed N`.
+fn seed_argument<'a>(alloc: Global) -> Arg<'a>
+    ensures rule { rule_of result ≡ seed_rule }
+    ensures local { result.global ≡ false }
+{
+    number_argument(alloc, "seed", "0").help("Which orders to draw, where there are more")
+}
+
+/// `--why`.
+fn why_argument<'a>(alloc: Global) -> Arg<'a>
+    ensures rule { rule_of result ≡ why_rule }
+    ensures local { result.global ≡ false }
+{
+    Arg::new(alloc, "why")
+        .long("why")
+        .action(ArgAction::SetTrue)
+        .help("Say what may stand where the history differs")
+}
+
+/// `--sections`.
+fn sections_argument<'a>(alloc: Global) -> Arg<'a>
+    ensures rule { rule_of result ≡ sections_rule }
+    ensures local { result.global ≡ false }
+{
+    Arg::new(alloc, "sections")
+        .long("sections")
+        .action(ArgAction::SetTrue)
+        .help("Leave the instructions out")
+}
+
+/// `--json`.
+fn json_argument<'a>(alloc: Global) -> Arg<'a>
+    ensures rule { rule_of result ≡ json_rule }
+    ensures local { result.global ≡ false }
+{
+    Arg::new(alloc, "json")
+        .long("json")
+        .action(ArgAction::SetTrue)
+        .help("Tell it as a JSON object, in one line")
+}
+
+/// A command over one file.
+fn file_command<'a>(alloc: Global, name: &'a str, about: &'a str) -> Result<Command<'a>, AllocError>
+    ensures { IfOk result (IsCommand (with_file name.entry.now)) }
+{
+    Command::new(alloc, name)
+        .about(about)
+        .arg(file_argument(alloc, "FILE").help("The program's text"))
+}
+
+/// A steps file.
+fn steps_argument<'a>(alloc: Global) -> Arg<'a>
+    ensures rule { rule_of result ≡ file_rule (codes "STEPS") }
+    ensures local { result.global ≡ false }
+{
+    file_argument(alloc, "STEPS").help("Which thread makes how many steps: items T or T*N")
+}
+
+/// `explain`.
+fn explain_command<'a>(alloc: Global) -> Result<Command<'a>, AllocError>
+    ensures { IfOk result (IsCommand (with_json (with_file (codes "explain")))) }
+{
+    let about =
+        "Tell the fault of a program, with its place in the source and what can be done about it";
+    file_command(alloc, "explain", about)?.arg(json_argument(alloc))
+}
+
+/// `serial`.
+fn serial_command<'a>(alloc: Global) -> Result<Command<'a>, AllocError>
+    ensures { IfOk result (IsCommand (with_turns (with_file (codes "serial")))) }
+{
+    let about = "Run all calls one after another, and write the history";
+    file_command(alloc, "serial", about)?.arg(turns_argument(alloc))
+}
+
+/// `simulate`.
+fn simulate_command<'a>(alloc: Global) -> Result<Command<'a>, AllocError>
+    ensures { IfOk result (IsCommand (with_steps (with_file (codes "simulate")))) }
+{
+    let about = "Run the steps of a steps file, and write the cells and threads after them";
+    file_command(alloc, "simulate", about)?.arg(steps_argument(alloc))
+}
+
+/// A history file.
+fn history_argument<'a>(alloc: Global) -> Arg<'a>
+    ensures rule { rule_of result ≡ file_rule (codes "HISTORY") }
+    ensures local { result.global ≡ false }
+{
+    file_argument(alloc, "HISTORY").help("The history that was recorded")
+}
+
+/// `run`.
+fn run_command<'a>(alloc: Global) -> Result<Command<'a>, AllocError>
+    ensures { IfOk result (IsCommand (with_file (codes "run"))) }
+{
+    let about = "Run the calls of each thread in a thread of its own, and write the history";
+    file_command(alloc, "run", about)
+}
+
+/// A command with one more argument, where it could be made.
+fn with_argument<'a>(
+    command: Result<Command<'a>, AllocError>,
+    argument: Arg<'a>,
+) -> Result<Command<'a>, AllocError>
+    requires { argument.global ≡ false }
+    ensures { AddsRule command.entry (rule_of argument.entry) result }
+{
+    command?.arg(argument)
+}
+
+/// `outcomes`.
+fn outcomes_command<'a>(alloc: Global) -> Result<Command<'a>, AllocError>
+    ensures { IfOk result (IsCommand (with_turns (with_seed (with_count (with_file (codes "outcomes")))))) }
+{
+    let about =
+        "Run all calls one after another in all orders, or in some, and write each way the cells end";
+    let command = file_command(alloc, "outcomes", about);
+    let command = with_argument(command, count_argument(alloc));
+    let command = with_argument(command, seed_argument(alloc));
+    with_argument(command, turns_argument(alloc))
+}
+
+/// `replay`.
+fn replay_command<'a>(alloc: Global) -> Result<Command<'a>, AllocError>
+    ensures { IfOk result (IsCommand (with_why (with_turns (with_history (with_file (codes "replay")))))) }
+{
+    let about = "Compare a recorded history with what its calls answer, one after another";
+    let command = file_command(alloc, "replay", about);
+    let command = with_argument(command, history_argument(alloc));
+    let command = with_argument(command, turns_argument(alloc));
+    with_argument(command, why_argument(alloc))
+}
+
+/// `trace`.
+fn trace_command<'a>(alloc: Global) -> Result<Command<'a>, AllocError>
+    ensures { IfOk result (IsCommand (with_sections (with_steps (with_file (codes "trace"))))) }
+{
+    let about =
+        "Run the steps of a steps file, and write a line for each, then what simulate writes";
+    let command = file_command(alloc, "trace", about);
+    let command = with_argument(command, steps_argument(alloc));
+    with_argument(command, sections_argument(alloc))
+}
+
+/// A command line with one more command, where both could be made.
+fn with_command<'a>(
+    line: Result<Command<'a>, AllocError>,
+    command: Result<Command<'a>, AllocError>,
+) -> Result<Command<'a>, AllocError>
+    ensures { Adds line.entry command.entry result }
+{
+    line?.subcommand(command?)
+}
+
+/// The whole command line.
+pub fn command<'a>(alloc: Global) -> Result<Command<'a>, AllocError>
+    ensures { IfOk result (IsCommand autolock) }
+{
+    let line = Command::new(alloc, "autolock")
+        .version(VERSION)
+        .about("Programs with atomic sections: locks inferred from protected_by annotations")
+        .subcommand_required(true);
+    let about = "Say in which order locks are taken, and which ones before each statement";
+    let line = with_command(Ok(line), file_command(alloc, "check", about));
+    let line = with_command(line, explain_command(alloc));
+    let about =
+        "Write the order of the lock classes as a graph in DOT: which has to come before which, and why";
+    let line = with_command(line, file_command(alloc, "order", about));
+    let about = "Write the instructions of each section";
+    let line = with_command(line, file_command(alloc, "listing", about));
+    let line = with_command(line, serial_command(alloc));
+    let line = with_command(line, outcomes_command(alloc));
+    let line = with_command(line, simulate_command(alloc));
+    let line = with_command(line, trace_command(alloc));
+    let line = with_command(line, run_command(alloc));
+    with_command(line, replay_command(alloc))
+}

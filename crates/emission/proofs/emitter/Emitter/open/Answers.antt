@@ -1,8 +1,0 @@
-use Rattle.std.proofs.Common.{◌∙◌}
-use Rattle.emission.proofs.Pieces.{opened}
-use Rattle.emission.proofs.emitter.Emitter.open.Goals as goal
-
-pub returns : goal.returns
-returns c =
-    opened c.args.self.now c.acquire.new.self c.in_ok-acquire.ensures c.condition.new.self c.put.new.self c.args.condition.now c.len-place.result c.in_ok-condition.ensures
-    (c.len-place.ensures ∙ c.condition.new.self.instructions.ok.0) c.in_ok-put.ensures

@@ -1,9 +1,0 @@
-use Rattle.std.proofs.Common.{◌≡◌}
-use Rattle.entry_copies.specs.Rows.{SeesOthers}
-use Rattle.entry_copies.proofs.seen.Seen.catch_up.Given as goal
-
-abbrev pub invariant-loop : goal.invariant-loop
-invariant-loop g l = record {
-  row : l.self.known.row ≡ l.fn.self.known.row;
-  seen : SeesOthers l.thread l.fn.self.log l.self.log;
-}

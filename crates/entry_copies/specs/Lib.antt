@@ -1,3 +1,0 @@
-pub mod Logs
-pub mod Rows
-pub mod NoPlan

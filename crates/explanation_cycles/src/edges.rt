@@ -1,0 +1,111 @@
+//! The notes on the edges of a cycle.
+
+ghost use Rattle.std.specs.Prelude.{◌≡◌, IfOk, OnOk, map};
+ghost use Rattle.explanation.specs.Notes.{note_of};
+ghost use Rattle.lockpaths.specs.Paths.{ArePaths};
+ghost use Rattle.lockorder.specs.Faults.{IsCycleOf};
+ghost use Rattle.explanation_cycles.specs.CycleNotes.{AreCycleNotes};
+ghost use Rattle.explanation_cycles.specs.CycleNotes as cycle;
+ghost use Rattle.explanation_cycles.specs.Working.Tellers.{IsMade, AddsEdge, AddsWhole};
+
+use crate::teller::Teller;
+use core_lang::typed::Typed;
+use explanation::Note;
+use flow::points::points_of;
+use lockorder::ranks::Edge;
+use lockpaths::table::Paths;
+use source::memory::NoMemory;
+use std::alloc::Global;
+
+/// The class of the next edge, or the first one's.
+fn class_of_next(first: usize, rest: &[Edge]) -> usize
+    ensures { result ≡ cycle.class_of_next first rest.now }
+{
+    match rest {
+        [] => first,
+        [edge, ..] => edge.class,
+    }
+}
+
+/// A program and its lock paths.
+#[derive(Drop)]
+pub struct Edges<'a> {
+    /// The program.
+    pub program: &'a Typed,
+    /// Its lock paths.
+    pub paths: &'a Paths,
+}
+
+impl Edges<'_> {
+    /// The notes on an edge, which leads to a class.
+    pub fn push(
+        &self,
+        alloc: Global,
+        edge: Edge,
+        next: usize,
+        notes: &mut Vec<Note>,
+    ) -> Result<(), NoMemory>
+        requires paths { ArePaths self.now.program.now self.now.paths.now }
+        requires made { IsMade self.now.program.now edge next }
+        ensures { OnOk result (AddsEdge self.now.program.now edge next notes.old.items notes.new.items) }
+    {
+        let teller = Teller {
+            program: self.program,
+            section: &self.program.sections[edge.section],
+            found: &self.paths.sections[edge.section],
+        };
+        let points = points_of(alloc, teller.section)?;
+        notes.push(teller.use_note(alloc, &points, edge.used, edge.class)?)?;
+        notes.push(teller.binding_note(alloc, &points, edge.bound, next)?)?;
+        Ok(())
+    }
+
+    // The same, and a way out of it.
+    fn push_whole(
+        &self,
+        alloc: Global,
+        edge: Edge,
+        next: usize,
+        notes: &mut Vec<Note>,
+    ) -> Result<(), NoMemory>
+        requires paths { ArePaths self.now.program.now self.now.paths.now }
+        requires made { IsMade self.now.program.now edge next }
+        ensures { OnOk result (AddsWhole self.now.program.now edge next notes.old.items notes.new.items) }
+    {
+        self.push(alloc, edge, next, notes)?;
+        let teller = Teller {
+            program: self.program,
+            section: &self.program.sections[edge.section],
+            found: &self.paths.sections[edge.section],
+        };
+        notes.push(teller.way_note(alloc, edge.bound, edge.class)?)?;
+        Ok(())
+    }
+}
+
+/// The notes on a cycle of a program: of each edge, where a lock of its class is used, and where the root of a path of the
+/// next class is bound, each with the section, the path and the class; and whether this binding uses a lock of the edge's class itself, with a way
+/// out for either.
+///
+/// # Errors
+///
+/// Want of memory.
+pub fn cycle_notes(
+    alloc: Global,
+    program: &Typed,
+    paths: &Paths,
+    edges: &[Edge],
+) -> Result<Vec<Note>, NoMemory>
+    requires paths { ArePaths program.now paths.now }
+    requires cycle { IsCycleOf program.now edges.now }
+    ensures { IfOk result (λ notes. AreCycleNotes program.now edges.now (map note_of notes.items)) }
+{
+    let told = Edges { program, paths };
+    let first = edges[0].class;
+    let mut notes = Vec::new(alloc);
+    for (i, edge) in edges.iter().enumerate() {
+        let next = class_of_next(first, &edges[i + 1..]);
+        told.push_whole(alloc, *edge, next, &mut notes)?;
+    }
+    Ok(notes)
+}

@@ -1,0 +1,17 @@
+-- What is told of an unknown name.
+use Rattle.std.proofs.Common.{◌≡◌, ◌∙◌, ℕ, List, Some, None, sym, subst}
+use Rattle.std.proofs.lemmas.Option.{same_Some}
+use Rattle.source.specs.Tokens.{Tok}
+use Rattle.syntax.specs.Trees.{Decl}
+use Rattle.explanation_names.specs.NearNames.{CouldStand, IsNear}
+use Rattle.explanation_names.specs.Working.Values.{NoneIsNear}
+use Rattle.explanation_faults.specs.FaultNotes.{HasNearName}
+use Rattle.explanation_faults.specs.TokensThere.{name_there}
+
+module _ (tokens : List Tok) (decls : List Decl) (at : ℕ) where
+  pub no_name : None ≡ name_there at tokens → HasNearName tokens decls at → ⊥
+  no_name none told = let e : None ≡ Some told.unknown = none ∙ told.there in cc
+
+  pub none_near : (q : List ℕ) → Some q ≡ name_there at tokens → NoneIsNear (CouldStand decls at) q → HasNearName tokens decls at → ⊥
+  none_near q is none told =
+      none told.name told.could (subst (λ (p : List ℕ). IsNear p told.name.text) (same_Some told.unknown q (sym told.there ∙ sym is)) told.near)

@@ -1,0 +1,130 @@
+-- The tokens of a text and their tree, and what these tell.
+use Rattle.std.proofs.Common.{◌≡◌, ℕ, zero, suc, ◌<◌, ◌≤◌, List, [], ◌∷◌, length, refl, sym, subst, arith, ⊎_elim}
+use Rattle.std.specs.Prelude.{All, codes}
+use Rattle.std.proofs.lemmas.Bool.{cases_lt}
+use Rattle.std.proofs.lemmas.List.Elements.{All-weaker}
+use Rattle.explanation.specs.Notes.{Note}
+use Rattle.source.specs.declared.fault.Code.{Code}
+use Rattle.source.specs.declared.fault.Code.TheVariants.{LimitExceeded}
+use Rattle.source.specs.declared.fault.Fault.{Fault}
+use Rattle.source.specs.declared.fault.Refusal.TheVariants as refusal
+use Rattle.source.specs.Faults.{IsFaultAt}
+use Rattle.source.specs.Texts.{HasTokens, IsFault, IsRefusal, SOURCE_LIMIT, too_big, too_long, within}
+use Rattle.source.specs.Tokens.{Tok}
+use Rattle.syntax.specs.Faults.{IsUnexpected}
+use Rattle.syntax.specs.Grammar.{HasTree, Spells}
+use Rattle.syntax.specs.Trees.{Decl}
+use Rattle.explanation_faults.specs.FaultNotes.{IsTrueNote, IsTold, AreNotes}
+use Rattle.explanation_faults.specs.TextNotes.{HasTextTree, IsTextLimit, source, a_name, IsTrueTextNote, of_tree, of_tokens, of_limit, AreTextNotes}
+use Rattle.explanation_faults.specs.Working.Values.{IsItsFault, IsLimitAt}
+use Rattle.explanation_faults.specs.Words.{note_of_all}
+use Rattle.explanation_tokens.specs.Expected.{AreTokenNotes, IsTokenTold, IsTrueTokenNote}
+use Rattle.explanation_faults.proofs.InOrder.{are_in_order}
+
+-- a text has no other tokens
+abbrev Only : List ℕ → List Tok → Type 0
+Only text ts = (us : List Tok) → length text ≤ SOURCE_LIMIT → HasTokens text us → us ≡ ts
+
+-- ---- limits
+
+fault_of : {text words : List ℕ} {at : ℕ} → IsTextLimit text at words → IsFault text LimitExceeded at
+fault_of (source long) = too_big long
+fault_of (a_name x few over) = within few (too_long x over)
+
+pub source_limit : (text : List ℕ) (at : ℕ) → IsFault text LimitExceeded at → SOURCE_LIMIT < length text →
+    IsTextLimit text at (codes "a source has at most 1048576 bytes")
+source_limit text at (too_big l) long = source l
+source_limit text at (within few is) long = absurd (omega arith)
+
+pub name_limit : (text : List ℕ) (at : ℕ) → IsFault text LimitExceeded at → length text ≤ SOURCE_LIMIT →
+    IsTextLimit text at (codes "a name has at most 64 bytes")
+name_limit text at (too_big l) few = absurd (omega arith)
+name_limit text at (within few (too_long x over)) le = a_name x few over
+
+alone : (P : Note → Type 0) (note : Note) → P note → All P (note ∷ [])
+alone P note is zero d lt = is
+alone P note is (suc k) d lt = absurd (omega arith)
+
+-- ---- texts without tokens
+
+-- what the lexer says of a text that it refuses
+pub its_fault : (text : List ℕ) (found : Fault) → IsRefusal text (refusal.Fault found) →
+    ((code : Code) (start : ℕ) → IsFault text code start → IsFaultAt code start (refusal.Fault found)) →
+    ((ts : List Tok) → length text ≤ SOURCE_LIMIT → HasTokens text ts → refusal.Fault found ≡ refusal.NoMemory) → IsItsFault text found
+its_fault text found is refused only =
+    (is.0, (λ code start fault. let same = refused code start fault in (sym same.0, sym same.1)), (λ ts few has. let e = only ts few has in absurd cc))
+
+pub limit_found : (text : List ℕ) (found : Fault) (at : ℕ) → IsItsFault text found → IsLimitAt found at → IsFault text LimitExceeded at
+limit_found text found at is there =
+    subst (λ (code : Code). IsFault text code at) there.0 (subst (λ (start : ℕ). IsFault text found.code start) there.1 is.0)
+
+-- the fault is not the one of a limit that is found
+pub no_limit : (text : List ℕ) (found fault : Fault) → IsItsFault text found → (IsLimitAt found fault.start → IsLimitAt fault found.start → ⊥) →
+    (words : List ℕ) → fault.code ≡ LimitExceeded → IsTextLimit text fault.start words → ⊥
+no_limit text found fault is other words limited limit =
+    let same = is.1 LimitExceeded fault.start (fault_of limit) in other (sym same.0, sym same.1) (limited, same.1)
+
+module _ (text : List ℕ) (found : Fault) (is : IsItsFault text found) (code : Code) (at : ℕ) where
+  pub without_limit : ((words : List ℕ) → code ≡ LimitExceeded → IsTextLimit text at words → ⊥) → AreTextNotes text code at []
+  without_limit none = record {
+    are_true = λ k d lt. absurd (omega arith);
+    told = λ ts ds short h told. absurd (is.2 ts short h.has_tokens);
+    expected = λ us short have unexpected told. absurd (is.2 us short have);
+    limited = λ words limited limit. absurd (none words limited limit);
+  }
+
+  pub with_limit : (words : List ℕ) → code ≡ LimitExceeded → IsTextLimit text at words → AreTextNotes text code at (note_of_all words ∷ [])
+  with_limit words limited limit = record {
+    are_true = alone (IsTrueTextNote text code at) (note_of_all words) (of_limit limited limit refl);
+    told = λ ts ds short h told. omega arith;
+    expected = λ us short have unexpected told. omega arith;
+    limited = λ words limited limit. omega arith;
+  }
+
+-- ---- texts with tokens
+
+-- a text with tokens has no fault
+abbrev IsFaultless : List ℕ → Type 0
+IsFaultless text = (code : Code) (start : ℕ) → IsFault text code start → ⊥
+
+within_limit : (text : List ℕ) → IsFaultless text → length text ≤ SOURCE_LIMIT
+within_limit text none =
+    ⊎_elim (λ (long : SOURCE_LIMIT < length text). absurd (none LimitExceeded 0 (too_big long))) (λ (few : length text ≤ SOURCE_LIMIT). few)
+    (cases_lt SOURCE_LIMIT (length text))
+
+-- what has no tree tells what its tokens do
+pub without_tree : (text : List ℕ) (ts : List Tok) (code : Code) (at : ℕ) (notes : List Note) → IsFaultless text → HasTokens text ts →
+    Only text ts → ((ds : List Decl) → HasTree ts ds → ⊥) → AreTokenNotes ts code at notes → AreTextNotes text code at notes
+without_tree text ts code at notes no_fault has only none are = let few = within_limit text no_fault in record {
+  are_true = All-weaker (IsTrueTokenNote ts code at) (IsTrueTextNote text code at) (λ note is. of_tokens few has is) notes are.are_true;
+  told = λ us ds short h told. absurd (none ds (subst (λ (l : List Tok). HasTree l ds) (only us short h.has_tokens) h.has_tree));
+  expected = λ us short have unexpected told.
+      let same = only us short have in
+      let there = subst (λ (l : List Tok). IsTokenTold l code at) same told in
+      are.told (are_in_order text ts at there.before few has there.place) there;
+  limited = λ words is limit. absurd (no_fault LimitExceeded at (fault_of limit));
+}
+
+-- notes on the tree are notes on the text
+all_of_tree : (text : List ℕ) (ts : List Tok) (ds : List Decl) (code : Code) (at : ℕ) (notes : List Note) → length text ≤ SOURCE_LIMIT → HasTextTree text ts ds →
+    All (IsTrueNote ts ds code at) notes → All (IsTrueTextNote text code at) notes
+all_of_tree text ts ds code at notes few has all =
+    All-weaker (IsTrueNote ts ds code at) (IsTrueTextNote text code at) (λ note is. of_tree few has is) notes all
+
+-- tokens with a tree have none that is unexpected
+no_unexpected : (ts : List Tok) (ds : List Decl) (at : ℕ) → HasTree ts ds → IsUnexpected ts at → ⊥
+no_unexpected ts ds at tree fault = fault.no_program ds fault.after (subst (Spells ds) fault.parts tree.0)
+
+pub with_tree : (text : List ℕ) (ts : List Tok) (ds : List Decl) (code : Code) (at : ℕ) (notes : List Note) →
+    ((us : List Tok) (a b : List Decl) → HasTree us a → HasTree us b → a ≡ b) → IsFaultless text → HasTokens text ts →
+    Only text ts → HasTree ts ds → AreNotes ts ds code at notes → AreTextNotes text code at notes
+with_tree text ts ds code at notes one no_fault has only tree are = let few = within_limit text no_fault in record {
+  are_true = all_of_tree text ts ds code at notes few (record { has_tokens = has; has_tree = tree }) are.are_true;
+  told = λ us es short h told.
+      let same = only us short h.has_tokens in
+      let alike = one ts es ds (subst (λ (l : List Tok). HasTree l es) same h.has_tree) tree in
+      are.told (subst (λ (l : List Tok). IsTold l ds code at) same (subst (λ (d : List Decl). IsTold us d code at) alike told));
+  expected = λ us short have unexpected told.
+      absurd (no_unexpected ts ds at tree (subst (λ (l : List Tok). IsUnexpected l at) (only us short have) unexpected));
+  limited = λ words is limit. absurd (no_fault LimitExceeded at (fault_of limit));
+}

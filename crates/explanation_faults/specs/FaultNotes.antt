@@ -1,0 +1,194 @@
+-- What is told of a fault beyond its line.
+use Rattle.std.specs.Fmt.{decimal}
+use Rattle.std.specs.Prelude.{◌≡◌, ◌≤◌, ℕ, List, ◌∷◌, ◌++◌, Some, All, codes, length}
+use Rattle.explanation.specs.Notes.{Note}
+use Rattle.resolution.specs.Constants.{init_target_of, giver}
+use Rattle.resolution.specs.Faults.{IsDeclaredTwice, IsUnprotected, PassesNonFinal, IsFinalMissing}
+use Rattle.resolution.specs.Scopes.{member_name}
+use Rattle.resolution.specs.Where.{Has}
+use Rattle.resolution.specs.declared.init_target.InitTarget.{InitTarget}
+use Rattle.source.specs.declared.fault.Code.{Code}
+use Rattle.source.specs.declared.fault.Code.TheVariants.{DeclaredTwice, UnknownName, WrongType, NeitherFinalNorProtected, ProtectedByPassesNonFinal, UnstableBase, LimitExceeded, FinalWithoutOpeningValue, InitOutOfRangeOrRepeated, MisplacedReturn}
+use Rattle.source.specs.Tokens.{Tok}
+use Rattle.syntax.specs.Trees.{Ident, Final, Init, Member, Pool, Decl, lock, init}
+use Rattle.explanation_types.specs.TypeNotes.{IsTypeNote}
+use Rattle.explanation_names.specs.NearNames.{CouldStand, IsNear, IsNearestOf}
+use Rattle.explanation_faults.specs.Inits.{IsGivenFirst}
+use Rattle.explanation_faults.specs.AmountsPassed.{IsAmountPassed}
+use Rattle.explanation_faults.specs.HelperLimits.{IsFirstOfHelpers, IsHelperLimit}
+use Rattle.explanation_faults.specs.LimitsPassed.{AreFinalsPassed, IsCountPassed}
+use Rattle.explanation_faults.specs.LocksAtHand.{IsAtHand}
+use Rattle.explanation_faults.specs.MissingInits.{IsGap, IsNullGiven}
+use Rattle.explanation_faults.specs.MissingReturns.{IsLacking}
+use Rattle.explanation_faults.specs.NameSpaces.{IsDeclaredAs}
+use Rattle.explanation_faults.specs.PassedMembers.{passed_at}
+use Rattle.explanation_faults.specs.PathsPassed.{ArePathsFirst, ArePathsPast}
+use Rattle.explanation_faults.specs.TokensThere.{name_there}
+use Rattle.explanation_faults.specs.Vars.{IsVarNote, IsVarThere}
+use Rattle.explanation_faults.specs.Words.{name_note, note_on, note_of_all}
+
+-- ---- words
+
+abbrev pub declared_note : Ident → Note
+declared_note x = name_note x (codes " is declared here")
+
+abbrev pub near_note : Ident → Note
+near_note x = name_note x (codes " could be meant, and is declared here")
+
+abbrev pub lock_words : Ident → List ℕ
+lock_words x = codes " could protect it: protected_by(" ++ x.text ++ codes ")"
+
+abbrev pub lock_note : Ident → Note
+lock_note x = name_note x (lock_words x)
+
+abbrev pub passed_note : Member → Note
+passed_note m = name_note (member_name m) (codes " is declared here, and is no final reference")
+
+-- of the member P[N] of a pool
+abbrev pub gap_words : Pool → ℕ → List ℕ
+gap_words p n = codes " is final, and no init gives it for " ++ p.name.text ++ codes "[" ++ decimal n ++ codes "]"
+
+abbrev pub gap_note : Pool → ℕ → Final → Note
+gap_note p n f = name_note f.name (gap_words p n)
+
+abbrev pub null_note : Final → Note
+null_note f = name_note f.name (codes " is final, and is never null")
+
+abbrev pub given_note : Init → Note
+given_note i = note_on i.start.start (i.field.text ++ codes " is given here")
+
+abbrev pub missing_note : Ident → Note
+missing_note x = name_note x (codes " has a result, and its body does not end in a return")
+
+abbrev pub misplaced_note : Note
+misplaced_note = note_of_all (codes "this return is not the last statement of a body with a result")
+
+abbrev pub finals_words : List ℕ
+finals_words = codes "an annotation goes over at most 3 final references"
+
+abbrev pub path_words : List ℕ
+path_words = codes "a section has at most 64 lock paths that differ"
+
+-- ---- truth, by the fault's code
+
+-- E05: where the name is declared that this one is the same as
+pub record IsDeclaredNote (decls : List Decl) (at : ℕ) (note : Note) : Type 0 where
+  pub name : Ident
+  pub declared : IsDeclaredAs decls at name
+  pub said : note ≡ declared_note name
+
+-- E06: of the names that could stand in the place of the unknown one the nearest
+pub record IsNearNote (tokens : List Tok) (decls : List Decl) (at : ℕ) (note : Note) : Type 0 where
+  pub unknown : List ℕ
+  pub there : name_there at tokens ≡ Some unknown
+  pub name : Ident
+  pub nearest : IsNearestOf (CouldStand decls at) unknown name
+  pub said : note ≡ near_note name
+
+-- E10: the lock that could protect it
+pub record IsLockNote (decls : List Decl) (at : ℕ) (note : Note) : Type 0 where
+  pub name : Ident
+  pub at_hand : IsAtHand decls at name
+  pub said : note ≡ lock_note name
+
+-- E12: where the member is declared that is passed
+pub record IsPassedNote (decls : List Decl) (at : ℕ) (note : Note) : Type 0 where
+  pub member : Member
+  pub passed : passed_at decls at ≡ Some member
+  pub said : note ≡ passed_note member
+
+-- E15: which limit is passed
+pub data IsLimitPassed (tokens : List Tok) (decls : List Decl) (at : ℕ) : List ℕ → Type 0 where
+  of_count : {words : List ℕ} → IsCountPassed decls at words → IsLimitPassed tokens decls at words
+  of_amount : {words : List ℕ} → IsAmountPassed decls at words → IsLimitPassed tokens decls at words
+  of_finals : AreFinalsPassed decls at → IsLimitPassed tokens decls at finals_words
+  of_helpers : {words : List ℕ} → IsHelperLimit decls at words → IsLimitPassed tokens decls at words
+  of_paths : ArePathsPast tokens at → IsLimitPassed tokens decls at path_words
+
+pub record IsLimitNote (tokens : List Tok) (decls : List Decl) (at : ℕ) (note : Note) : Type 0 where
+  pub words : List ℕ
+  pub passed : IsLimitPassed tokens decls at words
+  pub said : note ≡ note_of_all words
+
+-- E16: which `init` is missing; or the final reference that is given null
+pub data IsFinalNote (decls : List Decl) (at : ℕ) : Note → Type 0 where
+  gap : {p : Pool} {n : ℕ} {f : Final} → IsGap decls at p n f → IsFinalNote decls at (gap_note p n f)
+  null : {f : Final} → IsNullGiven decls at f → IsFinalNote decls at (null_note f)
+
+-- E17: where the first `init` is that gives what this one gives
+pub record IsGivenNote (decls : List Decl) (at : ℕ) (note : Note) : Type 0 where
+  pub first : Init
+  pub given : IsGivenFirst decls at first
+  pub said : note ≡ given_note first
+
+-- E18: a section or a helper whose return is missing; or that no return is missing there, so that the one there is misplaced
+pub data IsReturnNote (decls : List Decl) (at : ℕ) : Note → Type 0 where
+  missing : {x : Ident} → IsLacking decls at x → IsReturnNote decls at (missing_note x)
+  misplaced : ((x : Ident) → IsLacking decls at x → ⊥) → IsReturnNote decls at misplaced_note
+
+-- of a fault of this code at this byte of the tokens and their tree, the note says what is so
+abbrev pub IsTrueNote : List Tok → List Decl → Code → ℕ → Note → Type 0
+IsTrueNote tokens decls DeclaredTwice at note = IsDeclaredNote decls at note
+IsTrueNote tokens decls UnknownName at note = IsNearNote tokens decls at note
+IsTrueNote tokens decls WrongType at note = IsTypeNote decls at note
+IsTrueNote tokens decls NeitherFinalNorProtected at note = IsLockNote decls at note
+IsTrueNote tokens decls ProtectedByPassesNonFinal at note = IsPassedNote decls at note
+IsTrueNote tokens decls UnstableBase at note = IsVarNote tokens decls at note
+IsTrueNote tokens decls LimitExceeded at note = IsLimitNote tokens decls at note
+IsTrueNote tokens decls FinalWithoutOpeningValue at note = IsFinalNote decls at note
+IsTrueNote tokens decls InitOutOfRangeOrRepeated at note = IsGivenNote decls at note
+IsTrueNote tokens decls MisplacedReturn at note = IsReturnNote decls at note
+IsTrueNote tokens decls code at note = ⊥
+
+-- ---- where one must be told
+
+-- near the name there is one that could stand in its place
+pub record HasNearName (tokens : List Tok) (decls : List Decl) (at : ℕ) : Type 0 where
+  pub unknown : List ℕ
+  pub there : name_there at tokens ≡ Some unknown
+  pub name : Ident
+  pub could : CouldStand decls at name
+  pub near : IsNear unknown name.text
+
+-- something can be said of types there
+pub record HasTypeNote (decls : List Decl) (at : ℕ) : Type 0 where
+  pub note : Note
+  pub is_true : IsTypeNote decls at note
+
+-- something there lacks an annotation, and the top level has a lock
+pub record IsLockWanted (decls : List Decl) (at : ℕ) : Type 0 where
+  pub lock_name : Ident
+  pub lacking : IsUnprotected decls at
+  pub has_lock : Has decls (lock lock_name)
+
+-- an `init` there gives what one before it gives
+pub data IsGivenAgain (decls : List Decl) : ℕ → Type 0 where
+  given_again : (before behind : List Decl) (j : Init) {g : InitTarget} {e : ℕ × Decl} →
+      decls ≡ before ++ init j ∷ behind → init_target_of decls j ≡ Some g → giver decls before g ≡ Some e →
+      IsGivenAgain decls j.start.start
+
+-- a limit that is passed there; of those on helpers and on lock paths one that is the first fault of its kind
+pub data IsLimitTold (tokens : List Tok) (decls : List Decl) (at : ℕ) : Type 0 where
+  count_told : {words : List ℕ} → IsCountPassed decls at words → IsLimitTold tokens decls at
+  amount_told : {words : List ℕ} → IsAmountPassed decls at words → IsLimitTold tokens decls at
+  finals_told : AreFinalsPassed decls at → IsLimitTold tokens decls at
+  helpers_told : IsFirstOfHelpers decls at → IsLimitTold tokens decls at
+  paths_told : ArePathsFirst tokens at → IsLimitTold tokens decls at
+
+abbrev pub IsTold : List Tok → List Decl → Code → ℕ → Type 0
+IsTold tokens decls DeclaredTwice at = IsDeclaredTwice decls at
+IsTold tokens decls UnknownName at = HasNearName tokens decls at
+IsTold tokens decls WrongType at = HasTypeNote decls at
+IsTold tokens decls NeitherFinalNorProtected at = IsLockWanted decls at
+IsTold tokens decls ProtectedByPassesNonFinal at = PassesNonFinal decls at
+IsTold tokens decls UnstableBase at = (x : Ident) × IsVarThere tokens decls at x
+IsTold tokens decls LimitExceeded at = IsLimitTold tokens decls at
+IsTold tokens decls FinalWithoutOpeningValue at = IsFinalMissing decls at
+IsTold tokens decls InitOutOfRangeOrRepeated at = IsGivenAgain decls at
+IsTold tokens decls MisplacedReturn at = Unit {0}
+IsTold tokens decls code at = ⊥
+
+-- the notes are true, and there is one where there must be
+pub record AreNotes (tokens : List Tok) (decls : List Decl) (code : Code) (at : ℕ) (notes : List Note) : Type 0 where
+  pub are_true : All (IsTrueNote tokens decls code at) notes
+  pub told : IsTold tokens decls code at → 1 ≤ length notes

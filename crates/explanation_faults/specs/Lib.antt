@@ -1,0 +1,19 @@
+pub mod NameSpaces
+pub mod Inits
+pub mod MissingReturns
+pub mod FirstBy
+pub mod LimitsPassed
+pub mod AmountsPassed
+pub mod HelperLimits
+pub mod PathsPassed
+pub mod TokensThere
+pub mod Vars
+pub mod Words
+pub mod LocksAtHand
+pub mod PassedMembers
+pub mod MissingInits
+pub mod FaultNotes
+pub mod TextNotes
+pub mod Working
+-- what the public clauses cite
+pub use Rattle.explanation_faults.specs.TextNotes.{AreTextNotes}

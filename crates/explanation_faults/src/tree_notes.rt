@@ -1,0 +1,329 @@
+//! What a tree tells of its fault.
+
+ghost use Rattle.std.specs.Prelude.{◌≡◌, IfOk, map};
+ghost use Rattle.std.specs.Option.{option_map};
+ghost use Rattle.explanation.specs.Notes.{note_of};
+ghost use Rattle.source.specs.declared.fault.Code.TheVariants.{FinalWithoutOpeningValue, LimitExceeded, UnknownName};
+ghost use Rattle.source.specs.Tokens.{seen};
+ghost use Rattle.types_symbols.specs.{decls_of as decls_in};
+ghost use Rattle.syntax.specs.Views.{decl_of};
+ghost use Rattle.resolution.specs.Scopes.{has_body};
+ghost use Rattle.explanation_types.specs.TypeNotes.{IsTypeNote};
+ghost use Rattle.explanation_faults.specs.FaultNotes.{AreNotes, IsDeclaredNote, IsGivenNote, IsLockNote, IsPassedNote, IsReturnNote};
+ghost use Rattle.explanation_faults.specs.NameSpaces.{IsDeclaredAs, IsDeclaredIn};
+ghost use Rattle.explanation_faults.specs.Working.VarsFound.{note_of_var, var_noted};
+ghost use Rattle.explanation_faults.specs.Working.Values.{AreReturnNotes, FoundName, FoundNote, IsLimitIfTold, IsNoteIfTold, decls_of, idents, stmt_at, tokens_of};
+
+use crate::amounts_passed::amount_passed;
+use crate::first_inits::first_given;
+use crate::helper_limits::helper_limit;
+use crate::limits_passed::limit_passed;
+use crate::lock_paths::are_paths_past;
+use crate::locks_at_hand::lock_at_hand;
+use crate::missing_inits::{gap_at, null_given};
+use crate::missing_returns::lacking;
+use crate::name_spaces::{inner_names_of, member_name, top_names_of};
+use crate::noted::{gap_note, init_note, lock_note, name_note};
+use crate::passed_members::{Sought, passed_member};
+use crate::same_names::{first_of_others, first_of_same};
+use crate::tokens_there::{has_two_fields, name_of, name_there, token_at, token_of};
+use crate::vars::{all_of, section_there, some_assigns, var_named};
+use explanation::Note;
+use explanation_names::near_name;
+use explanation_types::type_note;
+use source::fault::{Code, Fault};
+use source::memory::NoMemory;
+use source::token::Token;
+use std::alloc::Global;
+use syntax::tree::{Decl, Name, Stmt};
+use types_symbols::table::SymbolTable;
+
+/// Whether a declaration is a section or a helper.
+fn is_body(decl: &Decl) -> bool
+    ensures { result ≡ has_body (decl_of decl.now) }
+{
+    matches!(decl, Decl::Atomic(_) | Decl::Helper(_))
+}
+
+/// NAME is a `var`, of the `var` of this name among statements; and whether a `let` would do in its place.
+fn note_of_var(
+    alloc: Global,
+    is_long: bool,
+    text: &str,
+    all: &[&Stmt],
+) -> Result<Option<Note>, NoMemory>
+    ensures { IfOk result (λ note. option_map note_of note ≡ note_of_var is_long text.now (map stmt_at all.now)) }
+{
+    let Some(name) = var_named(text, all) else {
+        return Ok(None);
+    };
+    let words = if is_long || some_assigns(text, all) {
+        " is a var, declared here"
+    } else {
+        " is a var, declared here, and never assigned: a let would do"
+    };
+    let note = name_note(alloc, name, words)?;
+    Ok(Some(note))
+}
+
+/// Which `return` is missing, or that none is.
+fn note_of_return(alloc: Global, decls: &[Decl], at: usize) -> Result<Note, NoMemory>
+    ensures { IfOk result (λ note. IsReturnNote (map decl_of decls.now) at (note_of note)) }
+{
+    let Some(name) = lacking(decls, at) else {
+        let words = "this return is not the last statement of a body with a result";
+        return Ok(Note {
+            start: None,
+            words: String::from_str(alloc, words)?,
+        });
+    };
+    name_note(
+        alloc,
+        name,
+        " has a result, and its body does not end in a return",
+    )
+}
+
+/// What is told of a misplaced or missing `return` by the declarations of a tree.
+pub fn return_notes(alloc: Global, decls: &[Decl], at: usize) -> Result<Vec<Note>, NoMemory>
+    ensures { IfOk result (λ notes. AreReturnNotes (map decl_of decls.now) at (map note_of notes.items)) }
+{
+    let mut notes = Vec::new(alloc);
+    let note = note_of_return(alloc, decls, at)?;
+    notes.push(note)?;
+    Ok(notes)
+}
+
+/// Tokens with the declarations of their tree, and the place of its fault.
+#[derive(Drop)]
+pub struct Faulty<'a> {
+    /// The tokens.
+    pub tokens: &'a [Token],
+    /// What is declared.
+    pub symbols: &'a SymbolTable<'a>,
+    /// The byte at which the fault stands.
+    pub at: usize,
+}
+
+impl<'a> Faulty<'a> {
+    // The first declaration of the name that starts at the place, if that is one of a declaration's inner names.
+    fn declared_in(
+        &self,
+        alloc: Global,
+        top: &[&'a Name],
+        decl: &'a Decl,
+    ) -> Result<Option<&'a Name>, NoMemory>
+        ensures { IfOk result (FoundName (IsDeclaredIn (idents top.now) (decl_of decl.now) self.now.at)) }
+    {
+        let inner = inner_names_of(alloc, decl)?;
+        if let Some(first) = first_of_same(&inner, self.at) {
+            return Ok(Some(first));
+        }
+        if is_body(decl) {
+            return Ok(first_of_others(top, &inner, self.at));
+        }
+        Ok(None)
+    }
+
+    // The first declaration of the name that starts at the place.
+    fn declared_first(&self, alloc: Global) -> Result<Option<&'a Name>, NoMemory>
+        ensures { IfOk result (FoundName (IsDeclaredAs (decls_of self.now) self.now.at)) }
+    {
+        let decls = self.symbols.items();
+        let top = top_names_of(alloc, decls)?;
+        if let Some(first) = first_of_same(&top, self.at) {
+            return Ok(Some(first));
+        }
+        for decl in decls {
+            if let Some(first) = self.declared_in(alloc, &top, decl)? {
+                return Ok(Some(first));
+            }
+        }
+        Ok(None)
+    }
+
+    // NAME is declared here.
+    fn declared_note(&self, alloc: Global) -> Result<Option<Note>, NoMemory>
+        ensures { IfOk result (FoundNote (IsDeclaredNote (decls_of self.now) self.now.at)) }
+    {
+        let Some(first) = self.declared_first(alloc)? else {
+            return Ok(None);
+        };
+        let note = name_note(alloc, first, " is declared here")?;
+        Ok(Some(note))
+    }
+
+    // NAME could be meant, and is declared here.
+    fn near_note(&self, alloc: Global) -> Result<Option<Note>, NoMemory>
+        ensures { IfOk result (IsNoteIfTold self.now UnknownName) }
+    {
+        let Some(text) = name_there(self.at, self.tokens) else {
+            return Ok(None);
+        };
+        let Some(name) = near_name(alloc, self.symbols, text, self.at)? else {
+            return Ok(None);
+        };
+        let note = name_note(alloc, name, " could be meant, and is declared here")?;
+        Ok(Some(note))
+    }
+
+    // NAME could protect it.
+    fn lock_note(&self, alloc: Global) -> Result<Option<Note>, NoMemory>
+        ensures { IfOk result (FoundNote (IsLockNote (decls_of self.now) self.now.at)) }
+    {
+        let Some(name) = lock_at_hand(self.symbols.items(), self.at) else {
+            return Ok(None);
+        };
+        let note = lock_note(alloc, name)?;
+        Ok(Some(note))
+    }
+
+    // NAME is declared here, and is no final reference.
+    fn passed_note(&self, alloc: Global) -> Result<Option<Note>, NoMemory>
+        ensures { IfOk result (FoundNote (IsPassedNote (decls_of self.now) self.now.at)) }
+    {
+        let Some(member) = passed_member(self.symbols, Sought::NonFinal(self.at)) else {
+            return Ok(None);
+        };
+        let name = member_name(member);
+        let note = name_note(alloc, name, " is declared here, and is no final reference")?;
+        Ok(Some(note))
+    }
+
+    // Which type is wanted, and which is there.
+    fn type_note(&self, alloc: Global) -> Result<Option<Note>, NoMemory>
+        ensures { IfOk result (FoundNote (IsTypeNote (decls_of self.now) self.now.at)) }
+    {
+        let note = type_note(alloc, self.symbols, self.at)?;
+        Ok(note)
+    }
+
+    // NAME is a `var`, and whether a `let` would do.
+    fn var_note(&self, alloc: Global) -> Result<Option<Note>, NoMemory>
+        ensures { IfOk result (λ note. option_map note_of note ≡ var_noted (tokens_of self.now) (decls_of self.now) self.now.at) }
+    {
+        let Some(i) = token_at(self.at, self.tokens) else {
+            return Ok(None);
+        };
+        let Some(text) = name_of(token_of(i, self.tokens)) else {
+            return Ok(None);
+        };
+        let Some(section) = section_there(self.symbols.items(), self.at) else {
+            return Ok(None);
+        };
+        let all = all_of(alloc, section)?;
+        note_of_var(alloc, has_two_fields(i, self.tokens), text, &all)
+    }
+
+    // Which limit is passed.
+    fn limit(&self, alloc: Global) -> Result<Option<&'static str>, NoMemory>
+        ensures { IfOk result (IsLimitIfTold self.now) }
+    {
+        if let Some(words) = limit_passed(alloc, self.symbols.items(), self.at)? {
+            return Ok(Some(words));
+        }
+        if let Some(words) = amount_passed(alloc, self.symbols, self.at)? {
+            return Ok(Some(words));
+        }
+        if let Some(_) = passed_member(self.symbols, Sought::FinalTooMany(self.at)) {
+            return Ok(Some("an annotation goes over at most 3 final references"));
+        }
+        if let Some(words) = helper_limit(alloc, self.symbols, self.at)? {
+            return Ok(Some(words));
+        }
+        if are_paths_past(alloc, self.tokens, self.at)? {
+            return Ok(Some("a section has at most 64 lock paths that differ"));
+        }
+        Ok(None)
+    }
+
+    // Which limit is passed.
+    fn limit_note(&self, alloc: Global) -> Result<Option<Note>, NoMemory>
+        ensures { IfOk result (IsNoteIfTold self.now LimitExceeded) }
+    {
+        let Some(words) = self.limit(alloc)? else {
+            return Ok(None);
+        };
+        Ok(Some(Note {
+            start: None,
+            words: String::from_str(alloc, words)?,
+        }))
+    }
+
+    // Which `init` is missing, or which final reference is given null.
+    fn final_note(&self, alloc: Global) -> Result<Option<Note>, NoMemory>
+        ensures { IfOk result (IsNoteIfTold self.now FinalWithoutOpeningValue) }
+    {
+        if let Some(gap) = gap_at(self.symbols, self.at) {
+            let note = gap_note(alloc, &gap)?;
+            return Ok(Some(note));
+        }
+        if let Some(reference) = null_given(self.symbols, self.at) {
+            let note = name_note(alloc, &reference.name, " is final, and is never null")?;
+            return Ok(Some(note));
+        }
+        Ok(None)
+    }
+
+    // FIELD is given here.
+    fn given_note(&self, alloc: Global) -> Result<Option<Note>, NoMemory>
+        ensures { IfOk result (FoundNote (IsGivenNote (decls_of self.now) self.now.at)) }
+    {
+        let Some(first) = first_given(self.symbols.items(), self.at) else {
+            return Ok(None);
+        };
+        let note = init_note(alloc, first)?;
+        Ok(Some(note))
+    }
+
+    // Which `return` is missing, or that none is.
+    fn return_note(&self, alloc: Global) -> Result<Note, NoMemory>
+        ensures { IfOk result (λ note. IsReturnNote (decls_of self.now) self.now.at (note_of note)) }
+    {
+        let note = note_of_return(alloc, self.symbols.items(), self.at)?;
+        Ok(note)
+    }
+
+    // What is told, if anything is.
+    fn note(&self, alloc: Global, code: Code) -> Result<Option<Note>, NoMemory>
+        ensures { IfOk result (IsNoteIfTold self.now code) }
+    {
+        match code {
+            Code::DeclaredTwice => self.declared_note(alloc),
+            Code::UnknownName => self.near_note(alloc),
+            Code::WrongType => self.type_note(alloc),
+            Code::NeitherFinalNorProtected => self.lock_note(alloc),
+            Code::ProtectedByPassesNonFinal => self.passed_note(alloc),
+            Code::UnstableBase => self.var_note(alloc),
+            Code::LimitExceeded => self.limit_note(alloc),
+            Code::FinalWithoutOpeningValue => self.final_note(alloc),
+            Code::InitOutOfRangeOrRepeated => self.given_note(alloc),
+            Code::MisplacedReturn => {
+                let note = self.return_note(alloc)?;
+                Ok(Some(note))
+            }
+            _ => Ok(None),
+        }
+    }
+}
+
+/// What is told of this fault by tokens and the declarations of their tree.
+pub fn tree_notes(
+    alloc: Global,
+    tokens: &[Token],
+    symbols: &SymbolTable<'_>,
+    fault: &Fault,
+) -> Result<Vec<Note>, NoMemory>
+    ensures { IfOk result (λ notes. AreNotes (seen tokens.now) (decls_in symbols.now) fault.now.code fault.now.start (map note_of notes.items)) }
+{
+    let faulty = Faulty {
+        tokens,
+        symbols,
+        at: fault.start,
+    };
+    let mut notes = Vec::new(alloc);
+    if let Some(note) = faulty.note(alloc, fault.code)? {
+        notes.push(note)?;
+    }
+    Ok(notes)
+}

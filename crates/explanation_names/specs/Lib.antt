@@ -1,0 +1,11 @@
+pub mod Distance
+pub mod Locals
+pub mod Sought
+pub mod Members
+pub mod NearNames
+pub mod Working
+-- what the public clauses cite
+pub use Rattle.explanation_names.specs.NearNames.{CouldStand, IsNear, IsNearestOf}
+pub use Rattle.explanation_names.specs.Working.Laws.{UnknownAreSought}
+pub use Rattle.explanation_names.specs.Working.Values.{FoundNearest, NoneIsNear}
+pub use Rattle.explanation_names.specs.Distance.{IsDistance}

@@ -1,0 +1,26 @@
+-- What holds of the uses of names, as `src/laws.rt` claims it.
+use Rattle.std.specs.Prelude.{◌≡◌, ℕ, List, [], ◌∷◌}
+use Rattle.resolution.specs.Faults.{IsUnknown}
+use Rattle.resolution.specs.Where.{Has}
+use Rattle.syntax.specs.Trees.{Ident, Decl}
+use Rattle.explanation_names.specs.Sought.{Use, of_kind, by_dots, by_init, by_annotation, by_owner, Uses}
+
+-- the names by which something is looked for so
+abbrev pub seekers : Use → List Ident
+seekers (of_kind k xs n) = n ∷ []
+seekers (by_dots xs x fs) = fs
+seekers (by_init p f) = f ∷ []
+seekers (by_annotation s p) = p.first ∷ p.rest
+seekers (by_owner t f) = f ∷ []
+
+-- by a name that begins at the byte something is looked for
+pub record IsSoughtAt (decls : List Decl) (at : ℕ) : Type 0 where
+  pub meant : Use
+  pub used : Uses decls meant
+  pub name : Ident
+  pub listed : Has (seekers meant) name
+  pub begins : name.span.start ≡ at
+
+-- where a name is unknown, something is looked for
+abbrev pub UnknownAreSought : Type 0
+UnknownAreSought = (decls : List Decl) (at : ℕ) → IsUnknown decls at → IsSoughtAt decls at

@@ -1,7 +1,0 @@
-use Rattle.std.proofs.Common.{◌≡◌, drop}
-use Rattle.fault_notes.specs.LimitsFound.{some_starts}
-use Rattle.fault_notes.specs.Values.{idents}
-use Rattle.fault_notes.proofs.limits_passed.some_starts.Given as goal
-
-abbrev pub invariant-loop-name : goal.invariant-loop-name
-invariant-loop-name l = some_starts l.at (idents (drop l.name-index l.names)) ≡ some_starts l.at (idents l.names)

@@ -1,8 +1,0 @@
-use Rattle.std.proofs.Common.{◌≡◌, map, drop}
-use Rattle.syntax.specs.Views.{decl_of}
-use Rattle.fault_notes.specs.FirstBy.{first_by}
-use Rattle.fault_notes.specs.LocksFound.{lock_in}
-use Rattle.fault_notes.proofs.locks_at_hand.global_lock.Given as goal
-
-abbrev pub invariant-loop-decl : goal.invariant-loop-decl
-invariant-loop-decl l = first_by lock_in (map decl_of (drop l.decl-index l.decls)) ≡ first_by lock_in (map decl_of l.decls)

@@ -1,9 +1,0 @@
-use Rattle.std.proofs.Common.{◌≡◌, map, drop}
-use Rattle.syntax.specs.Views.{decl_of}
-use Rattle.fault_notes.specs.FirstBy.{first_by}
-use Rattle.fault_notes.specs.LocksFound.{lock_for}
-use Rattle.fault_notes.proofs.locks_at_hand.lock_at_hand.Given as goal
-
-abbrev pub invariant-loop-decl : goal.invariant-loop-decl
-invariant-loop-decl l =
-    first_by (lock_for (map decl_of l.decls) l.at) (map decl_of (drop l.decl-index l.decls)) ≡ first_by (lock_for (map decl_of l.decls) l.at) (map decl_of l.decls)

@@ -1,0 +1,182 @@
+-- What the manager of locks keeps.
+use Rattle.std.specs.Prelude.{◌≡◌, ℕ, ◌+◌, if◌then◌else◌, List, [], ◌∷◌, length, map, replicate, slice_get, slice_set, Option, Some, None}
+use Rattle.std.specs.List.{Contains}
+use Rattle.core_lang.specs.declared.value.Value.{Value}
+use Rattle.core_lang.specs.declared.typed.Typed.{Typed}
+use Rattle.core_lang.specs.Typing.{lookup}
+use Rattle.locks.specs.declared.lock.Lock.{Lock}
+use Rattle.locks.specs.Order.{Precedes}
+use Rattle.locks.specs.Waiting.{Asker}
+use Rattle.code.specs.Memory.{value_at}
+use Rattle.layout.specs.LockCells.{same_lock, cells_of}
+use Rattle.layout.specs.Layouts.{LayoutOf, AreDistinct, IsLayoutOf}
+use Rattle.moved_cells.specs.Working.Grants.{GrantOf, cells_in, values_on}
+use Rattle.history.specs.Commits.{Commit, committed, IsLegal}
+use Rattle.lock_manager.specs.declared.places.Place.{Place}
+use Rattle.lock_manager.specs.declared.places.Place.TheVariants.{Free, Taken}
+use Rattle.lock_manager.specs.declared.queue.Waiter.{Waiter}
+use Rattle.lock_manager.specs.Working.Sessions.{SessionOf}
+use Rattle.lock_manager.specs.Working.Queues.{waiting_in}
+use Rattle.lock_manager.specs.Working.Committed.{CommittedOf}
+
+-- the program's layout, and the ranks of the classes; by a lock's number where its cells are; who waits, first come
+-- first; by thread its open section; the entries, and the values of all cells after them
+pub record Managed : Type 0 where
+  pub layout : LayoutOf
+  pub ranks : List ℕ
+  pub places : List Place
+  pub waiters : List Waiter
+  pub slots : List (Option SessionOf)
+  pub history : List Commit
+  pub values : List Value
+
+abbrev pub managed :
+    CommittedOf → List ℕ → List Place → List Waiter → List (Option SessionOf) → List Commit → Managed
+managed committed ranks places waiters slots history = record {
+  layout = committed.layout;
+  ranks = ranks;
+  places = places;
+  waiters = waiters;
+  slots = slots;
+  history = history;
+  values = committed.values;
+}
+
+-- ---- reading
+
+-- the number of a lock, where the first of these has this number
+abbrev pub number_from : ℕ → List Lock → Lock → Option ℕ
+number_from n [] lock = None
+number_from n (l ∷ ls) lock = if same_lock l lock then Some n else number_from (n + 1) ls lock
+
+-- where the cells of a lock are: with the manager, or with a thread
+abbrev pub place_of : Managed → Lock → Option Place
+place_of m lock = lookup (number_from 0 m.layout.locks lock) (λ n. slice_get m.places n)
+
+-- the thread that has a lock's cells
+abbrev pub taker : Option Place → Option ℕ
+taker (Some (Taken t)) = Some t
+taker (Some (Free values)) = None
+taker None = None
+
+abbrev pub holder_of : Managed → Lock → Option ℕ
+holder_of m lock = taker (place_of m lock)
+
+-- the threads that wait for a lock
+abbrev pub waiting_for : Managed → Lock → List ℕ
+waiting_for m lock = waiting_in m.waiters lock
+
+-- the open section of a thread
+abbrev pub session_in : List (Option SessionOf) → ℕ → Option SessionOf
+session_in slots t = lookup (slice_get slots t) (λ s. s)
+
+abbrev pub session_of : Managed → ℕ → Option SessionOf
+session_of m t = session_in m.slots t
+
+-- no thread has a section open
+abbrev pub IsQuiet : Managed → Type 0
+IsQuiet m = (t : ℕ) → session_of m t ≡ None
+
+-- what a cell of a lock holds, if the lock's cells are here
+abbrev pub value_in : List Lock → Lock → Option Place → ℕ → Option Value
+value_in cell_locks lock (Some (Free values)) cell =
+    value_at (cells_in cell_locks (record { lock = lock; values = values })) cell
+value_in cell_locks lock (Some (Taken t)) cell = None
+value_in cell_locks lock None cell = None
+
+-- what a cell holds, where the cells of its lock are with the manager
+abbrev pub cell_of : Managed → ℕ → Option Value
+cell_of m cell =
+    lookup (slice_get m.layout.cell_locks cell) (λ lock. value_in m.layout.cell_locks lock (place_of m lock) cell)
+
+-- ---- changing
+
+-- with something put at a number, if there is one
+abbrev pub put_number : Option ℕ → List Place → Place → List Place
+put_number None places place = places
+put_number (Some n) places place = slice_set places n place
+
+-- with the cells of a lock put elsewhere
+abbrev pub put_for : List Lock → List Place → Lock → Place → List Place
+put_for locks places lock place = put_number (number_from 0 locks lock) places place
+
+-- with the cells of these grants back
+abbrev pub given_back : List Lock → List Place → List GrantOf → List Place
+given_back locks places [] = places
+given_back locks places (g ∷ gs) = put_for locks (given_back locks places gs) g.lock (Free g.values)
+
+-- the cells of a lock as the history leaves them
+abbrev pub as_committed : Managed → Lock → GrantOf
+as_committed m lock = record { lock = lock; values = values_on m.values (cells_of m.layout.cell_locks lock) }
+
+-- ---- the whole
+
+-- how many threads there can be
+abbrev pub threads : ℕ
+threads = 64
+
+-- it is the layout of a program
+abbrev pub IsLayout : LayoutOf → Type 0
+IsLayout layout = (program : Typed) × IsLayoutOf program layout
+
+-- all cells are here, with their opening values; no section is open, nobody waits, and there are no entries
+abbrev pub opened : LayoutOf → List ℕ → Managed
+opened layout ranks = record {
+  layout = layout;
+  ranks = ranks;
+  places = map (λ (l : Lock). Free (values_on layout.opening (cells_of layout.cell_locks l))) layout.locks;
+  waiters = [];
+  slots = replicate threads None;
+  history = [];
+  values = layout.opening;
+}
+
+-- a lock comes after all of these
+abbrev pub ComesAfter : List ℕ → List Lock → Lock → Type 0
+ComesAfter ranks held lock = (other : Lock) → Contains held other → Precedes ranks other lock
+
+-- a thread's open section holds a lock
+pub record Holds (slots : List (Option SessionOf)) (t : ℕ) (lock : Lock) : Type 0 where
+  pub session : SessionOf
+  pub is : session_in slots t ≡ Some session
+  pub held : Contains session.held lock
+
+-- a thread's open section asked for a lock
+pub record Asks (slots : List (Option SessionOf)) (t : ℕ) (lock : Lock) : Type 0 where
+  pub session : SessionOf
+  pub is : session_in slots t ≡ Some session
+  pub ask : session.ask ≡ Some lock
+
+-- the manager's own rules
+pub record IsKept (m : Managed) : Type 0 where
+  -- the history is legal, and the values are those after it
+  pub legal : IsLegal m.layout.opening m.history
+  pub values : m.values ≡ committed m.layout.opening m.history
+  -- the cells that are here have these values
+  pub free : (lock : Lock) (values : List Value) → place_of m lock ≡ Some (Free values) →
+      values ≡ values_on m.values (cells_of m.layout.cell_locks lock)
+  -- the others are with the thread whose open section holds their lock
+  pub taken : (lock : Lock) (t : ℕ) → place_of m lock ≡ Some (Taken t) → Holds m.slots t lock
+  pub held : (lock : Lock) (t : ℕ) → Holds m.slots t lock → place_of m lock ≡ Some (Taken t)
+  -- each lock is held once
+  pub once : (t : ℕ) (session : SessionOf) → session_in m.slots t ≡ Some session → AreDistinct session.held
+  -- each noted ask comes after all that its thread holds
+  pub rising : (t : ℕ) (lock : Lock) (asks : Asks m.slots t lock) → ComesAfter m.ranks asks.session.held lock
+  -- who asked waits, and nobody else
+  pub waits : (t : ℕ) (lock : Lock) → Asks m.slots t lock → Contains m.waiters (record { thread = t; lock = lock })
+  pub asked : (w : Waiter) → Contains m.waiters w → Asks m.slots w.thread w.lock
+  -- there is a place for each lock, a value for each cell and a slot for each thread
+  pub distinct : AreDistinct m.layout.locks
+  pub lock_count : length m.places ≡ length m.layout.locks
+  pub cell_count : length m.layout.opening ≡ length m.layout.cell_locks
+  pub thread_count : length m.slots ≡ threads
+
+-- ---- who waits for whom
+
+-- a thread's part in waiting
+abbrev pub asker_of : Option SessionOf → Asker
+asker_of None = record { held = []; ask = None }
+asker_of (Some s) = record { held = s.held; ask = s.ask }
+
+abbrev pub askers_of : Managed → List Asker
+askers_of m = map asker_of m.slots

@@ -1,0 +1,80 @@
+-- What a section's locals stand for, as a list in the order of their points. Nobody has to believe these: what a normal form is, says
+-- `locks`.
+use Rattle.std.specs.Prelude.{◌≡◌, ℕ, ◌==◌, Bool, true, false, if◌then◌else◌, List, [], ◌∷◌, ◌++◌, map, Option, Some, None}
+use Rattle.std.specs.Option.{option_map}
+use Rattle.std.specs.List.{cons_option, filter_map}
+use Rattle.core_lang.specs.declared.tree.Action.{Action}
+use Rattle.core_lang.specs.declared.tree.Expr.{Expr}
+use Rattle.core_lang.specs.declared.tree.FieldStep.{FieldStep}
+use Rattle.core_lang.specs.declared.tree.Section.{Section}
+use Rattle.flow.specs.Points.{Point, statement}
+use Rattle.locks.specs.LockPaths.{StablePath, OwnerPath, Binding, binding_at, all_final, stable, stable_value, owner_of, owned_path, or_behind}
+use Rattle.lockpaths_forms.specs.declared.forms.Form.{Form}
+use Rattle.lockpaths_forms.specs.declared.forms.Owner.{Owner}
+use Rattle.lockpaths_forms.specs.declared.forms.Bound.{Bound}
+use Rattle.lockpaths_forms.specs.declared.forms.Forms.{Forms}
+
+abbrev pub stable_path_of : Form → StablePath
+stable_path_of form = record { root = form.root; finals = form.finals.items }
+
+abbrev pub owner_path : ℕ → StablePath → OwnerPath
+owner_path number path = record { final = number; path = path }
+
+abbrev pub owner_path_of : Owner → OwnerPath
+owner_path_of owner = owner_path owner.number (record { root = owner.local; finals = [] })
+
+-- what stands for a local, and for its owner
+pub record Replacement : Type 0 where
+  pub local : ℕ
+  pub owner : Option OwnerPath
+  pub value : Option StablePath
+
+abbrev pub replacement_of : Bound → Replacement
+replacement_of b = record { local = b.local; owner = option_map owner_path_of b.owner; value = option_map stable_path_of b.value }
+
+abbrev pub replacements_of : Forms → List Replacement
+replacements_of f = map replacement_of f.bounds.items
+
+-- of a `let` or a `var`, and its initialiser
+abbrev pub replacement : Section → ℕ → Expr → Replacement
+replacement section local value = record { local = local; owner = owner_of section value; value = stable_value section value }
+
+abbrev pub of_binding : Section → Binding → Replacement
+of_binding section b = replacement section b.local b.value
+
+-- of points, one after another
+abbrev pub replacements_at : Section → List Point → List Replacement
+replacements_at section ps = map (of_binding section) (filter_map binding_at ps)
+
+-- of a statement, if it binds a local
+abbrev pub of_action : Section → Action → List Replacement
+of_action section x = map (of_binding section) (cons_option (binding_at (statement 0 x)) [])
+
+-- numbers with those of fields behind, if all of these are final
+abbrev pub IsPushed : List ℕ → List FieldStep → Bool → List ℕ → Type 0
+IsPushed before fields whole after = option_map (λ rest. before ++ rest) (all_final fields) ≡ (if whole then Some after else None)
+
+-- a local by itself, if it is a stable path
+abbrev pub by_itself : ℕ → Bool → Option StablePath
+by_itself local true = Some (record { root = local; finals = [] })
+by_itself local false = None
+
+-- a path that begins at a local, with what stands for the local in its place
+abbrev pub put_in : Replacement → StablePath → StablePath
+put_in r path = or_behind (owned_path r.owner path) r.value path
+
+-- the same of any path: where it doesn't begin at the local, it stays
+abbrev pub replaced_by : Replacement → StablePath → StablePath
+replaced_by r path = if r.local == path.root then put_in r path else path
+
+-- from the last to the first
+abbrev pub all_replaced_by : List Replacement → StablePath → StablePath
+all_replaced_by [] path = path
+all_replaced_by (r ∷ rs) path = replaced_by r (all_replaced_by rs path)
+
+-- the normal form of a local followed by fields, and by final references, if that is a stable path
+abbrev pub form_by : List Replacement → List ℕ → StablePath → StablePath
+form_by rs through base = all_replaced_by rs (record { root = base.root; finals = base.finals ++ through })
+
+abbrev pub IsFormOf : Section → List Replacement → ℕ → List FieldStep → List ℕ → Option Form → Type 0
+IsFormOf section rs local fields through form = option_map stable_path_of form ≡ option_map (form_by rs through) (stable section local fields)

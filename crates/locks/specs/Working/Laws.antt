@@ -1,0 +1,137 @@
+-- Laws of lock paths, as the laws of `src/laws.rt` claim them.
+use Rattle.std.specs.Prelude.{◌≡◌, ◌↔◌, ◌⊎◌, ℕ, true, List, slice_get, Some, None}
+use Rattle.std.specs.List.{Contains}
+use Rattle.core_lang.specs.declared.value.Value.{Value}
+use Rattle.core_lang.specs.declared.shape.Shape.{Shape}
+use Rattle.core_lang.specs.declared.tree.FieldStep.{FieldStep}
+use Rattle.core_lang.specs.declared.tree.Local.{Local}
+use Rattle.core_lang.specs.declared.tree.LocalKind.TheVariants.{Parameter}
+use Rattle.core_lang.specs.declared.tree.Section.{Section}
+use Rattle.core_lang.specs.declared.typed.LockClass.{LockClass}
+use Rattle.core_lang.specs.declared.typed.Typed.{Typed}
+use Rattle.core_lang.specs.Typing.{local_types, HaveTypes, IsHeap}
+use Rattle.core_lang.specs.Meaning.{State, GoesOn}
+use Rattle.core_lang.specs.WellFormed.{IsWellFormed, IsGlobalLock}
+use Rattle.core_lang.specs.Scopes.{IsWellScoped}
+use Rattle.flow.specs.Skeletons.{skeleton}
+use Rattle.flow.specs.Flow.{Follows}
+use Rattle.flow.specs.Points.{Point, points, IsScopeAt}
+use Rattle.flow.specs.Working.Effects.{effect_at}
+use Rattle.locks.specs.declared.lock.Lock.{Lock}
+use Rattle.locks.specs.declared.path.Root.{Root}
+use Rattle.locks.specs.declared.path.Root.TheVariants.{GlobalLock, Local as AtLocal}
+use Rattle.locks.specs.Accesses.{Access, accesses_at}
+use Rattle.locks.specs.Locks.{IsLock, lock_of_cell}
+use Rattle.locks.specs.Working.Reached.{Reaches}
+use Rattle.locks.specs.LockPaths.{LockPath, StablePath, Binding, IsLet, stable, stable_value, owner_of, owned_path, bindings, behind, normal_form, lock_path, lock_paths, lock_named, same_path, Uses, IsInScope, BindsRoot, LetsAgree}
+use Rattle.locks.specs.Faults.{HasSection}
+
+-- at a point of a well-formed program, where each local and cell has a value of its type, and each `let` in scope the value
+-- that its initialiser had: the lock that the path of an access names is the one that protects the cell that it reaches
+abbrev pub PathsNameTheLocks : Type 0
+PathsNameTheLocks =
+    (program : Typed) (section : Section) (p : ℕ) (point : Point) (scope : List ℕ) (locals heap : List Value) (a : Access)
+    (path : LockPath) (cell : ℕ) → IsWellFormed program → HasSection program section →
+    slice_get (points section) p ≡ Some point → IsScopeAt section p scope →
+    HaveTypes program.shape (local_types section.locals.items) locals → IsHeap program heap →
+    LetsAgree section scope program.shape locals →
+    Contains (accesses_at point) a → lock_path program section a ≡ Some path → Reaches program.shape locals heap a.target cell →
+    (lock : Lock) × (lock_named path program.shape locals ≡ Some lock) × (lock_of_cell program cell ≡ Some lock)
+
+-- the lock that a path which a point uses names, where each local has a value of its type, is one of the program's
+abbrev pub NamedAreLocks : Type 0
+NamedAreLocks =
+    (program : Typed) (section : Section) (p : ℕ) (path : LockPath) (locals : List Value) (lock : Lock) → IsWellFormed program →
+    HasSection program section → HaveTypes program.shape (local_types section.locals.items) locals → Uses program section p path →
+    lock_named path program.shape locals ≡ Some lock → IsLock program lock
+
+-- a path that a point uses is in scope there
+abbrev pub UsedAreInScope : Type 0
+UsedAreInScope =
+    (program : Typed) (section : Section) (p : ℕ) (path : LockPath) → IsWellFormed program → HasSection program section →
+    Uses program section p path → IsInScope section p path
+
+-- a path in scope at a point was in scope at each point that is followed by it, or its root is bound there
+abbrev pub ScopeOfPathsGoesBack : Type 0
+ScopeOfPathsGoesBack =
+    (section : Section) (p q : ℕ) (path : LockPath) → Follows (skeleton section) p q → IsInScope section q path →
+    IsInScope section p path ⊎ BindsRoot section p path
+
+-- where a run begins, no `let` is in scope, so each that is agrees
+abbrev pub LetsAgreeAtFirst : Type 0
+LetsAgreeAtFirst =
+    (section : Section) (scope : List ℕ) (shape : Shape) (locals : List Value) → IsWellScoped section → IsScopeAt section 0 scope →
+    LetsAgree section scope shape locals
+
+-- and where a point leads on, they agree again at each point that follows
+abbrev pub LetsKeepAgreeing : Type 0
+LetsKeepAgreeing =
+    (section : Section) (p q : ℕ) (point : Point) (scope after : List ℕ) (shape : Shape) (s t : State) → IsWellScoped section →
+    slice_get (points section) p ≡ Some point → IsScopeAt section p scope → IsScopeAt section q after →
+    Follows (skeleton section) p q → LetsAgree section scope shape s.locals → effect_at point shape s ≡ GoesOn t → LetsAgree section after shape t.locals
+
+-- a path that the section uses names the same lock after a point as before it, unless the point binds its root
+abbrev pub NamesStay : Type 0
+NamesStay =
+    (program : Typed) (section : Section) (p user : ℕ) (point : Point) (path : LockPath) (s t : State) → IsWellScoped section →
+    slice_get (points section) p ≡ Some point → Uses program section user path → (BindsRoot section p path → ⊥) →
+    effect_at point program.shape s ≡ GoesOn t → lock_named path program.shape t.locals ≡ lock_named path program.shape s.locals
+
+-- a path with no root has the class of a global lock, and one with a root that of a lock field
+abbrev pub IsClassFor : Root → LockClass → Type 0
+IsClassFor GlobalLock c = IsGlobalLock c
+IsClassFor (AtLocal k) c = IsGlobalLock c → ⊥
+
+-- the class of a path that a point uses is one of the program's
+abbrev pub PathsHaveClasses : Type 0
+PathsHaveClasses =
+    (program : Typed) (section : Section) (p : ℕ) (path : LockPath) → IsWellFormed program → Uses program section p path →
+    (c : LockClass) × (slice_get program.classes.items path.class ≡ Some c) × IsClassFor path.root c
+
+-- a path that goes on over an owner, which a `where` names, has the normal form of what the owner is
+abbrev pub NormalFormOfOwned : Type 0
+NormalFormOfOwned =
+    (section : Section) (b : Binding) (path from : StablePath) → IsWellScoped section → Contains (bindings section) b →
+    b.local ≡ path.root → owned_path (owner_of section b.value) path ≡ Some from → normal_form section path ≡ normal_form section from
+
+-- any other that begins at a `let` of a stable path has the normal form of that path, with its finals behind
+abbrev pub NormalFormOfLet : Type 0
+NormalFormOfLet =
+    (section : Section) (b : Binding) (path from : StablePath) → IsWellScoped section → Contains (bindings section) b →
+    b.local ≡ path.root → owned_path (owner_of section b.value) path ≡ None → stable_value section b.value ≡ Some from →
+    normal_form section path ≡ normal_form section (behind (Some from) path)
+
+-- and a path that doesn't is its own
+abbrev pub NormalFormOfOther : Type 0
+NormalFormOfOther =
+    (section : Section) (path : StablePath) →
+    ((b : Binding) → Contains (bindings section) b → b.local ≡ path.root → (owned_path (owner_of section b.value) path ≡ None) × (stable_value section b.value ≡ None)) →
+    normal_form section path ≡ path
+
+-- a local that no normal form replaces: a parameter, or a `let` whose initialiser is no stable path
+abbrev pub IsNormalRoot : Section → ℕ → Type 0
+IsNormalRoot section k =
+    ((local : Local) × (slice_get section.locals.items k ≡ Some local) × (local.kind ≡ Parameter))
+    ⊎ (IsLet section k × ((b : Binding) → Contains (bindings section) b → b.local ≡ k → stable_value section b.value ≡ None))
+
+-- in a well-scoped section the normal form of a stable path has such a root
+abbrev pub NormalFormsAreNormal : Type 0
+NormalFormsAreNormal =
+    (section : Section) (local : ℕ) (base : List FieldStep) (path : StablePath) → IsWellScoped section →
+    stable section local base ≡ Some path → IsNormalRoot section (normal_form section path).root
+
+-- `same_path` tells whether two paths are equal
+abbrev pub SamePathDecides : Type 0
+SamePathDecides = (a b : LockPath) → (same_path a b ≡ true) ↔ (a ≡ b)
+
+-- no path stands twice in a section's list
+abbrev pub EachPathOnce : Type 0
+EachPathOnce =
+    (program : Typed) (section : Section) (i j : ℕ) (path : LockPath) → slice_get (lock_paths program section) i ≡ Some path →
+    slice_get (lock_paths program section) j ≡ Some path → i ≡ j
+
+-- and the list has the paths that points of the section use, and no others
+abbrev pub UsedAreListed : Type 0
+UsedAreListed =
+    (program : Typed) (section : Section) (path : LockPath) →
+    Contains (lock_paths program section) path ↔ ((p : ℕ) × Uses program section p path)

@@ -1,0 +1,36 @@
+-- What a compiled program holds.
+use Rattle.std.specs.Prelude.{◌≡◌, ℕ, List, slice_get, Some}
+use Rattle.core_lang.specs.declared.tree.Section.{Section}
+use Rattle.core_lang.specs.declared.typed.Typed.{Typed}
+use Rattle.lockpaths.specs.declared.table.Paths.{Paths}
+use Rattle.lockpaths.specs.Paths.{ArePaths}
+use Rattle.inserter.specs.declared.placed.Placed.{Placed}
+use Rattle.inserter.specs.Placement.{all_lists}
+use Rattle.layout.specs.declared.room.Room.{Room}
+use Rattle.layout.specs.Layouts.{LayoutOf}
+use Rattle.code.specs.declared.section_code.Code.{Code}
+use Rattle.lowering.specs.Lowered.{IsCodeOf}
+use Rattle.lowering.specs.Working.Rooms.{IsRoomOf, AreRoomsOf}
+use Rattle.lowering.specs.Plans.{Plan, IsCompiled}
+
+-- its plan
+abbrev pub plan_of : Typed → Typed → List ℕ → Placed → LayoutOf → Plan
+plan_of accepted program ranks placed layout = record {
+  accepted = accepted;
+  program = program;
+  ranks = ranks;
+  lists = all_lists placed;
+  layout = layout;
+}
+
+-- it is compiled; and its lock paths, its code and the room for its sections are what the plan says
+pub record IsProgram (plan : Plan) (found : Paths) (code : Code) (rooms : List Room) : Type 0 where
+  pub compiled : IsCompiled plan
+  pub are_paths : ArePaths plan.program found
+  pub is_code : IsCodeOf plan.program plan.lists code
+  pub are_rooms : AreRoomsOf plan.program plan.layout rooms
+
+-- the room that the plan's section of this number needs
+abbrev pub IsRoomAt : Plan → ℕ → Room → Type 0
+IsRoomAt plan k room =
+    (section : Section) → slice_get plan.program.sections.items k ≡ Some section → IsRoomOf plan.program plan.layout section room

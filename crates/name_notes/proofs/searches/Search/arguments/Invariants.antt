@@ -1,9 +1,0 @@
-use Rattle.std.proofs.Common.{◌≡◌, ◌++◌, drop}
-use Rattle.expressions.specs.Checkers.{scope}
-use Rattle.name_notes.specs.Values.{argument_clashes}
-use Rattle.name_notes.proofs.searches.Search.arguments.Given as goal
-
-abbrev pub invariant-loop-i : goal.invariant-loop-i
-invariant-loop-i l =
-    l.found.items ++ argument_clashes l.self.at (scope l.checker) (drop l.i l.params) (drop l.i l.arguments)
-    ≡ l.initial.found.items ++ argument_clashes l.self.at (scope l.checker) l.params l.arguments

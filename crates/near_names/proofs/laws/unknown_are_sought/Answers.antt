@@ -1,5 +1,0 @@
-use Rattle.near_names.proofs.Unknown.{sought_at}
-use Rattle.near_names.proofs.laws.unknown_are_sought.Goals as goal
-
-pub returns : goal.returns
-returns c = λ decls at unknown. sought_at decls at unknown

@@ -1,9 +1,0 @@
-use Rattle.std.proofs.Common.{drop, map}
-use Rattle.syntax.specs.Views.{param_of}
-use Rattle.near_names.specs.Locals.{typed_param}
-use Rattle.near_names.proofs.Added.{Binding}
-use Rattle.near_names.proofs.statements.push_params.Given as goal
-
-abbrev pub invariant-loop-param : goal.invariant-loop-param
-invariant-loop-param l =
-    Binding l.initial.scope l.scope l.initial.found l.found (map typed_param (map param_of (drop l.param-index l.params))) (map typed_param (map param_of l.params))

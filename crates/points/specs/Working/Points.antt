@@ -1,0 +1,29 @@
+-- What is told of a section's points.
+use Rattle.std.specs.Prelude.{◌≡◌, ◌↔◌, ℕ, map, slice_get, Some}
+use Rattle.std.specs.List.{Contains}
+use Rattle.core_lang.specs.declared.tree.Section.{Section}
+use Rattle.core_lang.specs.declared.typed.Typed.{Typed}
+use Rattle.flow.specs.Skeletons.{skeleton}
+use Rattle.flow.specs.Flow.{Follows}
+use Rattle.flow.specs.Working.Parts.{skeleton_of}
+use Rattle.locks.specs.LockPaths.{LockPath, Uses, IsInScope, BindsRoot, lock_paths}
+use Rattle.locks.specs.Sets.{AreSets}
+use Rattle.points.specs.declared.table.Points.{Points}
+use Rattle.points.specs.Used.{IsUsedBefore, IsUsedLater}
+
+-- which points there are and in which blocks they stand; the classes of the lock paths; which point is followed by which; and for
+-- each point the paths whose root it binds, that it uses, that are in scope before it, that a point before it uses, and that a
+-- point which it comes before uses
+pub record ArePoints (program : Typed) (section : Section) (x : Points) : Type 0 where
+  pub parts : skeleton_of x.parts.items ≡ skeleton section
+  pub classes : x.classes.items ≡ map (λ (path : LockPath). path.class) (lock_paths program section)
+  pub pairs : (p q : ℕ) → Contains x.pairs.items (p, q) ↔ Follows (skeleton section) p q
+  pub bound : AreSets program section (BindsRoot section) x.bound.items
+  pub used : AreSets program section (Uses program section) x.used.items
+  pub in_scope : AreSets program section (IsInScope section) x.in_scope.items
+  pub used_before : AreSets program section (IsUsedBefore program section) x.used_before.items
+  pub used_later : AreSets program section (IsUsedLater program section) x.used_later.items
+
+-- the same of the program's section of a number
+abbrev pub ArePointsOf : Typed → ℕ → Points → Type 0
+ArePointsOf program k x = (section : Section) → slice_get program.sections.items k ≡ Some section → ArePoints program section x

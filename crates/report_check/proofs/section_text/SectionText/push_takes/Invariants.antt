@@ -1,0 +1,18 @@
+use Rattle.std.proofs.Common.{◌≡◌, ◌++◌, map, drop, string_bytes}
+use Rattle.flow.specs.Working.PointList.{point_at}
+use Rattle.report_check.specs.Check.{take_texts}
+use Rattle.report_check.proofs.section_text.SectionText.push_takes.Given as goal
+
+-- what is written and the text of what is left are the whole text
+abbrev pub invariant-loop-i : goal.invariant-loop-i
+invariant-loop-i l =
+    let text = l.initial.cursor.text.now in
+    let program = l.self.program.now in
+    let section = l.self.section.now in
+    let lists = l.self.lists.now.before.items in
+    record {
+      same : l.cursor.text.now ≡ text;
+      whole : string_bytes l.out
+          ++ take_texts text program section (map point_at (drop l.i l.points)) (map (λ list. list.items) (drop l.i lists))
+          ≡ string_bytes l.initial.out ++ take_texts text program section (map point_at l.points) (map (λ list. list.items) lists);
+    }

@@ -1,0 +1,64 @@
+-- The text of `order`, as bytes: the order of a program's lock classes as a graph in the language DOT. It has a line for each class, and
+-- one for each pair of classes of which the first has to come before the second.
+use Rattle.std.specs.Prelude.{ℕ, List, [], ◌++◌, length, slice_get, codes, string_bytes}
+use Rattle.std.specs.Option.{option_map_or}
+use Rattle.std.specs.List.{flat_map, range_with_len}
+use Rattle.std.specs.Fmt.{decimal}
+use Rattle.source.specs.Faults.{line_of, column_of}
+use Rattle.core_lang.specs.declared.tree.Section.{Section}
+use Rattle.core_lang.specs.declared.typed.Typed.{Typed}
+use Rattle.flow.specs.Points.{Point, points, start_of}
+use Rattle.locks.specs.Texts.{class_name}
+use Rattle.lockorder.specs.declared.ranks.ClassPair.{ClassPair}
+use Rattle.lockorder.specs.declared.ranks.Edge.{Edge}
+use Rattle.report_check.specs.Check.{position_text, ranked_class}
+use Rattle.code.specs.Listing.{line}
+
+-- ---- the classes
+
+-- rank R CLASS
+abbrev pub label_text : Typed → List ℕ → ℕ → List ℕ
+label_text program ranks rank = codes "rank " ++ decimal rank ++ codes " " ++ ranked_class program ranks rank
+
+-- "CLASS" [label="rank R CLASS"];
+abbrev pub node_text : Typed → List ℕ → ℕ → List ℕ
+node_text program ranks rank =
+    line (codes "  \"" ++ ranked_class program ranks rank
+    ++ codes "\" [label=\"" ++ label_text program ranks rank ++ codes "\"];")
+
+-- for each rank from 0 on
+abbrev pub node_texts : Typed → List ℕ → List ℕ
+node_texts program ranks = flat_map (node_text program ranks) (range_with_len 0 (length ranks))
+
+-- ---- the pairs
+
+-- LINE:COL of where the point's statement starts
+abbrev pub point_text : List ℕ → Point → List ℕ
+point_text text point = position_text (line_of text (start_of point)) (column_of text (start_of point))
+
+-- of the point of this number
+abbrev pub numbered_point : List ℕ → List Point → ℕ → List ℕ
+numbered_point text list p = option_map_or (point_text text) (slice_get list p) []
+
+-- SECTION:LINE:COL of the section's point of this number
+abbrev pub place_text : List ℕ → ℕ → Section → List ℕ
+place_text text p section = string_bytes section.name ++ codes ":" ++ numbered_point text (points section) p
+
+-- of the point at which a lock of the edge's class is used
+abbrev pub use_text : List ℕ → Typed → Edge → List ℕ
+use_text text program edge = option_map_or (place_text text edge.used) (slice_get program.sections.items edge.section) []
+
+-- "CLASS" -> "CLASS" [label="SECTION:LINE:COL"];
+abbrev pub edge_text : List ℕ → Typed → ClassPair → List ℕ
+edge_text text program pair =
+    line (codes "  \"" ++ class_name program pair.edge.class ++ codes "\" -> \"" ++ class_name program pair.next
+    ++ codes "\" [label=\"" ++ use_text text program pair.edge ++ codes "\"];")
+
+-- for each pair
+abbrev pub edge_texts : List ℕ → Typed → List ClassPair → List ℕ
+edge_texts text program pairs = flat_map (edge_text text program) pairs
+
+-- ---- the whole text, of a program with the rank of each class and its pairs of classes
+abbrev pub order_text : List ℕ → Typed → List ℕ → List ClassPair → List ℕ
+order_text text program ranks pairs =
+    line (codes "digraph lock_order {") ++ node_texts program ranks ++ edge_texts text program pairs ++ line (codes "}")

@@ -1,0 +1,113 @@
+//! The text of `check`.
+
+ghost use Rattle.std.specs.Prelude.{◌≡◌, ◌==◌, OnOk, IfOk, position, string_bytes};
+ghost use Rattle.locks.specs.Texts.{AddsText};
+ghost use Rattle.lockpaths.specs.Paths.{ArePaths};
+ghost use Rattle.report_check.specs.Check.{ranked_class, rank_text, rank_texts};
+
+use crate::places::Cursor;
+use crate::section_text::SectionText;
+use core_lang::typed::Typed;
+use inserter::placed::Placed;
+use lockpaths::table::Paths;
+use locks::text::push_class;
+use source::memory::NoMemory;
+use std::alloc::{AllocError, Global};
+
+/// The first class that has this rank.
+fn class_with(ranks: &[u32], rank: usize) -> Option<usize>
+    ensures { result ≡ position (λ r. r == rank) ranks.now }
+{
+    ranks.iter().position(|r| *r as usize == rank)
+}
+
+/// The name of the first class that has this rank. The one error is a refused growth.
+pub fn push_ranked(
+    out: &mut String,
+    program: &Typed,
+    ranks: &[u32],
+    rank: usize,
+) -> Result<(), AllocError>
+    ensures { OnOk result (AddsText (ranked_class program.now ranks.now rank) out.old out.new) }
+{
+    match class_with(ranks, rank) {
+        Some(class) => push_class(out, program, class),
+        None => Ok(()),
+    }
+}
+
+/// The line of a rank.
+fn push_rank(
+    out: &mut String,
+    program: &Typed,
+    ranks: &[u32],
+    rank: usize,
+) -> Result<(), AllocError>
+    ensures { OnOk result (AddsText (rank_text program.now ranks.now rank) out.old out.new) }
+{
+    write!(out, "rank {rank} ")?;
+    push_ranked(out, program, ranks, rank)?;
+    out.push_str("\n")
+}
+
+/// A line for each rank.
+fn push_ranks(out: &mut String, program: &Typed, ranks: &[u32]) -> Result<(), AllocError>
+    ensures { OnOk result (AddsText (rank_texts program.now ranks.now) out.old out.new) }
+{
+    for rank in 0..ranks.len() {
+        push_rank(out, program, ranks, rank)?;
+    }
+    Ok(())
+}
+
+/// What the text of `check` says of a program that is accepted.
+#[derive(Drop)]
+pub struct Check<'a> {
+    /// The program's text.
+    pub text: &'a [u8],
+    /// The program.
+    pub program: &'a Typed,
+    /// Its lock paths.
+    pub paths: &'a Paths,
+    /// For each lock class its rank.
+    pub ranks: &'a [u32],
+    /// The lock paths that are listed before each point.
+    pub placed: &'a Placed,
+    pub ghost are_paths: { ∥ ArePaths program.now paths.now ∥₁ },
+}
+
+impl Check<'_> {
+    ghost use Rattle.report_check.specs.Working.Values.{section_texts_of, check_text_of};
+
+    // The lines of each section. Its statements stand behind those of the sections before it, so that the text is read
+    // once.
+    fn push_sections(&self, alloc: Global, out: &mut String) -> Result<(), NoMemory>
+        ensures { OnOk result (AddsText (section_texts_of self.now) out.old out.new) }
+    {
+        let mut cursor = Cursor::new(self.text);
+        for (i, section) in self.program.sections.iter().enumerate() {
+            let Some(lists) = self.placed.sections.get(i) else {
+                return Ok(());
+            };
+            let lines = SectionText {
+                program: self.program,
+                section,
+                paths: &self.paths.sections[i].paths,
+                lists,
+            };
+            lines.push(alloc, out, &mut cursor)?;
+        }
+        Ok(())
+    }
+
+    /// The text of `check`: that the program is accepted, the class of each rank, and for each section the points before
+    /// which locks are taken, each with its place in the text and the lock paths. The only error is a refused growth.
+    pub fn text(&self, alloc: Global) -> Result<String, NoMemory>
+        ensures { IfOk result (λ text. string_bytes text ≡ check_text_of self.now) }
+    {
+        let mut out = String::from_str(alloc, "accepted\n")?;
+        push_ranks(&mut out, self.program, self.ranks)?;
+        self.push_sections(alloc, &mut out)?;
+        Ok(out)
+    }
+}

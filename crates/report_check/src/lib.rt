@@ -1,0 +1,18 @@
+//! The exact texts that `check` and `order` write of a program that is accepted.
+//!
+//! - [`Check`]: its ranks, and where its sections take which locks. [`push_ranked`]: the class of a rank.
+//! - [`Order`]: the order of its lock classes, as a graph in the language DOT.
+//!
+//! `specs/Check.antt` and `specs/Order.antt` define them byte for byte. `specs/Working/Values.antt` and `OrderValues.antt` say it of
+//! values of the code, and `specs/Working/Positions.antt` where bytes stand; nobody has to believe these.
+#![tactic(auto)]
+
+mod check;
+mod edges;
+mod order;
+pub mod places;
+mod positions;
+mod section_text;
+
+pub use check::{Check, push_ranked};
+pub use order::Order;

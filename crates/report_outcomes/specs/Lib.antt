@@ -1,0 +1,4 @@
+pub mod Outcomes
+-- what the public clauses cite
+pub use Rattle.report_outcomes.specs.Outcomes.{outcomes_text}
+pub use Rattle.outcomes.specs.Ends.{told_of}

@@ -1,0 +1,5 @@
+pub mod Places
+pub mod Trace
+pub mod Working
+-- what the public clauses cite
+pub use Rattle.report_trace.specs.Trace.{IsTrace, trace_text}

@@ -1,0 +1,79 @@
+-- The text of `trace`, as bytes: a line for each step, and then the simulation text.
+use Rattle.std.specs.Prelude.{◌≡◌, ℕ, Bool, true, false, if◌then◌else◌, List, [], ◌∷◌, ◌++◌, slice_get, Option, Some, None, codes}
+use Rattle.std.specs.Option.{option_map_or}
+use Rattle.std.specs.Fmt.{decimal}
+use Rattle.core_lang.specs.declared.tree.Section.{Section}
+use Rattle.core_lang.specs.Serial.{Invocation}
+use Rattle.locks.specs.declared.lock.Lock.{Lock}
+use Rattle.code.specs.declared.section_code.SectionCode.{SectionCode}
+use Rattle.code.specs.declared.section_code.Code.{Code}
+use Rattle.code.specs.Listing.{line, instr_text}
+use Rattle.code_emission.specs.NumberLists.{number_lists}
+use Rattle.lowering.specs.Lowered.{IsCodeOf}
+use Rattle.lowering.specs.Plans.{Plan}
+use Rattle.worlds.specs.declared.event.Event.{Event}
+use Rattle.worlds.specs.declared.event.Event.TheVariants.{Idle, Began, Got, Waits, Moved, Ended}
+use Rattle.worlds.specs.Worlds.{World, call_at, happens, opening_world, final}
+use Rattle.interleavings.specs.declared.coming.Coming.{Coming}
+use Rattle.interleavings.specs.declared.coming.Coming.TheVariants as coming
+use Rattle.interleavings.specs.Coming.{coming_to}
+use Rattle.report.specs.Pieces.{invocation_text, lock_text}
+use Rattle.report.specs.Simulation.{simulation_of}
+use Rattle.report_trace.specs.Places.{place_text}
+
+-- over a program's text, its plan and its code
+module _ (text : List ℕ) (plan : Plan) (code : Code) where
+  -- NAME(ARGS) of a call
+  abbrev pub call_text : Option Invocation → List ℕ
+  call_text None = []
+  call_text (Some call) = invocation_text plan.program call.section call.arguments
+
+  -- LINE:COL TEXT of the instruction at a place of a section, TEXT as in the listing
+  abbrev pub instruction_text : ℕ → Option Section → Option SectionCode → List ℕ
+  instruction_text place (Some section) (Some made) =
+      place_text text (number_lists made.lists.items) section place
+      ++ option_map_or (instr_text code.names made place) (slice_get made.instructions.items place) []
+  instruction_text place section None = []
+  instruction_text place None made = []
+
+  -- the call that a thread's step begins, or the instruction that it runs
+  abbrev pub coming_text : ℕ → Coming → List ℕ
+  coming_text t (coming.Call step) = call_text (call_at plan t step)
+  coming_text t (coming.Instruction k place) =
+      instruction_text place (slice_get plan.program.sections.items k) (slice_get code.sections.items k)
+  coming_text t coming.Other = []
+
+  -- what a thread's step was, by what it took up and its event
+  abbrev pub event_text : ℕ → Coming → Event → List ℕ
+  event_text t c Idle = codes "idle"
+  event_text t c Began = codes "began " ++ coming_text t c
+  event_text t c (Got lock) = codes "got " ++ lock_text plan.program lock
+  event_text t c (Waits lock holder) =
+      codes "waits " ++ lock_text plan.program lock ++ codes " for " ++ decimal holder
+  event_text t c Moved = codes "moved " ++ coming_text t c
+  event_text t c (Ended position) = codes "ended at " ++ decimal position
+
+  -- whether an event is told, where instructions are or are not
+  abbrev pub is_told : Bool → Event → Bool
+  is_told moves Moved = moves
+  is_told moves _ = true
+
+  -- THREAD TEXT
+  abbrev pub step_text : Bool → ℕ → Coming → Event → List ℕ
+  step_text moves t c e = if is_told moves e then line (decimal t ++ codes " " ++ event_text t c e) else []
+
+  -- of steps of these threads from a world on
+  abbrev pub steps_text : Bool → World → List ℕ → List ℕ
+  steps_text moves w [] = []
+  steps_text moves w (t ∷ ts) =
+      step_text moves t (coming_to w t) (happens plan w t).0 ++ steps_text moves (happens plan w t).1 ts
+
+  -- the whole text
+  abbrev pub trace_text : Bool → List ℕ → List ℕ
+  trace_text moves steps = steps_text moves (opening_world plan) steps ++ simulation_of plan (final plan steps)
+
+-- the text of these steps of a program's threads, with instructions or without
+pub record IsTrace (text : List ℕ) (plan : Plan) (moves : Bool) (steps : List ℕ) (told : List ℕ) : Type 0 where
+  pub code : Code
+  pub made : IsCodeOf plan.program plan.lists code
+  pub written : told ≡ trace_text text plan code moves steps

@@ -1,0 +1,231 @@
+//! The line of a step.
+
+ghost use Rattle.std.specs.Prelude.{◌≡◌, [], ◌∷◌, replicate, IfOk, OnOk};
+ghost use Rattle.std.proofs.Props.{props};
+ghost use Rattle.locks.specs.Texts.{AddsText};
+ghost use Rattle.report_trace.specs.Working.Listers.{names_shown};
+ghost use Rattle.source_steps.specs.Turns.{steps_of};
+ghost use Rattle.report_trace.specs.Working.Told.{AreTables};
+
+use crate::instructions::Lister;
+use crate::places::SectionPlaces;
+use code::section_code::Code;
+use core_lang::typed::Typed;
+use interleavings::coming::Coming;
+use interleavings::world::World;
+use lowering::compiled::Program;
+use report::pieces::{push_invocation, push_lock};
+use report_check::places::Cursor;
+use source::memory::NoMemory;
+use source_steps::turn::Turn;
+use std::alloc::{AllocError, Global};
+use worlds::event::Event;
+
+/// The places of each section.
+fn all_places(
+    alloc: Global,
+    text: &[u8],
+    typed: &Typed,
+    code: &Code,
+) -> Result<Vec<SectionPlaces>, NoMemory>
+    ensures { IfOk result (λ places. AreTables text.now typed.now code.now places.items) }
+{
+    let mut cursor = Cursor::new(text);
+    let mut places = Vec::with_capacity(alloc, typed.sections.len())?;
+    for (k, section) in typed.sections.iter().enumerate() {
+        let Some(made) = code.sections.get(k) else {
+            return Ok(places);
+        };
+        places.push(SectionPlaces::of(alloc, &mut cursor, section, &made.lists)?)?;
+    }
+    Ok(places)
+}
+
+/// What the lines of steps are made from.
+#[derive(Drop)]
+pub struct Teller<'a> {
+    text: &'a [u8],
+    program: &'a Program,
+    code: &'a Code,
+    lister: Lister<'a>,
+    // By section.
+    places: Vec<SectionPlaces>,
+    moves: bool,
+    ghost names: { names_shown lister ≡ code.now.names } by { Prim.hlevel props },
+    ghost tables: { AreTables text.now program.now.program code.now places.items } by { Prim.hlevel props },
+}
+
+impl<'a> Teller<'a> {
+    ghost use Rattle.lowering.specs.Lowered.{IsCodeOf};
+    ghost use Rattle.report_trace.specs.Working.Tellers.{IsTellerOf, IsOver, call_told, instruction_told, coming_told, event_told, step_told, Tells};
+
+    /// Of a program with this text, with instructions or without.
+    pub fn new(
+        alloc: Global,
+        text: &'a [u8],
+        program: &'a Program,
+        moves: bool,
+    ) -> Result<Teller<'a>, NoMemory>
+        ensures of { IfOk result (IsTellerOf text.now program.now moves) }
+        ensures code { IfOk result IsOver }
+    {
+        let code = program.code();
+        Ok(Teller {
+            text,
+            program,
+            code,
+            lister: Lister::new(alloc, &code.names)?,
+            places: all_places(alloc, text, program.typed(), code)?,
+            moves,
+        })
+    }
+
+    // The call of a thread that has this number, if there is one.
+    fn push_call(&self, out: &mut String, thread: u32, step: usize) -> Result<(), AllocError>
+        ensures { OnOk result (AddsText (call_told self.now thread step) out.old out.new) }
+    {
+        let typed = self.program.typed();
+        let Some(script) = typed.threads.get(thread as usize) else {
+            return Ok(());
+        };
+        match script.calls.get(step) {
+            Some(call) => push_invocation(out, typed, call.section, &call.arguments),
+            None => Ok(()),
+        }
+    }
+
+    // The instruction at a place of a section, with its place in the text.
+    fn push_instruction(
+        &self,
+        out: &mut String,
+        section: usize,
+        place: usize,
+    ) -> Result<(), AllocError>
+        ensures { OnOk result (AddsText (instruction_told self.now section place) out.old out.new) }
+    {
+        let Some(made) = self.code.sections.get(section) else {
+            return Ok(());
+        };
+        let Some(places) = self.places.get(section) else {
+            return Ok(());
+        };
+        places.push(out, place)?;
+        match made.instructions.get(place) {
+            Some(instr) => self.lister.push_instr(out, made, place, *instr),
+            None => Ok(()),
+        }
+    }
+
+    // What a step takes up.
+    fn push_coming(&self, out: &mut String, thread: u32, coming: Coming) -> Result<(), AllocError>
+        ensures { OnOk result (AddsText (coming_told self.now thread coming) out.old out.new) }
+    {
+        match coming {
+            Coming::Call(step) => self.push_call(out, thread, step),
+            Coming::Instruction { section, place } => self.push_instruction(out, section, place),
+            Coming::Other => Ok(()),
+        }
+    }
+
+    // What a step was.
+    fn push_event(
+        &self,
+        out: &mut String,
+        thread: u32,
+        coming: Coming,
+        event: Event,
+    ) -> Result<(), AllocError>
+        ensures { OnOk result (AddsText (event_told self.now thread coming event) out.old out.new) }
+    {
+        match event {
+            Event::Idle => out.push_str("idle"),
+            Event::Began => {
+                out.push_str("began ")?;
+                self.push_coming(out, thread, coming)
+            }
+            Event::Got(lock) => {
+                out.push_str("got ")?;
+                push_lock(out, self.program.typed(), lock)
+            }
+            Event::Waits(lock, holder) => {
+                out.push_str("waits ")?;
+                push_lock(out, self.program.typed(), lock)?;
+                write!(out, " for {holder}")
+            }
+            Event::Moved => {
+                out.push_str("moved ")?;
+                self.push_coming(out, thread, coming)
+            }
+            Event::Ended(position) => write!(out, "ended at {position}"),
+        }
+    }
+
+    // The line of a step, if it is told.
+    fn push_step(
+        &self,
+        out: &mut String,
+        thread: u32,
+        coming: Coming,
+        event: Event,
+    ) -> Result<(), AllocError>
+        ensures { OnOk result (AddsText (step_told self.now thread coming event) out.old out.new) }
+    {
+        if event == Event::Moved && !self.moves {
+            return Ok(());
+        }
+        write!(out, "{thread} ")?;
+        self.push_event(out, thread, coming, event)?;
+        out.push_str("\n")
+    }
+
+    // A step of a thread, and its line.
+    fn step(
+        &self,
+        alloc: Global,
+        world: &mut World<'a>,
+        thread: u32,
+        out: &mut String,
+    ) -> Result<(), NoMemory>
+        requires { world.old.plan ≡ self.now.program.now }
+        ensures { OnOk result (Tells self.now (thread ∷ []) world.old world.new out.old out.new) }
+    {
+        let coming = world.coming(thread);
+        let event = world.step(alloc, thread)?;
+        self.push_step(out, thread, coming, event)?;
+        Ok(())
+    }
+
+    // So many steps of a thread, and their lines.
+    fn take(
+        &self,
+        alloc: Global,
+        world: &mut World<'a>,
+        turn: Turn,
+        out: &mut String,
+    ) -> Result<(), NoMemory>
+        requires { world.old.plan ≡ self.now.program.now }
+        ensures { OnOk result (Tells self.now (replicate turn.count turn.thread) world.old world.new out.old out.new) }
+    {
+        for _ in 0..turn.count {
+            self.step(alloc, world, turn.thread, out)?;
+        }
+        Ok(())
+    }
+
+    /// Takes these turns, one after another, and puts the lines of their steps.
+    pub fn take_turns(
+        &self,
+        alloc: Global,
+        world: &mut World<'a>,
+        turns: &[Turn],
+        out: &mut String,
+    ) -> Result<(), NoMemory>
+        requires { world.old.plan ≡ self.now.program.now }
+        ensures { OnOk result (Tells self.now (steps_of turns.now) world.old world.new out.old out.new) }
+    {
+        for turn in turns {
+            self.take(alloc, world, *turn, out)?;
+        }
+        Ok(())
+    }
+}

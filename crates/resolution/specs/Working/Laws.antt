@@ -1,0 +1,63 @@
+-- What holds of resolution and of faults, as `src/laws.rt` claims it.
+use Rattle.std.specs.Prelude.{◌≡◌, ℕ, List, Option, Some, None, false}
+use Rattle.source.specs.declared.fault.Code.{Code}
+use Rattle.syntax.specs.Trees.{Decl, Section, helper}
+use Rattle.syntax.specs.Returns.{ReturnsRight}
+use Rattle.core_lang.specs.declared.typed.Typed.{Typed}
+use Rattle.core_lang.specs.WellFormed.{IsChecked, IsWellFormed}
+use Rattle.source.specs.declared.mistake.Mistake.{Mistake}
+use Rattle.source.specs.Mistakes.{goes_before, least_of}
+use Rattle.resolution.specs.Core as core
+use Rattle.resolution.specs.Resolution.{resolved}
+use Rattle.resolution.specs.Resolved.{Resolves}
+use Rattle.resolution.specs.Where.{Has}
+use Rattle.resolution.specs.Faults.{IsFault, HasNoFault}
+use Rattle.resolution.specs.Working.FaultLists.{program_faults}
+use Rattle.core_lang_calls.specs.Working.Programs.{IsGraphOf}
+use Rattle.resolution.specs.CallGraphs.{tree_graph}
+
+-- the least fault of the program's list, if there is one
+abbrev pub the_least : List Decl → Option Mistake
+the_least decls = least_of None (program_faults decls)
+
+-- it is a fault of the program
+abbrev pub TheLeastIsAFault : Type 0
+TheLeastIsAFault = (decls : List Decl) (f : Mistake) → the_least decls ≡ Some f → IsFault decls f.code f.start
+
+-- no fault of the program goes before this one
+abbrev pub IsFirst : List Decl → Mistake → Type 0
+IsFirst decls f = (code : Code) (p : ℕ) → IsFault decls code p → goes_before (record { code = code; start = p }) f ≡ false
+
+-- none goes before the least
+abbrev pub NoneGoesBeforeTheLeast : Type 0
+NoneGoesBeforeTheLeast = (decls : List Decl) (f : Mistake) → the_least decls ≡ Some f → IsFirst decls f
+
+-- two faults of a program before which none goes are the same
+abbrev pub HaveAtMostOneLeast : Type 0
+HaveAtMostOneLeast = (decls : List Decl) (f g : Mistake) → IsFault decls f.code f.start → IsFault decls g.code g.start → IsFirst decls f → IsFirst decls g → f ≡ g
+
+-- where there is none, the program has no fault
+abbrev pub NoLeastIsNoFault : Type 0
+NoLeastIsNoFault = (decls : List Decl) → the_least decls ≡ None → HasNoFault decls
+
+-- a program with no fault is resolved
+abbrev pub FaultlessAreResolved : Type 0
+FaultlessAreResolved = (decls : List Decl) → ReturnsRight decls → the_least decls ≡ None → (p : core.Program) × (resolved decls ≡ Some p)
+
+-- the graph of a tree with no fault is that of what it is resolved to
+abbrev pub GraphOfResolved : Type 0
+GraphOfResolved = (decls : List Decl) (program : Typed) → the_least decls ≡ None → Resolves decls program → IsGraphOf program (tree_graph decls)
+
+-- and what it is resolved to is as an accepted program should be
+abbrev pub ResolvedAreChecked : Type 0
+ResolvedAreChecked =
+    (decls : List Decl) (program : Typed) → the_least decls ≡ None → Resolves decls program → IsChecked program
+
+-- no helper is declared
+abbrev pub DeclaresNoHelper : List Decl → Type 0
+DeclaresNoHelper decls = (s : Section) → Has decls (helper s) → ⊥
+
+-- without helpers, what a program is resolved to is well formed
+abbrev pub WithoutHelpersAreWellFormed : Type 0
+WithoutHelpersAreWellFormed =
+    (decls : List Decl) (program : Typed) → the_least decls ≡ None → Resolves decls program → DeclaresNoHelper decls → IsWellFormed program

@@ -1,0 +1,149 @@
+-- How the code keeps an open section. Nobody has to believe this file.
+use Rattle.std.specs.Prelude.{◌≡◌, ◌≤◌, ℕ, Bool, List, [], length, Option, Some, None, vec_capacity}
+use Rattle.std.specs.List.{sum_by}
+use Rattle.core_lang.specs.declared.value.Value.{Value}
+use Rattle.core_lang.specs.declared.value.Outcome.{Outcome}
+use Rattle.core_lang.specs.Serial.{Invocation}
+use Rattle.locks.specs.declared.lock.Lock.{Lock}
+use Rattle.core_lang.specs.WellFormed.{CanCall}
+use Rattle.layout.specs.declared.room.Room.{Room}
+use Rattle.layout.specs.LockCells.{cells_of}
+use Rattle.code.specs.declared.instr.Instr.{Instr}
+use Rattle.code.specs.Machine.{Effect, act}
+use Rattle.code.specs.Memory.{HeldCells, load_held, store_held}
+use Rattle.lock_manager.specs.Working.Sessions.{TicketOf}
+use Rattle.lowering.specs.Plans.{Plan, IsCompiled}
+use Rattle.lowering.specs.Working.Compiled.{IsRoomAt}
+use Rattle.worlds.specs.Worlds.{activation, locals_at}
+use Rattle.runner_machine.specs.Working.Machines.{RunOf, at_first}
+use Rattle.lock_manager.specs.Working.Managers.{Managed}
+use Rattle.moved_cells.specs.Working.Grants.{GrantOf}
+use Rattle.history.specs.Commits.{Commit}
+use Rattle.runner_cells.specs.Working.Held.{cells_granted}
+use Rattle.runner.specs.declared.open.Prepared.{Prepared}
+use Rattle.runner.specs.Working.Opens.{OpenOf, IsOpen, AreItsGrants, entry_of, Gets, Waits, ticket_of, further, moved}
+
+-- a call
+abbrev pub call_of : ℕ → List Value → Invocation
+call_of section arguments = record { section = section; arguments = arguments }
+
+-- a section without an outcome, by its ticket, call, machine and pending locks
+abbrev pub open_as : Plan → TicketOf → ℕ → Invocation → RunOf → List Lock → Bool → OpenOf
+open_as plan ticket step call run pending asked = record {
+  plan = plan;
+  thread = ticket.thread;
+  step = step;
+  room = ticket.session.room;
+  activation = record {
+    call = call;
+    begun = ticket.session.begun;
+    machine = run.machine;
+    held = ticket.session.held;
+    pending = pending;
+    asked = asked;
+    outcome = None;
+  };
+}
+
+-- how many cells locks have together
+abbrev pub cells_together : Plan → List Lock → ℕ
+cells_together plan locks = sum_by (λ (lock : Lock). length (cells_of plan.layout.cell_locks lock)) locks
+
+-- its ticket and its machine are its own, and there is room for all locks
+pub record IsKeptOpen (o : OpenOf) (ticket : TicketOf) (run : RunOf) (held : List Lock) (held_room pending_room : ℕ) : Type 0 where
+  pub is_open : IsOpen o
+  pub ticket_is : ticket ≡ ticket_of o
+  pub layout : run.layout ≡ o.plan.layout
+  pub locks : run.locks ≡ o.activation.held
+  pub held_are : held ≡ o.activation.held
+  pub operands : run.operand_room ≡ o.room.operands
+  pub lock_room : run.lock_room ≡ o.room.locks
+  pub cell_room : run.cell_room ≡ o.room.cells
+  pub held_fits : o.room.locks ≤ held_room
+  pub pending_fits : o.room.locks ≤ pending_room
+  pub cells : length o.activation.machine.memory.cells ≡ cells_together o.plan o.activation.held
+
+-- with an outcome
+abbrev pub over_by : OpenOf → Outcome → OpenOf
+over_by o outcome = further o (record o.activation { outcome = Some outcome })
+
+-- what an instruction does to its machine
+abbrev pub effect_on : OpenOf → Instr → Effect HeldCells
+effect_on o instruction = act load_held store_held o.plan.program.shape (Some instruction) o.activation.machine
+
+-- an instruction leads on, or to an outcome
+abbrev pub HasMoved : OpenOf → Option Outcome → OpenOf → Type 0
+HasMoved old None new = (new ≡ moved old) × (new.activation.outcome ≡ None)
+HasMoved old (Some outcome) new = (new ≡ old) × (moved old ≡ over_by old outcome)
+
+-- ---- a section that is about to begin
+
+-- its call
+abbrev pub its_call : Prepared → Invocation
+its_call p = call_of p.section p.arguments.items
+
+-- its call fits, and there is all memory that it can need
+pub record IsPrepared (p : Prepared) : Type 0 where
+  pub compiled : IsCompiled p.program.now
+  pub fits : CanCall p.program.now.program p.section p.arguments.items
+  pub room_is : IsRoomAt p.program.now p.section p.room
+  pub run_is : p.machine.value ≡ at_first (locals_at p.program.now (its_call p)) p.program.now.layout p.room
+  pub none_held : p.held.items ≡ []
+  pub none_pending : p.pending.items ≡ []
+  pub held_fits : p.room.locks ≤ vec_capacity p.held
+  pub pending_fits : p.room.locks ≤ vec_capacity p.pending
+
+-- it begins where the history is so long
+abbrev pub begun_as : Plan → ℕ → ℕ → Room → ℕ → Invocation → OpenOf
+begun_as plan thread step room begun call = record {
+  plan = plan;
+  thread = thread;
+  step = step;
+  room = room;
+  activation = activation plan begun call;
+}
+
+-- ---- a section that asks
+
+-- nobody holds the lock, or this other thread does
+abbrev pub HasAsked : Managed → OpenOf → Option ℕ → OpenOf → Managed → Type 0
+HasAsked m o None o' m' = Gets m o o' m'
+HasAsked m o (Some holder) o' m' = Waits m o holder o' m'
+
+-- ---- a section that has an outcome
+
+-- by its ticket, what is left of its machine, its grants and its entry
+abbrev pub ended_as : Plan → TicketOf → ℕ → ℕ → List Value → List Value → List GrantOf → Commit → Bool → OpenOf
+ended_as plan ticket step place stack locals grants entry asked = record {
+  plan = plan;
+  thread = ticket.thread;
+  step = step;
+  room = ticket.session.room;
+  activation = record {
+    call = call_of entry.section entry.arguments;
+    begun = ticket.session.begun;
+    machine = record {
+      place = place;
+      stack = stack;
+      locals = locals;
+      memory = record {
+        cells = cells_granted plan.layout.cell_locks grants;
+        reads = entry.reads;
+        writes = entry.writes;
+      };
+      prints = entry.prints;
+    };
+    held = ticket.session.held;
+    pending = [];
+    asked = asked;
+    outcome = Some entry.outcome;
+  };
+}
+
+-- its ticket, its grants and its entry are its own
+pub record IsKeptEnded (o : OpenOf) (ticket : TicketOf) (grants : List GrantOf) (entry : Commit) : Type 0 where
+  pub is_open : IsOpen o
+  pub ticket_is : ticket ≡ ticket_of o
+  pub its : AreItsGrants o grants
+  pub entry_is : entry ≡ entry_of o entry.outcome
+  pub few : length entry.prints ≤ 256

@@ -1,0 +1,638 @@
+//! The machine of an open section.
+
+ghost use Rattle.std.specs.Prelude.{◌≡◌, ◌<◌, drop, length, Ok};
+ghost use Rattle.core_lang.specs.Arithmetic.{negated, on_values};
+ghost use Rattle.core_lang.specs.Cells.{element_cell, member_of, field_cell, final_value, not_null};
+ghost use Rattle.code.specs.Machine.{advances, jumps, negation, or_trap};
+ghost use Rattle.runner_cells.specs.Working.Held.{IsLoad, IsStore};
+ghost use Rattle.runner_machine.specs.Working.Machines.{FitsRoom, HasSmallCells, HasEffect, effect_of, putting_on, loading_on};
+ghost use Rattle.runner_machine.specs.Working.Machines.{storing_found, getting, setting, storing, owner_test, on_one, on_both, testing, passing};
+ghost use Rattle.runner_machine.specs.Working.Machines.{if_passed, loading_named, storing_named, branching, printing, back_by, returning};
+
+use crate::answer::{Answer, failed};
+use crate::operands::Operands;
+use crate::prints::Prints;
+use crate::truths::{agrees, negate_truth, truth_in, truth_value};
+use code::instr::Instr;
+use core_lang::shape::Shape;
+use core_lang::tree::{Comparison, Operator};
+use core_lang::value::{Failure, Outcome, Value};
+use meaning_operations::access::{
+    cell_of_element, cell_of_field, member, non_null, owned_by, value_at, value_of_final,
+};
+use meaning_operations::operators::{compare, negate, operate};
+use moved_cells::grant::Grant;
+use runner_cells::holding::Holding;
+use runner_cells::parts::Parts;
+use std::marker::Model;
+
+/// The machine of an open section: where it is in its code, its operands and locals, the cells that it holds, and what it
+/// has printed.
+pub struct Machine<'p> {
+    pub(crate) place: usize,
+    pub(crate) operands: Operands,
+    pub(crate) locals: Vec<Value>,
+    pub(crate) held: Holding<'p>,
+    pub(crate) prints: Prints,
+}
+
+/// What is left of a machine that is taken apart.
+pub struct Left {
+    /// Where it was in its code.
+    pub place: usize,
+    /// Its operands.
+    pub operands: Operands,
+    /// Its locals, by number.
+    pub locals: Vec<Value>,
+    /// The grants that it held, and what it read first and wrote last.
+    pub parts: Parts,
+    /// The numbers that it printed, the first one first.
+    pub prints: Vec<i64>,
+}
+
+impl<'p> Model for Machine<'p> {
+    ghost use Rattle.runner_machine.specs.Working.Machines.{RunOf};
+
+    ghost Value = { RunOf };
+
+    ghost view = { λ m. record {
+      machine = record {
+        place = m.place;
+        stack = m.operands.stack;
+        locals = m.locals.items;
+        memory = m.held.memory;
+        prints = m.prints;
+      };
+      operand_room = m.operands.room;
+      layout = m.held.layout;
+      locks = m.held.locks;
+      lock_room = m.held.lock_room;
+      cell_room = m.held.cell_room;
+    } };
+}
+
+impl<'p> Machine<'p> {
+    ghost use Rattle.std.specs.Prelude.{◌+◌, ◌^◌, slice_index};
+    ghost use Rattle.std.specs.List.{All};
+    ghost use Rattle.code.specs.Machine.{passed};
+    ghost use Rattle.moved_cells.specs.Working.Grants.{IsWhole, locks_of};
+    ghost use Rattle.runner_cells.specs.Working.Held.{CanHold, cells_granted, with_grant};
+    ghost use Rattle.runner_machine.specs.Working.Machines.{with_machine, with_holding, holding_of, IsLeftOf};
+
+    /// Where it is in its code.
+    #[inline]
+    pub fn place(&self) -> usize
+        ensures { result ≡ self.now.machine.place }
+    {
+        self.place
+    }
+
+    /// What its locals hold.
+    #[inline]
+    pub fn locals(&self) -> &[Value]
+        ensures { result.now ≡ self.now.machine.locals }
+    {
+        self.locals.as_slice()
+    }
+
+    /// Passes on to the next instruction.
+    #[inline]
+    pub fn pass(&mut self)
+        requires { self.old.machine.place + 1 < 2 ^ 64 }
+        ensures { self.new ≡ with_machine self.old (passed self.old.machine) }
+    {
+        self.place += 1;
+    }
+
+    /// Takes it apart.
+    pub fn into_parts(self) -> Left
+        ensures { IsLeftOf self.entry result }
+    {
+        let Machine {
+            place,
+            operands,
+            locals,
+            held,
+            prints,
+        } = self;
+        Left {
+            place,
+            operands,
+            locals,
+            parts: held.into_parts(),
+            prints: prints.into_numbers(),
+        }
+    }
+
+    /// The grants alone, for a section that is given up.
+    pub fn into_grants(self) -> Vec<Grant>
+        ensures locks { locks_of result.items ≡ self.entry.locks }
+        ensures whole { All (IsWhole self.entry.layout.cell_locks) result.items }
+        ensures cells { cells_granted self.entry.layout.cell_locks result.items ≡ self.entry.machine.memory.cells }
+    {
+        let Machine {
+            place: _,
+            operands: _,
+            locals: _,
+            held,
+            prints: _,
+        } = self;
+        held.into_grants()
+    }
+
+    /// Holds the cells of a lock.
+    pub fn grant(&mut self, grant: Grant)
+        requires { CanHold (holding_of self.old) grant }
+        ensures { self.new ≡ with_holding self.old (with_grant (holding_of self.old) grant) }
+    {
+        self.held.grant(grant);
+    }
+}
+
+// A value of a cell that is held.
+#[inline(always)]
+fn load(held: &mut Holding, cell: usize) -> Option<Value>
+    requires { HasSmallCells held.old.memory }
+    ensures { IsLoad held.old cell result held.new }
+{
+    match u32::try_from(cell) {
+        Ok(cell) => held.load(cell),
+        Err(_) => None,
+    }
+}
+
+// Writes a cell that is held.
+#[inline(always)]
+fn store(held: &mut Holding, cell: usize, value: Value) -> bool
+    requires { HasSmallCells held.old.memory }
+    ensures { IsStore held.old cell value result held.new }
+{
+    match u32::try_from(cell) {
+        Ok(cell) => held.store(cell, value),
+        Err(_) => false,
+    }
+}
+
+// What each of the instructions needs and does; the instructions themselves are in `step`.
+impl<'p> Machine<'p> {
+    // A value on the top.
+    #[inline(always)]
+    fn push(&mut self, value: Value) -> Answer
+        requires { FitsRoom self.old.operand_room (putting_on self.old.machine.stack (Ok value) self.old.machine) }
+        ensures { HasEffect (putting_on self.old.machine.stack (Ok value) self.old.machine) self.old result self.new }
+    {
+        self.operands.push(value);
+        self.place += 1;
+        Answer::Moved
+    }
+
+    // A value in place of the top.
+    #[inline(always)]
+    fn replace_top(&mut self, value: Result<Value, Failure>) -> Answer
+        requires top { 0 < length self.old.machine.stack }
+        requires fits { FitsRoom self.old.operand_room (putting_on (drop 1 self.old.machine.stack) value self.old.machine) }
+        ensures { HasEffect (putting_on (drop 1 self.old.machine.stack) value self.old.machine) self.old result self.new }
+    {
+        match value {
+            Ok(value) => {
+                self.operands.set_top(value);
+                self.place += 1;
+                Answer::Moved
+            }
+            Err(failure) => failed(failure),
+        }
+    }
+
+    // A value in place of the two on top.
+    #[inline(always)]
+    fn replace_two(&mut self, value: Result<Value, Failure>) -> Answer
+        requires top { 1 < length self.old.machine.stack }
+        requires fits { FitsRoom self.old.operand_room (putting_on (drop 2 self.old.machine.stack) value self.old.machine) }
+        ensures { HasEffect (putting_on (drop 2 self.old.machine.stack) value self.old.machine) self.old result self.new }
+    {
+        match value {
+            Ok(value) => {
+                self.operands.pop();
+                self.operands.set_top(value);
+                self.place += 1;
+                Answer::Moved
+            }
+            Err(failure) => failed(failure),
+        }
+    }
+
+    // On, where a test of the top is passed.
+    #[inline(always)]
+    fn go_on_if<T: Drop>(&mut self, test: Result<T, Failure>) -> Answer
+        requires { FitsRoom self.old.operand_room (passing test self.old.machine) }
+        ensures { HasEffect (passing test self.old.machine) self.old result self.new }
+    {
+        match test {
+            Ok(_) => {
+                self.place += 1;
+                Answer::Moved
+            }
+            Err(failure) => failed(failure),
+        }
+    }
+
+    #[inline(always)]
+    fn load_global(&mut self, cell: u32) -> Answer
+        requires { FitsRoom self.old.operand_room (loading_on self.old.machine.stack cell self.old.machine) }
+        ensures { HasEffect (loading_on self.old.machine.stack cell self.old.machine) self.old result self.new }
+    {
+        let Some(value) = self.held.load(cell) else {
+            return Answer::Undefined;
+        };
+        self.operands.push(value);
+        self.place += 1;
+        Answer::Moved
+    }
+
+    #[inline(always)]
+    fn put_global(&mut self, cell: u32) -> Answer
+        requires { FitsRoom self.old.operand_room (storing cell self.old.machine) }
+        ensures { HasEffect (storing cell self.old.machine) self.old result self.new }
+    {
+        let Some(value) = self.operands.top() else {
+            return Answer::Undefined;
+        };
+        if !self.held.store(cell, value) {
+            return Answer::Undefined;
+        }
+        self.operands.pop();
+        self.place += 1;
+        Answer::Moved
+    }
+
+    // What a cell holds in place of the top.
+    #[inline(always)]
+    fn load_cell(&mut self, cell: Result<usize, Failure>) -> Answer
+        requires top { 0 < length self.old.machine.stack }
+        requires small { HasSmallCells self.old.machine.memory }
+        requires fits { FitsRoom self.old.operand_room (or_trap cell (λ c. loading_on (drop 1 self.old.machine.stack) c self.old.machine)) }
+        ensures { HasEffect (or_trap cell (λ c. loading_on (drop 1 self.old.machine.stack) c self.old.machine)) self.old result self.new }
+    {
+        match cell {
+            Ok(cell) => {
+                let Some(value) = load(&mut self.held, cell) else {
+                    return Answer::Undefined;
+                };
+                self.operands.set_top(value);
+                self.place += 1;
+                Answer::Moved
+            }
+            Err(failure) => failed(failure),
+        }
+    }
+
+    // A value in a cell, and the two on top off.
+    #[inline(always)]
+    fn store_cell(&mut self, cell: Result<usize, Failure>, value: Value) -> Answer
+        requires top { 1 < length self.old.machine.stack }
+        requires small { HasSmallCells self.old.machine.memory }
+        requires fits { FitsRoom self.old.operand_room (storing_found (drop 2 self.old.machine.stack) cell value self.old.machine) }
+        ensures { HasEffect (storing_found (drop 2 self.old.machine.stack) cell value self.old.machine) self.old result self.new }
+    {
+        match cell {
+            Ok(cell) => {
+                if !store(&mut self.held, cell, value) {
+                    return Answer::Undefined;
+                }
+                self.operands.pop();
+                self.operands.pop();
+                self.place += 1;
+                Answer::Moved
+            }
+            Err(failure) => failed(failure),
+        }
+    }
+}
+
+impl<'p> Machine<'p> {
+    #[inline(always)]
+    fn get_local(&mut self, local: usize) -> Answer
+        requires { FitsRoom self.old.operand_room (getting local self.old.machine) }
+        ensures { HasEffect (getting local self.old.machine) self.old result self.new }
+    {
+        match self.locals.get(local) {
+            Some(value) => {
+                let value = *value;
+                self.push(value)
+            }
+            None => Answer::Undefined,
+        }
+    }
+
+    #[inline(always)]
+    fn put_local(&mut self, local: usize) -> Answer
+        requires { FitsRoom self.old.operand_room (setting local self.old.machine) }
+        ensures { HasEffect (setting local self.old.machine) self.old result self.new }
+    {
+        let Some(value) = self.operands.top() else {
+            return Answer::Undefined;
+        };
+        if local >= self.locals.len() {
+            return Answer::Undefined;
+        }
+        self.locals[local] = value;
+        self.operands.pop();
+        self.place += 1;
+        Answer::Moved
+    }
+
+    #[inline(always)]
+    fn load_element(&mut self, shape: &Shape, array: usize) -> Answer
+        requires small { HasSmallCells self.old.machine.memory }
+        requires fits { FitsRoom self.old.operand_room (loading_named (element_cell shape.now array) self.old.machine) }
+        ensures { HasEffect (loading_named (element_cell shape.now array) self.old.machine) self.old result self.new }
+    {
+        let Some(index) = self.operands.top() else {
+            return Answer::Undefined;
+        };
+        self.load_cell(cell_of_element(shape, array, index))
+    }
+
+    #[inline(always)]
+    fn bound(&mut self, shape: &Shape, array: usize) -> Answer
+        requires { FitsRoom self.old.operand_room (if_passed (element_cell shape.now array) self.old.machine) }
+        ensures { HasEffect (if_passed (element_cell shape.now array) self.old.machine) self.old result self.new }
+    {
+        let Some(index) = self.operands.top() else {
+            return Answer::Undefined;
+        };
+        self.go_on_if(cell_of_element(shape, array, index))
+    }
+
+    #[inline(always)]
+    fn put_element(&mut self, shape: &Shape, array: usize) -> Answer
+        requires small { HasSmallCells self.old.machine.memory }
+        requires fits { FitsRoom self.old.operand_room (storing_named (element_cell shape.now array) self.old.machine) }
+        ensures { HasEffect (storing_named (element_cell shape.now array) self.old.machine) self.old result self.new }
+    {
+        let Some(index) = self.operands.second() else {
+            return Answer::Undefined;
+        };
+        let Some(value) = self.operands.top() else {
+            return Answer::Undefined;
+        };
+        self.store_cell(cell_of_element(shape, array, index), value)
+    }
+
+    #[inline(always)]
+    fn get_member(&mut self, shape: &Shape, pool: usize) -> Answer
+        requires { FitsRoom self.old.operand_room (on_one (member_of shape.now pool) self.old.machine) }
+        ensures { HasEffect (on_one (member_of shape.now pool) self.old.machine) self.old result self.new }
+    {
+        let Some(index) = self.operands.top() else {
+            return Answer::Undefined;
+        };
+        self.replace_top(member(shape, pool, index))
+    }
+
+    #[inline(always)]
+    fn load_final(&mut self, shape: &Shape, number: u32) -> Answer
+        requires { FitsRoom self.old.operand_room (on_one (λ base. final_value shape.now base number) self.old.machine) }
+        ensures { HasEffect (on_one (λ base. final_value shape.now base number) self.old.machine) self.old result self.new }
+    {
+        let Some(base) = self.operands.top() else {
+            return Answer::Undefined;
+        };
+        self.replace_top(value_of_final(shape, base, number))
+    }
+
+    #[inline(always)]
+    fn load_field(&mut self, shape: &Shape, number: u32) -> Answer
+        requires small { HasSmallCells self.old.machine.memory }
+        requires fits { FitsRoom self.old.operand_room (loading_named (λ base. field_cell shape.now base number) self.old.machine) }
+        ensures { HasEffect (loading_named (λ base. field_cell shape.now base number) self.old.machine) self.old result self.new }
+    {
+        let Some(base) = self.operands.top() else {
+            return Answer::Undefined;
+        };
+        self.load_cell(cell_of_field(shape, base, number))
+    }
+
+    #[inline(always)]
+    fn check_null(&mut self) -> Answer
+        requires { FitsRoom self.old.operand_room (if_passed not_null self.old.machine) }
+        ensures { HasEffect (if_passed not_null self.old.machine) self.old result self.new }
+    {
+        let Some(base) = self.operands.top() else {
+            return Answer::Undefined;
+        };
+        self.go_on_if(non_null(base))
+    }
+
+    #[inline(always)]
+    fn put_field(&mut self, shape: &Shape, number: u32) -> Answer
+        requires small { HasSmallCells self.old.machine.memory }
+        requires fits { FitsRoom self.old.operand_room (storing_named (λ base. field_cell shape.now base number) self.old.machine) }
+        ensures { HasEffect (storing_named (λ base. field_cell shape.now base number) self.old.machine) self.old result self.new }
+    {
+        let Some(base) = self.operands.second() else {
+            return Answer::Undefined;
+        };
+        let Some(value) = self.operands.top() else {
+            return Answer::Undefined;
+        };
+        self.store_cell(cell_of_field(shape, base, number), value)
+    }
+
+    #[inline(always)]
+    fn negate_top(&mut self) -> Answer
+        requires { FitsRoom self.old.operand_room (on_one negated self.old.machine) }
+        ensures { HasEffect (on_one negated self.old.machine) self.old result self.new }
+    {
+        let Some(top) = self.operands.top() else {
+            return Answer::Undefined;
+        };
+        self.replace_top(negate(top))
+    }
+
+    #[inline(always)]
+    fn check_owner(&mut self, shape: &Shape, number: u32, local: usize) -> Answer
+        requires { FitsRoom self.old.operand_room (on_one (owner_test shape.now number local self.old.machine.locals) self.old.machine) }
+        ensures { HasEffect (on_one (owner_test shape.now number local self.old.machine.locals) self.old.machine) self.old result self.new }
+    {
+        let Some(top) = self.operands.top() else {
+            return Answer::Undefined;
+        };
+        let owned = self.owned(shape, top, number, local);
+        self.replace_top(owned)
+    }
+
+    // A reference whose final reference names what a local does, or null.
+    #[inline(always)]
+    fn owned(
+        &self,
+        shape: &Shape,
+        value: Value,
+        number: u32,
+        local: usize,
+    ) -> Result<Value, Failure>
+        ensures { result ≡ owner_test shape.now number local self.now.machine.locals value }
+    {
+        let owner = value_at(&self.locals, local)?;
+        owned_by(shape, value, number, owner)
+    }
+
+    #[inline(always)]
+    fn not_top(&mut self) -> Answer
+        requires { FitsRoom self.old.operand_room (on_one negation self.old.machine) }
+        ensures { HasEffect (on_one negation self.old.machine) self.old result self.new }
+    {
+        let Some(top) = self.operands.top() else {
+            return Answer::Undefined;
+        };
+        self.replace_top(negate_truth(top))
+    }
+
+    #[inline(always)]
+    fn operate(&mut self, operator: Operator) -> Answer
+        requires { FitsRoom self.old.operand_room (on_both (on_values operator) self.old.machine) }
+        ensures { HasEffect (on_both (on_values operator) self.old.machine) self.old result self.new }
+    {
+        let Some(left) = self.operands.second() else {
+            return Answer::Undefined;
+        };
+        let Some(right) = self.operands.top() else {
+            return Answer::Undefined;
+        };
+        self.replace_two(operate(operator, left, right))
+    }
+
+    #[inline(always)]
+    fn test(&mut self, comparison: Comparison) -> Answer
+        requires { FitsRoom self.old.operand_room (testing comparison self.old.machine) }
+        ensures { HasEffect (testing comparison self.old.machine) self.old result self.new }
+    {
+        let Some(left) = self.operands.second() else {
+            return Answer::Undefined;
+        };
+        let Some(right) = self.operands.top() else {
+            return Answer::Undefined;
+        };
+        match compare(comparison, left, right) {
+            Ok(holds) => self.replace_two(Ok(truth_value(holds))),
+            Err(failure) => failed(failure),
+        }
+    }
+
+    #[inline(always)]
+    fn jump(&mut self, over: usize) -> Answer
+        requires { FitsRoom self.old.operand_room (jumps self.old.machine over self.old.machine.stack) }
+        ensures { HasEffect (jumps self.old.machine over self.old.machine.stack) self.old result self.new }
+    {
+        self.place += 1 + over;
+        Answer::Moved
+    }
+
+    #[inline(always)]
+    fn go_on(&mut self) -> Answer
+        requires { FitsRoom self.old.operand_room (advances self.old.machine self.old.machine.stack) }
+        ensures { HasEffect (advances self.old.machine self.old.machine.stack) self.old result self.new }
+    {
+        self.place += 1;
+        Answer::Moved
+    }
+
+    #[inline(always)]
+    fn jump_back(&mut self, back: usize) -> Answer
+        ensures { HasEffect (back_by back self.old.machine) self.old result self.new }
+    {
+        self.place = self.place.saturating_sub(back);
+        Answer::Moved
+    }
+
+    // Behind so many instructions, where the truth value on the top is this; it is taken off.
+    #[inline(always)]
+    fn branch(&mut self, over: usize, on: bool) -> Answer
+        requires { FitsRoom self.old.operand_room (branching on over self.old.machine) }
+        ensures { HasEffect (branching on over self.old.machine) self.old result self.new }
+    {
+        let Some(top) = self.operands.top() else {
+            return Answer::Undefined;
+        };
+        match truth_in(top) {
+            Ok(truth) => {
+                self.operands.pop();
+                if agrees(on, truth) {
+                    self.jump(over)
+                } else {
+                    self.go_on()
+                }
+            }
+            Err(failure) => failed(failure),
+        }
+    }
+
+    #[inline(always)]
+    fn print_top(&mut self) -> Answer
+        requires { FitsRoom self.old.operand_room (printing self.old.machine) }
+        ensures { HasEffect (printing self.old.machine) self.old result self.new }
+    {
+        let Some(top) = self.operands.top() else {
+            return Answer::Undefined;
+        };
+        match self.prints.print(top) {
+            Ok(()) => {
+                self.operands.pop();
+                self.place += 1;
+                Answer::Moved
+            }
+            Err(failure) => failed(failure),
+        }
+    }
+
+    #[inline(always)]
+    fn finish(&mut self) -> Answer
+        ensures { HasEffect (returning self.old.machine) self.old result self.new }
+    {
+        match self.operands.top() {
+            Some(value) => Answer::Finished(Outcome::Returns(value)),
+            None => Answer::Undefined,
+        }
+    }
+}
+
+impl<'p> Machine<'p> {
+    /// Does one instruction. The machine is moved where the answer says so, and else as it was; an instruction that asks for
+    /// locks doesn't move it yet.
+    #[inline]
+    pub fn step(&mut self, shape: &Shape, instruction: Instr) -> Answer
+        requires small { HasSmallCells self.old.machine.memory }
+        requires fits { FitsRoom self.old.operand_room (effect_of shape.now instruction self.old) }
+        ensures { HasEffect (effect_of shape.now instruction self.old) self.old result self.new }
+    {
+        match instruction {
+            Instr::PushNumber(number) => self.push(Value::Int(number)),
+            Instr::PushNull => self.push(Value::Ref(None)),
+            Instr::GetLocal(local) => self.get_local(local),
+            Instr::PutLocal(local) => self.put_local(local),
+            Instr::LoadGlobal(cell) => self.load_global(cell),
+            Instr::PutGlobal(cell) => self.put_global(cell),
+            Instr::LoadElement(array) => self.load_element(shape, array),
+            Instr::Bound(array) => self.bound(shape, array),
+            Instr::PutElement(array) => self.put_element(shape, array),
+            Instr::GetMember(pool) => self.get_member(shape, pool),
+            Instr::LoadFinal { number, .. } => self.load_final(shape, number),
+            Instr::LoadField { number, .. } => self.load_field(shape, number),
+            Instr::NonNull => self.check_null(),
+            Instr::PutField { number, .. } => self.put_field(shape, number),
+            Instr::Where { number, local, .. } => self.check_owner(shape, number, local as usize),
+            Instr::NegateTop => self.negate_top(),
+            Instr::NotTop => self.not_top(),
+            Instr::Operate(operator) => self.operate(operator),
+            Instr::Test(comparison) => self.test(comparison),
+            Instr::Jump(over) => self.jump(over),
+            Instr::JumpBack(back) => self.jump_back(back),
+            Instr::JumpIfFalse(over) => self.branch(over, false),
+            Instr::JumpIfTrue(over) => self.branch(over, true),
+            Instr::PrintTop => self.print_top(),
+            Instr::Acquire(point) => Answer::Asks(point),
+            Instr::Return => self.finish(),
+            Instr::End => Answer::Finished(Outcome::Ends),
+        }
+    }
+}

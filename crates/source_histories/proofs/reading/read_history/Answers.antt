@@ -1,0 +1,22 @@
+use Rattle.std.proofs.Common.{◌∙◌, sym, arith, Err, ◌≤◌, Option}
+use Rattle.source_histories.proofs.ReadingLemmas.{first_long, first_alone, first_bad, first_good, first_answers}
+use Rattle.source_histories.proofs.reading.read_history.Goals as goal
+
+pub returns-then-place-gt-MOST_BYTES : goal.returns-then-place-gt-MOST_BYTES
+returns-then-place-gt-MOST_BYTES c =
+    rw c.fault.ensures (first_long c.args.text.now c.place_of-place.result c.place_of-place.ensures.place c.place_of-place.ensures.bound (omega arith))
+
+pub returns-then-place-text : goal.returns-then-place-text
+returns-then-place-text c =
+    rw c.fault-then-place-text.ensures (first_alone c.args.text.now c.place_of-place.result c.place_of-place.ensures.place (omega arith) (omega arith))
+
+pub returns-in_default : goal.returns-in_default
+returns-in_default c =
+    rw c.fault-in_default.ensures
+    (first_bad c.args.text.now c.place_of-place.result c.place_of-place.ensures.place (omega arith) (omega arith) (sym c.format_of.ensures ∙ c.in_default.is))
+
+pub returns : goal.returns
+returns c =
+    first_answers _ _ c.in-Some.format c.lines.result
+    (first_good c.args.text.now c.place_of-place.result c.place_of-place.ensures.place c.in-Some.format (omega arith) (omega arith) (sym c.format_of.ensures ∙ c.in-Some.is))
+    (rw c.behind.ensures at c.lines.ensures)

@@ -1,0 +1,80 @@
+//! Why a file gives no history.
+
+ghost use Rattle.std.specs.Prelude.{◌≡◌};
+ghost use Rattle.source_histories.specs.declared.refusal.HistoryRefusal.TheVariants.{NoMemory};
+ghost use Rattle.source_histories.specs.Refusals.{code_name, code_text};
+
+use std::alloc::{AllocError, AllocFailed};
+
+/// What is wrong with a line. The documents call each by its printed name, `H1` to `H4`.
+#[derive(Clone, Copy, Debug, PartialEq, Eq)]
+pub enum HistoryCode {
+    /// `H1`: the first line names no format.
+    BadHeader,
+    /// `H2`: a line that may not stand there.
+    BadLine,
+    /// `H3`: the text ends before the line `end` does.
+    MissingEnd,
+    /// `H4`: a line of more than 1,024 bytes.
+    LongLine,
+}
+
+impl HistoryCode {
+    /// The code as it is printed, `H1` to `H4`.
+    pub fn name(self) -> &'static str
+        ensures { result.now ≡ code_name self }
+    {
+        match self {
+            HistoryCode::BadHeader => "H1",
+            HistoryCode::BadLine => "H2",
+            HistoryCode::MissingEnd => "H3",
+            HistoryCode::LongLine => "H4",
+        }
+    }
+
+    /// What the code says, in fixed words.
+    pub fn text(self) -> &'static str
+        ensures { result.now ≡ code_text self }
+    {
+        match self {
+            HistoryCode::BadHeader => "bad header",
+            HistoryCode::BadLine => "bad line",
+            HistoryCode::MissingEnd => "missing end",
+            HistoryCode::LongLine => "line too long",
+        }
+    }
+}
+
+/// A faulty line.
+#[derive(Clone, Copy, Debug, PartialEq, Eq)]
+pub struct HistoryFault {
+    /// What is wrong with it.
+    pub code: HistoryCode,
+    /// Its number, from 1.
+    pub line: usize,
+}
+
+/// Why a file gives no history.
+#[derive(Clone, Copy, Debug, PartialEq, Eq)]
+pub enum HistoryRefusal {
+    /// A line is faulty.
+    Fault(HistoryFault),
+    /// A growth was refused.
+    NoMemory,
+}
+
+impl From<AllocError> for HistoryRefusal {
+    ghost from_gives = { λ _ e. e ≡ NoMemory };
+
+    fn from(_e: AllocError) -> HistoryRefusal {
+        HistoryRefusal::NoMemory
+    }
+}
+
+impl<T: Drop> From<AllocFailed<T>> for HistoryRefusal {
+    ghost from_gives = { λ _ e. e ≡ NoMemory };
+
+    fn from(_e: AllocFailed<T>) -> HistoryRefusal {
+        HistoryRefusal::NoMemory
+    }
+}

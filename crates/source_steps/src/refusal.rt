@@ -1,0 +1,76 @@
+//! Why a steps file gives no turns.
+
+ghost use Rattle.std.specs.Prelude.{◌≡◌};
+ghost use Rattle.source_steps.specs.declared.refusal.StepsRefusal.TheVariants.{NoMemory};
+ghost use Rattle.source_steps.specs.Steps.{code_name, code_text};
+
+use std::alloc::{AllocError, AllocFailed};
+
+/// What is wrong with an item. The documents call each by its printed name, `S1` to `S3`.
+#[derive(Clone, Copy, Debug, PartialEq, Eq)]
+pub enum StepsCode {
+    /// `S1`: neither digits, nor digits on both sides of a `*`.
+    BadItem,
+    /// `S2`: no thread has this number.
+    NoSuchThread,
+    /// `S3`: with it the file has more than 10,000,000 steps.
+    TooManySteps,
+}
+
+impl StepsCode {
+    /// The code as it is printed, `S1` to `S3`.
+    pub fn name(self) -> &'static str
+        ensures { result.now ≡ code_name self }
+    {
+        match self {
+            StepsCode::BadItem => "S1",
+            StepsCode::NoSuchThread => "S2",
+            StepsCode::TooManySteps => "S3",
+        }
+    }
+
+    /// What the code says, in fixed words.
+    pub fn text(self) -> &'static str
+        ensures { result.now ≡ code_text self }
+    {
+        match self {
+            StepsCode::BadItem => "bad item",
+            StepsCode::NoSuchThread => "no such thread",
+            StepsCode::TooManySteps => "too many steps",
+        }
+    }
+}
+
+/// A faulty item.
+#[derive(Clone, Copy, Debug, PartialEq, Eq)]
+pub struct StepsFault {
+    /// What is wrong with it.
+    pub code: StepsCode,
+    /// The place of its first byte, from 0.
+    pub start: usize,
+}
+
+/// Why a steps file gives no turns.
+#[derive(Clone, Copy, Debug, PartialEq, Eq)]
+pub enum StepsRefusal {
+    /// An item is faulty.
+    Fault(StepsFault),
+    /// A growth was refused.
+    NoMemory,
+}
+
+impl From<AllocError> for StepsRefusal {
+    ghost from_gives = { λ _ e. e ≡ NoMemory };
+
+    fn from(_e: AllocError) -> StepsRefusal {
+        StepsRefusal::NoMemory
+    }
+}
+
+impl<T: Drop> From<AllocFailed<T>> for StepsRefusal {
+    ghost from_gives = { λ _ e. e ≡ NoMemory };
+
+    fn from(_e: AllocFailed<T>) -> StepsRefusal {
+        StepsRefusal::NoMemory
+    }
+}

@@ -1,0 +1,31 @@
+//! The line that reports a fault.
+
+ghost use Rattle.std.specs.Prelude.{◌≡◌, IfOk, string_bytes};
+ghost use Rattle.source_steps.specs.Steps.{steps_fault_text};
+
+use crate::refusal::StepsFault;
+use source::line::Place;
+use source::memory::NoMemory;
+use std::alloc::Global;
+
+/// The line that reports a fault of the steps file of this name: `FILE:LINE:COL: CODE TEXT`. Lines and columns count from
+/// 1, columns in bytes.
+///
+/// # Errors
+///
+/// Want of memory.
+pub fn steps_fault_line(
+    alloc: Global,
+    file: &str,
+    text: &[u8],
+    fault: StepsFault,
+) -> Result<String, NoMemory>
+    ensures { IfOk result (λ line. string_bytes line ≡ steps_fault_text file.now text.now fault) }
+{
+    let place = Place {
+        file,
+        text,
+        start: fault.start,
+    };
+    place.line(alloc, fault.code.name(), fault.code.text())
+}

@@ -1,5 +1,0 @@
-pub mod Turns
-pub mod Steps
--- what the public clauses cite
-pub use Rattle.steps.specs.Turns.{steps_of}
-pub use Rattle.steps.specs.Steps.{code_text, turns_in, steps_fault_text, Answers}

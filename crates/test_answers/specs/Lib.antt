@@ -1,0 +1,3 @@
+pub mod Lines
+-- what the public clauses cite
+pub use Rattle.test_answers.specs.Lines.{IsLineOf}

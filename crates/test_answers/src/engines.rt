@@ -1,0 +1,93 @@
+//! What the engines of the crate `driver` answer for a text.
+
+use driver::{
+    Looking, Sink, SourceText, Status, Streams, check, find_outcomes, list, order_graph, serial,
+    simulate,
+};
+use source::memory::NoMemory;
+use std::alloc::Global;
+use test_files::asked::Engine;
+
+/// How orders of calls are looked at.
+const LOOKING: Looking = Looking {
+    turns: 1000,
+    count: 1000,
+    seed: 0,
+};
+
+/// How an engine ended, and what it wrote.
+#[derive(Drop)]
+struct Outcome {
+    status: Status,
+    /// To the output.
+    written: String,
+    /// To standard error.
+    told: String,
+}
+
+/// The engine's answer for the text in a file called `F`, and, of `simulate`, the steps in a file called `T`.
+fn answer(alloc: Global, engine: Engine<'_>, text: &str) -> Result<Outcome, NoMemory> {
+    let mut source = SourceText::new("F", text.as_bytes());
+    let mut streams = Streams {
+        out: Sink::new(Vec::new(alloc)),
+        err: Sink::new(Vec::new(alloc)),
+    };
+    let status = match engine {
+        Engine::Check | Engine::Lists => check(alloc, &mut source, &mut streams),
+        Engine::Graph => order_graph(alloc, &mut source, &mut streams),
+        Engine::Listing => list(alloc, &mut source, &mut streams),
+        Engine::Serial(turns) => serial(alloc, turns, &mut source, &mut streams),
+        Engine::Outcomes => find_outcomes(alloc, LOOKING, &mut source, &mut streams),
+        Engine::Simulate(steps) => {
+            let mut steps = SourceText::new("T", steps.as_bytes());
+            simulate(alloc, &mut source, &mut steps, &mut streams)
+        }
+    };
+    let Streams { out, err } = streams;
+    // A vector fails as a writer where its growth is refused, and never else.
+    if status == Status::OutOfMemory || out.has_failed() || err.has_failed() {
+        return Err(NoMemory);
+    }
+    Ok(Outcome {
+        status,
+        written: String::from_utf8_lossy(alloc, out.into_writer().as_slice())?,
+        told: String::from_utf8_lossy(alloc, err.into_writer().as_slice())?,
+    })
+}
+
+/// The text without the line feed at its end.
+pub fn without_line_feed(text: &str) -> &str {
+    text.strip_suffix('\n').unwrap_or(text)
+}
+
+/// The text ahead of its first line feed, and whether nothing stands behind that.
+fn first_line(text: &str) -> (&str, bool) {
+    match text.split_once('\n') {
+        Some((line, rest)) => (line, rest.is_empty()),
+        None => (text, false),
+    }
+}
+
+/// What the engine answers, in words: where it is done and told nothing, what it wrote, without the last line feed, and of
+/// that the first line where just this is asked; where it refused the text with one line and wrote nothing, this line; else
+/// the exit status and both texts, so that nothing of an answer is passed over.
+pub fn said_by(alloc: Global, engine: Engine<'_>, text: &str) -> Result<String, NoMemory> {
+    let Outcome {
+        status,
+        written,
+        told,
+    } = answer(alloc, engine, text)?;
+    if status == Status::Done && told.is_empty() {
+        let said = match engine {
+            Engine::Check => first_line(written.as_str()).0,
+            _ => without_line_feed(written.as_str()),
+        };
+        return Ok(String::from_str(alloc, said)?);
+    }
+    let (line, is_one) = first_line(told.as_str());
+    if status == Status::Refused && written.is_empty() && is_one {
+        return Ok(String::from_str(alloc, line)?);
+    }
+    let code = status.code();
+    Ok(format!(in alloc; "status {code}, written {written:?}, told {told:?}")?)
+}

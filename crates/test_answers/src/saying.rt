@@ -1,0 +1,103 @@
+//! What is said of a text.
+
+ghost use Rattle.std.specs.Prelude.{IfOk};
+ghost use Rattle.core_lang.specs.WellFormed.{IsWellFormed};
+ghost use Rattle.lockpaths.specs.Paths.{ArePaths};
+ghost use Rattle.syntax.specs.Returns.{ReturnsRight};
+ghost use Rattle.syntax.specs.Views.{tree_of};
+
+use crate::analysing::Analysed;
+use crate::engines::{said_by, without_line_feed};
+use crate::reading::{line_of, read};
+use crate::rereading::difference;
+use crate::telling_tokens::tokens_said;
+use compiler::compile;
+use core_lang::typed::Typed;
+use core_lang_expansion::program::expand;
+use lockpaths::paths;
+use lockpaths::table::Paths;
+use source::memory::NoMemory;
+use std::alloc::Global;
+use syntax::print_tree;
+use syntax::tree::Tree;
+use test_files::asked::Asked;
+use types::program::check;
+
+/// The program that the tree of the text means, with its helpers written out, and its lock paths; or the line of the fault
+/// that it has.
+fn analysed(
+    alloc: Global,
+    text: &str,
+    tree: &Tree,
+) -> Result<Result<(Typed, Paths), String>, NoMemory>
+    requires { ReturnsRight (tree_of tree.now) }
+    ensures program { IfOk result (λ read. IfOk read (λ known. IsWellFormed known.0)) }
+    ensures paths { IfOk result (λ read. IfOk read (λ known. ArePaths known.0 known.1)) }
+{
+    let accepted = match check(alloc, tree) {
+        Ok(program) => program,
+        Err(refusal) => return Ok(Err(line_of(alloc, text, &refusal)?)),
+    };
+    let program = expand(alloc, &accepted)?;
+    match paths(alloc, &program) {
+        Ok(paths) => Ok(Ok((program, paths))),
+        Err(refusal) => Ok(Err(line_of(alloc, text, &refusal)?)),
+    }
+}
+
+/// What is said to what is asked of the lock paths of the text with this tree: to `points` of its points, and else of the
+/// lock paths; or the line of the fault that it has, where the order of its classes counts for none.
+fn of_paths(alloc: Global, asked: Asked<'_>, text: &str, tree: &Tree) -> Result<String, NoMemory>
+    requires { ReturnsRight (tree_of tree.now) }
+{
+    let (program, paths) = match analysed(alloc, text, tree)? {
+        Ok(known) => known,
+        Err(line) => return Ok(line),
+    };
+    let program = &program;
+    let told = Analysed { text, program };
+    match asked {
+        Asked::Points => told.points_said(alloc, &paths),
+        _ => told.paths_said(alloc, &paths),
+    }
+}
+
+/// What is said of the order of the lock classes of the text and of what that makes of points, or the line of its fault.
+fn of_order(alloc: Global, text: &str) -> Result<String, NoMemory> {
+    let program = match compile(alloc, text.as_bytes()) {
+        Ok(program) => program,
+        Err(refusal) => return line_of(alloc, text, &refusal),
+    };
+    let told = Analysed {
+        text,
+        program: program.typed(),
+    };
+    told.order_said(alloc, program.paths(), program.ranks())
+}
+
+/// What is said to what is asked of the tree of the text, or the line of its fault.
+fn of_tree(alloc: Global, asked: Asked<'_>, text: &str) -> Result<String, NoMemory> {
+    let tree = match read(alloc, text)? {
+        Ok(tree) => tree,
+        Err(line) => return Ok(line),
+    };
+    match asked {
+        Asked::Tree => Ok(String::from_str(alloc, "tree")?),
+        Asked::Print => {
+            let printed = print_tree(alloc, &tree)?;
+            Ok(String::from_str(alloc, without_line_feed(printed.as_str()))?)
+        }
+        Asked::Again => difference(alloc, text, &tree),
+        _ => of_paths(alloc, asked, text, &tree),
+    }
+}
+
+/// What is said of the text to what is asked.
+pub fn said_of(alloc: Global, asked: Asked<'_>, text: &str) -> Result<String, NoMemory> {
+    match asked {
+        Asked::Engine(engine) => said_by(alloc, engine, text),
+        Asked::Tokens => tokens_said(alloc, text, true),
+        Asked::Order => of_order(alloc, text),
+        _ => of_tree(alloc, asked, text),
+    }
+}

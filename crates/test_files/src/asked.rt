@@ -1,0 +1,91 @@
+//! What is asked of a text.
+
+ghost use Rattle.std.specs.Prelude.{◌≡◌, ◌↔◌, List, Some, ℕ, codes};
+ghost use Rattle.std.specs.Borrow.{Bor};
+ghost use Rattle.test_files.specs.Asking.{IsSerial, IsSimulate};
+
+/// An engine of the crate `driver` that is run on the text, and what is asked of its answer.
+#[derive(Clone, Copy)]
+pub enum Engine<'a> {
+    /// `check`: whether it accepts the text, or its fault.
+    Check,
+    /// `check`: all that it writes, which is the lock paths that are listed before each point.
+    Lists,
+    /// `order_graph`: the order of its lock classes as a graph.
+    Graph,
+    /// `list`: the instructions of each section.
+    Listing,
+    /// `serial`: the history within so many turns of each loop.
+    Serial(u64),
+    /// `find_outcomes`: how its cells can end, over the orders of its calls.
+    Outcomes,
+    /// `simulate`: the world after these steps.
+    Simulate(&'a str),
+}
+
+/// What is asked of a text.
+#[derive(Clone, Copy)]
+pub enum Asked<'a> {
+    /// What this engine answers.
+    Engine(Engine<'a>),
+    /// Its tokens.
+    Tokens,
+    /// Whether it has a tree, or its fault.
+    Tree,
+    /// Its tree printed.
+    Print,
+    /// Whether its tree, printed, is read again as the same.
+    Again,
+    /// The lock paths of its sections and points.
+    Paths,
+    /// The points of its sections, and what lock paths are to each.
+    Points,
+    /// The order of its lock classes, and what that makes of its points.
+    Order,
+}
+
+impl Asked<'_> {
+    /// What this word asks, if it is one of those below.
+    pub fn named(word: &str) -> Option<Asked<'_>>
+        ensures check { (result ≡ Some (Asked.Engine Engine.Check)) ↔ (word.now ≡ codes "check") }
+        ensures lists { (result ≡ Some (Asked.Engine Engine.Lists)) ↔ (word.now ≡ codes "lists") }
+        ensures graph { (result ≡ Some (Asked.Engine Engine.Graph)) ↔ (word.now ≡ codes "graph") }
+        ensures listing { (result ≡ Some (Asked.Engine Engine.Listing)) ↔ (word.now ≡ codes "listing") }
+        ensures serial { (turns : ℕ) → (result ≡ Some (Asked.Engine (Engine.Serial turns))) ↔ IsSerial word.now turns }
+        ensures outcomes { (result ≡ Some (Asked.Engine Engine.Outcomes)) ↔ (word.now ≡ codes "outcomes") }
+        ensures simulate { (steps : Bor (List ℕ)) → result ≡ Some (Asked.Engine (Engine.Simulate steps)) → IsSimulate word.now steps.now }
+        ensures steps { (s : List ℕ) → IsSimulate word.now s → (steps : Bor (List ℕ)) × (result ≡ Some (Asked.Engine (Engine.Simulate steps))) }
+        ensures tokens { (result ≡ Some Asked.Tokens) ↔ (word.now ≡ codes "tokens") }
+        ensures tree { (result ≡ Some Asked.Tree) ↔ (word.now ≡ codes "tree") }
+        ensures print { (result ≡ Some Asked.Print) ↔ (word.now ≡ codes "print") }
+        ensures again { (result ≡ Some Asked.Again) ↔ (word.now ≡ codes "again") }
+        ensures paths { (result ≡ Some Asked.Paths) ↔ (word.now ≡ codes "paths") }
+        ensures points { (result ≡ Some Asked.Points) ↔ (word.now ≡ codes "points") }
+        ensures order { (result ≡ Some Asked.Order) ↔ (word.now ≡ codes "order") }
+    {
+        if let Some(turns) = word.strip_prefix("serial ") {
+            return match turns.parse::<u64>() {
+                Ok(turns) => Some(Asked::Engine(Engine::Serial(turns))),
+                Err(_) => None,
+            };
+        }
+        if let Some(steps) = word.strip_prefix("simulate ") {
+            return Some(Asked::Engine(Engine::Simulate(steps)));
+        }
+        match word {
+            "check" => Some(Asked::Engine(Engine::Check)),
+            "lists" => Some(Asked::Engine(Engine::Lists)),
+            "graph" => Some(Asked::Engine(Engine::Graph)),
+            "listing" => Some(Asked::Engine(Engine::Listing)),
+            "outcomes" => Some(Asked::Engine(Engine::Outcomes)),
+            "tokens" => Some(Asked::Tokens),
+            "tree" => Some(Asked::Tree),
+            "print" => Some(Asked::Print),
+            "again" => Some(Asked::Again),
+            "paths" => Some(Asked::Paths),
+            "points" => Some(Asked::Points),
+            "order" => Some(Asked::Order),
+            _ => None,
+        }
+    }
+}

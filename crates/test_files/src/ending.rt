@@ -1,0 +1,109 @@
+//! How the program ended.
+
+ghost use Rattle.std.specs.Prelude.{◌≡◌, ◌↔◌};
+ghost use Rattle.test_files.specs.Telling.{stop_text};
+
+use source::memory::NoMemory;
+use std::{fmt, io};
+
+/// How the program ended.
+#[derive(Clone, Copy)]
+pub enum Ending {
+    /// 0: of every case is said what is wanted.
+    AllAsWanted,
+    /// 1: of some case something else is said.
+    SomeNotAsWanted,
+    /// 3: a file could not be read, or the report not be written.
+    Failed,
+    /// 4: a growth was refused.
+    OutOfMemory,
+}
+
+impl Ending {
+    /// The exit status of the process.
+    pub fn code(self) -> u8
+        ensures as_wanted { (result ≡ 0) ↔ (self ≡ Ending.AllAsWanted) }
+        ensures not_as_wanted { (result ≡ 1) ↔ (self ≡ Ending.SomeNotAsWanted) }
+        ensures failed { (result ≡ 3) ↔ (self ≡ Ending.Failed) }
+        ensures memory { (result ≡ 4) ↔ (self ≡ Ending.OutOfMemory) }
+    {
+        match self {
+            Ending::AllAsWanted => 0,
+            Ending::SomeNotAsWanted => 1,
+            Ending::Failed => 3,
+            Ending::OutOfMemory => 4,
+        }
+    }
+
+    /// How two parts ended together: as the first, unless all was as wanted there.
+    pub fn and(self, other: Ending) -> Ending
+        ensures { (result ≡ Ending.AllAsWanted) ↔ ((self ≡ Ending.AllAsWanted) × (other ≡ Ending.AllAsWanted)) }
+    {
+        match self {
+            Ending::AllAsWanted => other,
+            _ => self,
+        }
+    }
+}
+
+/// Why the program stopped before it had judged everything.
+#[derive(Clone, Copy)]
+pub enum Stop {
+    /// A file could not be read, or the report not be written.
+    Failed,
+    /// A growth was refused.
+    OutOfMemory,
+}
+
+impl Stop {
+    /// How the program ends for it.
+    pub fn ending(self) -> Ending
+        ensures failed { (result ≡ Ending.Failed) ↔ (self ≡ Stop.Failed) }
+        ensures memory { (result ≡ Ending.OutOfMemory) ↔ (self ≡ Stop.OutOfMemory) }
+    {
+        match self {
+            Stop::Failed => Ending::Failed,
+            Stop::OutOfMemory => Ending::OutOfMemory,
+        }
+    }
+
+    /// Why, in words.
+    #[tactic(auto, unfolding(crate::specs::Telling::stop_text))]
+    fn text(self) -> &'static str
+        ensures { result.now ≡ stop_text self }
+    {
+        match self {
+            Stop::Failed => "cannot read it, or write what came of it",
+            Stop::OutOfMemory => "no memory",
+        }
+    }
+}
+
+impl fmt::Display for Stop {
+    ghost use Rattle.std.specs.Prelude.{Some};
+
+    ghost output = { λ stop. Some (stop_text stop) };
+
+    fn fmt<W: fmt::Write>(&self, f: &mut fmt::Formatter<W>) -> fmt::Result {
+        f.write_str(self.text())
+    }
+}
+
+impl From<NoMemory> for Stop {
+    ghost use Rattle.test_files.specs.declared.ending.Stop.TheVariants.{OutOfMemory};
+
+    ghost from_gives = { λ _ stop. stop ≡ OutOfMemory };
+
+    fn from(_e: NoMemory) -> Stop {
+        Stop::OutOfMemory
+    }
+}
+
+impl From<io::Error> for Stop {
+    fn from(e: io::Error) -> Stop {
+        match e.kind() {
+            io::ErrorKind::OutOfMemory => Stop::OutOfMemory,
+            _ => Stop::Failed,
+        }
+    }
+}

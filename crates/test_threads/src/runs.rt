@@ -1,0 +1,218 @@
+//! Runs of a scene.
+
+ghost use Rattle.std.specs.Prelude.{◌≡◌, ◌≤◌, IfOk, IfSome};
+ghost use Rattle.core_lang.specs.Typing.{HasCells};
+ghost use Rattle.workers.specs.Seats.{new_seats};
+
+use crate::scene::Scene;
+use crate::stage::Stage;
+use crate::told::{say_agreement, say_done, say_history};
+use crate::turns::{Answered, Turns, all_at_once, one_by_one, take_turn};
+use compiler::compile;
+use lowering::compiled::Program;
+use std::alloc::Global;
+use std::marker::Brand;
+use std::sync::Wait;
+use std::test::Fail;
+use std::thread::Threads;
+use workers::closed::{Closed, Strange};
+use workers::seat::Seat;
+use workers::shared::Shared;
+use workers::threads::run_threads;
+use workers_copies::naming::Naming;
+use workers_copies::row::Row;
+
+/// What is said where the scene's seats call one after another, and so many of them close.
+pub fn in_turn<R: Wait>(
+    rt: &R,
+    alloc: Global,
+    scene: &Scene<'_>,
+    closing: usize,
+) -> Result<String, Fail> {
+    let program = compile(alloc, scene.text.as_bytes())?;
+    said_in_turn::<Brand, R>(rt, alloc, &program, scene, closing)
+}
+
+/// What is said where the scene's seats call from a thread each.
+pub fn side_by_side<R: Threads + Wait + Sync>(
+    rt: &R,
+    alloc: Global,
+    scene: &Scene<'_>,
+) -> Result<String, Fail> {
+    let program = compile(alloc, scene.text.as_bytes())?;
+    said_side_by_side::<Brand, R>(rt, alloc, &program, scene)
+}
+
+/// What is said where two seats of the scene call one after another, with whether what one has seen begins what the other
+/// has, both ways, before that and after.
+pub fn in_agreement<R: Wait>(rt: &R, alloc: Global, scene: &Scene<'_>) -> Result<String, Fail> {
+    let program = compile(alloc, scene.text.as_bytes())?;
+    said_in_agreement::<Brand, R>(rt, alloc, &program, scene)
+}
+
+/// What is said where a thread runs each script of the scene's text.
+pub fn by_threads<R: Threads + Wait + Sync>(
+    rt: &R,
+    alloc: Global,
+    scene: &Scene<'_>,
+) -> Result<String, Fail> {
+    let program = compile(alloc, scene.text.as_bytes())?;
+    let stage = Stage::new(scene);
+    let closed = run_threads(rt, alloc, &program, &stage)?;
+    with_patience(history_of(alloc, &program, &closed), &stage)
+}
+
+// What `in_turn` says of the program that `J` names.
+fn said_in_turn<J: Naming, R: Wait>(
+    rt: &R,
+    alloc: Global,
+    program: &Program,
+    scene: &Scene<'_>,
+    closing: usize,
+) -> Result<String, Fail>
+    requires { program.now ≡ J.plan }
+{
+    let count = seats_of(scene)?;
+    let row = Row::new(alloc)?;
+    let (shared, seats): (Shared<'_, J>, Vec<Seat<'_, J>>) = Shared::open(
+        &row, alloc, program, count,
+    )?;
+    let stage = Stage::new(scene);
+    let turns = one_by_one(rt, alloc, &shared, seats, &stage)?;
+    with_patience(said_of(alloc, program, shared, turns, closing), &stage)
+}
+
+// What `side_by_side` says of the program that `J` names.
+fn said_side_by_side<J: Naming + Send + Sync, R: Threads + Wait + Sync>(
+    rt: &R,
+    alloc: Global,
+    program: &Program,
+    scene: &Scene<'_>,
+) -> Result<String, Fail>
+    requires { program.now ≡ J.plan }
+{
+    let count = seats_of(scene)?;
+    let row = Row::new(alloc)?;
+    let (shared, seats): (Shared<'_, J>, Vec<Seat<'_, J>>) = Shared::open(
+        &row, alloc, program, count,
+    )?;
+    let stage = Stage::new(scene);
+    let turns = all_at_once(rt, alloc, &shared, seats, &stage)?;
+    with_patience(
+        said_of(alloc, program, shared, turns, scene.calls.len()),
+        &stage,
+    )
+}
+
+// What `in_agreement` says of the program that `J` names.
+fn said_in_agreement<J: Naming, R: Wait>(
+    rt: &R,
+    alloc: Global,
+    program: &Program,
+    scene: &Scene<'_>,
+) -> Result<String, Fail>
+    requires { program.now ≡ J.plan }
+{
+    let row = Row::new(alloc)?;
+    let (shared, seats): (Shared<'_, J>, Vec<Seat<'_, J>>) = Shared::open(&row, alloc, program, 2)?;
+    let Some((mut one, mut other)) = two_of(&row, seats) else {
+        return Err(Fail::new("there aren't two seats"));
+    };
+    let stage = Stage::new(scene);
+    let said = agreement(rt, alloc, &shared, &mut one, &mut other, &stage);
+    with_patience(said, &stage)
+}
+
+// What two seats that call one after another are answered, and how they agree before that and after.
+fn agreement<'r, J: Naming, R: Wait>(
+    rt: &R,
+    alloc: Global,
+    shared: &Shared<'_, J>,
+    one: &mut Seat<'r, J>,
+    other: &mut Seat<'r, J>,
+    stage: &Stage<'_>,
+) -> Result<String, Fail>
+    requires { one.old.row ≡ other.old.row }
+{
+    let mut said = String::new(alloc);
+    say_agreement(&mut said, one, other)?;
+    say_done(&mut said, 0, take_turn(rt, shared, one, stage))?;
+    say_done(&mut said, 1, take_turn(rt, shared, other, stage))?;
+    say_agreement(&mut said, one, other)?;
+    Ok(said)
+}
+
+// Two seats of a row.
+fn two_of<'r, J: Naming>(
+    row: &'r Row<J>,
+    seats: Vec<Seat<'r, J>>,
+) -> Option<(Seat<'r, J>, Seat<'r, J>)>
+    requires { seats.items ≡ new_seats row.now 2 }
+    ensures { IfSome result (λ two. two.0.row ≡ two.1.row) }
+{
+    let _row = row;
+    let mut seats = seats;
+    let other = seats.pop()?;
+    let one = seats.pop()?;
+    Some((one, other))
+}
+
+// How many seats a scene has.
+fn seats_of(scene: &Scene<'_>) -> Result<u32, Fail>
+    ensures { IfOk result (λ count. count ≤ 64) }
+{
+    let count = scene.calls.len();
+    if count > 64 {
+        return Err(Fail::new("there are too many seats"));
+    }
+    Ok(count as u32)
+}
+
+// What is said of turns, and of the end where so many of the seats close.
+fn said_of<J: Naming>(
+    alloc: Global,
+    program: &Program,
+    shared: Shared<'_, J>,
+    turns: Turns<'_, J>,
+    closing: usize,
+) -> Result<String, Fail>
+    requires { program.now ≡ J.plan }
+{
+    let mut said = String::new(alloc);
+    let Turns { mut seats, answers } = turns;
+    let answered = say_answers(&mut said, answers);
+    seats.truncate(closing);
+    let closed = shared.close(seats);
+    // Only here, so that less is let go where memory is refused.
+    answered?;
+    match closed {
+        Ok(closed) => say_history(&mut said, program, &closed)?,
+        Err(Strange) => said.push_str("strange\n")?,
+    }
+    Ok(said)
+}
+
+fn say_answers(said: &mut String, answers: Vec<Answered>) -> Result<(), Fail> {
+    for (thread, answer) in answers.into_iter().enumerate() {
+        say_done(said, thread, answer)?;
+    }
+    Ok(())
+}
+
+// What is said of a history.
+fn history_of(alloc: Global, program: &Program, closed: &Closed<'_>) -> Result<String, Fail>
+    requires { HasCells program.now.program closed.now.values }
+{
+    let mut said = String::new(alloc);
+    say_history(&mut said, program, closed)?;
+    Ok(said)
+}
+
+// What is said, if it could be, and whether a thread waited in vain.
+fn with_patience(said: Result<String, Fail>, stage: &Stage<'_>) -> Result<String, Fail> {
+    let mut said = said?;
+    if stage.gave_up() {
+        said.push_str("a thread waited in vain\n")?;
+    }
+    Ok(said)
+}

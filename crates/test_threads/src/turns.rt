@@ -1,0 +1,126 @@
+//! Seats that call, each once.
+
+ghost use Rattle.std.specs.Prelude.{◌≡◌};
+ghost use denote.Param.Send.{IsSend, IsSync};
+ghost use Rattle.lowering.specs.contracts.compiled.Program as program;
+
+use crate::scene::Mark;
+use crate::stage::Stage;
+use core_lang::calls::can_call;
+use source::memory::NoMemory;
+use std::alloc::Global;
+use std::sync::Wait;
+use std::thread;
+use std::thread::Threads;
+use workers::seat::{CallRefusal, Done, Seat};
+use workers::shared::Shared;
+use workers_copies::naming::Naming;
+
+/// What a call was answered.
+pub type Answered = Result<Done, CallRefusal>;
+
+/// Seats that have called, and what they were answered, in the same order.
+#[derive(Drop)]
+pub struct Turns<'r, J: Naming> {
+    pub seats: Vec<Seat<'r, J>>,
+    pub answers: Vec<Answered>,
+}
+
+/// The seats call one after another.
+pub fn one_by_one<'r, J: Naming, R: Wait>(
+    rt: &R,
+    alloc: Global,
+    shared: &Shared<'_, J>,
+    seats: Vec<Seat<'r, J>>,
+    stage: &Stage<'_>,
+) -> Result<Turns<'r, J>, NoMemory> {
+    let mut after = Vec::new(alloc);
+    let mut answers = Vec::new(alloc);
+    for seat in seats {
+        let mut seat = seat;
+        answers.push(take_turn(rt, shared, &mut seat, stage))?;
+        after.push(seat)?;
+    }
+    Ok(Turns {
+        seats: after,
+        answers,
+    })
+}
+
+/// The seats call from a thread each.
+pub fn all_at_once<'r, J: Naming + Send + Sync, R: Threads + Wait + Sync>(
+    rt: &R,
+    alloc: Global,
+    shared: &Shared<'_, J>,
+    seats: Vec<Seat<'r, J>>,
+    stage: &Stage<'_>,
+) -> Result<Turns<'r, J>, NoMemory> {
+    lowering::laws::programs_are_shared();
+    let mut seats = seats;
+    let lent = &mut seats;
+    let answers = thread::scope(
+        thread::scope_env(),
+        rt,
+        move |scope| -> Result<Vec<Answered>, NoMemory>
+            requires { IsSync R.row × IsSync J.row × IsSend J.row × IsSync program.the_row }
+        {
+            let mut handles = Vec::new(alloc);
+            let mut answers = Vec::new(alloc);
+            let each = lent.iter_mut();
+            for seat in each {
+                let started = scope.spawn(move || -> Answered {
+                    take_turn(rt, shared, seat, stage)
+                });
+                let Ok(handle) = started else {
+                    return Err(NoMemory);
+                };
+                handles.push(handle)?;
+            }
+            for handle in handles {
+                answers.push(handle.join(rt))?;
+            }
+            Ok(answers)
+        },
+    );
+    match answers {
+        Ok(answers) => Ok(Turns { seats, answers }),
+        Err(NoMemory) => Err(NoMemory),
+    }
+}
+
+/// A seat calls.
+pub fn take_turn<J: Naming, R: Wait>(
+    rt: &R,
+    shared: &Shared<'_, J>,
+    seat: &mut Seat<'_, J>,
+    stage: &Stage<'_>,
+) -> Answered
+    ensures { seat.new.row ≡ seat.old.row }
+{
+    let thread = seat.thread();
+    stage.come(thread, Mark::Ready);
+    let answer = match call(rt, shared, seat, stage) {
+        // What is refused memory changes nothing, so that it may be made again (`tests/refused_memory.sh`).
+        Err(CallRefusal::NoMemory) => call(rt, shared, seat, stage),
+        answer => answer,
+    };
+    stage.come(thread, Mark::Over);
+    answer
+}
+
+fn call<J: Naming, R: Wait>(
+    rt: &R,
+    shared: &Shared<'_, J>,
+    seat: &mut Seat<'_, J>,
+    stage: &Stage<'_>,
+) -> Answered
+    ensures { seat.new.row ≡ seat.old.row }
+{
+    let Some(call) = stage.call_of(seat.thread()) else {
+        return Err(CallRefusal::Strange);
+    };
+    if !can_call(shared.program().typed(), call.section, call.arguments) {
+        return Err(CallRefusal::Strange);
+    }
+    shared.call(rt, seat, call.section, call.arguments, stage)
+}

@@ -1,8 +1,0 @@
-use Rattle.std.proofs.Common.{take}
-use Rattle.source.specs.Tokens.{seen}
-use Rattle.token_notes.specs.Expected.{StartBefore}
-use Rattle.token_notes.proofs.trial.place_of.Given as goal
-
--- the tokens so far start before
-abbrev pub invariant-loop-number : goal.invariant-loop-number
-invariant-loop-number l = StartBefore (take l.number (seen l.tokens)) l.start

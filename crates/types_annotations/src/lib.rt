@@ -1,0 +1,12 @@
+//! Annotations: which lock protects a global, an array or a field, and what is wrong with each.
+//!
+//! - [`class_of`], [`note_lock`]: of a global or an array.
+//! - [`protection_of`], [`note_protection`]: of a field.
+//!
+//! Where a walk along an annotation stands is said in `specs/Working/AnnotationCursors.antt`. Which lock an annotation names, and
+//! where its faults stand, is defined in `resolution`.
+#![tactic(auto)]
+
+mod annotation;
+
+pub use annotation::{class_of, note_lock, note_protection, protection_of};

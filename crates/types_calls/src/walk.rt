@@ -1,0 +1,210 @@
+//! Statements, with the locals in scope.
+
+ghost use Rattle.std.specs.Prelude.{◌≡◌, ◌+◌, ◌++◌, [], ◌∷◌, OnOk, map};
+ghost use Rattle.syntax.specs.Theory.Rows.{while_of};
+ghost use Rattle.syntax.specs.Views.{ident, decl_of, stmt_of, if_of, stmts_of, local_of, called_local_of, helper_call_of, else_of, param_of, type_of as type_seen};
+ghost use Rattle.core_lang.specs.declared.tree.LocalKind.TheVariants.{Let, Parameter};
+ghost use Rattle.resolution.specs.Scopes.{bound, entered, meaning, type_of};
+ghost use Rattle.resolution.specs.Statements.{after, after_else, after_all};
+ghost use Rattle.resolution.specs.CallGraphs.{call_sites, stmt_calls, else_calls, stmts_calls, stmt_points, else_points, stmts_points};
+ghost use Rattle.types_symbols.specs.{decls_of};
+ghost use Rattle.types_calls.specs.Working.Walks.{scope_at, number_meant, behind_block};
+
+use core_lang::tree::LocalKind;
+use core_lang_calls::graph::CallSite;
+use std::alloc::{AllocError, Global};
+use syntax::tree;
+use syntax::tree::{Block, Decl, HelperCall, If, Name, Param, Stmt};
+use types_symbols::scope::{Locals, Meaning, meaning_at, type_at, type_outside};
+use types_symbols::table::SymbolTable;
+
+/// How far a walk over statements has come.
+#[derive(Drop)]
+pub struct Walk {
+    /// The locals up to there.
+    pub locals: Locals,
+    /// The calls of helpers up to there.
+    pub calls: Vec<CallSite>,
+    /// How many statements up to there are points by themselves.
+    pub points: usize,
+}
+
+impl Walk {
+    // One more point. More of them than a number counts are in no text that fits memory.
+    fn point(&mut self) -> Result<(), AllocError>
+        ensures locals { self.new.locals ≡ self.old.locals }
+        ensures calls { self.new.calls ≡ self.old.calls }
+        ensures points { OnOk result (self.new.points ≡ self.old.points + 1) }
+    {
+        let Some(points) = self.points.checked_add(1) else {
+            return Err(AllocError);
+        };
+        self.points = points;
+        Ok(())
+    }
+}
+
+/// Reads the calls of a section or a helper: knows what is declared.
+#[derive(Clone, Copy)]
+pub struct Reader<'a> {
+    /// Where memory is taken.
+    pub alloc: Global,
+    /// What is declared.
+    pub symbols: &'a SymbolTable<'a>,
+}
+
+impl Reader<'_> {
+    // The number of the helper that a name means, if it means one.
+    fn number(&self, locals: &Locals, name: &Name) -> Option<usize>
+        ensures { result ≡ number_meant (decls_of self.now.symbols.now) (meaning (scope_at self.now locals.now) (ident name.now).text) }
+    {
+        match meaning_at(self.symbols, locals, name) {
+            Meaning::Decl(place, d) => match d {
+                Decl::Helper(_) => Some(self.symbols.number(place, d)),
+                _ => None,
+            },
+            Meaning::Local(_, _) | Meaning::Nothing => None,
+        }
+    }
+
+    // A call, if it is one of a helper.
+    fn call(&self, call: &HelperCall, is_bound: bool, walk: &mut Walk) -> Result<(), AllocError>
+        ensures locals { walk.new.locals ≡ walk.old.locals }
+        ensures calls { OnOk result (walk.new.calls.items ≡ walk.old.calls.items ++ call_sites (scope_at self.now walk.old.locals) is_bound (helper_call_of call.now)) }
+        ensures points { walk.new.points ≡ walk.old.points }
+    {
+        if let Some(helper) = self.number(&walk.locals, &call.helper) {
+            walk.calls.push(CallSite {
+                helper,
+                start: call.helper.start as usize,
+                is_bound,
+            })?;
+        }
+        Ok(())
+    }
+
+    // A local, in scope from here on.
+    fn bind(
+        &self,
+        name: &Name,
+        kind: LocalKind,
+        value_type: &tree::ValueType,
+        locals: &mut Locals,
+    ) -> Result<(), AllocError>
+        ensures { OnOk result (scope_at self.now locals.new ≡ bound (scope_at self.now locals.old) kind (ident name.now) (type_of (scope_at self.now locals.old) (type_seen value_type.now))) }
+    {
+        let value_type = type_at(self.symbols, locals, value_type);
+        locals.bind(self.alloc, name, kind, value_type)
+    }
+
+    /// The parameters of a section or a helper.
+    pub fn params(&self, params: &[Param], locals: &mut Locals) -> Result<(), AllocError>
+        ensures { OnOk result (scope_at self.now locals.new ≡ entered (scope_at self.now locals.old) (map param_of params.now)) }
+    {
+        for param in params {
+            let value_type = type_outside(self.symbols, &param.value_type);
+            locals.bind(self.alloc, &param.name, LocalKind::Parameter, value_type)?;
+        }
+        Ok(())
+    }
+
+    // A `let` or `var` with its value.
+    fn local(&self, kind: LocalKind, local: &tree::Local, walk: &mut Walk) -> Result<(), AllocError>
+        ensures scope { OnOk result (scope_at self.now walk.new.locals ≡ bound (scope_at self.now walk.old.locals) kind (local_of local.now).name (type_of (scope_at self.now walk.old.locals) (local_of local.now).value_type)) }
+        ensures calls { OnOk result (walk.new.calls ≡ walk.old.calls) }
+        ensures points { OnOk result (walk.new.points ≡ walk.old.points + 1) }
+    {
+        walk.point()?;
+        self.bind(&local.name, kind, &local.value_type, &mut walk.locals)
+    }
+
+    // A statement.
+    #[cycle(stmts)]
+    fn stmt(&self, s: &Stmt, walk: &mut Walk) -> Result<(), AllocError>
+        ensures scope { OnOk result (scope_at self.now walk.new.locals ≡ after (scope_at self.now walk.old.locals) (stmt_of s.now)) }
+        ensures calls { OnOk result (walk.new.calls.items ≡ walk.old.calls.items ++ stmt_calls (scope_at self.now walk.old.locals) (stmt_of s.now)) }
+        ensures points { OnOk result (walk.new.points ≡ walk.old.points + stmt_points (stmt_of s.now)) }
+    {
+        match s {
+            Stmt::Let(local) => self.local(LocalKind::Let, local, walk),
+            Stmt::LetOwned(owned) => self.local(LocalKind::Let, &owned.local, walk),
+            Stmt::LetCall(local) => {
+                self.call(&local.call, true, walk)?;
+                self.bind(
+                    &local.name,
+                    LocalKind::Let,
+                    &local.value_type,
+                    &mut walk.locals,
+                )
+            }
+            Stmt::Var(local) => self.local(LocalKind::Var, local, walk),
+            Stmt::If(choice) => self.choice(choice, walk),
+            Stmt::While(repetition) => self.repetition(repetition, walk),
+            Stmt::Assign(_, _) | Stmt::Print(_, _) => walk.point(),
+            Stmt::Return(_, _) => Ok(()),
+            Stmt::Call(_, call) => self.call(call, false, walk),
+        }
+    }
+
+    // A loop.
+    #[cycle(stmts)]
+    fn repetition(&self, repetition: &tree::While, walk: &mut Walk) -> Result<(), AllocError>
+        ensures scope { OnOk result (scope_at self.now walk.new.locals ≡ after (scope_at self.now walk.old.locals) (while_of repetition.now)) }
+        ensures calls { OnOk result (walk.new.calls.items ≡ walk.old.calls.items ++ stmt_calls (scope_at self.now walk.old.locals) (while_of repetition.now)) }
+        ensures points { OnOk result (walk.new.points ≡ walk.old.points + stmt_points (while_of repetition.now)) }
+    {
+        walk.point()?;
+        self.block(&repetition.block, walk)
+    }
+
+    // A choice.
+    #[cycle(stmts)]
+    fn choice(&self, choice: &If, walk: &mut Walk) -> Result<(), AllocError>
+        ensures scope { OnOk result (scope_at self.now walk.new.locals ≡ after (scope_at self.now walk.old.locals) (if_of choice.now)) }
+        ensures calls { OnOk result (walk.new.calls.items ≡ walk.old.calls.items ++ stmt_calls (scope_at self.now walk.old.locals) (if_of choice.now)) }
+        ensures points { OnOk result (walk.new.points ≡ walk.old.points + stmt_points (if_of choice.now)) }
+    {
+        walk.point()?;
+        self.block(&choice.block, walk)?;
+        self.otherwise(&choice.otherwise, walk)
+    }
+
+    // What stands behind `else`.
+    #[cycle(stmts)]
+    fn otherwise(&self, other: &Option<Block>, walk: &mut Walk) -> Result<(), AllocError>
+        ensures scope { OnOk result (scope_at self.now walk.new.locals ≡ after_else (scope_at self.now walk.old.locals) (else_of other.now)) }
+        ensures calls { OnOk result (walk.new.calls.items ≡ walk.old.calls.items ++ else_calls (scope_at self.now walk.old.locals) (else_of other.now)) }
+        ensures points { OnOk result (walk.new.points ≡ walk.old.points + else_points (else_of other.now)) }
+    {
+        match other {
+            Some(block) => self.block(block, walk),
+            None => Ok(()),
+        }
+    }
+
+    // A block. Its locals are out of scope behind it.
+    #[cycle(stmts)]
+    fn block(&self, block: &Block, walk: &mut Walk) -> Result<(), AllocError>
+        ensures scope { OnOk result (scope_at self.now walk.new.locals ≡ behind_block (scope_at self.now walk.old.locals) (stmts_of block.now.stmts.items)) }
+        ensures calls { OnOk result (walk.new.calls.items ≡ walk.old.calls.items ++ stmts_calls (scope_at self.now walk.old.locals) (stmts_of block.now.stmts.items)) }
+        ensures points { OnOk result (walk.new.points ≡ walk.old.points + stmts_points (stmts_of block.now.stmts.items)) }
+    {
+        let ahead = walk.locals.len();
+        self.stmts(&block.stmts, walk)?;
+        walk.locals.hide_from(ahead);
+        Ok(())
+    }
+
+    /// Statements, one after another.
+    #[cycle(stmts)]
+    pub fn stmts(&self, stmts: &[Stmt], walk: &mut Walk) -> Result<(), AllocError>
+        ensures scope { OnOk result (scope_at self.now walk.new.locals ≡ after_all (scope_at self.now walk.old.locals) (stmts_of stmts.now)) }
+        ensures calls { OnOk result (walk.new.calls.items ≡ walk.old.calls.items ++ stmts_calls (scope_at self.now walk.old.locals) (stmts_of stmts.now)) }
+        ensures points { OnOk result (walk.new.points ≡ walk.old.points + stmts_points (stmts_of stmts.now)) }
+    {
+        for s in stmts {
+            self.stmt(s, walk)?;
+        }
+        Ok(())
+    }
+}

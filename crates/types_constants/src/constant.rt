@@ -1,0 +1,277 @@
+//! Constants.
+
+ghost use Rattle.std.specs.Prelude.{◌≡◌, IfOk, option_map, is_some};
+ghost use Rattle.syntax.specs.Trees.{member_const};
+ghost use Rattle.syntax.specs.Views.{ident, const_of, option_of, param_of};
+ghost use Rattle.resolution.specs.Scopes.{the_decl};
+ghost use Rattle.resolution.specs.Constants.{const_sort, const_value, typed_const, want_of, opened, default_of, member_sort, member_of};
+ghost use Rattle.resolution.specs.Faults.{const_start};
+ghost use Rattle.source.specs.Mistakes.{least_of};
+ghost use Rattle.resolution.specs.Working.FaultLists.{own_faults, sort_misfit, const_faults, opening_faults};
+ghost use Rattle.types_symbols.specs.{decls_of};
+ghost use Rattle.types_expressions.specs.Working.Parts.{pushed};
+ghost use Rattle.types_constants.specs.Working.Values.{arguments_of, argument_faults_of};
+
+use core_lang::value::{Value, ValueType};
+use resolution::wanted::{Sort, Want};
+use source::fault::Code;
+use source::mistake::{Mistake, note};
+use source::token::Number;
+use std::alloc::{AllocError, Global};
+use syntax::tree::{Const, Decl, Name, Param};
+use types_expressions::wanted::{fits_sort, note_number, number, want};
+use types_symbols::note::note_if;
+use types_symbols::scope::{Meaning, note_unfit, struct_named, type_outside};
+use types_symbols::table::SymbolTable;
+
+/// What a constant is, if it has a type.
+fn const_sort(symbols: &SymbolTable, c: &Const) -> Option<Sort>
+    ensures { result ≡ const_sort (decls_of symbols.now) (const_of c.now) }
+{
+    match c {
+        Const::Int(n) | Const::Negative(_, n) => match number(*n) {
+            Some(_) => Some(Sort::Of(ValueType::Integer)),
+            None => None,
+        },
+        Const::Null(_) => Some(Sort::Null),
+        Const::Member(name, _) => member_sort(symbols, name),
+    }
+}
+
+/// What a member of a pool is, if its struct has no fault.
+fn member_sort(symbols: &SymbolTable, name: &Name) -> Option<Sort>
+    ensures { result ≡ member_sort (decls_of symbols.now) (the_decl (decls_of symbols.now) (ident name.now).text) }
+{
+    match symbols.find(name.text.as_str()) {
+        Some((_, Decl::Pool(pool))) => match struct_named(symbols, &pool.target) {
+            Some(number) => Some(Sort::Of(ValueType::Reference(number))),
+            None => None,
+        },
+        _ => None,
+    }
+}
+
+/// The member of a pool with this index.
+fn member_of(symbols: &SymbolTable, name: &Name, index: u64) -> Option<Value>
+    ensures { result ≡ member_of (decls_of symbols.now) (the_decl (decls_of symbols.now) (ident name.now).text) index }
+{
+    match symbols.find(name.text.as_str()) {
+        Some((place, Decl::Pool(pool))) => {
+            if index < pool.length.value {
+                Some(Value::Ref(Some(symbols.object(place, index))))
+            } else {
+                None
+            }
+        }
+        _ => None,
+    }
+}
+
+/// The value of a constant.
+fn const_value(symbols: &SymbolTable, c: &Const) -> Option<Value>
+    ensures { result ≡ const_value (decls_of symbols.now) (const_of c.now) }
+{
+    match c {
+        Const::Int(n) => match number(*n) {
+            Some(value) => Some(Value::Int(value)),
+            None => None,
+        },
+        Const::Negative(_, n) => match number(*n) {
+            Some(value) => Some(Value::Int(-value)),
+            None => None,
+        },
+        Const::Null(_) => Some(Value::Ref(None)),
+        Const::Member(name, n) => member_of(symbols, name, n.value),
+    }
+}
+
+/// The value of a constant, if it is what is wanted.
+pub fn typed_const(symbols: &SymbolTable, w: Want, c: &Const) -> Option<Value>
+    ensures { result ≡ typed_const (decls_of symbols.now) w (const_of c.now) }
+{
+    match const_sort(symbols, c) {
+        Some(sort) => {
+            if fits_sort(w, sort) {
+                const_value(symbols, c)
+            } else {
+                None
+            }
+        }
+        None => None,
+    }
+}
+
+/// The value that a thing of the type opens with.
+pub fn opened(symbols: &SymbolTable, t: ValueType, c: Option<&Const>) -> Option<Value>
+    ensures { result ≡ opened (decls_of symbols.now) t (option_map (λ x. const_of x.now) c.entry) }
+{
+    match c {
+        Some(c) => typed_const(symbols, Want::Value(t), c),
+        None => Some(default_of(t)),
+    }
+}
+
+/// What a value of the type is unless one is given: 0 or null.
+pub fn default_of(t: ValueType) -> Value
+    ensures { result ≡ default_of t }
+{
+    match t {
+        ValueType::Integer => Value::Int(0),
+        ValueType::Reference(_) => Value::Ref(None),
+    }
+}
+
+/// Notes what is wrong with a pool's name and an index behind it.
+pub fn note_index(symbols: &SymbolTable, name: &Name, n: Number, least: &mut Option<Mistake>)
+    ensures { least.new ≡ least_of least.old (own_faults (decls_of symbols.now) (member_const (ident name.now) n)) }
+{
+    let start = name.start as usize;
+    match symbols.find(name.text.as_str()) {
+        None => note(least, Code::UnknownName, start),
+        Some((_, Decl::Pool(pool))) => {
+            let is_out = struct_named(symbols, &pool.target).is_some()
+                && pool.length.value <= n.value;
+            note_if(
+                is_out,
+                Code::InitOutOfRangeOrRepeated,
+                n.span.start as usize,
+                least,
+            );
+        }
+        Some((place, d)) => {
+            note_unfit(
+                symbols,
+                Code::WrongType,
+                start,
+                Meaning::Decl(place, d),
+                least,
+            );
+        }
+    }
+}
+
+/// Notes what is wrong with a constant by itself.
+fn note_own(symbols: &SymbolTable, c: &Const, least: &mut Option<Mistake>)
+    ensures { least.new ≡ least_of least.old (own_faults (decls_of symbols.now) (const_of c.now)) }
+{
+    match c {
+        Const::Int(n) | Const::Negative(_, n) => note_number(*n, least),
+        Const::Null(_) => {}
+        Const::Member(name, n) => note_index(symbols, name, *n, least),
+    }
+}
+
+/// Where a constant starts.
+fn const_start(c: &Const) -> usize
+    ensures { result ≡ const_start (const_of c.now) }
+{
+    match c {
+        Const::Int(n) => n.span.start as usize,
+        Const::Negative(sign, _) => sign.start as usize,
+        Const::Null(at) => at.start as usize,
+        Const::Member(name, _) => name.start as usize,
+    }
+}
+
+/// Notes what isn't of the sort that is wanted.
+fn note_sort(w: Want, start: usize, s: Option<Sort>, least: &mut Option<Mistake>)
+    ensures { least.new ≡ least_of least.old (sort_misfit w start s) }
+{
+    if let Some(s) = s {
+        if !fits_sort(w, s) {
+            note(least, Code::WrongType, start);
+        }
+    }
+}
+
+/// Notes what is wrong with a constant of which something is wanted.
+#[tactic(auto, using(source::specs::Theory::Leasts::least_append))]
+pub fn note_const(symbols: &SymbolTable, w: Want, c: &Const, least: &mut Option<Mistake>)
+    ensures { least.new ≡ least_of least.old (const_faults (decls_of symbols.now) w (const_of c.now)) }
+{
+    note_own(symbols, c, least);
+    note_sort(w, const_start(c), const_sort(symbols, c), least);
+}
+
+/// Notes what is wrong with the constant that a thing opens with.
+pub fn note_opening(symbols: &SymbolTable, w: Want, c: &Option<Const>, least: &mut Option<Mistake>)
+    ensures { least.new ≡ least_of least.old (opening_faults (decls_of symbols.now) w (option_of const_of c.now)) }
+{
+    if let Some(c) = c {
+        note_const(symbols, w, c, least);
+    }
+}
+
+/// What a parameter wants of its argument.
+fn want_of(symbols: &SymbolTable, p: &Param) -> Want
+    ensures { result ≡ want_of (decls_of symbols.now) (param_of p.now) }
+{
+    want(type_outside(symbols, &p.value_type))
+}
+
+/// Notes what is wrong with arguments.
+#[tactic(auto, using(source::specs::Theory::Leasts::least_append))]
+pub fn note_arguments(
+    symbols: &SymbolTable,
+    params: &[Param],
+    constants: &[Const],
+    least: &mut Option<Mistake>,
+)
+    ensures { least.new ≡ least_of least.old (argument_faults_of symbols.now params.now constants.now) }
+{
+    for i in 0..params.len().min(constants.len()) {
+        note_const(symbols, want_of(symbols, &params[i]), &constants[i], least);
+    }
+}
+
+/// The values and one more, if none is missing.
+fn with_value(
+    values: Option<Vec<Value>>,
+    value: Option<Value>,
+) -> Result<Option<Vec<Value>>, AllocError>
+    ensures { IfOk result (λ r. option_map (λ vs. vs.items) r ≡ pushed (option_map (λ vs. vs.items) values) value) }
+{
+    match (values, value) {
+        (Some(mut values), Some(value)) => {
+            values.push(value)?;
+            Ok(Some(values))
+        }
+        _ => Ok(None),
+    }
+}
+
+/// The values of arguments, one for each parameter.
+pub fn typed_arguments(
+    alloc: Global,
+    symbols: &SymbolTable,
+    params: &[Param],
+    constants: &[Const],
+) -> Result<Option<Vec<Value>>, AllocError>
+    ensures { IfOk result (λ r. option_map (λ vs. vs.items) r ≡ arguments_of symbols.now params.now constants.now) }
+{
+    if params.len() != constants.len() {
+        return Ok(None);
+    }
+    let mut values = Some(Vec::new(alloc));
+    for i in 0..params.len() {
+        let wanted = want_of(symbols, &params[i]);
+        values = with_value(values, typed_const(symbols, wanted, &constants[i]))?;
+    }
+    Ok(values)
+}
+
+/// Whether arguments are right: one for each parameter, each of the parameter's type.
+pub fn are_typed(symbols: &SymbolTable, params: &[Param], constants: &[Const]) -> bool
+    ensures { result ≡ is_some (arguments_of symbols.now params.now constants.now) }
+{
+    if params.len() != constants.len() {
+        return false;
+    }
+    for i in 0..params.len() {
+        let wanted = want_of(symbols, &params[i]);
+        if typed_const(symbols, wanted, &constants[i]).is_none() {
+            return false;
+        }
+    }
+    true
+}

@@ -1,0 +1,215 @@
+//! The program as it grows, one declaration after another.
+
+ghost use Rattle.std.specs.Prelude.{◌≡◌, IfOk, OnOk, option_map};
+ghost use Rattle.syntax.specs.Trees.{struct};
+ghost use Rattle.syntax.specs.Views.{ident, array_of, struct_of, variable_of};
+ghost use Rattle.resolution.specs.CoreViews.{core_of, core_struct, core_section};
+ghost use Rattle.resolution.specs.Core.{global_lock};
+ghost use Rattle.resolution.specs.Resolution.{with_class, with_cell, empty_struct, global_with, array_with, with_section, with_helper, with_thread, with_elements};
+ghost use Rattle.types_constants.specs.{calls_in};
+ghost use Rattle.types_declarations.specs.Working.Grown.{if_right};
+ghost use Rattle.types_declarations.specs.Working.Values.{known, extended_of};
+
+use crate::pool::cell_at;
+use crate::struct_builder::{StructBuilder, StructPlace};
+use core_lang::tree::Section;
+use core_lang::typed::{Call, Cell, GlobalVariable, LockClass, Owner, Thread, Typed};
+use core_lang::value::{Value, ValueType};
+use core_lang::{shape, typed};
+use std::alloc::{AllocError, Global};
+use std::mem;
+use syntax::tree::{Array, Name, Variable};
+use types_annotations::class_of;
+use types_constants::constant::{default_of, opened};
+use types_symbols::members::Structure;
+use types_symbols::scope::type_outside;
+use types_symbols::table::SymbolTable;
+
+/// Where memory is taken, and what is declared.
+#[derive(Clone, Copy)]
+pub struct Builder<'a> {
+    pub alloc: Global,
+    pub symbols: &'a SymbolTable<'a>,
+}
+
+/// What is built so far, and whether all of it is right: behind what isn't, nothing more is built.
+#[derive(Drop)]
+pub struct Grown {
+    pub typed: Typed,
+    pub is_right: bool,
+}
+
+/// Adds a global lock.
+pub fn add_lock(alloc: Global, name: &Name, typed: &mut Typed) -> Result<(), AllocError>
+    ensures { OnOk result (core_of typed.new ≡ with_class (core_of typed.old) (global_lock (ident name.now).text)) }
+{
+    let name = String::from_str(alloc, name.text.as_str())?;
+    typed.classes.push(LockClass::Global(name))?;
+    Ok(())
+}
+
+/// Adds a cell.
+pub fn add_cell(
+    owner: Owner,
+    value_type: ValueType,
+    opening: Value,
+    typed: &mut Typed,
+) -> Result<(), AllocError>
+    ensures { OnOk result (core_of typed.new ≡ with_cell (core_of typed.old) owner value_type opening) }
+{
+    typed.cells.push(Cell {
+        owner,
+        value_type,
+        opening,
+    })?;
+    Ok(())
+}
+
+/// Adds so many elements of an array.
+fn add_elements(array: usize, t: ValueType, count: u32, typed: &mut Typed) -> Result<(), AllocError>
+    ensures { OnOk result (core_of typed.new ≡ with_elements (core_of typed.old) array t count) }
+{
+    for index in 0..count {
+        let owner = Owner::Element {
+            array,
+            index: index as usize,
+        };
+        add_cell(owner, t, default_of(t), typed)?;
+    }
+    Ok(())
+}
+
+/// Adds a section, if it is right.
+pub fn add_section(section: Option<Section>, typed: &mut Typed) -> Result<bool, AllocError>
+    ensures { IfOk result (λ right. if_right right typed.new ≡ with_section (core_of typed.old) (option_map core_section section)) }
+{
+    let Some(section) = section else {
+        return Ok(false);
+    };
+    typed.sections.push(section)?;
+    Ok(true)
+}
+
+/// Adds a helper, if it is right.
+pub fn add_helper(helper: Option<Section>, typed: &mut Typed) -> Result<bool, AllocError>
+    ensures { IfOk result (λ right. if_right right typed.new ≡ with_helper (core_of typed.old) (option_map core_section helper)) }
+{
+    let Some(helper) = helper else {
+        return Ok(false);
+    };
+    typed.shape.helpers.push(helper)?;
+    Ok(true)
+}
+
+/// A struct without members.
+fn empty_struct(alloc: Global, name: &Name) -> Result<typed::Struct, AllocError>
+    ensures { IfOk result (λ r. core_struct r ≡ empty_struct (ident name.now).text) }
+{
+    Ok(typed::Struct {
+        name: String::from_str(alloc, name.text.as_str())?,
+        locks: Vec::new(alloc),
+        finals: Vec::new(alloc),
+        fields: Vec::new(alloc),
+    })
+}
+
+impl<'a> Builder<'a> {
+    /// Adds a struct, which has this place, if it is right.
+    pub fn add_struct(
+        &self,
+        place: usize,
+        table: &'a Structure<'a>,
+        typed: &mut Typed,
+    ) -> Result<bool, AllocError>
+        ensures { IfOk result (λ right. if_right right typed.new ≡ extended_of self.now place typed.old (struct (struct_of table.now))) }
+    {
+        let here = StructPlace {
+            number: typed.structs.len(),
+            place,
+            table,
+        };
+        let mut builder = StructBuilder {
+            structure: empty_struct(self.alloc, &table.item().name)?,
+            classes: mem::replace(&mut typed.classes, Vec::new(self.alloc)),
+        };
+        if !self.add_members(&here, &table.item().members, &mut builder)? {
+            drop(builder);
+            return Ok(false);
+        }
+        let StructBuilder { structure, classes } = builder;
+        typed.classes = classes;
+        typed.structs.push(structure)?;
+        Ok(true)
+    }
+
+    /// Adds a global, if it is right.
+    pub fn add_global(&self, v: &Variable, typed: &mut Typed) -> Result<bool, AllocError>
+        ensures { IfOk result (λ right. if_right right typed.new ≡ global_with (known self.now) (core_of typed.old) (variable_of v.now)) }
+    {
+        let Some(class) = class_of(self.symbols, &v.protection) else {
+            return Ok(false);
+        };
+        let Some(t) = type_outside(self.symbols, &v.value_type) else {
+            return Ok(false);
+        };
+        let Some(value) = opened(self.symbols, t, v.value.as_ref()) else {
+            return Ok(false);
+        };
+        let Some(cell) = cell_at(typed.cells.len()) else {
+            return Ok(false);
+        };
+        let number = typed.globals.len();
+        typed.globals.push(GlobalVariable {
+            name: String::from_str(self.alloc, v.name.text.as_str())?,
+            cell,
+            class,
+        })?;
+        add_cell(Owner::Global(number), t, value, typed)?;
+        Ok(true)
+    }
+
+    /// Adds an array, if it is right.
+    pub fn add_array(&self, a: &Array, typed: &mut Typed) -> Result<bool, AllocError>
+        ensures { IfOk result (λ right. if_right right typed.new ≡ array_with (known self.now) (core_of typed.old) (array_of a.now)) }
+    {
+        let Some(class) = class_of(self.symbols, &a.protection) else {
+            return Ok(false);
+        };
+        let Some(element) = type_outside(self.symbols, &a.value_type) else {
+            return Ok(false);
+        };
+        let Some(first) = cell_at(typed.cells.len()) else {
+            return Ok(false);
+        };
+        let Some(length) = cell_at(a.length.value as usize) else {
+            return Ok(false);
+        };
+        let number = typed.shape.arrays.len();
+        typed.shape.arrays.push(shape::Array {
+            name: String::from_str(self.alloc, a.name.text.as_str())?,
+            first,
+            length,
+            element,
+            class,
+        })?;
+        add_elements(number, element, length, typed)?;
+        Ok(true)
+    }
+
+    /// Adds a thread, if its calls are right.
+    pub fn add_thread(
+        &self,
+        name: &Name,
+        calls: Option<Vec<Call>>,
+        typed: &mut Typed,
+    ) -> Result<bool, AllocError>
+        ensures { IfOk result (λ right. if_right right typed.new ≡ with_thread (core_of typed.old) (ident name.now).text (calls_in calls)) }
+    {
+        let Some(calls) = calls else {
+            return Ok(false);
+        };
+        let name = String::from_str(self.alloc, name.text.as_str())?;
+        typed.threads.push(Thread { name, calls })?;
+        Ok(true)
+    }
+}

@@ -1,0 +1,198 @@
+//! Structs.
+
+ghost use Rattle.std.specs.Prelude.{◌≡◌, ◌++◌, OnOk, IfOk};
+ghost use Rattle.syntax.specs.Views.{ident};
+ghost use Rattle.resolution.specs.Resolution.{lock_added, final_added};
+ghost use Rattle.source.specs.Mistakes.{least_of};
+ghost use Rattle.types_declarations.specs.Working.Grown.{shaped};
+ghost use Rattle.types_declarations.specs.Working.StructBuilders.{builder_of};
+ghost use Rattle.types_declarations.specs.Working.Values.{field_added_of, member_added_of, members_added_of, member_faults_of, members_faults_of};
+
+use crate::grown::Builder;
+use core_lang::typed::{Field, FinalField, LockClass, LockField, Protection, Struct};
+use core_lang::value::ValueType;
+use source::mistake::Mistake;
+use std::alloc::{AllocError, Global};
+use syntax::tree::{Member, Name};
+use types_annotations::{note_protection, protection_of};
+use types_symbols::members::Structure;
+use types_symbols::scope::{note_target, note_type, struct_named, type_outside};
+use types_symbols::table::SymbolTable;
+
+/// A struct with some of its members, and the lock classes so far.
+#[derive(Drop)]
+pub struct StructBuilder {
+    /// The struct, as far as its members are resolved.
+    pub structure: Struct,
+    /// The lock classes of the program, up to the struct's last lock so far.
+    pub classes: Vec<LockClass>,
+}
+
+/// A struct that is built, by its number, its place among the declarations and its tables.
+#[derive(Clone, Copy)]
+pub struct StructPlace<'a> {
+    pub number: usize,
+    pub place: usize,
+    pub table: &'a Structure<'a>,
+}
+
+impl StructBuilder {
+    // Adds a lock field, of the struct of this number.
+    fn add_lock(&mut self, alloc: Global, number: usize, name: &Name) -> Result<(), AllocError>
+        ensures { OnOk result (builder_of self.new ≡ lock_added number (builder_of self.old) (ident name.now).text) }
+    {
+        let class = self.classes.len();
+        let lock = self.structure.locks.len();
+        self.structure.locks.push(LockField {
+            name: String::from_str(alloc, name.text.as_str())?,
+            class,
+        })?;
+        self.classes.push(LockClass::Field {
+            structure: number,
+            lock,
+        })?;
+        Ok(())
+    }
+
+    // Adds a final reference, if its struct is known.
+    fn add_final(
+        &mut self,
+        alloc: Global,
+        name: &Name,
+        target: Option<usize>,
+    ) -> Result<bool, AllocError>
+        ensures { IfOk result (λ right. shaped right self.new ≡ final_added (builder_of self.old) (ident name.now).text target) }
+    {
+        let Some(target) = target else {
+            return Ok(false);
+        };
+        self.structure.finals.push(FinalField {
+            name: String::from_str(alloc, name.text.as_str())?,
+            target,
+        })?;
+        Ok(true)
+    }
+
+    // Adds a field, if its type and its annotation are right.
+    fn add_field(
+        &mut self,
+        alloc: Global,
+        name: &Name,
+        t: Option<ValueType>,
+        protection: Option<Protection>,
+    ) -> Result<bool, AllocError>
+        ensures { IfOk result (λ right. shaped right self.new ≡ field_added_of self.old name.now t protection) }
+    {
+        let (Some(value_type), Some(protection)) = (t, protection) else {
+            return Ok(false);
+        };
+        self.structure.fields.push(Field {
+            name: String::from_str(alloc, name.text.as_str())?,
+            value_type,
+            protection,
+        })?;
+        Ok(true)
+    }
+}
+
+impl<'a> Builder<'a> {
+    // Adds a member of a struct, if it is right.
+    fn add_member(
+        &self,
+        here: &StructPlace<'a>,
+        m: &Member,
+        builder: &mut StructBuilder,
+    ) -> Result<bool, AllocError>
+        ensures { IfOk result (λ right. shaped right builder.new ≡ member_added_of self.now here.now builder.old m.now) }
+    {
+        match m {
+            Member::Lock(name) => {
+                builder.add_lock(self.alloc, here.number, name)?;
+                Ok(true)
+            }
+            Member::Final(f) => {
+                let target = struct_named(self.symbols, &f.target);
+                builder.add_final(self.alloc, &f.name, target)
+            }
+            Member::Field(f) => {
+                let t = type_outside(self.symbols, &f.value_type);
+                let protection = protection_of(
+                    self.alloc,
+                    self.symbols,
+                    here.place,
+                    here.table,
+                    &f.protection,
+                )?;
+                builder.add_field(self.alloc, &f.name, t, protection)
+            }
+        }
+    }
+
+    /// Adds members of a struct, one after another, if they are right.
+    pub fn add_members(
+        &self,
+        here: &StructPlace<'a>,
+        members: &[Member],
+        builder: &mut StructBuilder,
+    ) -> Result<bool, AllocError>
+        ensures { IfOk result (λ right. shaped right builder.new ≡ members_added_of self.now here.now builder.old members.now) }
+    {
+        for m in members {
+            if !self.add_member(here, m, builder)? {
+                return Ok(false);
+            }
+        }
+        Ok(true)
+    }
+}
+
+/// Notes what is wrong with a member of the struct at a place.
+#[tactic(auto, using(source::specs::Theory::Leasts::least_append))]
+fn note_member<'a, 't>(
+    alloc: Global,
+    symbols: &'a SymbolTable<'t>,
+    place: usize,
+    structure: &'a Structure<'t>,
+    m: &Member,
+    least: &mut Option<Mistake>,
+) -> Result<(), AllocError>
+    ensures { OnOk result (least.new ≡ least_of least.old (member_faults_of symbols.now place structure.now m.now)) }
+{
+    match m {
+        Member::Lock(_) => Ok(()),
+        Member::Final(f) => {
+            note_target(symbols, &f.target, least);
+            Ok(())
+        }
+        Member::Field(f) => {
+            note_type(symbols, &f.value_type, least);
+            note_protection(
+                alloc,
+                symbols,
+                place,
+                structure,
+                &f.name,
+                &f.protection,
+                least,
+            )
+        }
+    }
+}
+
+/// Notes what is wrong with members of the struct at a place.
+#[tactic(auto, using(source::specs::Theory::Leasts::least_append))]
+pub fn note_members<'a, 't>(
+    alloc: Global,
+    symbols: &'a SymbolTable<'t>,
+    place: usize,
+    structure: &'a Structure<'t>,
+    members: &[Member],
+    least: &mut Option<Mistake>,
+) -> Result<(), AllocError>
+    ensures { OnOk result (least.new ≡ least_of least.old (members_faults_of symbols.now place structure.now members.now)) }
+{
+    for m in members {
+        note_member(alloc, symbols, place, structure, m, least)?;
+    }
+    Ok(())
+}

@@ -1,0 +1,217 @@
+//! The checker of a section or a helper: what is declared, and the locals so far.
+
+ghost use Rattle.std.specs.Prelude.{◌≡◌, OnOk, None, length, map, option_map};
+ghost use Rattle.syntax.specs.Trees.{ref_type};
+ghost use Rattle.syntax.specs.Views.{ident, decl_of, struct_of, type_of as type_seen};
+ghost use Rattle.resolution.specs.Scopes.{meaning, outside, bound, hidden_from, number_at, the_struct, type_of};
+ghost use Rattle.resolution.specs.Expressions.{cell_of};
+ghost use Rattle.source.specs.Mistakes.{least_of};
+ghost use Rattle.resolution.specs.Working.FaultLists.{local_faults, type_faults};
+ghost use Rattle.types_symbols.specs.{decls_of, meaning_of, local_seen};
+ghost use Rattle.types_expressions.specs.Working.Checkers.{scope};
+ghost use Rattle.types_expressions.specs.Working.Misplaced.{misplaced, taken_name_faults};
+
+use crate::judged::Least;
+use core_lang::tree::LocalKind;
+use core_lang::value::ValueType;
+use resolution::body_limits::BodyLimits;
+use source::fault::Code;
+use source::mistake::note;
+use std::alloc::{AllocError, Global};
+use std::marker::Model;
+use syntax::tree;
+use syntax::tree::{Decl, Name};
+use types_symbols::members::Structure;
+use types_symbols::note::note_if;
+use types_symbols::scope::{
+    Local, Locals, Meaning, meaning_at, note_local_type, note_type, note_unfit, struct_named,
+    type_at, type_outside,
+};
+use types_symbols::table::SymbolTable;
+
+/// Checks a section or a helper: knows what is declared, and the locals up to the place that is judged.
+#[derive(Drop)]
+pub struct Checker<'a> {
+    alloc: Global,
+    symbols: &'a SymbolTable<'a>,
+    locals: Locals,
+}
+
+impl<'a> Model for Checker<'a> {
+    ghost use Rattle.types_expressions.specs.Working.Checkers.{Known};
+    ghost use Rattle.std.specs.Coded.{codes};
+    ghost use Rattle.syntax.specs.contracts.tree.Decl as the_decl;
+
+    ghost Value = { Known };
+
+    ghost coded = { Prim.hlevel (codes, the_decl.the_row.coded) };
+
+    ghost view = { λ c. record { decls = c.symbols.now; locals = c.locals.locals; result = c.locals.result; limits = c.locals.limits } };
+}
+
+impl<'a> Checker<'a> {
+    /// At the start of a section or a helper whose result has this type, and which may have so many parameters and locals.
+    pub fn new(
+        alloc: Global,
+        symbols: &'a SymbolTable<'a>,
+        given: Option<ValueType>,
+        most: BodyLimits,
+    ) -> Checker<'a>
+        ensures { scope result ≡ record (outside (decls_of symbols.now)) { result = given; limits = most } }
+    {
+        Checker {
+            alloc,
+            symbols,
+            locals: Locals::new(alloc, given, most),
+        }
+    }
+
+    /// Where memory is taken.
+    pub fn alloc(&self) -> Global {
+        self.alloc
+    }
+
+    // ---- what names mean
+
+    /// What a name means here.
+    pub fn meaning(&self, name: &Name) -> Meaning<'_>
+        ensures { meaning_of result ≡ meaning (scope self.now) (ident name.now).text }
+    {
+        meaning_at(self.symbols, &self.locals, name)
+    }
+
+    /// Notes a name that can't stand there: an unknown one, or one whose declaration has a type without a fault.
+    pub fn misplaced<T>(&self, code: Code, start: usize, m: Meaning, least: &mut Least) -> Option<T>
+        ensures none { result ≡ None }
+        ensures faults { least.new ≡ least_of least.old (misplaced (scope self.now).decls code start (meaning_of m.entry)) }
+    {
+        match m {
+            Meaning::Nothing => note(least, Code::UnknownName, start),
+            _ => note_unfit(self.symbols, code, start, m, least),
+        }
+        None
+    }
+
+    /// The type that is written in a declaration, if it has no fault.
+    pub fn type_outside(&self, t: &tree::ValueType) -> Option<ValueType>
+        ensures { result ≡ type_of (outside (scope self.now).decls) (type_seen t.now) }
+    {
+        type_outside(self.symbols, t)
+    }
+
+    /// A reference to the struct of this name, if there is one outside of sections.
+    pub fn reference_to(&self, name: &Name) -> Option<ValueType>
+        ensures { result ≡ type_of (outside (scope self.now).decls) (ref_type (ident name.now)) }
+    {
+        match struct_named(self.symbols, name) {
+            Some(number) => Some(ValueType::Reference(number)),
+            None => None,
+        }
+    }
+
+    /// The number of a declaration among those of its kind, by its place.
+    pub fn number_of(&self, place: usize, d: &Decl) -> usize
+        ensures { result ≡ number_at (scope self.now).decls place (decl_of d.now) }
+    {
+        self.symbols.number(place, d)
+    }
+
+    /// The cell of the global at a place.
+    pub fn cell(&self, place: usize) -> u32
+        ensures { result ≡ cell_of (scope self.now).decls place }
+    {
+        self.symbols.cell(place)
+    }
+
+    /// The struct of a number.
+    pub fn structure(&self, number: usize) -> Option<&Structure<'a>>
+        ensures { option_map (λ s. struct_of s.now) result ≡ the_struct (scope self.now).decls number }
+    {
+        self.symbols.structure(number)
+    }
+
+    // ---- locals
+
+    /// How many parameters and locals there may be.
+    pub fn limits(&self) -> BodyLimits
+        ensures { result ≡ (scope self.now).limits }
+    {
+        self.locals.limits()
+    }
+
+    /// The type of the result.
+    pub fn result(&self) -> Option<ValueType>
+        ensures { result ≡ (scope self.now).result }
+    {
+        self.locals.result()
+    }
+
+    /// The number of the next local.
+    pub fn next(&self) -> usize
+        ensures { result ≡ length (scope self.now).locals }
+    {
+        self.locals.len()
+    }
+
+    fn note_taken(&self, name: &Name, least: &mut Least)
+        ensures { least.new ≡ least_of least.old (taken_name_faults (scope self.now) (ident name.now)) }
+    {
+        let text = name.text.as_str();
+        let is_taken = self.locals.find(text).is_some() || self.symbols.find(text).is_some();
+        note_if(is_taken, Code::DeclaredTwice, name.start as usize, least);
+    }
+
+    /// Notes what is wrong with the name of the next local.
+    #[tactic(auto, using(source::specs::Theory::Leasts::least_append))]
+    pub fn note_name(&self, name: &Name, least: &mut Least)
+        ensures { least.new ≡ least_of least.old (local_faults (scope self.now) (ident name.now)) }
+    {
+        self.note_taken(name, least);
+        let is_one_more = self.next() >= self.limits().locals;
+        note_if(is_one_more, Code::LimitExceeded, name.start as usize, least);
+    }
+
+    /// The type that is written at a local, if it has no fault.
+    pub fn local_type(&self, t: &tree::ValueType, least: &mut Least) -> Option<ValueType>
+        ensures value { result ≡ type_of (scope self.now) (type_seen t.now) }
+        ensures faults { least.new ≡ least_of least.old (type_faults (scope self.now) (type_seen t.now)) }
+    {
+        note_local_type(self.symbols, &self.locals, t, least);
+        type_at(self.symbols, &self.locals, t)
+    }
+
+    /// The type that is written at a parameter, if it has no fault.
+    pub fn declared_type(&self, t: &tree::ValueType, least: &mut Least) -> Option<ValueType>
+        ensures value { result ≡ type_of (outside (scope self.now).decls) (type_seen t.now) }
+        ensures faults { least.new ≡ least_of least.old (type_faults (outside (scope self.now).decls) (type_seen t.now)) }
+    {
+        note_type(self.symbols, t, least);
+        type_outside(self.symbols, t)
+    }
+
+    /// Adds a local, in scope from here on.
+    pub fn bind(
+        &mut self,
+        name: &Name,
+        kind: LocalKind,
+        value_type: Option<ValueType>,
+    ) -> Result<(), AllocError>
+        ensures { OnOk result (scope self.new ≡ bound (scope self.old) kind (ident name.now) value_type) }
+    {
+        self.locals.bind(self.alloc, name, kind, value_type)
+    }
+
+    /// Leaves a block: the locals from a number on are no longer in scope.
+    pub fn hide_from(&mut self, number: usize)
+        ensures { scope self.new ≡ record (scope self.old) { locals = hidden_from number (scope self.old).locals } }
+    {
+        self.locals.hide_from(number);
+    }
+
+    /// All locals so far.
+    pub fn locals(&self) -> &[Local]
+        ensures { map local_seen result.now ≡ (scope self.now).locals }
+    {
+        self.locals.items()
+    }
+}

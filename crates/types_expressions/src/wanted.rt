@@ -1,0 +1,74 @@
+//! Numbers, and which values are what is wanted.
+
+ghost use Rattle.std.specs.Prelude.{◌≡◌};
+ghost use Rattle.resolution.specs.Expressions.{number_value, fits_type, fits_sort, want};
+ghost use Rattle.source.specs.Mistakes.{least_of};
+ghost use Rattle.resolution.specs.Working.FaultLists.{number_faults};
+
+use core_lang::value::ValueType;
+use resolution::wanted::{Sort, Want};
+use source::fault::Code;
+use source::mistake::Mistake;
+use source::token::Number;
+use types_symbols::note::note_if;
+
+/// The largest number that a token can be.
+const NUMBER_LIMIT: u64 = 9223372036854775807;
+
+/// A number as 64 bits with a sign. `None` past 9,223,372,036,854,775,807, which no token can be.
+pub fn number(n: Number) -> Option<i64>
+    ensures { result ≡ number_value n }
+{
+    if n.value <= NUMBER_LIMIT {
+        Some(n.value as i64)
+    } else {
+        None
+    }
+}
+
+/// Notes a number that no token can be.
+pub fn note_number(n: Number, least: &mut Option<Mistake>)
+    ensures { least.new ≡ least_of least.old (number_faults n) }
+{
+    note_if(
+        NUMBER_LIMIT < n.value,
+        Code::NumberTooLarge,
+        n.span.start as usize,
+        least,
+    );
+}
+
+/// What is wanted where a value of the type is to stand: one of the type, or anything, where the type has a fault.
+pub fn want(t: Option<ValueType>) -> Want
+    ensures { result ≡ want t }
+{
+    match t {
+        Some(t) => Want::Value(t),
+        None => Want::Anything,
+    }
+}
+
+/// Whether a value of this sort is one of the type: of the very type, or null for a reference.
+pub fn fits_type(t: ValueType, s: Sort) -> bool
+    ensures { result ≡ fits_type t s }
+{
+    match (t, s) {
+        (ValueType::Integer, Sort::Of(ValueType::Integer)) => true,
+        (ValueType::Integer, Sort::Of(ValueType::Reference(_))) => false,
+        (ValueType::Integer, Sort::Null) => false,
+        (ValueType::Reference(_), Sort::Of(ValueType::Integer)) => false,
+        (ValueType::Reference(a), Sort::Of(ValueType::Reference(b))) => a == b,
+        (ValueType::Reference(_), Sort::Null) => true,
+    }
+}
+
+/// Whether a value of this sort is what is wanted. No value is a condition.
+pub fn fits_sort(w: Want, s: Sort) -> bool
+    ensures { result ≡ fits_sort w s }
+{
+    match w {
+        Want::Anything => true,
+        Want::Condition => false,
+        Want::Value(t) => fits_type(t, s),
+    }
+}

@@ -1,0 +1,42 @@
+-- The last step of a path, and paths on the left.
+use Rattle.std.proofs.Common.{◌≡◌, ℕ, List, [], ◌∷◌, ◌++◌, Option, Some, None, refl, ap, ◌∙◌}
+use Rattle.core_lang.specs.declared.tree.FieldStep.{FieldStep}
+use Rattle.core_lang.specs.declared.tree.FieldStep.TheVariants.{Final, Field}
+use Rattle.source.specs.declared.mistake.Mistake.{Mistake}
+use Rattle.source.specs.Mistakes.{least_of}
+use Rattle.syntax.specs.Trees.{Decl, Ident}
+use Rattle.resolution.specs.Scopes.{◌>>=◌, Meaning}
+use Rattle.resolution.specs.Expressions.{Walk, walk_from}
+use Rattle.resolution.specs.Working.FaultLists.{final_faults, path_faults}
+use Rattle.types_symbols.specs.Theory.Steps.{noted_one}
+use Rattle.resolution.specs.Statements.{Assignee, Split, assignee_along, behind, last_field}
+
+pub last_push : (ys : List FieldStep) (k n : ℕ) → last_field (ys ++ Field k n ∷ []) ≡ Some (record { base = ys; structure = k; field = n })
+last_push [] k n = refl
+last_push (Field j m ∷ []) k n = refl
+last_push (Final j m ∷ []) k n = refl
+last_push (Field j m ∷ s ∷ ys) k n = ap (λ (o : Option Split). o >>= λ p. Some (behind (Field j m) p)) (last_push (s ∷ ys) k n)
+last_push (Final j m ∷ s ∷ ys) k n = ap (λ (o : Option Split). o >>= λ p. Some (behind (Final j m) p)) (last_push (s ∷ ys) k n)
+
+pub last_final : (ys : List FieldStep) (k n : ℕ) → last_field (ys ++ Final k n ∷ []) ≡ None
+last_final [] k n = refl
+last_final (Field j m ∷ []) k n = refl
+last_final (Final j m ∷ []) k n = refl
+last_final (Field j m ∷ s ∷ ys) k n = ap (λ (o : Option Split). o >>= λ p. Some (behind (Field j m) p)) (last_final (s ∷ ys) k n)
+last_final (Final j m ∷ s ∷ ys) k n = ap (λ (o : Option Split). o >>= λ p. Some (behind (Final j m) p)) (last_final (s ∷ ys) k n)
+
+-- ---- a path on the left, by what each part is
+
+module _ (decls : List Decl) (start : ℕ) (m n : Meaning) (fs gs : List Ident) (w : Walk) (named : m ≡ n) (same : fs ≡ gs) (reached : w ≡ walk_from decls m fs) where
+  pub along_seen : (a : Option Assignee) → a ≡ assignee_along start m w → a ≡ assignee_along start n (walk_from decls n gs)
+  along_seen a ha =
+      ha ∙ ap (assignee_along start m) (reached ∙ ap (walk_from decls m) same)
+      ∙ ap (λ (k : Meaning). assignee_along start k (walk_from decls k gs)) named
+
+  pub along_blamed : (f g h : Option Mistake) → g ≡ least_of f (path_faults decls start m fs) → h ≡ least_of g (final_faults start w) →
+      h ≡ least_of f (path_faults decls start n gs ++ final_faults start (walk_from decls n gs))
+  along_blamed f g h hg hh =
+      hh ∙ noted_one f g (path_faults decls start m fs) (final_faults start w) hg
+      ∙ ap (λ (x : Walk). least_of f (path_faults decls start m fs ++ final_faults start x)) reached
+      ∙ ap (λ (l : List Ident). least_of f (path_faults decls start m l ++ final_faults start (walk_from decls m l))) same
+      ∙ ap (λ (k : Meaning). least_of f (path_faults decls start k gs ++ final_faults start (walk_from decls k gs))) named

@@ -1,0 +1,17 @@
+use Rattle.std.proofs.Common.{◌≡◌, drop}
+use Rattle.std.specs.Prelude.{option_map}
+use Rattle.syntax.specs.Views.{stmts_of}
+use Rattle.resolution.specs.Statements.{typed_body, after_all}
+use Rattle.source.specs.Mistakes.{least_of}
+use Rattle.resolution.specs.Working.FaultLists.{stmts_faults}
+use Rattle.types_expressions.specs.Working.Checkers.{scope}
+use Rattle.types_sections.specs.Working.Targets.{row_of}
+use Rattle.types_sections.proofs.Blocks.{body_joined}
+use Rattle.types_sections.proofs.stmt.+stmts.Given as goal
+
+abbrev pub invariant-judge_body-loop-s : goal.invariant-judge_body-loop-s
+invariant-judge_body-loop-s l = record {
+  value : body_joined (option_map row_of l.body) (typed_body (scope l.checker) (stmts_of (drop l.s-index l.stmts))) ≡ typed_body (scope l.fn.checker) (stmts_of l.stmts);
+  faults : least_of l.least (stmts_faults (scope l.checker) (stmts_of (drop l.s-index l.stmts))) ≡ least_of l.fn.least (stmts_faults (scope l.fn.checker) (stmts_of l.stmts));
+  scope : after_all (scope l.checker) (stmts_of (drop l.s-index l.stmts)) ≡ after_all (scope l.fn.checker) (stmts_of l.stmts);
+}

@@ -1,0 +1,18 @@
+use Rattle.std.proofs.Common.{ap, ◌∙◌}
+use Rattle.syntax.specs.Views.{ident, expr_of, type_of as type_seen}
+use Rattle.resolution.specs.Scopes.{type_of}
+use Rattle.resolution.specs.Expressions.{want}
+use Rattle.source.specs.Mistakes.{least_of}
+use Rattle.resolution.specs.Working.FaultLists.{local_faults, type_faults, wanted_faults}
+use Rattle.types_expressions.specs.Working.Checkers.{scope}
+use Rattle.types_symbols.specs.Theory.Steps.{noted_two}
+use Rattle.types_sections.proofs.stmt.first_value.Goals as goal
+
+pub returns-clause-faults : goal.returns-clause-faults
+returns-clause-faults c =
+    let sc = scope c.args.checker.now in
+    let l = c.args.local.now in
+    let t = type_seen l.value_type in
+    let e = expr_of l.value in
+    c.in_ok-value.ensures.faults ∙ ap (λ w. least_of c.local_type-value_type.new.least (wanted_faults sc w e)) (c.want.ensures ∙ ap want c.local_type-value_type.ensures.value)
+    ∙ noted_two c.args.least.now c.note_name.new.least c.local_type-value_type.new.least (local_faults sc (ident l.name)) (type_faults sc t) (wanted_faults sc (want (type_of sc t)) e) c.note_name.ensures c.local_type-value_type.ensures.faults

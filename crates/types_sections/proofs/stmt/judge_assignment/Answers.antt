@@ -1,0 +1,34 @@
+use Rattle.std.proofs.Common.{ap, ◌∙◌}
+use Rattle.std.specs.Prelude.{option_map}
+use Rattle.syntax.specs.Trees.{Ident}
+use Rattle.syntax.specs.Views.{expr_of, place_of}
+use Rattle.resolution.specs.Expressions.{as_value, fitting, typed}
+use Rattle.resolution.specs.CoreViews.{core_expr}
+use Rattle.resolution.specs.Statements.{assigns, first_name, target_of, wanted_by}
+use Rattle.source.specs.Mistakes.{least_of}
+use Rattle.resolution.specs.Working.FaultLists.{target_faults, wanted_faults}
+use Rattle.types_expressions.specs.Working.Checkers.{scope}
+use Rattle.types_sections.specs.Working.Targets.{assignee_of}
+use Rattle.types_symbols.specs.Theory.Steps.{noted_one}
+use Rattle.types_sections.proofs.stmt.judge_assignment.Goals as goal
+
+pub returns-clause-faults : goal.returns-clause-faults
+returns-clause-faults c =
+    let sc = scope c.args.checker.now in
+    let p = place_of c.args.p.now in
+    let e = expr_of c.args.e.now in
+    let g = c.judge_target.new.least in
+    c.in-Ok.ensures.faults ∙ ap (λ w. least_of g (wanted_faults sc w e)) (c.wanted_by.ensures ∙ ap wanted_by c.in_ok-assignee.ensures.value)
+    ∙ noted_one c.args.least.now g (target_faults sc p) (wanted_faults sc (wanted_by (target_of sc p)) e) c.in_ok-assignee.ensures.faults
+
+pub returns-clause-value : goal.returns-clause-value
+returns-clause-value c =
+    let sc = scope c.args.checker.now in
+    let p = place_of c.args.p.now in
+    let start = (first_name p).span.start in
+    let value = option_map core_expr c.in-Ok.value in
+    c.assign.ensures
+    ∙ ap (λ (x : Ident). assigns x.span.start (option_map assignee_of c.in_ok-assignee.assignee) value) c.first_name.ensures
+    ∙ ap (λ a. assigns start a value) c.in_ok-assignee.ensures.value
+    ∙ ap (assigns start (target_of sc p))
+    (c.in-Ok.ensures.value ∙ ap (λ w. as_value (fitting w (typed sc (expr_of c.args.e.now)))) (c.wanted_by.ensures ∙ ap wanted_by c.in_ok-assignee.ensures.value))

@@ -1,0 +1,28 @@
+-- A whole section, as the values of its parts stand for it.
+use Rattle.std.specs.Prelude.{List, ◌++◌, Option, option_map}
+use Rattle.std.proofs.Common.{Vec, Global}
+use Rattle.syntax.specs.Trees.{Decl, Section}
+use Rattle.core_lang.specs.declared.tree.Local as the_local
+use Rattle.resolution.specs.Core as core
+use Rattle.resolution.specs.CoreViews.{core_locals, core_stmts, core_return}
+use Rattle.source.specs.declared.mistake.Mistake.{Mistake}
+use Rattle.resolution.specs.Scopes.{Scope, entered}
+use Rattle.resolution.specs.Resolution.{section_with, section_of}
+use Rattle.resolution.specs.Working.FaultLists.{param_faults, stmts_faults}
+use Rattle.types_sections.specs.Working.Targets.{body_of}
+use Rattle.types_sections.specs.declared.stmt.Body as the_body
+
+-- its locals
+abbrev pub locals_of : Option (Vec the_local.Local Global) → Option (List core.Local)
+locals_of v = option_map (λ ls. core_locals ls.items) v
+
+abbrev pub section_from : List Decl → Section → Vec the_local.Local Global → the_body.Body → Option core.Section
+section_from decls s locals body = section_with decls s (core_locals locals.items) (core_stmts body.stmts.items) s.result (option_map core_return body.result)
+
+-- if none of its parts is missing
+abbrev pub section_if : List Decl → Section → Option (Vec the_local.Local Global) → Option the_body.Body → Option core.Section
+section_if decls s locals body = section_of decls s (locals_of locals) (option_map body_of body)
+
+-- the faults of its parameters and of its statements, from the scope ahead of the parameters
+abbrev pub blamed_in : Scope → Section → List Mistake
+blamed_in sc s = param_faults sc 0 s.params ++ stmts_faults (entered sc s.params) s.body.stmts

@@ -1,0 +1,167 @@
+//! What stands behind the `where` of a `let`.
+
+ghost use Rattle.std.specs.Prelude.{◌≡◌, OnOk, IfOk, Some, option_map};
+ghost use Rattle.syntax.specs.Views.{ident, owner_of};
+ghost use Rattle.core_lang.specs.declared.value.ValueType.TheVariants.{Reference};
+ghost use Rattle.resolution.specs.CoreViews.{core_expr};
+ghost use Rattle.resolution.specs.Limits.{up_to};
+ghost use Rattle.resolution.specs.Scopes.{meaning};
+ghost use Rattle.resolution.specs.Owners.{owner_field, owner_local};
+ghost use Rattle.source.specs.Mistakes.{least_of};
+ghost use Rattle.resolution.specs.Working.FaultLists.{owner_field_faults};
+ghost use Rattle.types_expressions.specs.Working.Checkers.{scope};
+ghost use Rattle.types_sections.specs.Working.Targets.{tested_if, final_faults_in, owner_name_faults, owned_opening, opening_faults};
+
+use core_lang::tree::Expr;
+use core_lang::value::ValueType;
+use resolution::owner_field::OwnerField;
+use resolution::wanted::Sort;
+use source::fault::Code;
+use std::alloc::AllocError;
+use syntax::tree::{Member, Name, Owner};
+use types_expressions::checker::Checker;
+use types_expressions::judged::{Judged, Least, faulty};
+use types_expressions::wanted::fits_type;
+use types_symbols::note::note_if;
+use types_symbols::scope::Meaning;
+
+/// How many structs there may be.
+const STRUCT_LIMIT: u32 = 64;
+
+/// How long a source may be. None has as many locals.
+const SOURCE_LIMIT: u32 = 1048576;
+
+/// What a local opens with.
+#[derive(Drop)]
+pub struct Opening {
+    /// Its type, if that has no fault.
+    pub value_type: Option<ValueType>,
+    /// Its first value, if that has none.
+    pub value: Option<Expr>,
+}
+
+/// The final reference of a struct that the name means. Any other member is told of.
+fn final_named(
+    checker: &Checker,
+    structure: usize,
+    f: &Name,
+    least: &mut Least,
+) -> Option<OwnerField>
+    ensures value { result ≡ owner_field (scope checker.now).decls (Some (Reference structure)) (ident f.now) }
+    ensures faults { least.new ≡ least_of least.old (final_faults_in (scope checker.now) structure (ident f.now)) }
+{
+    let members = checker.structure(structure)?;
+    let start = f.start as usize;
+    let Some((place, m)) = members.find(f.text.as_str()) else {
+        return faulty(Code::UnknownName, start, least);
+    };
+    match m {
+        Member::Lock(_) => faulty(Code::LockAsValue, start, least),
+        Member::Final(reference) => Some(OwnerField {
+            structure,
+            number: members.step(place, m),
+            value_type: checker.reference_to(&reference.target)?,
+        }),
+        Member::Field(field) => {
+            let has_type = checker.type_outside(&field.value_type).is_some();
+            note_if(has_type, Code::WrongType, start, least);
+            None
+        }
+    }
+}
+
+/// The final reference that the name means, for a value of this type.
+fn owner_field(
+    checker: &Checker,
+    t: Option<ValueType>,
+    f: &Name,
+    least: &mut Least,
+) -> Option<OwnerField>
+    ensures value { result ≡ owner_field (scope checker.now).decls t (ident f.now) }
+    ensures faults { least.new ≡ least_of least.old (owner_field_faults (scope checker.now).decls t (ident f.now)) }
+{
+    match t? {
+        ValueType::Integer => faulty(Code::WrongType, f.start as usize, least),
+        ValueType::Reference(structure) => final_named(checker, structure, f, least),
+    }
+}
+
+/// The local that the name means, if it is one of the final reference's type.
+fn owner_local(
+    checker: &Checker,
+    field: Option<OwnerField>,
+    name: &Name,
+    least: &mut Least,
+) -> Option<usize>
+    ensures value { result ≡ owner_local field (meaning (scope checker.now) (ident name.now).text) }
+    ensures faults { least.new ≡ least_of least.old (owner_name_faults (scope checker.now) field (ident name.now)) }
+{
+    let start = name.start as usize;
+    let m = checker.meaning(name);
+    let Meaning::Local(number, local) = m else {
+        return checker.misplaced(Code::WrongType, start, m, least);
+    };
+    let (field, t) = field.zip(local.value_type)?;
+    if !fits_type(field.value_type, Sort::Of(t)) {
+        return faulty(Code::WrongType, start, least);
+    }
+    Some(number)
+}
+
+/// A number in 32 bits, if it is no more than the limit.
+fn up_to(limit: u32, n: usize) -> Option<u32>
+    ensures { result ≡ up_to limit n }
+{
+    if n <= limit as usize {
+        Some(n as u32)
+    } else {
+        None
+    }
+}
+
+/// A value that a final reference and a local test, if nothing is missing.
+fn tested_by(
+    checker: &Checker,
+    value: Option<Expr>,
+    test: Option<(OwnerField, usize)>,
+    start: usize,
+) -> Judged<Expr>
+    ensures { IfOk result (λ r. option_map core_expr r ≡ tested_if start (option_map core_expr value) test) }
+{
+    let Some((value, (field, local))) = value.zip(test) else {
+        return Ok(None);
+    };
+    let structure = up_to(STRUCT_LIMIT, field.structure);
+    let Some((structure, owner)) = structure.zip(up_to(SOURCE_LIMIT, local)) else {
+        drop(value);
+        return Ok(None);
+    };
+    Ok(Some(Expr::Owned {
+        value: Box::new(checker.alloc(), value)?,
+        structure,
+        number: field.number,
+        start,
+        owner,
+    }))
+}
+
+/// A local's value with what stands behind its `where`, of which each name is judged in any case: the final reference has
+/// to name what the local does. Where the struct is one too many there is no value, and a fault tells of that elsewhere.
+#[tactic(auto, using(source::specs::Theory::Leasts::least_append))]
+pub fn owned_by(
+    checker: &Checker,
+    opening: Opening,
+    owner: &Owner,
+    least: &mut Least,
+) -> Result<Opening, AllocError>
+    ensures value_type { IfOk result (λ r. r.value_type ≡ opening.value_type) }
+    ensures value { IfOk result (λ r. option_map core_expr r.value ≡ owned_opening (scope checker.now) opening (owner_of owner.now)) }
+    ensures faults { OnOk result (least.new ≡ least_of least.old (opening_faults (scope checker.now) opening (owner_of owner.now))) }
+{
+    let Opening { value_type, value } = opening;
+    let field = owner_field(checker, value_type, &owner.field, least);
+    let local = owner_local(checker, field, &owner.local, least);
+    let test = field.zip(local);
+    let value = tested_by(checker, value, test, owner.local.start as usize)?;
+    Ok(Opening { value_type, value })
+}

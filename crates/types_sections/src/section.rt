@@ -1,0 +1,235 @@
+//! Sections and helpers.
+
+ghost use Rattle.std.specs.Prelude.{◌≡◌, OnOk, IfOk, option_map, map};
+ghost use Rattle.syntax.specs.Views.{param_of, section_of as section_view};
+ghost use Rattle.resolution.specs.CoreViews as core;
+ghost use Rattle.resolution.specs.CoreViews.{core_section};
+ghost use Rattle.resolution.specs.Limits.{section_limits, helper_limits};
+ghost use Rattle.resolution.specs.Scopes.{entered, result_of};
+ghost use Rattle.resolution.specs.Resolution.{core_locals, core_local, section_in, typed_section};
+ghost use Rattle.source.specs.Mistakes.{least_of};
+ghost use Rattle.resolution.specs.Working.FaultLists.{param_faults, result_faults, section_faults};
+ghost use Rattle.types_symbols.specs.{decls_of, local_seen};
+ghost use Rattle.types_expressions.specs.Working.Checkers.{scope};
+ghost use Rattle.types_expressions.specs.Working.Parts.{pushed};
+ghost use Rattle.types_sections.specs.Working.Whole.{locals_of, section_from, section_if, blamed_in};
+
+use crate::stmt::{Body, judge_body};
+use core_lang::tree;
+use core_lang::tree::{LocalKind, Section};
+use core_lang::value::ValueType;
+use resolution::body_limits::BodyLimits;
+use source::fault::Code;
+use source::mistake::Mistake;
+use std::alloc::{AllocError, Global};
+use syntax::tree as written;
+use syntax::tree::Param;
+use types_expressions::checker::Checker;
+use types_expressions::judged::{Judged, Least};
+use types_symbols::note::note_if;
+use types_symbols::scope::{Local, note_type, type_outside};
+use types_symbols::table::SymbolTable;
+
+/// What a section may have.
+const SECTION_LIMITS: BodyLimits = BodyLimits {
+    parameters: 8,
+    locals: 64,
+};
+
+/// What a helper may have: no source is long enough for more.
+const HELPER_LIMITS: BodyLimits = BodyLimits {
+    parameters: 1048576,
+    locals: 1048576,
+};
+
+/// A local, if its type has no fault.
+fn core_local(l: &Local) -> Judged<tree::Local>
+    ensures { IfOk result (λ r. option_map core.core_local r ≡ core_local (local_seen l.now)) }
+{
+    match l.value_type {
+        Some(value_type) => Ok(Some(tree::Local {
+            name: l.name.clone()?,
+            kind: l.kind,
+            value_type,
+        })),
+        None => Ok(None),
+    }
+}
+
+/// The locals and one more, if none is missing.
+fn with_local(
+    locals: Option<Vec<tree::Local>>,
+    local: Option<tree::Local>,
+) -> Judged<Vec<tree::Local>>
+    ensures { IfOk result (λ r. locals_of r ≡ pushed (locals_of locals) (option_map core.core_local local)) }
+{
+    let Some((mut locals, local)) = locals.zip(local) else {
+        return Ok(None);
+    };
+    if let Err(e) = locals.push(local) {
+        drop(locals);
+        return Err(e.into());
+    }
+    Ok(Some(locals))
+}
+
+/// The locals, if the types of all have no fault.
+fn core_locals(alloc: Global, locals: &[Local]) -> Judged<Vec<tree::Local>>
+    ensures { IfOk result (λ r. locals_of r ≡ core_locals (map local_seen locals.now)) }
+{
+    let mut made = Some(Vec::new(alloc));
+    for local in locals {
+        let Ok(next) = core_local(local) else {
+            drop(made);
+            return Err(AllocError);
+        };
+        made = with_local(made, next)?;
+    }
+    Ok(made)
+}
+
+/// The type of the result of a section or a helper, if it has one without a fault.
+fn result_type(symbols: &SymbolTable, s: &written::Section, least: &mut Least) -> Option<ValueType>
+    ensures value { result ≡ result_of (decls_of symbols.now) (section_view s.now) }
+    ensures faults { least.new ≡ least_of least.old (result_faults (decls_of symbols.now) (section_view s.now).result) }
+{
+    match &s.result {
+        Some(t) => {
+            note_type(symbols, t, least);
+            type_outside(symbols, t)
+        }
+        None => None,
+    }
+}
+
+/// Declares the parameters of a section or a helper, and notes what is wrong with them.
+#[tactic(auto, using(source::specs::Theory::Leasts::least_append))]
+fn judge_params(
+    checker: &mut Checker,
+    params: &[Param],
+    least: &mut Least,
+) -> Result<(), AllocError>
+    ensures faults { OnOk result (least.new ≡ least_of least.old (param_faults (scope checker.old) 0 (map param_of params.now))) }
+    ensures scope { OnOk result (scope checker.new ≡ entered (scope checker.old) (map param_of params.now)) }
+{
+    for (place, param) in params.iter().enumerate() {
+        checker.note_name(&param.name, least);
+        note_if(
+            checker.limits().parameters <= place,
+            Code::LimitExceeded,
+            param.name.start as usize,
+            least,
+        );
+        let t = checker.declared_type(&param.value_type, least);
+        checker.bind(&param.name, LocalKind::Parameter, t)?;
+    }
+    Ok(())
+}
+
+/// The parts of a section or a helper put together, where its result and its `return` agree.
+fn section_with(
+    checker: &Checker,
+    s: &written::Section,
+    locals: Vec<tree::Local>,
+    body: Body,
+) -> Judged<Section>
+    ensures { IfOk result (λ r. option_map core_section r ≡ section_from (scope checker.now).decls (section_view s.now) locals body) }
+{
+    let result_type = match (&s.result, &body.result) {
+        (None, None) => None,
+        (Some(t), Some(_)) => match checker.type_outside(t) {
+            Some(t) => Some(t),
+            None => {
+                drop(locals);
+                drop(body);
+                return Ok(None);
+            }
+        },
+        _ => {
+            drop(locals);
+            drop(body);
+            return Ok(None);
+        }
+    };
+    let Ok(name) = String::from_str(checker.alloc(), s.name.text.as_str()) else {
+        drop(locals);
+        drop(body);
+        return Err(AllocError);
+    };
+    Ok(Some(Section {
+        name,
+        parameters: s.params.len(),
+        locals,
+        result_type,
+        body: body.stmts,
+        result: body.result,
+    }))
+}
+
+/// The parts of a section or a helper put together, if none is missing.
+fn section_of(
+    checker: &Checker,
+    s: &written::Section,
+    locals: Option<Vec<tree::Local>>,
+    body: Option<Body>,
+) -> Judged<Section>
+    ensures { IfOk result (λ r. option_map core_section r ≡ section_if (scope checker.now).decls (section_view s.now) locals body) }
+{
+    let Some((locals, body)) = locals.zip(body) else {
+        return Ok(None);
+    };
+    section_with(checker, s, locals, body)
+}
+
+/// A section or a helper, in the checker at its start, with what is wrong with its parameters and its statements.
+#[tactic(auto, using(source::specs::Theory::Leasts::least_append))]
+fn judge_in(checker: &mut Checker, s: &written::Section, least: &mut Least) -> Judged<Section>
+    ensures value { IfOk result (λ r. option_map core_section r ≡ section_in (scope checker.old) (section_view s.now)) }
+    ensures faults { OnOk result (least.new ≡ least_of least.old (blamed_in (scope checker.old) (section_view s.now))) }
+{
+    judge_params(checker, &s.params, least)?;
+    let body = judge_body(checker, &s.body.stmts, least)?;
+    let Ok(locals) = core_locals(checker.alloc(), checker.locals()) else {
+        drop(body);
+        return Err(AllocError);
+    };
+    section_of(checker, s, locals, body)
+}
+
+/// The section that a tree stands for: each name replaced by the number of what it means, every expression typed.
+/// `None` where something in it has no type, or its result and its `return` don't agree. What is wrong with it is
+/// noted. The one error is a refused growth.
+#[tactic(auto, using(source::specs::Theory::Leasts::least_append))]
+pub fn judge_section(
+    alloc: Global,
+    symbols: &SymbolTable,
+    s: &written::Section,
+    least: &mut Option<Mistake>,
+) -> Result<Option<Section>, AllocError>
+    ensures value { IfOk result (λ r. option_map core_section r ≡ typed_section (decls_of symbols.now) section_limits (section_view s.now)) }
+    ensures faults { OnOk result (least.new ≡ least_of least.old (section_faults (decls_of symbols.now) section_limits (section_view s.now))) }
+{
+    let result = result_type(symbols, s, least);
+    let mut checker = Checker::new(alloc, symbols, result, SECTION_LIMITS);
+    let section = judge_in(&mut checker, s, least);
+    drop(checker);
+    section
+}
+
+/// The helper that a tree stands for, as [`judge_section`] says. It has no limits of its own.
+#[tactic(auto, using(source::specs::Theory::Leasts::least_append))]
+pub fn judge_helper(
+    alloc: Global,
+    symbols: &SymbolTable,
+    s: &written::Section,
+    least: &mut Option<Mistake>,
+) -> Result<Option<Section>, AllocError>
+    ensures value { IfOk result (λ r. option_map core_section r ≡ typed_section (decls_of symbols.now) helper_limits (section_view s.now)) }
+    ensures faults { OnOk result (least.new ≡ least_of least.old (section_faults (decls_of symbols.now) helper_limits (section_view s.now))) }
+{
+    let given = result_type(symbols, s, least);
+    let mut checker = Checker::new(alloc, symbols, given, HELPER_LIMITS);
+    let helper = judge_in(&mut checker, s, least);
+    drop(checker);
+    helper
+}

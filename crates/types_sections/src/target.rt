@@ -1,0 +1,189 @@
+//! The left sides of assignments.
+
+ghost use Rattle.std.specs.Prelude.{◌≡◌, OnOk, IfOk, option_map, Some};
+ghost use Rattle.syntax.specs.Views.{ident, element_of, path_of, place_of};
+ghost use Rattle.resolution.specs.CoreViews.{core_expr};
+ghost use Rattle.resolution.specs.Statements.{first_name, assignee, assignee_at, assignee_along, target_of, wanted_by};
+ghost use Rattle.source.specs.Mistakes.{least_of};
+ghost use Rattle.resolution.specs.Working.FaultLists.{no_target, final_faults, target_faults};
+ghost use Rattle.types_symbols.specs.{meaning_of};
+ghost use Rattle.types_expressions.specs.Working.Checkers.{scope};
+ghost use Rattle.types_expressions.specs.Working.Indexing.{indexed_by};
+ghost use Rattle.types_expressions.specs.Working.Walks.{walk_of};
+ghost use Rattle.types_sections.specs.Working.Targets.{target_seen, assignee_of, assigned_at, element_faults};
+
+use core_lang::tree::{Expr, FieldStep, LocalKind, Path};
+use core_lang::value::ValueType;
+use resolution::wanted::Want;
+use source::fault::Code;
+use source::mistake::note;
+use syntax::tree;
+use syntax::tree::{Decl, Element, Name, Place};
+use types_expressions::checker::Checker;
+use types_expressions::judged::{Judged, Least, faulty};
+use types_expressions::place::{Indexed, Walk, local_path};
+use types_symbols::scope::Meaning;
+
+/// What is assigned to.
+#[derive(Drop)]
+pub enum Target {
+    /// A `var`, by its number.
+    Local(usize),
+    /// A global, by its cell.
+    Global(u32),
+    /// An element of an array, by the array's number and the index.
+    Element(usize, Expr),
+    /// A field, by what leads to the object, the object's struct and the field's number there.
+    Field(Path, usize, u32),
+}
+
+/// What is assigned to, and its type.
+#[derive(Drop)]
+pub struct Assignee {
+    /// What is assigned to.
+    pub target: Target,
+    /// Which values it takes.
+    pub value_type: ValueType,
+}
+
+/// The name with which a place begins.
+pub fn first_name(p: &Place) -> &Name
+    ensures { ident result.now ≡ first_name (place_of p.now) }
+{
+    match p {
+        Place::Name(name) => name,
+        Place::Element(element) => &element.name,
+        Place::Path(path) => &path.first,
+    }
+}
+
+/// What is assigned to, if its type has no fault.
+fn assignee_of_type(target: Target, t: Option<ValueType>) -> Option<Assignee>
+    ensures { option_map assignee_of result ≡ assignee (Some (target_seen target)) t }
+{
+    match t {
+        Some(value_type) => Some(Assignee { target, value_type }),
+        None => {
+            drop(target);
+            None
+        }
+    }
+}
+
+/// An element on the left.
+fn assigned_at(indexed: Option<Indexed>, index: Option<Expr>) -> Option<Assignee>
+    ensures { option_map assignee_of result ≡ assigned_at indexed (option_map core_expr index) }
+{
+    match (indexed, index) {
+        (Some(Indexed::Array(number, t)), Some(index)) => {
+            assignee_of_type(Target::Element(number, index), Some(t))
+        }
+        (_, index) => {
+            drop(index);
+            None
+        }
+    }
+}
+
+/// A local and fields on the left: their end is no final reference.
+fn assignee_along(start: usize, m: Meaning, w: Walk, least: &mut Least) -> Option<Assignee>
+    ensures value { option_map assignee_of result ≡ assignee_along start (meaning_of m.entry) (walk_of w) }
+    ensures faults { least.new ≡ least_of least.old (final_faults start (walk_of w)) }
+{
+    let Walk::Reached(mut steps, t) = w else {
+        return None;
+    };
+    match steps.pop() {
+        Some(FieldStep::Field { structure, number }) => match m {
+            Meaning::Local(i, _) => {
+                let base = local_path(start, i, steps);
+                assignee_of_type(Target::Field(base, structure, number), Some(t))
+            }
+            _ => None,
+        },
+        Some(FieldStep::Final { structure, number }) => {
+            faulty(Code::NotAssignable, start, least)
+        }
+        None => faulty(Code::NotAssignable, start, least),
+    }
+}
+
+/// What is wanted to be assigned.
+pub fn wanted_by(a: &Option<Assignee>) -> Want
+    ensures { result ≡ wanted_by (option_map assignee_of a.now) }
+{
+    match a {
+        Some(a) => Want::Value(a.value_type),
+        None => Want::Anything,
+    }
+}
+
+/// A name on the left.
+fn assignee_at(checker: &Checker, start: usize, m: Meaning, least: &mut Least) -> Option<Assignee>
+    ensures value { option_map assignee_of result ≡ assignee_at (scope checker.now).decls (meaning_of m.entry) }
+    ensures faults { least.new ≡ least_of least.old (no_target (scope checker.now).decls start (meaning_of m.entry)) }
+{
+    match m {
+        Meaning::Local(i, local) => match local.kind {
+            LocalKind::Var => assignee_of_type(Target::Local(i), local.value_type),
+            LocalKind::Let | LocalKind::Parameter => {
+                checker.misplaced(Code::NotAssignable, start, m, least)
+            }
+        },
+        Meaning::Decl(place, Decl::Global(v)) => assignee_of_type(
+            Target::Global(checker.cell(place)),
+            checker.type_outside(&v.value_type),
+        ),
+        Meaning::Decl(_, Decl::Lock(_)) => faulty(Code::LockAsValue, start, least),
+        _ => checker.misplaced(Code::NotAssignable, start, m, least),
+    }
+}
+
+/// What takes an index on the left: no member of a pool can be assigned to.
+#[tactic(auto, using(source::specs::Theory::Leasts::least_append))]
+fn array_at(checker: &Checker, start: usize, m: Meaning, least: &mut Least) -> Option<Indexed>
+    ensures value { result ≡ indexed_by (scope checker.now).decls (meaning_of m.entry) }
+    ensures faults { least.new ≡ least_of least.old (element_faults (scope checker.now).decls start (meaning_of m.entry)) }
+{
+    let indexed = checker.indexed(start, m, least);
+    if let Some(Indexed::Pool(_, _)) = indexed {
+        note(least, Code::NotAssignable, start);
+    }
+    indexed
+}
+
+/// An element on the left, with the faults of its index.
+fn element_target(checker: &Checker, element: &Element, least: &mut Least) -> Judged<Assignee>
+    ensures value { IfOk result (λ r. option_map assignee_of r ≡ target_of (scope checker.now) (element_of element.now)) }
+    ensures faults { OnOk result (least.new ≡ least_of least.old (target_faults (scope checker.now) (element_of element.now))) }
+{
+    let start = element.name.start as usize;
+    let array = array_at(checker, start, checker.meaning(&element.name), least);
+    let index = checker.number(&element.index, least)?;
+    Ok(assigned_at(array, index))
+}
+
+/// A path on the left.
+fn path_target(checker: &Checker, path: &tree::Path, least: &mut Least) -> Judged<Assignee>
+    ensures value { IfOk result (λ r. option_map assignee_of r ≡ target_of (scope checker.now) (path_of path.now)) }
+    ensures faults { OnOk result (least.new ≡ least_of least.old (target_faults (scope checker.now) (path_of path.now))) }
+{
+    let start = path.first.start as usize;
+    let m = checker.meaning(&path.first);
+    let w = checker.walk(start, m, &path.fields, least)?;
+    Ok(assignee_along(start, m, w, least))
+}
+
+/// The left side of an assignment, if it is one.
+pub fn judge_target(checker: &Checker, p: &Place, least: &mut Least) -> Judged<Assignee>
+    ensures value { IfOk result (λ r. option_map assignee_of r ≡ target_of (scope checker.now) (place_of p.now)) }
+    ensures faults { OnOk result (least.new ≡ least_of least.old (target_faults (scope checker.now) (place_of p.now))) }
+{
+    match p {
+        Place::Name(name) => {
+            Ok(assignee_at(checker, name.start as usize, checker.meaning(name), least))
+        }
+        Place::Element(element) => element_target(checker, element, least),
+        Place::Path(path) => path_target(checker, path, least),
+    }
+}

@@ -1,0 +1,11 @@
+use Rattle.std.proofs.Common.{◌≡◌, take, drop}
+use Rattle.source.specs.Mistakes.{least_of}
+use Rattle.resolution.specs.Working.FaultLists.{struct_faults}
+use Rattle.types_symbols.specs.Working.Views.{decls_of, AreStructures}
+use Rattle.types_symbols.proofs.declarations.judge_structs.Given as goal
+
+abbrev pub invariant-loop-d : goal.invariant-loop-d
+invariant-loop-d l = record {
+  structs : AreStructures (decls_of (take l.d-index l.decls)) l.structs.items;
+  faults : least_of l.least (struct_faults (decls_of (drop l.d-index l.decls))) ≡ least_of l.fn.least (struct_faults (decls_of l.decls));
+}

@@ -1,0 +1,13 @@
+use Rattle.std.proofs.Common.{◌≡◌, ◌≤◌, ◌+◌, drop}
+use Rattle.std.specs.Prelude.{map}
+use Rattle.syntax.specs.Views.{member_of}
+use Rattle.resolution.specs.Limits.{CLASS_LIMIT}
+use Rattle.source.specs.Mistakes.{least_of}
+use Rattle.resolution.specs.Working.FaultLists.{member_counts}
+use Rattle.types_symbols.proofs.totals.note_members.Given as goal
+
+abbrev pub invariant-loop-place : goal.invariant-loop-place
+invariant-loop-place l = record {
+  faults : least_of l.least (member_counts l.classes l.place (map member_of (drop l.place l.members))) ≡ least_of l.fn.least (member_counts l.fn.classes 0 (map member_of l.members));
+  few : l.classes ≤ CLASS_LIMIT + 1 + l.place;
+}

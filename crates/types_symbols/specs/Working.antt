@@ -1,0 +1,9 @@
+-- What the code computes and values of its types, for proofs and for the crates above. Nobody has to believe these files: no promise
+-- cites them.
+pub mod Found
+pub mod Counted
+pub mod Views
+pub mod Capped
+pub mod Given
+pub mod Scoped
+pub mod Faults

@@ -1,0 +1,49 @@
+-- The table of what is given.
+use Rattle.std.specs.Prelude.{◌≡◌, ℕ, List, [], Option, Some, None, Bool, option_map, if◌then◌else◌}
+use Rattle.std.specs.HashMap.{get_by}
+use Rattle.std.specs.Option.{option_or}
+use Rattle.syntax.specs.declared.tree.Decl as rust_decl
+use Rattle.syntax.specs.declared.tree.Name.{Name}
+use Rattle.syntax.specs.Trees.{Decl, pool, init, Pool, Struct}
+use Rattle.resolution.specs.declared.init_target.InitTarget.{InitTarget}
+use Rattle.source.specs.declared.mistake.Mistake.{Mistake}
+use Rattle.resolution.specs.Scopes.{place_of, the_decl}
+use Rattle.resolution.specs.Constants.{init_target_of, gives, same_init_target}
+use Rattle.resolution.specs.Working.FaultLists.{given_before}
+use Rattle.types_symbols.specs.Working.Views.{decl_named, struct_in}
+use Rattle.types_symbols.specs.declared.first_inits.FirstInits.{FirstInits}
+
+-- the place that the table has for what is given
+abbrev pub init_target_found : FirstInits → InitTarget → Option ℕ
+init_target_found t g = get_by (same_init_target g) t.places
+
+-- the table has the place of the first of these declarations that gives it
+abbrev pub IsInitTargetTable : List Decl → List Decl → FirstInits → Type 0
+IsInitTargetTable decls ds t = (g : InitTarget) → init_target_found t g ≡ place_of (gives decls) ds g
+
+-- the table that has these init targets more, with their place, if it has them not yet
+abbrev pub IsInitTargetTableWith : (InitTarget → Bool) → ℕ → FirstInits → FirstInits → Type 0
+IsInitTargetTableWith is_given place old new = (g : InitTarget) → init_target_found new g ≡ option_or (init_target_found old g) (if is_given g then Some place else None)
+
+-- what is given already
+abbrev pub again_given : FirstInits → ℕ → Option InitTarget → List Mistake
+again_given t start (Some g) = given_before start (init_target_found t g)
+again_given t start None = []
+
+abbrev pub repeated_in : FirstInits → List Decl → Decl → List Mistake
+repeated_in t decls (init j) = again_given t j.start.start (init_target_of decls j)
+repeated_in t decls _ = []
+
+-- the pool that is found
+abbrev pub pool_in : Option (ℕ × Decl) → Option (ℕ × Pool)
+pool_in (Some (i, pool p)) = Some (i, p)
+pool_in _ = None
+
+-- the pool of this name, with its place
+abbrev pub pool_named : List rust_decl.Decl → Name → Option (ℕ × Pool)
+pool_named ds x = pool_in (decl_named ds x)
+
+-- the struct that the pool names, if there is such a struct
+abbrev pub struct_of_pool : List Decl → Option (ℕ × Pool) → Option Struct
+struct_of_pool decls (Some (i, p)) = option_map (λ s. s.1) (struct_in (the_decl decls p.target.text))
+struct_of_pool decls None = None

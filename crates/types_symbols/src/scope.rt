@@ -1,0 +1,348 @@
+//! What names mean, and the types that are written.
+
+ghost use Rattle.std.specs.Prelude.{◌≡◌, ◌∷◌, ◌++◌, [], OnOk, length, option_map};
+ghost use Rattle.std.specs.Rc.{rc_str_bytes};
+ghost use Rattle.syntax.specs.Views.{ident, member_of, type_of as type_seen};
+ghost use Rattle.syntax.specs.Trees.{ref_type};
+ghost use Rattle.resolution.specs.Scopes.{meaning, outside, hidden_from, struct_meant, struct_named, type_of, has_type, member_has_type, the_local};
+ghost use Rattle.source.specs.Mistakes.{least_of};
+ghost use Rattle.resolution.specs.Working.FaultLists.{no_struct, type_faults, unfit, unfit_member};
+ghost use Rattle.types_symbols.specs.Working.Found.{IsTableWithName};
+ghost use Rattle.types_symbols.specs.Working.Views.{decls_of};
+ghost use Rattle.types_symbols.specs.Working.Scoped.{locals_seen, local_seen, scope_of, IsBound, meaning_of};
+
+use crate::names::Names;
+use crate::note::note_if;
+use crate::table::SymbolTable;
+use core_lang::tree::LocalKind;
+use core_lang::value::ValueType;
+use resolution::body_limits::BodyLimits;
+use source::fault::Code;
+use source::mistake::{Mistake, note};
+use std::alloc::{AllocError, Global};
+use std::marker::Model;
+use std::rc::RcStr;
+use syntax::tree;
+use syntax::tree::{Decl, Member, Name};
+
+/// A local: its type, unless that is faulty, and whether it is in scope.
+#[derive(Drop)]
+pub struct Local {
+    /// Its name.
+    pub name: String,
+    /// Whether it is a parameter, a `let` or a `var`.
+    pub kind: LocalKind,
+    /// What it may hold. `None` where its type names no struct.
+    pub value_type: Option<ValueType>,
+    /// Whether the place that is judged stands in its scope: in its block, behind it.
+    pub is_visible: bool,
+}
+
+/// The locals of a section or a helper so far, by number, the type of its result, and how many there may be.
+#[derive(Drop)]
+pub struct Locals {
+    /// The number of the first local of each name.
+    names: Names,
+    /// The locals, by number: parameters first, then the others in the order of the text.
+    items: Vec<Local>,
+    /// The type of the result. `None` where there is no result, or its type names no struct.
+    result: Option<ValueType>,
+    /// How many parameters and locals there may be.
+    limits: BodyLimits,
+}
+
+// They stand for the locals, the type and the limits, and the table is that of the locals.
+impl Model for Locals {
+    ghost use Rattle.resolution.specs.Scopes.{local_bears};
+    ghost use Rattle.types_symbols.specs.Working.Found.{IsTableOf};
+    ghost use Rattle.types_symbols.specs.Working.Scoped.{KnownLocals, locals_seen};
+
+    ghost Value = { KnownLocals };
+
+    ghost view = { λ ls. record { locals = locals_seen ls.items.items; result = ls.result; limits = ls.limits } };
+
+    ghost invariant = { λ ls. IsTableOf local_bears (locals_seen ls.items.items) ls.names };
+}
+
+/// What a name means.
+#[derive(Clone, Copy)]
+pub enum Meaning<'a> {
+    /// A local, with its number.
+    Local(usize, &'a Local),
+    /// A declaration, with its place.
+    Decl(usize, &'a Decl),
+    /// Nothing: the name is unknown there.
+    Nothing,
+}
+
+/// Adds a local behind the others, and its name to their table.
+fn push_local(
+    alloc: Global,
+    names: &mut Names,
+    items: &mut Vec<Local>,
+    name: &RcStr,
+    local: Local,
+) -> Result<(), AllocError>
+    ensures items { OnOk result (items.new.items ≡ items.old.items ++ local ∷ []) }
+    ensures names { OnOk result (IsTableWithName (rc_str_bytes name.now) (length items.old.items) names.old names.new) }
+{
+    let place = items.len();
+    items.push(local)?;
+    names.add(alloc, name, place)
+}
+
+impl Locals {
+    /// No locals, where the result has this type and so many parameters and locals may stand.
+    pub fn new(alloc: Global, result_type: Option<ValueType>, limits: BodyLimits) -> Locals
+        ensures none { result.locals ≡ [] }
+        ensures result_type { result.result ≡ result_type }
+        ensures limits { result.limits ≡ limits }
+    {
+        Locals {
+            names: Names::new(alloc),
+            items: Vec::new(alloc),
+            result: result_type,
+            limits,
+        }
+    }
+
+    /// How many parameters and locals there may be.
+    pub fn limits(&self) -> BodyLimits
+        ensures { result ≡ self.now.limits }
+    {
+        self.limits
+    }
+
+    /// The type of the result. `None` where there is no result, or its type names no struct.
+    pub fn result(&self) -> Option<ValueType>
+        ensures { result ≡ self.now.result }
+    {
+        self.result
+    }
+
+    /// The locals, by number: parameters first, then the others in the order of the text.
+    pub fn items(&self) -> &[Local]
+        ensures { locals_seen result.now ≡ self.now.locals }
+    {
+        &self.items
+    }
+
+    /// How many locals there are, those that are no longer in scope among them.
+    pub fn len(&self) -> usize
+        ensures { result ≡ length self.now.locals }
+    {
+        self.items.len()
+    }
+
+    /// The first local of the name, with its number. `None` where none bears it.
+    pub fn find(&self, name: &str) -> Option<(usize, &Local)>
+        ensures { option_map (λ f. (f.0, local_seen f.1.now)) result ≡ the_local self.now.locals name.now }
+    {
+        let place = self.names.find(name)?;
+        let local = self.items.get(place)?;
+        Some((place, local))
+    }
+
+    /// Adds a local behind the others, in scope from here on. The one error is a refused growth, behind which no locals
+    /// are kept.
+    pub fn bind(
+        &mut self,
+        alloc: Global,
+        name: &Name,
+        kind: LocalKind,
+        value_type: Option<ValueType>,
+    ) -> Result<(), AllocError>
+        ensures { OnOk result (IsBound self.old self.new kind (ident name.now) value_type) }
+    {
+        let local = Local {
+            name: String::from_str(alloc, name.text.as_str())?,
+            kind,
+            value_type,
+            is_visible: true,
+        };
+        let Ok(()) = push_local(alloc, &mut self.names, &mut self.items, &name.text, local) else {
+            // There may be a local that the table lacks, so none is kept.
+            *self = Locals::new(alloc, None, self.limits);
+            return Err(AllocError);
+        };
+        Ok(())
+    }
+
+    /// Leaves a block: the locals from a number on are no longer in scope.
+    pub fn hide_from(&mut self, place: usize)
+        ensures hidden { self.new.locals ≡ hidden_from place self.old.locals }
+        ensures result_type { self.new.result ≡ self.old.result }
+        ensures limits { self.new.limits ≡ self.old.limits }
+    {
+        for i in place..self.items.len() {
+            self.items[i].is_visible = false;
+        }
+    }
+}
+
+/// What a name means outside of sections and helpers.
+fn meaning_outside<'a>(symbols: &'a SymbolTable, name: &Name) -> Meaning<'a>
+    ensures { meaning_of result ≡ meaning (outside (decls_of symbols.now)) (ident name.now).text }
+{
+    match symbols.find(name.text.as_str()) {
+        Some((place, decl)) => Meaning::Decl(place, decl),
+        None => Meaning::Nothing,
+    }
+}
+
+/// What a name means in a section or a helper: the first local of the name if that is in scope, else what it means outside.
+pub fn meaning_at<'a>(symbols: &'a SymbolTable, locals: &'a Locals, name: &Name) -> Meaning<'a>
+    ensures { meaning_of result ≡ meaning (scope_of (decls_of symbols.now) locals.now) (ident name.now).text }
+{
+    if let Some((place, local)) = locals.find(name.text.as_str()) {
+        if local.is_visible {
+            return Meaning::Local(place, local);
+        }
+    }
+    meaning_outside(symbols, name)
+}
+
+/// The number of the struct that is meant.
+fn struct_meant(symbols: &SymbolTable, m: Meaning) -> Option<usize>
+    ensures { result ≡ struct_meant (decls_of symbols.now) (meaning_of m.entry) }
+{
+    match m {
+        Meaning::Decl(place, d) => match d {
+            Decl::Struct(_) => Some(symbols.number(place, d)),
+            _ => None,
+        },
+        Meaning::Local(_, _) | Meaning::Nothing => None,
+    }
+}
+
+/// The number of the struct that a declaration names. `None` where the name means no struct.
+pub fn struct_named(symbols: &SymbolTable, name: &Name) -> Option<usize>
+    ensures { result ≡ struct_named (decls_of symbols.now) (ident name.now) }
+{
+    struct_meant(symbols, meaning_outside(symbols, name))
+}
+
+/// The type that is written in a declaration. `None` where it names no struct.
+pub fn type_outside(symbols: &SymbolTable, t: &tree::ValueType) -> Option<ValueType>
+    ensures { result ≡ type_of (outside (decls_of symbols.now)) (type_seen t.now) }
+{
+    match t {
+        tree::ValueType::Int => Some(ValueType::Integer),
+        tree::ValueType::Ref(name) => match struct_named(symbols, name) {
+            Some(number) => Some(ValueType::Reference(number)),
+            None => None,
+        },
+    }
+}
+
+/// The type that is written at a local. `None` where it names no struct: a local in scope can hide a struct's name.
+pub fn type_at(symbols: &SymbolTable, locals: &Locals, t: &tree::ValueType) -> Option<ValueType>
+    ensures { result ≡ type_of (scope_of (decls_of symbols.now) locals.now) (type_seen t.now) }
+{
+    match t {
+        tree::ValueType::Int => Some(ValueType::Integer),
+        tree::ValueType::Ref(name) => {
+            let meant = meaning_at(symbols, locals, name);
+            match struct_meant(symbols, meant) {
+                Some(number) => Some(ValueType::Reference(number)),
+                None => None,
+            }
+        }
+    }
+}
+
+/// Whether what is meant has no fault in its type.
+fn has_type(symbols: &SymbolTable, m: Meaning) -> bool
+    ensures { result ≡ has_type (decls_of symbols.now) (meaning_of m.entry) }
+{
+    match m {
+        Meaning::Local(_, local) => local.value_type.is_some(),
+        Meaning::Decl(_, Decl::Global(v)) => type_outside(symbols, &v.value_type).is_some(),
+        Meaning::Decl(_, Decl::Array(a)) => type_outside(symbols, &a.value_type).is_some(),
+        Meaning::Decl(_, Decl::Pool(p)) => struct_named(symbols, &p.target).is_some(),
+        Meaning::Decl(_, _) | Meaning::Nothing => true,
+    }
+}
+
+/// Notes at `start` the fault of a thing that can't stand there, unless its type has a fault.
+pub fn note_unfit(
+    symbols: &SymbolTable,
+    code: Code,
+    start: usize,
+    m: Meaning,
+    least: &mut Option<Mistake>,
+)
+    ensures { least.new ≡ least_of least.old (unfit (decls_of symbols.now) code start (meaning_of m.entry)) }
+{
+    note_if(has_type(symbols, m), code, start, least);
+}
+
+/// Whether a member has no fault in its type.
+fn member_has_type(symbols: &SymbolTable, m: &Member) -> bool
+    ensures { result ≡ member_has_type (decls_of symbols.now) (member_of m.now) }
+{
+    match m {
+        Member::Lock(_) => true,
+        Member::Final(f) => struct_named(symbols, &f.target).is_some(),
+        Member::Field(f) => type_outside(symbols, &f.value_type).is_some(),
+    }
+}
+
+/// Notes at `start` the fault of a member that can't stand there, unless its type has a fault.
+pub fn note_unfit_member(
+    symbols: &SymbolTable,
+    code: Code,
+    start: usize,
+    m: &Member,
+    least: &mut Option<Mistake>,
+)
+    ensures { least.new ≡ least_of least.old (unfit_member (decls_of symbols.now) code start (member_of m.now)) }
+{
+    note_if(member_has_type(symbols, m), code, start, least);
+}
+
+/// Notes a type's name that names no struct.
+fn note_no_struct(start: usize, m: Meaning, least: &mut Option<Mistake>)
+    ensures { least.new ≡ least_of least.old (no_struct start (meaning_of m.entry)) }
+{
+    match m {
+        Meaning::Decl(_, Decl::Struct(_)) => {}
+        Meaning::Nothing => note(least, Code::UnknownName, start),
+        _ => note(least, Code::WrongType, start),
+    }
+}
+
+/// Notes what is wrong with the name of a struct in a declaration: it is unknown, or means no struct.
+pub fn note_target(symbols: &SymbolTable, name: &Name, least: &mut Option<Mistake>)
+    ensures { least.new ≡ least_of least.old (type_faults (outside (decls_of symbols.now)) (ref_type (ident name.now))) }
+{
+    note_no_struct(name.start as usize, meaning_outside(symbols, name), least);
+}
+
+/// Notes what is wrong with a declaration's type: the struct that it refers to is unknown, or is none.
+pub fn note_type(symbols: &SymbolTable, t: &tree::ValueType, least: &mut Option<Mistake>)
+    ensures { least.new ≡ least_of least.old (type_faults (outside (decls_of symbols.now)) (type_seen t.now)) }
+{
+    match t {
+        tree::ValueType::Int => {}
+        tree::ValueType::Ref(name) => note_target(symbols, name, least),
+    }
+}
+
+/// Notes what is wrong with a local's type: the struct that it refers to is unknown there, or is none.
+pub fn note_local_type(
+    symbols: &SymbolTable,
+    locals: &Locals,
+    t: &tree::ValueType,
+    least: &mut Option<Mistake>,
+)
+    ensures { least.new ≡ least_of least.old (type_faults (scope_of (decls_of symbols.now) locals.now) (type_seen t.now)) }
+{
+    match t {
+        tree::ValueType::Int => {}
+        tree::ValueType::Ref(name) => {
+            let meant = meaning_at(symbols, locals, name);
+            note_no_struct(name.start as usize, meant, least);
+        }
+    }
+}

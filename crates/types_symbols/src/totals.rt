@@ -1,0 +1,291 @@
+//! How much there is: what stands ahead of each declaration, and where there are too many.
+
+ghost use Rattle.std.specs.Prelude.{◌≡◌, ◌≤◌, ◌<◌, ◌^◌, ◌+◌, ◌*◌, ◌&&◌, nat_le, [], OnOk, IfOk, map};
+ghost use Rattle.source.specs.declared.fault.Code.TheVariants.{LimitExceeded};
+ghost use Rattle.syntax.specs.Views.{decl_of, member_of, struct_of, pool_of, item_of, items_of};
+ghost use Rattle.syntax.specs.Trees.{struct, pool};
+ghost use Rattle.resolution.specs.Limits.{CLASS_LIMIT, CELL_LIMIT, CALL_LIMIT};
+ghost use Rattle.resolution.specs.Numbers.{is_lock, calls_in, calls_in_all, classes_of, cells_of};
+ghost use Rattle.source.specs.Mistakes.{least_of};
+ghost use Rattle.resolution.specs.Working.FaultLists.{one_if, first_too_many, lock_count, member_counts, total_faults};
+ghost use Rattle.types_symbols.specs.Working.Found.{AreAhead};
+ghost use Rattle.types_symbols.specs.Working.Capped.{capped, totals_of, no_totals, added_by, both_totals, AreCapped, faults_by};
+ghost use Rattle.types_symbols.specs.Working.Views.{decls_of};
+
+use crate::declarations::Declarations;
+use crate::members::{MEMBER_LIMIT, name_of};
+use crate::note::note_if;
+use source::fault::Code;
+use source::mistake::Mistake;
+use std::alloc::{AllocError, Global};
+use syntax::tree::{Decl, Item, Member, Pool, Struct};
+
+/// How many structs there may be.
+const STRUCT_LIMIT: usize = 64;
+
+/// How many lock classes there may be.
+pub(crate) const CLASS_LIMIT: usize = 128;
+
+/// How many objects there may be, the members of all pools together.
+pub const OBJECT_LIMIT: usize = 65536;
+
+/// How many cells there may be: one for each global, each element of an array and each field of an object.
+pub const CELL_LIMIT: usize = 262144;
+
+/// How many sections and helpers there may be together.
+pub(crate) const SECTION_LIMIT: usize = 256;
+
+/// How many threads there may be.
+const THREAD_LIMIT: usize = 64;
+
+/// How many calls all threads may make together.
+pub(crate) const CALL_LIMIT: usize = 100000;
+
+/// How much declarations add together. Each is at most one more than its limit: all past the limit count alike.
+#[derive(Clone, Copy)]
+pub struct Totals {
+    /// The lock classes: global locks, and lock fields of structs.
+    pub classes: usize,
+    /// The objects: the members of pools.
+    pub objects: usize,
+    /// The cells, of globals, elements and fields.
+    pub cells: usize,
+    /// The calls of threads, each as often as it is repeated.
+    pub calls: usize,
+}
+
+/// A number, where all past the limit count alike.
+fn cap(limit: usize, n: u64) -> usize
+    requires { limit ≤ 2 ^ 32 }
+    ensures { result ≡ capped limit n }
+{
+    n.min(limit as u64 + 1) as usize
+}
+
+/// A sum, where all past the limit count alike.
+fn add(limit: usize, a: usize, b: usize) -> usize
+    requires limit { limit ≤ 2 ^ 32 }
+    requires first { a ≤ limit + 1 }
+    requires second { b ≤ limit + 1 }
+    ensures sum { result ≡ capped limit (a + b) }
+    ensures within { result ≤ limit + 1 }
+{
+    (a + b).min(limit + 1)
+}
+
+/// A product, where all past the limit count alike.
+fn times(limit: usize, a: u64, b: usize) -> usize
+    requires { limit ≤ 2 ^ 30 }
+    ensures product { result ≡ capped limit (a * b) }
+    ensures within { result ≤ limit + 1 }
+{
+    let first = cap(limit, a);
+    let second = cap(limit, b as u64);
+    (first * second).min(limit + 1)
+}
+
+/// The lock classes of a struct.
+fn locks_in(structure: &Struct) -> usize
+    ensures { result ≡ capped CLASS_LIMIT (classes_of (struct (struct_of structure.now))) }
+{
+    let mut locks = 0;
+    for m in &structure.members {
+        if let Member::Lock(_) = m {
+            locks = add(CLASS_LIMIT, locks, 1);
+        }
+    }
+    locks
+}
+
+/// The calls of a thing that a thread does.
+#[cycle(calls)]
+fn calls_of_item(item: &Item) -> usize
+    ensures calls { result ≡ capped CALL_LIMIT (calls_in (item_of item.now)) }
+    ensures within { result ≤ CALL_LIMIT + 1 }
+{
+    match item {
+        Item::Call(_) => 1,
+        Item::Repeat(n, items) => times(CALL_LIMIT, n.value, calls_of_items(items)),
+    }
+}
+
+/// The calls of what a thread does.
+#[cycle(calls)]
+fn calls_of_items(items: &[Item]) -> usize
+    ensures calls { result ≡ capped CALL_LIMIT (calls_in_all (items_of items.now)) }
+    ensures within { result ≤ CALL_LIMIT + 1 }
+{
+    let mut calls = 0;
+    for item in items {
+        calls = add(CALL_LIMIT, calls, calls_of_item(item));
+    }
+    calls
+}
+
+/// The cells of a pool.
+fn cells_of_pool(decls: &Declarations, p: &Pool) -> usize
+    ensures { result ≡ capped CELL_LIMIT (cells_of (decls_of decls.now) (pool (pool_of p.now))) }
+{
+    match decls.struct_of(&p.target) {
+        Some((_, structure)) => times(CELL_LIMIT, p.length.value, structure.width()),
+        None => 0,
+    }
+}
+
+impl Totals {
+    /// Nothing.
+    fn none() -> Totals
+        ensures { result ≡ no_totals }
+    {
+        Totals {
+            classes: 0,
+            objects: 0,
+            cells: 0,
+            calls: 0,
+        }
+    }
+
+    /// How much a declaration adds.
+    fn of(decls: &Declarations, d: &Decl) -> Totals
+        ensures { result ≡ added_by (decls_of decls.now) (decl_of d.now) }
+    {
+        let mut totals = Totals::none();
+        match d {
+            Decl::Lock(_) => totals.classes = 1,
+            Decl::Struct(structure) => totals.classes = locks_in(structure),
+            Decl::Global(_) => totals.cells = 1,
+            Decl::Array(array) => totals.cells = cap(CELL_LIMIT, array.length.value),
+            Decl::Pool(pool) => {
+                totals.objects = cap(OBJECT_LIMIT, pool.length.value);
+                totals.cells = cells_of_pool(decls, pool);
+            }
+            Decl::Thread(thread) => totals.calls = calls_of_items(&thread.items),
+            Decl::Init(_) | Decl::Atomic(_) | Decl::Helper(_) => {}
+        }
+        totals
+    }
+
+    /// Both together.
+    fn with(self, more: Totals) -> Totals
+        requires first { AreCapped self }
+        requires second { AreCapped more }
+        ensures sum { result ≡ both_totals self more }
+        ensures within { AreCapped result }
+    {
+        Totals {
+            classes: add(CLASS_LIMIT, self.classes, more.classes),
+            objects: add(OBJECT_LIMIT, self.objects, more.objects),
+            cells: add(CELL_LIMIT, self.cells, more.cells),
+            calls: add(CALL_LIMIT, self.calls, more.calls),
+        }
+    }
+}
+
+/// Whether so many more are first too many.
+fn passes(limit: usize, before: usize, own: usize) -> bool
+    requires limit { limit ≤ 2 ^ 32 }
+    requires before { before ≤ limit + 1 }
+    requires own { own ≤ limit + 1 }
+    ensures { result ≡ first_too_many limit before own }
+{
+    before <= limit && limit < before + own
+}
+
+/// Notes the members by which there are too many of a struct, or too many lock classes.
+#[tactic(auto, using(source::specs::Theory::Leasts::least_append))]
+fn note_members(classes: usize, members: &[Member], least: &mut Option<Mistake>)
+    requires { classes ≤ CLASS_LIMIT + 1 }
+    ensures { least.new ≡ least_of least.old (member_counts classes 0 (map member_of members.now)) }
+{
+    let mut classes = classes;
+    for (place, m) in members.iter().enumerate() {
+        let start = name_of(m).start as usize;
+        note_if(MEMBER_LIMIT <= place, Code::LimitExceeded, start, least);
+        classes = note_lock(classes, m, start, least);
+    }
+}
+
+/// Notes a lock field by which there are too many lock classes, and says how many there are with it.
+fn note_lock(classes: usize, m: &Member, start: usize, least: &mut Option<Mistake>) -> usize
+    requires { classes < 2 ^ 63 }
+    ensures classes { result ≡ classes + lock_count (is_lock (member_of m.now)) }
+    ensures faults { least.new ≡ least_of least.old (one_if (is_lock (member_of m.now) && nat_le CLASS_LIMIT classes) LimitExceeded start) }
+{
+    match m {
+        Member::Lock(_) => {
+            note_if(CLASS_LIMIT <= classes, Code::LimitExceeded, start, least);
+            classes + 1
+        }
+        Member::Final(_) | Member::Field(_) => classes,
+    }
+}
+
+/// Notes a declaration by which there are too many of something.
+#[tactic(auto, using(source::specs::Theory::Leasts::least_append))]
+fn note_decl(number: usize, ahead: Totals, own: Totals, d: &Decl, least: &mut Option<Mistake>)
+    requires ahead { AreCapped ahead }
+    requires own { AreCapped own }
+    ensures { least.new ≡ least_of least.old (faults_by number ahead own (decl_of d.now)) }
+{
+    let code = Code::LimitExceeded;
+    match d {
+        Decl::Lock(name) => note_if(
+            CLASS_LIMIT <= ahead.classes,
+            code,
+            name.start as usize,
+            least,
+        ),
+        Decl::Struct(s) => {
+            note_if(STRUCT_LIMIT <= number, code, s.name.start as usize, least);
+            note_members(ahead.classes, &s.members, least);
+        }
+        Decl::Global(v) => {
+            let is_over = passes(CELL_LIMIT, ahead.cells, own.cells);
+            note_if(is_over, code, v.name.start as usize, least);
+        }
+        Decl::Array(a) => {
+            let is_over = passes(CELL_LIMIT, ahead.cells, own.cells);
+            note_if(is_over, code, a.name.start as usize, least);
+        }
+        Decl::Pool(p) => {
+            let are_over = passes(OBJECT_LIMIT, ahead.objects, own.objects);
+            note_if(are_over, code, p.name.start as usize, least);
+            let is_over = passes(CELL_LIMIT, ahead.cells, own.cells);
+            note_if(is_over, code, p.name.start as usize, least);
+        }
+        Decl::Init(_) => {}
+        Decl::Atomic(s) | Decl::Helper(s) => {
+            note_if(SECTION_LIMIT <= number, code, s.name.start as usize, least);
+        }
+        Decl::Thread(t) => {
+            note_if(THREAD_LIMIT <= number, code, t.name.start as usize, least);
+            let is_over = passes(CALL_LIMIT, ahead.calls, own.calls);
+            note_if(is_over, code, t.name.start as usize, least);
+        }
+    }
+}
+
+/// How much stands ahead of each declaration and is in all. Notes where there are too many. The one error is a refused
+/// growth.
+pub(crate) fn judge_totals(
+    alloc: Global,
+    decls: &Declarations,
+    least: &mut Option<Mistake>,
+) -> Result<(Vec<Totals>, Totals), AllocError>
+    ensures totals { IfOk result (λ t. AreAhead (totals_of (decls_of decls.now)) (decls_of decls.now) t.0.items t.1) }
+    ensures faults { OnOk result (least.new ≡ least_of least.old (total_faults (decls_of decls.now) [] (decls_of decls.now))) }
+{
+    let mut ahead = Vec::new(alloc);
+    let mut totals = Totals::none();
+    let items = decls.items();
+    for (place, d) in items.iter().enumerate() {
+        let own = Totals::of(decls, d);
+        note_decl(decls.limited(place, d), totals, own, d, least);
+        let Ok(()) = ahead.push(totals) else {
+            drop(ahead);
+            return Err(AllocError);
+        };
+        totals = totals.with(own);
+    }
+    Ok((ahead, totals))
+}

@@ -1,8 +1,0 @@
-use Rattle.std.proofs.lemmas.Result.{IfOk-weaker}
-use Rattle.words.proofs.CommandLemmas.{arg_is}
-use Rattle.words.proofs.command.simulate_command.Goals as goal
-
-pub returns : goal.returns
-returns c =
-    IfOk-weaker c.arg.result _ _
-    (λ r adds. arg_is _ _ _ _ _ c.in_ok-file_command.ensures c.steps_argument.ensures.rule c.steps_argument.ensures.local adds) c.arg.ensures

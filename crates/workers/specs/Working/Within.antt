@@ -1,0 +1,109 @@
+-- What the parts of a call, and of a run of all scripts, tell each other. It mirrors the code: nobody has to believe
+-- it.
+use Rattle.std.specs.Prelude.{◌≡◌, ◌≤◌, ◌<◌, ◌+◌, ℕ, true, List, length, map, Some, None, slice_index_or}
+use Rattle.core_lang.specs.declared.value.Outcome.{Outcome}
+use Rattle.core_lang.specs.declared.typed.Call.{Call}
+use Rattle.core_lang.specs.Serial.{Invocation, invocation}
+use Rattle.core_lang.specs.Typing.{HasCells}
+use Rattle.core_lang.specs.WellFormed.{CanCall}
+use Rattle.code.specs.Memory.{Agrees}
+use Rattle.history.specs.Commits.{Commit, committed, IsTrueCommit}
+use Rattle.lowering.specs.Plans.{Plan}
+use Rattle.worlds.specs.Worlds.{call_at}
+use Rattle.runner.specs.Working.Opens.{ReadyOf, PoisedOf, OpenOf, entry_of}
+use Rattle.workers.specs.Seats.{SeatOf, reply}
+use Rattle.workers.specs.Answers.{IsAnswer, AnswersAreIn, reply_at, replies_of, in_step, call_in, script_at}
+use Rattle.workers_copies.specs.Logs.{IsSound}
+use Rattle.workers.specs.Working.Seen.{SeenIsIn}
+use Rattle.workers_copies.specs.Working.Rows.{SeenOf, SeesOwn}
+use Rattle.workers.specs.declared.seat.Done.{Done}
+
+-- ---- a seat
+
+-- its next call has the number of its answers, and its entries among the copies that it has seen have the numbers
+-- before that, in order
+pub record IsSeat (thread step : ℕ) (log : List Commit) : Type 0 where
+  pub few : thread < 64
+  pub step_is : step ≡ length (replies_of thread 0 log)
+  pub steps : in_step thread 0 log ≡ true
+
+-- what it has seen begins a history, which has no further entry of its thread
+pub record IsIn (log : List Commit) (s : SeatOf) : Type 0 where
+  pub answers : AnswersAreIn log s
+  pub seen : SeenIsIn log s
+
+-- ---- the parts of a call
+
+-- the call that was prepared has begun
+pub record IsBegun (p : PoisedOf) (o : OpenOf) : Type 0 where
+  pub plan : o.plan ≡ p.plan
+  pub thread : o.thread ≡ p.thread
+  pub step : o.step ≡ p.step
+  pub call : o.activation.call ≡ p.call
+
+-- a call of a thread has begun
+pub record HasBegun (plan : Plan) (call : Invocation) (ready : ReadyOf) (o : OpenOf) : Type 0
+  where
+    pub plan_is : o.plan ≡ plan
+    pub thread : o.thread ≡ ready.thread
+    pub step : o.step ≡ ready.step
+    pub call_is : o.activation.call ≡ call
+
+-- its entry stands behind a sound log of this length, is true, and read what that log left; it began at a floor or
+-- above
+pub record IsEntered (plan : Plan) (floor : ℕ) (o : OpenOf) (position : ℕ) : Type 0 where
+  pub log : List Commit
+  pub long : length log ≡ position
+  pub sound : IsSound plan log
+  pub cells : HasCells plan.program (committed plan.layout.opening log)
+  pub agrees : Agrees (committed plan.layout.opening log) o.activation.machine.memory.reads
+  pub is_true : (outcome : Outcome) → o.activation.outcome ≡ Some outcome →
+      IsTrueCommit plan.program (entry_of o outcome)
+  pub above : floor ≤ o.activation.begun
+  pub begun : o.activation.begun ≤ position
+
+-- what is told of an entry, but for its position, and the entry's copy
+pub record IsNotedOf (entry : Commit) (told : Done) (copy : Commit) : Type 0 where
+  pub outcome : told.outcome ≡ entry.outcome
+  pub prints : told.prints.items ≡ entry.prints
+  pub copy_is : copy ≡ entry
+
+-- an answered call: what is told of it; the thread, with the number of its next call; and what its seat has seen then,
+-- with the call's entry last
+pub record HasAnswer (plan : Plan) (call : Invocation) (ready : ReadyOf) (old : SeenOf) (ready' : ReadyOf) (told : Done)
+    (new : SeenOf) : Type 0 where
+  pub answer : IsAnswer plan call told.position told.outcome told.prints.items
+  pub ready_is : ready' ≡ record { thread = ready.thread; step = ready.step + 1 }
+  pub entry : Commit
+  pub own : entry.thread ≡ ready.thread
+  pub step : entry.step ≡ ready.step
+  pub reply_is : reply_at told.position entry ≡ reply told.position entry.begun call told.outcome told.prints.items
+  pub above : length old.log ≤ entry.begun
+  pub at_most : entry.begun ≤ told.position
+  pub row : new.known.row ≡ old.known.row
+  pub seen : SeesOwn ready.thread told.position entry old.log new.log
+  pub sound : IsSound plan new.log
+
+-- ---- scripts
+
+-- a thread has no call of this number
+abbrev pub NoCall : Plan → ℕ → ℕ → Type 0
+NoCall plan t step = call_at plan t step ≡ None
+
+-- this is the thread's call of this number, and it fits its section
+pub record IsCall (plan : Plan) (t step : ℕ) (call : Call) : Type 0 where
+  pub is : call_at plan t step ≡ Some (invocation call)
+  pub fits : CanCall plan.program call.section call.arguments.items
+
+-- the thread has so many calls
+pub record HasCalls (plan : Plan) (t count : ℕ) : Type 0 where
+  pub script : List Invocation
+  pub is : script_at plan t ≡ Some script
+  pub long : length script ≡ count
+
+-- the seats of all threads in order, each of which has answers to just its thread's script
+pub record AreInOrder (plan : Plan) (count : ℕ) (seats : List SeatOf) : Type 0 where
+  pub long : length seats ≡ count
+  pub threads : (k : ℕ) (d : SeatOf) → k < length seats → (slice_index_or seats k d).thread ≡ k
+  pub calls : (k : ℕ) (d : SeatOf) → k < length seats →
+      Some (map call_in (slice_index_or seats k d).answers) ≡ script_at plan (slice_index_or seats k d).thread

@@ -1,0 +1,70 @@
+-- What an open section keeps by itself, along its own steps, as the law of `src/laws.rt` claims it. Nobody has to
+-- believe this file.
+use Rattle.std.specs.Prelude.{◌≡◌, ℕ, ◌≤◌, true, List, [], ◌∷◌, ◌++◌, length, map, Some, None}
+use Rattle.std.specs.List.{Contains, sum_by}
+use Rattle.core_lang.specs.declared.value.Value.{Value}
+use Rattle.core_lang.specs.declared.value.Outcome.{Outcome}
+use Rattle.core_lang.specs.declared.tree.Section.{Section}
+use Rattle.core_lang.specs.Serial.{Invocation}
+use Rattle.core_lang.specs.Typing.{IsHeap, HasCells}
+use Rattle.core_lang.specs.WellFormed.{CanCall}
+use Rattle.locks.specs.declared.lock.Lock.{Lock}
+use Rattle.locks.specs.Order.{Precedes}
+use Rattle.layout.specs.declared.room.Room.{Room}
+use Rattle.layout.specs.LockCells.{cells_of}
+use Rattle.code.specs.Memory.{value_at, overwritten, Agrees}
+use Rattle.history.specs.Commits.{IsTrueCommit}
+use Rattle.lowering.specs.Plans.{Plan, IsCompiled}
+use Rattle.lowering.specs.Working.Rooms.{IsRoomOf}
+use Rattle.worlds.specs.Worlds.{Activation, activation, section_at, granted, instructed, next_effect, commit}
+use Rattle.worlds.specs.Working.States.{IsWell}
+use Rattle.worlds.specs.Waiting.{HasNext}
+use Rattle.worlds.specs.Working.Ahead.{SeesTyped, IsReady}
+
+-- it keeps the rules, whatever the others do, and it can go on
+pub record IsInOrder (plan : Plan) (a : Activation) : Type 0 where
+  pub well : IsWell plan a
+  pub ready : IsReady plan a
+
+-- the cells of a lock, in order, each with a value of its type
+pub record AreCellsOf (plan : Plan) (lock : Lock) (values : List (ℕ × Value)) : Type 0 where
+  pub cells : map (λ (x : ℕ × Value). x.0) values ≡ cells_of plan.layout.cell_locks lock
+  pub typed : SeesTyped plan.program (λ cell. value_at values cell)
+
+-- the locks have room, and so have their cells
+pub record FitRoom (plan : Plan) (locks : List Lock) (room : Room) : Type 0 where
+  pub locks_fit : length locks ≤ room.locks
+  pub cells_fit : sum_by (λ (lock : Lock). length (cells_of plan.layout.cell_locks lock)) locks ≤ room.cells
+
+-- what is claimed of a section that is in order
+pub record SectionsStayInOrder : Type 0 where
+  -- a call that fits begins so
+  pub begins : (plan : Plan) (begun : ℕ) (call : Invocation) → IsCompiled plan →
+      CanCall plan.program call.section call.arguments → IsInOrder plan (activation plan begun call)
+  -- and stays so by its next instruction, which has its case
+  pub moves : (plan : Plan) (a : Activation) → IsCompiled plan → IsInOrder plan a → a.pending ≡ [] → a.outcome ≡ None →
+      IsInOrder plan (instructed plan a (next_effect plan a))
+  pub next : (plan : Plan) (a : Activation) → IsCompiled plan → IsInOrder plan a → a.pending ≡ [] → a.outcome ≡ None →
+      HasNext plan a
+  -- by the next of its pending locks, granted with its cells, and by asking for it
+  pub gets : (plan : Plan) (a : Activation) (lock : Lock) (rest : List Lock) (values : List (ℕ × Value)) →
+      IsCompiled plan → IsInOrder plan a → a.pending ≡ lock ∷ rest → AreCellsOf plan lock values →
+      IsInOrder plan (granted a lock rest values)
+  pub asks : (plan : Plan) (a : Activation) → IsCompiled plan → IsInOrder plan a →
+      IsInOrder plan (record a { asked = true })
+  -- this lock comes after all that it holds
+  pub rises : (plan : Plan) (a : Activation) (lock other : Lock) (rest : List Lock) → IsInOrder plan a →
+      a.pending ≡ lock ∷ rest → Contains a.held other → Precedes plan.ranks other lock
+  -- where locks are pending, they and those that it holds are locks of the program, and they fit the section's room
+  pub listed : (plan : Plan) (a : Activation) (first lock : Lock) (rest : List Lock) → IsCompiled plan →
+      IsInOrder plan a → a.pending ≡ first ∷ rest → Contains (a.held ++ a.pending) lock →
+      Contains plan.layout.locks lock
+  pub fit : (plan : Plan) (a : Activation) (first : Lock) (rest : List Lock) (section : Section) (room : Room) →
+      IsCompiled plan → IsInOrder plan a → a.pending ≡ first ∷ rest → section_at plan a.call.section ≡ Some section →
+      IsRoomOf plan.program plan.layout section room → FitRoom plan (a.held ++ a.pending) room
+  -- and where it has an outcome, its entry is true, and it leaves a heap of the program so
+  pub ends : (plan : Plan) (thread step : ℕ) (a : Activation) (outcome : Outcome) → IsCompiled plan →
+      IsInOrder plan a → a.outcome ≡ Some outcome → IsTrueCommit plan.program (commit thread step a outcome)
+  pub leaves : (plan : Plan) (a : Activation) (outcome : Outcome) (heap : List Value) → IsCompiled plan →
+      IsInOrder plan a → a.outcome ≡ Some outcome → HasCells plan.program heap → IsHeap plan.program heap →
+      Agrees heap a.machine.memory.reads → IsHeap plan.program (overwritten heap a.machine.memory.writes)
