@@ -2,8 +2,9 @@
 """What a reader has to believe: the definitions that the clauses of public calls say their promises in.
 
     believed.py            fails where a definition that counts is in a folder Working or Theory, or its file's head says
-                           that nobody has to believe it; where a file of which none counts is in neither folder; or
-                           where the list in docs/THEOREM.md is not that of today
+                           that nobody has to believe it; where a file of which none counts is in neither folder;
+                           where the list in docs/THEOREM.md is not that of today; or where docs/DEFINITIONS.md doesn't
+                           name a file that has one, or has a name that is none of its file's
     believed.py --write    writes that list
     believed.py --names    prints each file with the names that count
 
@@ -17,6 +18,7 @@ import sys
 TOP = pathlib.Path(__file__).resolve().parent.parent
 CRATES = TOP / "crates"
 THEOREM = TOP / "docs" / "THEOREM.md"
+DEFINITIONS = TOP / "docs" / "DEFINITIONS.md"
 BEGIN, END = "<!-- tests/believed.py writes from here -->\n", "<!-- to here -->\n"
 # The calls: a file and the names of its functions.
 HEADLINE = {"crates/interleavings/src/world.rt": ["run"], "crates/worlds/src/laws.rt": ["every_run"]}
@@ -57,15 +59,21 @@ def imports_of(text):
 
 def parts_of(text):
     """The lines of each definition, by its name: from the line that declares it to the next one's."""
-    parts, name, depth = {}, None, 0
+    parts, name, block = {}, None, None
     for line in text.split("\n"):
         bare = line.split("--")[0].rstrip()
         if not bare:
             continue
+        indent = len(bare) - len(bare.lstrip())
+        if block is not None and indent <= block:
+            block = None
+        if bare.split()[-1] == "mutual":
+            name, block = None, indent
+            continue
         if bare.startswith(("use ", "pub use ", "pub mod ", "module ")):
             name = None
             continue
-        begin = declared(bare)
+        begin = declared(bare, block)
         if begin:
             name = begin
             parts.setdefault(name, [])
@@ -74,23 +82,24 @@ def parts_of(text):
     return parts
 
 
-def declared(line):
-    """The name that a line declares."""
+def declared(line, block):
+    """The name that a line declares; of a block of mutual definitions it is told where the block's first word begins."""
     indent = len(line) - len(line.lstrip())
-    if indent > 2:
+    in_block = block is not None and indent == block + 2
+    if indent > 2 and not in_block:
         return None
     words = line.split()
     is_marked = False
     while words and words[0] in ("abbrev", "pub", "unfoldable", "mutual", "record", "data", "opaque"):
         is_marked = is_marked or words[0] != "pub"
         marked = words.pop(0)
-        if marked == "pub" and indent == 0:
+        if marked == "pub" and (indent == 0 or in_block):
             is_marked = True
-    if not words or words[0] in NOT_NAMES:
+    if not words or words[0] in NOT_NAMES or "{" in words[:2]:  # `record a {` is a value
         return None
     if is_marked:
         return words[0].rstrip(":")
-    if indent == 0 and len(words) > 1 and words[1] == ":":
+    if (indent == 0 or in_block) and len(words) > 1 and words[1] == ":":
         return words[0]
     return None
 
@@ -193,6 +202,31 @@ def engines():
     return calls
 
 
+def rows_in_words():
+    """The rows of docs/DEFINITIONS.md, each with its files and its names; a bold row names the files of those below it."""
+    files = []
+    for line in DEFINITIONS.read_text().splitlines():
+        first = line.split("|")[1].strip() if line.startswith("| ") else ""
+        marked = re.findall(r"`([^`]+)`", first)
+        if first.startswith("**"):
+            files = [name.replace("/", ".specs.", 1).replace("/", ".") for name in marked]
+            yield files, []
+        elif marked:
+            yield files, marked
+
+
+def wrong_words(counted):
+    """What is wrong with docs/DEFINITIONS.md, where these files have these names that count."""
+    lines, files = [], set()
+    for where, names in rows_in_words():
+        files.update(where)
+        known = set().union(*(counted.get(file, set()) for file in where))
+        lines += [f"{name} is no definition of {' or '.join(where)} that counts" for name in names if name not in known]
+    lines += [f"{file} has nothing that counts" for file in sorted(files - set(counted))]
+    lines += [f"{file} counts and is not named" for file in sorted(set(counted) - files)]
+    return [f"docs/DEFINITIONS.md: {line}" for line in lines]
+
+
 def others():
     """All public calls of the crates that are no part of the engines."""
     lines = re.findall(r"^(\w+)[^:\n]*:(.*)$", (TOP / "crates.txt").read_text(), re.M)
@@ -207,12 +241,14 @@ def others():
 
 
 def main():
-    reading, failed, tables = Reading(), 0, []
+    reading, failed, tables, counted = Reading(), 0, [], {}
     groups = (("The headline", HEADLINE), ("The compiler", COMPILER), ("All engines", engines()))
     believed = {module for module, _ in reading.begin(others()).seen}
     for title, calls in groups:
         tables.append(reading.begin(calls).table(title))
         believed |= {module for module, _ in reading.seen}
+        for module, names in reading.files().items():
+            counted.setdefault(module, set()).update(names)
         for module in reading.wrong():
             names = ", ".join(name for where, name in sorted(reading.seen) if where == module)
             print(f"{title}: nobody has to believe {module}, its head says, but these count: {names}")
@@ -230,6 +266,9 @@ def main():
         THEOREM.write_text(new)
     elif new != text:
         print("docs/THEOREM.md has another list of what has to be believed: tests/believed.py --write")
+        failed += 1
+    for line in wrong_words(counted):
+        print(line)
         failed += 1
     print(f"{sum(len(reading.begin(calls).seen) for _, calls in groups)} definitions, {failed} failed")
     return 1 if failed else 0

@@ -39,11 +39,12 @@ def fields(crate):
 
 
 def rows():
-    """The rows of the table: calls, and clauses."""
+    """The rows of the tables: calls, and after a colon clauses."""
     for line in (TOP / "docs" / "PROMISES.md").read_text().splitlines():
         parts = re.split(r"(?<!\\)\|", line)
-        if line.startswith("| ") and len(parts) >= 5 and "`" in parts[-3]:
-            yield re.findall(r"`([\w:]+)`", parts[-3]), re.findall(r"`(\w+)`", parts[-2])
+        if line.startswith("| ") and len(parts) >= 4 and "`" in parts[-2]:
+            calls, _, names = parts[-2].partition(": ")
+            yield re.findall(r"`([\w:]+)`", calls), re.findall(r"`(\w+)`", names)
 
 
 def wrong(crate, calls, names):

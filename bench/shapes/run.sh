@@ -49,6 +49,21 @@ def along(length, size):
     return head + line * ((size - len(head) - 2) // len(line)) + "}\n"
 
 
+def aliases(length, size):
+    head = (
+        "struct S { lock l; int x protected_by(l); final ref S n; }\npool S p[1];\ninit p[0].n = p[0];\n"
+        f"atomic f(ref S a) {{\nlet m: ref S = a{'.n' * length};\n" + "".join(f"let b{i}: ref S = m;\n" for i in range(62))
+    )
+    lines, left, i = [], size - len(head) - 2, 0
+    while True:
+        line = f"b{i % 62}.x = 1;\n"
+        if len(line) > left:
+            return head + "".join(lines) + "}\n"
+        lines.append(line)
+        left -= len(line)
+        i += 1
+
+
 alike = (top / "alike.names").read_text().split()
 write("names_alike", names_used(alike))
 write("names_plain", names_used([f"aaaa{i:04}" for i in range(len(alike))]))
@@ -59,9 +74,10 @@ write("ifs_60_deep", nested("if (n > 0) {", "}", "n=1;"))
 write("ifs_beside", nested("if (n > 0) { n = 1; }", "", "n=1;"))
 for size in (262144, 524288, 1048000):
     write(f"chain_of_finals_{size // 1024}K", along(size // 8, size))
+    write(f"chain_of_finals_by_62_names_{size // 1024}K", aliases(size // 8, size))
 PYTHON
 for text in $(ls -v "$texts"/*.al); do
-  printf '%-24s ' "$(basename "$text" .al)"
+  printf '%-35s ' "$(basename "$text" .al)"
   for _ in $(seq "$rounds"); do
     /usr/bin/time -f '%e %M' "$program" check "$text" 2>&1 > /dev/null | tail -n 1
   done | sort -n | head -n 1 | awk '{printf "%6.2f s %6.0f MiB\n", $1, $2 / 1024}'

@@ -3,7 +3,7 @@
 ghost use Rattle.std.specs.Prelude.{◌≡◌, ◌<◌, true, IfOk};
 ghost use Rattle.core_lang_expansion.specs.Working.IdleHelpers.{is_idle_call, are_idle_calls, is_idle_body, is_idle, AreIdle};
 
-use crate::stop::Stop;
+use crate::not_written_out::NotWrittenOut;
 use core_lang::tree::{Action, Section, Stmt};
 use std::alloc::Global;
 
@@ -23,7 +23,7 @@ pub struct Idle<'a> {
 
 impl<'a> Idle<'a> {
     /// Finds those among the helpers of a program. The one error is a refused growth.
-    pub fn new(alloc: Global, helpers: &'a [Section]) -> Result<Idle<'a>, Stop>
+    pub fn new(alloc: Global, helpers: &'a [Section]) -> Result<Idle<'a>, NotWrittenOut>
         ensures { IfOk result (λ idle. idle.helpers.now ≡ helpers.now) }
     {
         let mut idle = Idle {

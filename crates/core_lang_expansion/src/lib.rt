@@ -7,13 +7,13 @@
 //! - [`scope`]: the locals in scope by their new numbers, and expressions and conditions of them.
 //! - [`idle`]: the helpers that do nothing, whose calls are passed over.
 //! - [`copies`]: the parts that stay as they were.
-//! - [`stop`]: why a section is not written out.
+//! - [`not_written_out`]: why a section is not written out.
 #![tactic(auto)]
 
 pub mod body;
 mod copies;
 mod idle;
+pub mod not_written_out;
 pub mod program;
 pub mod scope;
-pub mod stop;
 pub mod writing;

@@ -10,7 +10,7 @@ ghost use Rattle.core_lang_expansion.specs.Data.{head_data, IsExpanded};
 use crate::body::Body;
 use crate::copies::{arrays, cells, classes, globals, pools, structs, threads};
 use crate::idle::Idle;
-use crate::stop::Stop;
+use crate::not_written_out::NotWrittenOut;
 use core_lang::laws;
 use core_lang::shape::Shape;
 use core_lang::tree::Section;
@@ -27,7 +27,7 @@ pub(crate) fn written_out(
     shape: &Shape,
     idle: &Idle,
     section: &Section,
-) -> Result<Section, Stop>
+) -> Result<Section, NotWrittenOut>
     requires { idle.now.helpers.now ≡ shape.now.helpers.items }
     ensures written { IfOk result (IsWrittenOut shape.now section.now) }
     ensures locals { IfOk result (AreWrittenLocals shape.now section.now) }
@@ -55,7 +55,11 @@ pub(crate) fn written_out(
 }
 
 // All sections, one after another.
-fn all_written_out(alloc: Global, shape: &Shape, sections: &[Section]) -> Result<Vec<Section>, Stop>
+fn all_written_out(
+    alloc: Global,
+    shape: &Shape,
+    sections: &[Section],
+) -> Result<Vec<Section>, NotWrittenOut>
     ensures written { IfOk result (λ made. AllZip (IsWrittenOut shape.now) sections.now made.items) }
     ensures locals { IfOk result (λ made. AllZip (AreWrittenLocals shape.now) sections.now made.items) }
     ensures heads { IfOk result (λ made. map head_data made.items ≡ map head_data sections.now) }

@@ -5,7 +5,7 @@ ghost use Rattle.std.specs.List.{Contains};
 ghost use Rattle.core_lang.specs.Expansion.{pair, RenamesPath, Renames, RenamesTest, RenamesResult, entered};
 ghost use Rattle.core_lang_expansion.specs.Working.Scopes.{pairs_of, at_of, RenamesOperations, RenamesConditions, HasLets};
 
-use crate::stop::Stop;
+use crate::not_written_out::NotWrittenOut;
 use core_lang::tree::{Action, Condition, Expr, Operation, Path, Return, Stmt};
 use std::alloc::Global;
 
@@ -31,7 +31,7 @@ pub struct Scope {
 
 impl Scope {
     /// Where a body begins: so many parameters are in scope, numbered from there on.
-    pub fn entered(alloc: Global, parameters: usize, first: usize) -> Result<Scope, Stop>
+    pub fn entered(alloc: Global, parameters: usize, first: usize) -> Result<Scope, NotWrittenOut>
         requires { first + parameters < 2 ^ 64 }
         ensures { IfOk result (λ scope. at_of scope (first + parameters) ≡ entered parameters first) }
     {
@@ -50,7 +50,7 @@ impl Scope {
     }
 
     /// The new number of a local. There are at most 64 in scope.
-    pub fn find(&self, own: usize) -> Result<usize, Stop>
+    pub fn find(&self, own: usize) -> Result<usize, NotWrittenOut>
         ensures { IfOk result (λ written. Contains (pairs_of self.now) (pair own written)) }
     {
         for pair in &self.pairs {
@@ -58,21 +58,21 @@ impl Scope {
                 return Ok(pair.written);
             }
         }
-        Err(Stop::Astray)
+        Err(NotWrittenOut::Astray)
     }
 
     // The new number of a local that is an owner.
-    fn owner(&self, own: u32) -> Result<u32, Stop>
+    fn owner(&self, own: u32) -> Result<u32, NotWrittenOut>
         ensures { IfOk result (λ written. Contains (pairs_of self.now) (pair own written)) }
     {
         match u32::try_from(self.find(own as usize)?) {
             Ok(written) => Ok(written),
-            Err(_) => Err(Stop::Astray),
+            Err(_) => Err(NotWrittenOut::Astray),
         }
     }
 
     /// A path, from the local that stands for its own.
-    pub fn path(&self, path: &Path) -> Result<Path, Stop>
+    pub fn path(&self, path: &Path) -> Result<Path, NotWrittenOut>
         ensures { IfOk result (RenamesPath (pairs_of self.now) path.now) }
     {
         Ok(Path {
@@ -85,7 +85,7 @@ impl Scope {
 
     /// An expression of the locals that stand for its own.
     #[cycle(expr)]
-    pub fn expr(&self, e: &Expr) -> Result<Expr, Stop>
+    pub fn expr(&self, e: &Expr) -> Result<Expr, NotWrittenOut>
         ensures { IfOk result (Renames (pairs_of self.now) e.now) }
     {
         match e {
@@ -132,14 +132,14 @@ impl Scope {
     }
 
     #[cycle(expr)]
-    fn boxed(&self, e: &Expr) -> Result<Box<Expr>, Stop>
+    fn boxed(&self, e: &Expr) -> Result<Box<Expr>, NotWrittenOut>
         ensures { IfOk result (λ made. Renames (pairs_of self.now) e.now made.value) }
     {
         Ok(Box::new(self.alloc, self.expr(e)?)?)
     }
 
     #[cycle(expr)]
-    fn operations(&self, operations: &[Operation]) -> Result<Vec<Operation>, Stop>
+    fn operations(&self, operations: &[Operation]) -> Result<Vec<Operation>, NotWrittenOut>
         ensures { IfOk result (λ made. RenamesOperations (pairs_of self.now) operations.now made.items) }
     {
         let mut made = Vec::new(self.alloc);
@@ -155,7 +155,7 @@ impl Scope {
 
     /// A condition on the locals that stand for its own.
     #[cycle(condition)]
-    pub fn condition(&self, condition: &Condition) -> Result<Condition, Stop>
+    pub fn condition(&self, condition: &Condition) -> Result<Condition, NotWrittenOut>
         ensures { IfOk result (RenamesTest (pairs_of self.now) condition.now) }
     {
         match condition {
@@ -179,14 +179,14 @@ impl Scope {
     }
 
     #[cycle(condition)]
-    fn boxed_condition(&self, condition: &Condition) -> Result<Box<Condition>, Stop>
+    fn boxed_condition(&self, condition: &Condition) -> Result<Box<Condition>, NotWrittenOut>
         ensures { IfOk result (λ made. RenamesTest (pairs_of self.now) condition.now made.value) }
     {
         Ok(Box::new(self.alloc, self.condition(condition)?)?)
     }
 
     #[cycle(condition)]
-    fn conditions(&self, conditions: &[Condition]) -> Result<Vec<Condition>, Stop>
+    fn conditions(&self, conditions: &[Condition]) -> Result<Vec<Condition>, NotWrittenOut>
         ensures { IfOk result (λ made. RenamesConditions (pairs_of self.now) conditions.now made.items) }
     {
         let mut made = Vec::new(self.alloc);
@@ -197,7 +197,7 @@ impl Scope {
     }
 
     /// A result of the locals that stand for its own, if there is one.
-    pub fn returned(&self, returned: &Option<Return>) -> Result<Option<Return>, Stop>
+    pub fn returned(&self, returned: &Option<Return>) -> Result<Option<Return>, NotWrittenOut>
         ensures { IfOk result (RenamesResult (pairs_of self.now) returned.now) }
     {
         match returned {
@@ -216,7 +216,7 @@ impl Scope {
         arguments: &[Expr],
         first: usize,
         written: &mut Vec<Stmt>,
-    ) -> Result<(), Stop>
+    ) -> Result<(), NotWrittenOut>
         requires { first + length arguments.now < 2 ^ 64 }
         ensures { OnOk result (HasLets start (pairs_of self.now) arguments.now first written.old.items written.new.items) }
     {

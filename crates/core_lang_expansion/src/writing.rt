@@ -6,23 +6,28 @@ ghost use Rattle.core_lang_expansion.specs.Working.Bodies.{bodies, at, WritesAny
 ghost use Rattle.core_lang_expansion.specs.Working.Bodies.{HasMore, local_at, locals_of, locals_of_all, received, kept_parameters, taken_parameters};
 
 use crate::body::Body;
+use crate::not_written_out::NotWrittenOut;
 use crate::scope::{Pair, Scope};
-use crate::stop::Stop;
 use core_lang::tree::{Action, Expr, Local, LocalKind, Return, Section, Stmt};
 use core_lang::value::ValueType;
 use std::alloc::Global;
 
 impl<'a> Body<'a> {
     // Binds a local.
-    fn bind(&self, local: usize, scope: &mut Scope, locals: &mut Vec<Local>) -> Result<(), Stop>
+    fn bind(
+        &self,
+        local: usize,
+        scope: &mut Scope,
+        locals: &mut Vec<Local>,
+    ) -> Result<(), NotWrittenOut>
         ensures bound { OnOk result (HasBound local (at scope.old locals.old.items) (at scope.new locals.new.items)) }
         ensures locals { OnOk result (HasMore locals.old.items locals.new.items (local_at self.now local)) }
     {
         if local != scope.own {
-            return Err(Stop::Astray);
+            return Err(NotWrittenOut::Astray);
         }
         let Some(own) = self.section.locals.get(local) else {
-            return Err(Stop::Astray);
+            return Err(NotWrittenOut::Astray);
         };
         let written = locals.len();
         locals.push(copy(own, own.kind)?)?;
@@ -41,7 +46,7 @@ impl<'a> Body<'a> {
         value: &Expr,
         scope: &mut Scope,
         locals: &mut Vec<Local>,
-    ) -> Result<Action, Stop>
+    ) -> Result<Action, NotWrittenOut>
         ensures written { IfOk result (λ y. WritesBound local value.now (at scope.old locals.old.items) y (at scope.new locals.new.items)) }
         ensures locals { OnOk result (HasMore locals.old.items locals.new.items (local_at self.now local)) }
     {
@@ -55,7 +60,7 @@ impl<'a> Body<'a> {
     }
 
     // What sets a local or a cell, or prints: it binds nothing.
-    fn plain(&self, action: &Action, scope: &Scope) -> Result<Action, Stop>
+    fn plain(&self, action: &Action, scope: &Scope) -> Result<Action, NotWrittenOut>
         ensures written { IfOk result (λ y. WritesAnywhere (bodies self.now) action.now scope.now y) }
         ensures locals { OnOk result (locals_of self.now action.now ≡ []) }
     {
@@ -98,7 +103,7 @@ impl<'a> Body<'a> {
             }
             Action::Print(e) => Ok(Action::Print(scope.expr(e)?)),
             // A call is no single action: `statement` passes it to `call`.
-            _ => Err(Stop::Astray),
+            _ => Err(NotWrittenOut::Astray),
         }
     }
 
@@ -109,7 +114,7 @@ impl<'a> Body<'a> {
         action: &Action,
         scope: &mut Scope,
         locals: &mut Vec<Local>,
-    ) -> Result<Action, Stop>
+    ) -> Result<Action, NotWrittenOut>
         ensures written { IfOk result (λ y. WritesOne (bodies self.now) action.now (at scope.old locals.old.items) y (at scope.new locals.new.items)) }
         ensures locals { OnOk result (HasMore locals.old.items locals.new.items (locals_of self.now action.now)) }
     {
@@ -150,7 +155,7 @@ impl<'a> Body<'a> {
         block: &[Stmt],
         scope: &mut Scope,
         locals: &mut Vec<Local>,
-    ) -> Result<Vec<Stmt>, Stop>
+    ) -> Result<Vec<Stmt>, NotWrittenOut>
         ensures written { IfOk result (λ ys. WroteBlock (bodies self.now) block.now (at scope.old locals.old.items) ys.items (at scope.new locals.new.items)) }
         ensures locals { OnOk result (HasMore locals.old.items locals.new.items (locals_of_all self.now block.now)) }
     {
@@ -168,7 +173,7 @@ impl<'a> Body<'a> {
         scope: &mut Scope,
         locals: &mut Vec<Local>,
         written: &mut Vec<Stmt>,
-    ) -> Result<(), Stop>
+    ) -> Result<(), NotWrittenOut>
         ensures written { OnOk result (WroteAll (bodies self.now) statements.now (at scope.old locals.old.items) written.old.items written.new.items (at scope.new locals.new.items)) }
         ensures locals { OnOk result (HasMore locals.old.items locals.new.items (locals_of_all self.now statements.now)) }
     {
@@ -185,7 +190,7 @@ impl<'a> Body<'a> {
         scope: &mut Scope,
         locals: &mut Vec<Local>,
         written: &mut Vec<Stmt>,
-    ) -> Result<(), Stop>
+    ) -> Result<(), NotWrittenOut>
         ensures written { OnOk result (Wrote (bodies self.now) statement.now (at scope.old locals.old.items) written.old.items written.new.items (at scope.new locals.new.items)) }
         ensures locals { OnOk result (HasMore locals.old.items locals.new.items (locals_of self.now statement.now.action)) }
     {
@@ -211,7 +216,7 @@ impl<'a> Body<'a> {
         scope: &mut Scope,
         locals: &mut Vec<Local>,
         written: &mut Vec<Stmt>,
-    ) -> Result<(), Stop>
+    ) -> Result<(), NotWrittenOut>
         ensures written { OnOk result (Wrote (bodies self.now) statement.now (at scope.old locals.old.items) written.old.items written.new.items (at scope.new locals.new.items)) }
         ensures locals { OnOk result (HasMore locals.old.items locals.new.items (locals_of self.now statement.now.action)) }
     {
@@ -221,7 +226,7 @@ impl<'a> Body<'a> {
             result,
         } = &statement.action
         else {
-            return Err(Stop::Astray);
+            return Err(NotWrittenOut::Astray);
         };
         let helper = self.callee(*helper, arguments.len())?;
         let first = locals.len();
@@ -243,20 +248,20 @@ impl<'a> Body<'a> {
             }
             None => match (result, helper.section.result_type) {
                 (None, None) => Ok(()),
-                _ => Err(Stop::Astray),
+                _ => Err(NotWrittenOut::Astray),
             },
         }
     }
 
     // The helper of this number, called with so many arguments.
-    fn callee(&self, number: usize, arguments: usize) -> Result<Body<'a>, Stop>
+    fn callee(&self, number: usize, arguments: usize) -> Result<Body<'a>, NotWrittenOut>
         ensures { IfOk result (IsCallee self.now number arguments) }
     {
         let Some(section) = self.shape.helpers.get(number) else {
-            return Err(Stop::Astray);
+            return Err(NotWrittenOut::Astray);
         };
         if self.depth == 0 || arguments != section.parameters {
-            return Err(Stop::Astray);
+            return Err(NotWrittenOut::Astray);
         }
         Ok(Body {
             alloc: self.alloc,
@@ -268,13 +273,13 @@ impl<'a> Body<'a> {
     }
 
     // A `let` for each parameter.
-    fn take_arguments(&self, locals: &mut Vec<Local>) -> Result<(), Stop>
+    fn take_arguments(&self, locals: &mut Vec<Local>) -> Result<(), NotWrittenOut>
         ensures count { OnOk result (length locals.new.items ≡ length locals.old.items + self.now.section.now.parameters) }
         ensures locals { OnOk result (HasMore locals.old.items locals.new.items (taken_parameters self.now.section.now)) }
     {
         for k in 0..self.section.parameters {
             let Some(own) = self.section.locals.get(k) else {
-                return Err(Stop::Astray);
+                return Err(NotWrittenOut::Astray);
             };
             locals.push(copy(own, LocalKind::Let)?)?;
         }
@@ -282,13 +287,13 @@ impl<'a> Body<'a> {
     }
 
     /// The parameters of a section, which stay what they are.
-    pub fn keep_parameters(&self, locals: &mut Vec<Local>) -> Result<(), Stop>
+    pub fn keep_parameters(&self, locals: &mut Vec<Local>) -> Result<(), NotWrittenOut>
         ensures count { OnOk result (length locals.new.items ≡ length locals.old.items + self.now.section.now.parameters) }
         ensures locals { OnOk result (HasMore locals.old.items locals.new.items (kept_parameters self.now.section.now)) }
     {
         for k in 0..self.section.parameters {
             let Some(own) = self.section.locals.get(k) else {
-                return Err(Stop::Astray);
+                return Err(NotWrittenOut::Astray);
             };
             locals.push(copy(own, own.kind)?)?;
         }
@@ -302,7 +307,7 @@ impl<'a> Body<'a> {
         result_type: Option<ValueType>,
         scope: &mut Scope,
         locals: &mut Vec<Local>,
-    ) -> Result<(), Stop>
+    ) -> Result<(), NotWrittenOut>
         ensures received { OnOk result (HasReceived local (at scope.old locals.old.items) (at scope.new locals.new.items)) }
         ensures locals { OnOk result (HasMore locals.old.items locals.new.items (received self.now local result_type)) }
     {
@@ -310,7 +315,7 @@ impl<'a> Body<'a> {
             return self.bind(local, scope, locals);
         }
         let Some(value_type) = result_type else {
-            return Err(Stop::Astray);
+            return Err(NotWrittenOut::Astray);
         };
         locals.push(Local {
             name: String::new(self.alloc),
@@ -327,7 +332,7 @@ impl<'a> Body<'a> {
         first: usize,
         locals: &mut Vec<Local>,
         written: &mut Vec<Stmt>,
-    ) -> Result<Option<Return>, Stop>
+    ) -> Result<Option<Return>, NotWrittenOut>
         requires { length locals.old.items ≡ first + self.now.section.now.parameters }
         ensures written { IfOk result (λ r. WroteBody (bodies self.now) self.now.section.now first written.old.items written.new.items r (length locals.new.items)) }
         ensures locals { OnOk result (HasMore locals.old.items locals.new.items (locals_of_all self.now self.now.section.now.body.items)) }
@@ -335,7 +340,7 @@ impl<'a> Body<'a> {
         let mut scope = Scope::entered(self.alloc, self.section.parameters, first)?;
         self.statements(&self.section.body, &mut scope, locals, written)?;
         if scope.own != self.section.locals.len() {
-            return Err(Stop::Astray);
+            return Err(NotWrittenOut::Astray);
         }
         let result = scope.returned(&self.section.result)?;
         Ok(result)
@@ -343,7 +348,7 @@ impl<'a> Body<'a> {
 }
 
 // A local once more, of this kind.
-fn copy(local: &Local, kind: LocalKind) -> Result<Local, Stop>
+fn copy(local: &Local, kind: LocalKind) -> Result<Local, NotWrittenOut>
     ensures { IfOk result (λ made. local_data made ≡ record (local_data local.now) { kind = kind }) }
 {
     Ok(Local {

@@ -12,7 +12,7 @@ ghost use Rattle.explanation_faults.specs.Working.AmountsFound.{amount_of, begin
 ghost use Rattle.explanation_faults.specs.AmountsPassed.{IsAmountPassed, IsFirstOver};
 ghost use Rattle.explanation_faults.specs.Working.Values.{FoundWords};
 
-use crate::name_spaces::declared;
+use explanation_names::declared;
 use source::memory::NoMemory;
 use std::alloc::Global;
 use syntax::tree::{Decl, Member, Pool};

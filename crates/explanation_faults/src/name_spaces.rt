@@ -5,29 +5,13 @@ ghost use Rattle.std.specs.List.{filter_map};
 ghost use Rattle.std.specs.Option.{option_map};
 ghost use Rattle.syntax.specs.Views.{decl_of, ident, section_of, stmt_of};
 ghost use Rattle.explanation_faults.specs.NameSpaces.{inner_names, local_names, top_names};
-ghost use Rattle.explanation_faults.specs.Working.Values.{IsNameOf, bound_name, ident_at, idents, member_names, name_of_member, param_names, stmt_at};
+ghost use Rattle.explanation_faults.specs.Working.Values.{bound_name, ident_at, idents, member_names, name_of_member, param_names, stmt_at};
 
 use crate::vars::all_of;
+use explanation_names::declared;
 use source::memory::NoMemory;
 use std::alloc::Global;
 use syntax::tree::{Decl, Member, Name, Param, Section, Stmt};
-
-/// The name that is declared; an `init` declares none.
-pub fn declared(decl: &Decl) -> Option<&Name>
-    ensures { IsNameOf decl.now result }
-{
-    match decl {
-        Decl::Lock(name) => Some(name),
-        Decl::Struct(structure) => Some(&structure.name),
-        Decl::Global(variable) => Some(&variable.name),
-        Decl::Array(array) => Some(&array.name),
-        Decl::Pool(pool) => Some(&pool.name),
-        Decl::Init(_) => None,
-        Decl::Atomic(section) => Some(&section.name),
-        Decl::Helper(section) => Some(&section.name),
-        Decl::Thread(thread) => Some(&thread.name),
-    }
-}
 
 /// Those of the top level.
 pub fn top_names_of<'a>(alloc: Global, decls: &'a [Decl]) -> Result<Vec<&'a Name>, NoMemory>

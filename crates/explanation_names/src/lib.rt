@@ -2,6 +2,7 @@
 //!
 //! - [`near_name`]: the nearest name that could stand in its place: `specs/NearNames.antt` says which could, and what near
 //!   is.
+//! - [`declared`]: the name that a declaration declares.
 //! - [`laws`]: what is looked for, is so wherever a name is unknown.
 //! - `edit_distance`: how many edits lie between two names.
 //! - `specs/Sought.antt`: what is looked for by each name of a program. `specs/Locals.antt`: which locals are in scope.
@@ -21,3 +22,4 @@ mod sought;
 mod statements;
 
 pub use nearest::near_name;
+pub use sought::declared;

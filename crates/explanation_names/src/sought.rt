@@ -68,7 +68,7 @@ impl Sought {
 }
 
 /// The name that is declared; an `init` declares none.
-fn declared(decl: &Decl) -> Option<&Name>
+pub fn declared(decl: &Decl) -> Option<&Name>
     ensures { option_map ident_at result ≡ declared (decl_of decl.now) }
 {
     match decl {

@@ -14,8 +14,8 @@ use Rattle.code.specs.Memory.{value_at}
 use Rattle.moved_cells.specs.Working.Grants.{numbered, values_on, if_there}
 use Rattle.history.specs.Commits.{committed}
 use Rattle.history.specs.Working.Laws.{CommittedKeepsSize}
-use Rattle.lock_manager.specs.declared.places.Place.{Place}
-use Rattle.lock_manager.specs.declared.places.Place.TheVariants.{Free, Taken}
+use Rattle.lock_manager.specs.declared.places.LockPlace.{LockPlace}
+use Rattle.lock_manager.specs.declared.places.LockPlace.TheVariants.{Free, Taken}
 use Rattle.lock_manager.specs.Working.Managers.{Managed, IsKept, session_in, number_from, place_of, cell_of, value_in}
 use Rattle.lowering.specs.Plans.{Plan}
 use Rattle.worlds.specs.Worlds.{World, with_taken, taken}
@@ -80,7 +80,7 @@ cells_within : (m : Managed) (lock : Lock) → IsKept m → CommittedKeepsSize �
 cells_within m lock k size c h =
     omega (arith, slice_get_within m.layout.cell_locks c lock (has_lock m.layout.cell_locks lock c h), as_many_values m k size)
 
-cell_by_lock : (m : Managed) (cell : ℕ) (lock : Lock) (p : Option Place) → slice_get m.layout.cell_locks cell ≡ Some lock → place_of m lock ≡ p →
+cell_by_lock : (m : Managed) (cell : ℕ) (lock : Lock) (p : Option LockPlace) → slice_get m.layout.cell_locks cell ≡ Some lock → place_of m lock ≡ p →
     cell_of m cell ≡ value_in m.layout.cell_locks lock p cell
 cell_by_lock m cell lock p at here =
     lookup_at (slice_get m.layout.cell_locks cell) lock (λ (l : Lock). value_in m.layout.cell_locks l (place_of m l) cell) at
@@ -129,7 +129,7 @@ pub record IsOne (plan : Plan) (w : World) (m : Managed) (states : List State) :
   pub sessions : (t : ℕ) → session_in m.slots t ≡ session_at states t
   pub listed : (cell : ℕ) (lock : Lock) → slice_get m.layout.cell_locks cell ≡ Some lock → Contains m.layout.locks lock
 
-has_place : (m : Managed) (lock : Lock) → IsKept m → Contains m.layout.locks lock → (p : Place) × (place_of m lock ≡ Some p)
+has_place : (m : Managed) (lock : Lock) → IsKept m → Contains m.layout.locks lock → (p : LockPlace) × (place_of m lock ≡ Some p)
 has_place m lock k c =
     let at = at_contained m.layout.locks lock c in
     let p = item_at m.places at.0 (omega (arith, slice_get_within m.layout.locks at.0 lock at.1, k.lock_count)) in
@@ -146,7 +146,7 @@ module _ (plan : Plan) (w : World) (m : Managed) (states : List State) (one : Is
       sym (cell_by_lock m cell lock (Some (Taken t)) here
       (one.kept.held lock t (open_holds w m.slots states one.threads one.sessions t a lock is_open (among_contains a.held lock held))))
 
-  present_cell : (cell : ℕ) (v : Value) (lock : Lock) (p : Place) → slice_get w.cells cell ≡ Some (Some v) → slice_get m.layout.cell_locks cell ≡ Some lock →
+  present_cell : (cell : ℕ) (v : Value) (lock : Lock) (p : LockPlace) → slice_get w.cells cell ≡ Some (Some v) → slice_get m.layout.cell_locks cell ≡ Some lock →
       place_of m lock ≡ Some p → Some v ≡ cell_of m cell
   present_cell cell v lock (Free values) e at here =
       let value : slice_get m.values cell ≡ Some v =

@@ -7,8 +7,8 @@ use Rattle.std.proofs.lemmas.Bool.{cases_Bool}
 use Rattle.std.proofs.lemmas.Option.{none-some}
 use Rattle.core_lang.specs.Typing.{lookup}
 use Rattle.locks.specs.declared.lock.Lock.{Lock}
-use Rattle.lock_manager.specs.declared.places.Place.{Place}
-use Rattle.lock_manager.specs.declared.places.Place.TheVariants.{Free, Taken}
+use Rattle.lock_manager.specs.declared.places.LockPlace.{LockPlace}
+use Rattle.lock_manager.specs.declared.places.LockPlace.TheVariants.{Free, Taken}
 use Rattle.lock_manager.specs.Working.Sessions.{SessionOf}
 use Rattle.lock_manager.specs.Working.Managers.{Managed, IsKept, Holds, session_in, place_of, holder_of, taker}
 use Rattle.runner.specs.Working.Opens.{OpenOf, session_of_open}
@@ -129,7 +129,7 @@ module _ (m : Managed) (w : World) (states : List State) (kept : IsKept m) (thre
       let is_open : HasOpen w u a.0 = (r.thread, ap (slice_get w.threads) (sym same) ∙ r.is, a.1) in
       kept.held lock u (open_holds w m.slots states threads sessions u a.0 lock is_open (among_contains a.0.held lock a.2))
 
-  same_holder : (lock : Lock) (p : Option Place) (q : Option ℕ) → place_of m lock ≡ p → holder w lock ≡ q → q ≡ taker p
+  same_holder : (lock : Lock) (p : Option LockPlace) (q : Option ℕ) → place_of m lock ≡ p → holder w lock ≡ q → q ≡ taker p
   same_holder lock p (Some u) at h = ap taker (sym (found_takes lock u h) ∙ at)
   same_holder lock None None at h = refl
   same_holder lock (Some (Free values)) None at h = refl

@@ -10,18 +10,18 @@ use std::collections::BTreeSet;
 use std::rc::RcStr;
 use std::str::from_utf8_unchecked;
 
-/// The names so far, each once, so that names that are the same share their bytes.
+/// A string interner: the names so far, each once, so that names that are the same share their bytes.
 ///
 /// It is a tree, since whoever writes a program picks its names: a table by hashes can be made slow by names of one hash.
 #[derive(Drop)]
-pub struct Names {
+pub struct Interner {
     texts: BTreeSet<RcStr>,
 }
 
-impl Names {
+impl Interner {
     /// No names.
-    pub fn new(alloc: Global) -> Names {
-        Names {
+    pub fn new(alloc: Global) -> Interner {
+        Interner {
             texts: BTreeSet::new(alloc),
         }
     }

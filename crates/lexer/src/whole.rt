@@ -8,7 +8,7 @@ ghost use Rattle.lexer.specs.Working.Reading.{seen_kind, CanStand};
 ghost use Rattle.source.specs.Texts.{HasTokens, DoRise, AreSlices, IsFault, IsRefusal, SOURCE_LIMIT};
 
 use crate::bytes::after_gap;
-use crate::names::Names;
+use crate::names::Interner;
 use crate::unit::{Kind, unit};
 use source::fault::{Code, Fault, Refusal};
 use source::span::Span;
@@ -74,7 +74,7 @@ pub fn lex(alloc: Global, text: &[u8]) -> Result<Vec<Token>, Refusal>
         return Err(Refusal::Fault(Fault::at(alloc, Code::LimitExceeded, 0)));
     }
     let mut tokens = Vec::new(alloc);
-    let mut names = Names::new(alloc);
+    let mut names = Interner::new(alloc);
     let mut rest = text;
     'tokens: loop {
         let here = after_gap(rest);

@@ -15,7 +15,7 @@ use Rattle.layout.specs.Layouts.{AreDistinct}
 use Rattle.moved_cells.specs.Working.Grants.{GrantOf, IsWhole, cells_in, values_on, locks_of}
 use Rattle.history.specs.Commits.{Commit, committed, IsLegal, WritesNot}
 use Rattle.history.specs.Working.Laws.{WritesSpareOthers, CommittedOfOneMore, LegalOfOneMore}
-use Rattle.lock_manager.specs.declared.places.Place.TheVariants.{Free, Taken}
+use Rattle.lock_manager.specs.declared.places.LockPlace.TheVariants.{Free, Taken}
 use Rattle.lock_manager.specs.declared.queue.Waiter.{Waiter}
 use Rattle.lock_manager.specs.Working.Sessions.{SessionOf, TicketOf, fresh, with_lock, with_ask}
 use Rattle.lock_manager.specs.Working.Queues.{leaving, joining}

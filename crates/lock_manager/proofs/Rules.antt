@@ -16,8 +16,8 @@ use Rattle.layout.specs.Layouts.{LayoutOf}
 use Rattle.moved_cells.specs.Working.Grants.{GrantOf, numbered, values_on}
 use Rattle.history.specs.Working.Histories.{HistoryOf, nothing_promised}
 use Rattle.history.specs.Working.Laws.{CommittedKeepsSize}
-use Rattle.lock_manager.specs.declared.places.Place.{Place}
-use Rattle.lock_manager.specs.declared.places.Place.TheVariants.{Free, Taken}
+use Rattle.lock_manager.specs.declared.places.LockPlace.{LockPlace}
+use Rattle.lock_manager.specs.declared.places.LockPlace.TheVariants.{Free, Taken}
 use Rattle.lock_manager.specs.declared.queue.Waiter.{Waiter}
 use Rattle.lock_manager.specs.Working.Committed.{CommittedOf, at_opening, lock_values}
 use Rattle.lock_manager.specs.Working.Sessions.{SessionOf, TicketOf}
@@ -86,7 +86,7 @@ held_by m lock t k h = sym (ap taker (k.held lock t h))
 pub held_by_none : (m : Managed) (lock : Lock) → IsKept m → ((t : ℕ) → Holds m.slots t lock → ⊥) → None ≡ holder_of m lock
 held_by_none m lock k none = by_place (place_of m lock) refl
   where
-    by_place : (o : Option Place) → place_of m lock ≡ o → None ≡ taker o
+    by_place : (o : Option LockPlace) → place_of m lock ≡ o → None ≡ taker o
     by_place None e = refl
     by_place (Some (Free values)) e = refl
     by_place (Some (Taken t)) e = absurd (none t (k.taken lock t e))
@@ -126,9 +126,9 @@ cells_none : (n : ℕ) → sum_over cells_if_open (replicate n None) ≡ 0
 cells_none zero = refl
 cells_none (suc n) = omega (arith, cells_none n)
 
-first_place : (layout : LayoutOf) (ranks : List ℕ) (lock : Lock) (p : Place) → place_of (opened layout ranks) lock ≡ Some p → Free (values_on layout.opening (cells_of layout.cell_locks lock)) ≡ p
+first_place : (layout : LayoutOf) (ranks : List ℕ) (lock : Lock) (p : LockPlace) → place_of (opened layout ranks) lock ≡ Some p → Free (values_on layout.opening (cells_of layout.cell_locks lock)) ≡ p
 first_place layout ranks lock p e =
-    let f : Lock → Place = λ l. Free (values_on layout.opening (cells_of layout.cell_locks l)) in
+    let f : Lock → LockPlace = λ l. Free (values_on layout.opening (cells_of layout.cell_locks l)) in
     let n = numbered_place layout.locks (map f layout.locks) lock p e in
     let i = number_at 0 layout.locks lock n.0 n.1 in
     let same : n.0 ≡ i.0 = omega (arith, i.1) in
@@ -160,14 +160,14 @@ sound_opened layout ranks l = (
     never : (values : List Value) (t : ℕ) → Free values ≡ Taken t → ⊥
     never values t e = cc
 
-pub opened_from : (layout : LayoutOf) (ranks : List ℕ) (committed : CommittedOf) (places : List Place) (waiters : List Waiter) (slots : List (Option SessionOf)) (history : HistoryOf) →
+pub opened_from : (layout : LayoutOf) (ranks : List ℕ) (committed : CommittedOf) (places : List LockPlace) (waiters : List Waiter) (slots : List (Option SessionOf)) (history : HistoryOf) →
     committed ≡ at_opening layout → places ≡ map (λ (l : Lock). Free (lock_values committed l)) committed.layout.locks → waiters ≡ [] → slots ≡ replicate threads None →
     history ≡ record { commits = []; promised = nothing_promised } → managed committed ranks places waiters slots history.commits ≡ opened layout ranks
 opened_from layout ranks committed places waiters slots history is places_are none closed empty =
     let all : places ≡ (opened layout ranks).places = places_are ∙ ap (λ (c : CommittedOf). map (λ (x : Lock). Free (lock_values c x)) c.layout.locks) is in
     λ i. managed (is i) ranks (all i) (none i) (closed i) (empty i).commits
 
-pub sound_from : (layout : LayoutOf) (ranks : List ℕ) (committed : CommittedOf) (places : List Place) (waiters : List Waiter) (slots : List (Option SessionOf)) (history : HistoryOf) →
+pub sound_from : (layout : LayoutOf) (ranks : List ℕ) (committed : CommittedOf) (places : List LockPlace) (waiters : List Waiter) (slots : List (Option SessionOf)) (history : HistoryOf) →
     IsLayout layout → committed ≡ at_opening layout → places ≡ map (λ (l : Lock). Free (lock_values committed l)) committed.layout.locks → waiters ≡ [] → slots ≡ replicate threads None →
     history ≡ record { commits = []; promised = nothing_promised } → Sound (managed committed ranks places waiters slots history.commits) history.promised
 sound_from layout ranks committed places waiters slots history l is places_are none closed empty =

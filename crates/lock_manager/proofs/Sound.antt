@@ -11,8 +11,8 @@ use Rattle.moved_cells.specs.Working.Grants.{GrantOf, locks_of}
 use Rattle.history.specs.Commits.{Commit}
 use Rattle.history.specs.Working.Histories.{PromisedOf, with_promise, IsPromised}
 use Rattle.history.specs.Working.Laws.{WritesSpareOthers, CommittedOfOneMore, LegalOfOneMore}
-use Rattle.lock_manager.specs.declared.places.Place.{Place}
-use Rattle.lock_manager.specs.declared.places.Place.TheVariants.{Free, Taken}
+use Rattle.lock_manager.specs.declared.places.LockPlace.{LockPlace}
+use Rattle.lock_manager.specs.declared.places.LockPlace.TheVariants.{Free, Taken}
 use Rattle.lock_manager.specs.declared.queue.Waiter.{Waiter}
 use Rattle.lock_manager.specs.Working.Sessions.{SessionOf, TicketOf, fresh, with_lock, with_ask}
 use Rattle.lock_manager.specs.Working.Queues.{leaving, joining}
@@ -52,7 +52,7 @@ fewer : (ws : List Waiter) (t asking after : ℕ) (o : Option Lock) → length w
 fewer ws t asking after None le e f = omega (arith, le, e, no_longer t ws)
 fewer ws t asking after (Some l) le e f = omega (arith, le, e, one_less t ws (record { thread = t; lock = l }) (f l refl) refl)
 
-pub sound_grant : (m : Managed) (promised : PromisedOf) (ticket : TicketOf) (lock : Lock) (values : List Value) (n : ℕ) (places : List Place) (waiters : List Waiter) (slots : List (Option SessionOf)) →
+pub sound_grant : (m : Managed) (promised : PromisedOf) (ticket : TicketOf) (lock : Lock) (values : List Value) (n : ℕ) (places : List LockPlace) (waiters : List Waiter) (slots : List (Option SessionOf)) →
     Sound m promised → Knows m ticket → CanAsk m ticket lock → number_from 0 m.layout.locks lock ≡ Some n → slice_get m.places n ≡ Some (Free values) →
     places ≡ set m.places n (Taken ticket.thread) → waiters ≡ leaving ticket.thread m.waiters → slots ≡ set m.slots ticket.thread (Some (with_lock ticket.session lock)) →
     (record m { places = places; waiters = waiters; slots = slots } ≡ after_grant m ticket lock) × Sound (record m { places = places; waiters = waiters; slots = slots }) promised
@@ -100,7 +100,7 @@ joined_few : (o : Option Lock) (w : Waiter) (ws : List Waiter) (asking after : �
 joined_few None w ws asking after le e = omega (arith, le, e, length-append ws (w ∷ []))
 joined_few (Some l) w ws asking after le e = omega (arith, le, e)
 
-pub sound_refusal : (m : Managed) (promised : PromisedOf) (ticket : TicketOf) (lock : Lock) (places : List Place) (waiters : List Waiter) (slots : List (Option SessionOf)) →
+pub sound_refusal : (m : Managed) (promised : PromisedOf) (ticket : TicketOf) (lock : Lock) (places : List LockPlace) (waiters : List Waiter) (slots : List (Option SessionOf)) →
     Sound m promised → Knows m ticket → CanAsk m ticket lock → places ≡ m.places →
     waiters ≡ joining ticket.session.ask (record { thread = ticket.thread; lock = lock }) m.waiters → slots ≡ set m.slots ticket.thread (Some (with_ask ticket.session lock)) →
     (record m { places = places; waiters = waiters; slots = slots } ≡ after_refusal m ticket lock) × Sound (record m { places = places; waiters = waiters; slots = slots }) promised
@@ -136,7 +136,7 @@ promised_one m promised t cells x s known cells_are = record {
       omega (arith, its, s.1.cells, sum_set cells_if_open m.slots t (Some x) None (slot_of m.slots t x known));
 }
 
-pub sound_release : (m : Managed) (promised : PromisedOf) (ticket : TicketOf) (grants : List GrantOf) (entry : Commit) (places : List Place) (slots : List (Option SessionOf)) (history : List Commit)
+pub sound_release : (m : Managed) (promised : PromisedOf) (ticket : TicketOf) (grants : List GrantOf) (entry : Commit) (places : List LockPlace) (slots : List (Option SessionOf)) (history : List Commit)
     (values : List Value) (less : PromisedOf) (cells : ℕ) → Sound m promised → Knows m ticket → Fits m ticket grants entry → WritesSpareOthers → CommittedOfOneMore → LegalOfOneMore →
     places ≡ given_back m.layout.locks m.places grants → slots ≡ set m.slots ticket.thread None → history ≡ m.history ++ entry ∷ [] → values ≡ overwritten m.values entry.writes →
     promised ≡ with_promise less cells → cells ≡ cells_if_open (session_of m ticket.thread) →
@@ -158,7 +158,7 @@ sound_release m promised ticket grants entry places slots history values less ce
       },
     )
 
-pub sound_give_up : (m : Managed) (promised : PromisedOf) (t : ℕ) (grants : List GrantOf) (places : List Place) (waiters : List Waiter) (slots : List (Option SessionOf)) (history : List Commit) (less : PromisedOf) (cells : ℕ) →
+pub sound_give_up : (m : Managed) (promised : PromisedOf) (t : ℕ) (grants : List GrantOf) (places : List LockPlace) (waiters : List Waiter) (slots : List (Option SessionOf)) (history : List Commit) (less : PromisedOf) (cells : ℕ) →
     Sound m promised → AreItsGrants m t grants → places ≡ given_back m.layout.locks m.places (map (as_committed m) (locks_of grants)) → waiters ≡ leaving t m.waiters →
     slots ≡ set m.slots t None → history ≡ m.history → promised ≡ with_promise less cells → cells ≡ cells_if_open (session_of m t) →
     (record m { places = places; waiters = waiters; slots = slots; history = history } ≡ after_give_up m t grants)

@@ -6,7 +6,7 @@ ghost use Rattle.locks.specs.declared.lock.Lock.{Lock as LockOf};
 ghost use Rattle.code.specs.Memory.{overwritten, Agrees};
 ghost use Rattle.layout.specs.LockCells.{cells_of};
 ghost use Rattle.moved_cells.specs.Working.Grants.{IsWhole, cells_in, values_on, locks_of};
-ghost use Rattle.lock_manager.specs.declared.places.Place.TheVariants as place;
+ghost use Rattle.lock_manager.specs.declared.places.LockPlace.TheVariants as place;
 ghost use Rattle.lock_manager.specs.Working.Managers.{IsLayout, number_from, given_back};
 ghost use Rattle.lock_manager.specs.Working.Calls.{IsOwnWrite};
 ghost use Rattle.lock_manager.specs.Working.Ties.{all_restored, AreNow};
@@ -14,7 +14,7 @@ ghost use Rattle.lock_manager.specs.Working.Committed.{at_opening, with_writes, 
 
 use crate::fitting::{are_whole, holds};
 use crate::opening::{members, opening_values};
-use crate::places::Place;
+use crate::places::LockPlace;
 use crate::values::{agrees, cells_with, have, reset, write_all};
 use crate::writes::Writes;
 use core_lang::value::Value;
@@ -64,12 +64,12 @@ impl<'p> Committed<'p> {
     }
 
     /// All cells are with the manager.
-    pub fn free_places(&self, alloc: Global) -> Result<Vec<Place>, NoMemory>
+    pub fn free_places(&self, alloc: Global) -> Result<Vec<LockPlace>, NoMemory>
         ensures { IfOk result (λ places. places.items ≡ map (λ l. place.Free (lock_values self.now l)) self.now.layout.locks) }
     {
         let mut places = Vec::with_capacity(alloc, self.members.len())?;
         for row in &self.members {
-            places.push(Place::Free(cells_with(alloc, row, &self.values)?))?;
+            places.push(LockPlace::Free(cells_with(alloc, row, &self.values)?))?;
         }
         Ok(places)
     }
@@ -120,7 +120,7 @@ impl<'p> Committed<'p> {
     }
 
     /// The cells of these grants are back; and the memory of the grants.
-    pub fn put_back(&self, places: &mut Vec<Place>, mut grants: Vec<Grant>) -> GrantRoom
+    pub fn put_back(&self, places: &mut Vec<LockPlace>, mut grants: Vec<Grant>) -> GrantRoom
         requires count { length places.old.items ≡ length self.now.layout.locks }
         requires listed { All (λ g. Contains self.now.layout.locks g.lock) grants.items }
         ensures { places.new.items ≡ given_back self.now.layout.locks places.old.items grants.items }
@@ -128,13 +128,13 @@ impl<'p> Committed<'p> {
         while let Some(grant) = grants.pop() {
             let (lock, cells) = grant.into_parts();
             let number = self.number_of(lock);
-            places[number] = Place::Free(cells);
+            places[number] = LockPlace::Free(cells);
         }
         GrantRoom::of(grants)
     }
 
     /// The cells of these grants are back, with what the entries leave in them.
-    pub fn restore(&self, places: &mut Vec<Place>, mut grants: Vec<Grant>)
+    pub fn restore(&self, places: &mut Vec<LockPlace>, mut grants: Vec<Grant>)
         requires count { length places.old.items ≡ length self.now.layout.locks }
         requires listed { All (λ g. Contains self.now.layout.locks g.lock) grants.items }
         requires whole { All (IsWhole self.now.layout.cell_locks) grants.items }
@@ -144,7 +144,7 @@ impl<'p> Committed<'p> {
             let (lock, mut cells) = grant.into_parts();
             self.reset(lock, &mut cells);
             let number = self.number_of(lock);
-            places[number] = Place::Free(cells);
+            places[number] = LockPlace::Free(cells);
         }
         grants.destroy_empty();
     }

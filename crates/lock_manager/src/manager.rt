@@ -11,7 +11,7 @@ use crate::asking::comes_after;
 use crate::committed::Committed;
 use crate::fitting::{all_granted, all_held};
 use crate::giving::{let_go, take};
-use crate::places::Place;
+use crate::places::LockPlace;
 use crate::queue::{Queue, Waiter};
 use crate::sections::Sections;
 use crate::ticket::{Receipt, Spare, Ticket};
@@ -36,7 +36,7 @@ pub struct Manager<'p> {
     // By class.
     ranks: &'p [u32],
     // By the lock's number.
-    places: Vec<Place>,
+    places: Vec<LockPlace>,
     queue: Queue,
     sections: Sections,
     history: History,
@@ -287,8 +287,8 @@ impl<'p> Manager<'p> {
         history::laws::one_entry_more();
         let lock = self.committed.lock_of(cell)?;
         match &self.places[self.committed.number_of(lock)] {
-            Place::Free(_) => Some(self.committed.value(cell)),
-            Place::Taken(_) => None,
+            LockPlace::Free(_) => Some(self.committed.value(cell)),
+            LockPlace::Taken(_) => None,
         }
     }
 

@@ -4,7 +4,7 @@ use moved_cells::cells::Cells;
 
 /// Where the cells of a lock are.
 #[derive(Drop)]
-pub enum Place {
+pub enum LockPlace {
     /// With the manager.
     Free(Cells),
     /// With a thread.

@@ -17,15 +17,17 @@ use Rattle.core_lang.specs.declared.tree.Path.{Path}
 use Rattle.core_lang.specs.Typing.{lookup}
 use Rattle.locks.specs.Accesses.{Access, access, along, in_action, in_path, in_expr, in_condition}
 use Rattle.locks.specs.Accesses as target
-use Rattle.locks.specs.Locks.{protection_of}
-use Rattle.locks.specs.LockPaths.{StablePath, LockPath, is_fixed, all_final, stable}
+use Rattle.locks.specs.LockPaths.{is_fixed, all_final, stable}
 use Rattle.locks.specs.Theory.Lists.{in_expr-Chain, in_condition-And, in_condition-Or}
 use Rattle.lockpaths.specs.declared.finder.Finder.{Finder}
-use Rattle.lockpaths_forms.specs.Working.Forms.{form_by}
-use Rattle.lockpaths.specs.Working.Gathering.{Gathered, through_of, field_path, met as met_by}
-use Rattle.lockpaths.specs.Working.Finding.{table_of, target_of, over, over_point, over_points, over_owner, over_owners, in_all, in_operands}
+use Rattle.lockpaths.specs.Working.Gathering.{Gathered}
+use Rattle.lockpaths.specs.Working.Told.{Told}
+use Rattle.lockpaths.specs.Working.Finding.{over, over_point, over_points, over_owner, over_owners, in_all, in_operands}
 use Rattle.flow.specs.Points.{Point}
 use Rattle.std.specs.List.{flat_map}
+
+over_append : (f : Finder) (g : Told) (xs ys : List Access) → over f g (xs ++ ys) ≡ over f (over f g xs) ys
+over_append f g xs ys = ap (λ (x : Gathered). record { table = g.table; gathered = x }) (fold-append _ g.gathered xs ys)
 
 -- ---- a fault of the base
 
@@ -53,23 +55,23 @@ drop_past [] (suc i) h = refl
 drop_past (x ∷ xs) zero h = absurd (omega arith)
 drop_past (x ∷ xs) (suc i) h = drop_past xs i (omega arith)
 
-pub over_chain : (f : Finder) (g h k : Gathered) (e one : Expr) (first : Box Expr Global) (rest : Vec Operation Global) (ops : List Operation) (i : ℕ) → e ≡ Chain first rest → one ≡ first.value →
+pub over_chain : (f : Finder) (g h k : Told) (e one : Expr) (first : Box Expr Global) (rest : Vec Operation Global) (ops : List Operation) (i : ℕ) → e ≡ Chain first rest → one ≡ first.value →
     ops ≡ rest.items → h ≡ over f g (in_expr one) → length ops ≤ i → over f k (in_operands (drop i ops)) ≡ over f h (in_operands ops) → k ≡ over f g (in_expr e)
 over_chain f g h k e one first rest ops i is value same met past all =
     sym (ap (λ os. over f k (in_operands os)) (drop_past ops i past)) ∙ all
     ∙ ap (λ x. over f x (in_operands ops)) (met ∙ ap (λ y. over f g (in_expr y)) value)
     ∙ ap (λ os. over f (over f g (in_expr first.value)) (in_operands os)) same
-    ∙ sym (fold-append _ g (in_expr first.value) (in_operands rest.items))
+    ∙ sym (over_append f g (in_expr first.value) (in_operands rest.items))
     ∙ ap (over f g) (sym (in_expr-Chain first rest)) ∙ ap (λ x. over f g (in_expr x)) (sym is)
 
-over_last : (f : Finder) (g h k : Gathered) (x end : Condition) (before : Vec Condition Global) (last : Box Condition Global) (cs : List Condition) → cs ≡ before.items → end ≡ last.value →
+over_last : (f : Finder) (g h k : Told) (x end : Condition) (before : Vec Condition Global) (last : Box Condition Global) (cs : List Condition) → cs ≡ before.items → end ≡ last.value →
     in_condition x ≡ in_all before.items ++ in_condition last.value → h ≡ over f g (in_all cs) → k ≡ over f h (in_condition end) → k ≡ over f g (in_condition x)
 over_last f g h k x end before last cs same value e one all =
     all ∙ ap (λ y. over f y (in_condition end)) one ∙ ap (λ ys. over f (over f g (in_all ys)) (in_condition end)) same
     ∙ ap (λ y. over f (over f g (in_all before.items)) (in_condition y)) value
-    ∙ sym (fold-append _ g (in_all before.items) (in_condition last.value)) ∙ ap (over f g) (sym e)
+    ∙ sym (over_append f g (in_all before.items) (in_condition last.value)) ∙ ap (over f g) (sym e)
 
-pub over_both : (f : Finder) (g h k : Gathered) (x end : Condition) (before : Vec Condition Global) (last : Box Condition Global) (cs : List Condition) →
+pub over_both : (f : Finder) (g h k : Told) (x end : Condition) (before : Vec Condition Global) (last : Box Condition Global) (cs : List Condition) →
     (x ≡ And before last) ⊎ (x ≡ Or before last) → cs ≡ before.items → end ≡ last.value → h ≡ over f g (in_all cs) → k ≡ over f h (in_condition end) →
     k ≡ over f g (in_condition x)
 over_both f g h k x end before last cs (inl is) same value one all =
@@ -95,7 +97,7 @@ none_more [] s n e = cc
 none_more (Final t g ∷ fs) s n e = ap (option_map (λ rest. g ∷ rest)) (none_more fs s n (map_none _ (all_final fs) e))
 none_more (Field t g ∷ fs) s n e = refl
 
-module _ (f : Finder) (g g' : Gathered) (start local : ℕ) (fields : List FieldStep) (k s n : ℕ) (b b' : Bool) (all : Gathered) (step : FieldStep)
+module _ (f : Finder) (g g' : Told) (start local : ℕ) (fields : List FieldStep) (k s n : ℕ) (b b' : Bool) (all : Told) (step : FieldStep)
     (is : step ≡ get_or fields k step) (h : k < length fields) (met : over f g (along start local (take k fields) (drop k fields)) ≡ all)
     (behind : b ≡ true → all_final (take k fields) ≡ None) where
   module _ (final : step ≡ Final s n) (same : g' ≡ g) (flag : b' ≡ b) where
@@ -114,9 +116,7 @@ module _ (f : Finder) (g g' : Gathered) (start local : ℕ) (fields : List Field
     pub final_behind : b' ≡ true → all_final (take (k + 1) fields) ≡ None
     final_behind e = ap all_final taken ∙ none_more (take k fields) s n (behind (sym flag ∙ e))
 
-  module _ (field : step ≡ Field s n) (given : List FieldStep) (through : List ℕ) (base : Option StablePath) (lock : Option LockPath) (front : given ≡ take k fields)
-      (way : through ≡ through_of (protection_of f.program.now s n)) (found : base ≡ option_map (form_by (table_of f) through) (stable f.forms.section.now local given))
-      (locked : lock ≡ field_path f.program.now s n base) (same : g' ≡ met_by g start lock) where
+  module _ (field : step ≡ Field s n) (given : List FieldStep) (front : given ≡ take k fields) (same : g' ≡ over f g (access start (target.field local given s n) ∷ [])) where
     taken_field : take (k + 1) fields ≡ take k fields ++ Field s n ∷ []
     taken_field = (more fields k step is h).1 ∙ ap (λ x. take k fields ++ x ∷ []) field
 
@@ -125,10 +125,8 @@ module _ (f : Finder) (g g' : Gathered) (start local : ℕ) (fields : List Field
 
     pub field_met : over f g' (along start local (take (k + 1) fields) (drop (k + 1) fields)) ≡ all
     field_met =
-        ap (λ x. over f x (along start local (take (k + 1) fields) (drop (k + 1) fields)))
-        (same ∙ ap (met_by g start) (locked ∙ ap (field_path f.program.now s n) (found ∙ ap (λ l. option_map (form_by (table_of f) through) (stable f.forms.section.now local l)) front
-        ∙ ap (λ t. option_map (form_by (table_of f) t) (stable f.forms.section.now local (take k fields))) way)))
-        ∙ ap (λ l. over f (met_by g start (target_of f (target.field local (take k fields) s n))) (along start local l (drop (k + 1) fields))) taken_field
+        ap (λ x. over f x (along start local (take (k + 1) fields) (drop (k + 1) fields))) (same ∙ ap (λ l. over f g (access start (target.field local l s n) ∷ [])) front)
+        ∙ ap (λ l. over f (over f g (access start (target.field local (take k fields) s n) ∷ [])) (along start local l (drop (k + 1) fields))) taken_field
         ∙ sym (ap (λ l. over f g (along start local (take k fields) l)) dropped_field) ∙ met
 
     pub field_behind : all_final (take (k + 1) fields) ≡ None
@@ -139,18 +137,18 @@ module _ (f : Finder) (g g' : Gathered) (start local : ℕ) (fields : List Field
 next_of : {A : Type 0} (xs : List A) (i : ℕ) (x : A) → i < length xs → x ≡ get_or xs i x → drop i xs ≡ x ∷ drop (i + 1) xs
 next_of {A = A} xs i x lt is = drop-cons xs i x lt ∙ ap (λ (y : A). y ∷ drop (suc i) xs) (sym is) ∙ ap (λ (k : ℕ). x ∷ drop k xs) (sym (add-one i))
 
-module _ {A : Type 0} (f : Finder) (h k : Gathered) where
+module _ {A : Type 0} (f : Finder) (h k : Told) where
   pub over_next : (part : A → List Access) (xs : List A) (i : ℕ) (x : A) → i < length xs → x ≡ get_or xs i x → k ≡ over f h (part x) →
       over f k (flat_map part (drop (i + 1) xs)) ≡ over f h (flat_map part (drop i xs))
   over_next part xs i x lt is all =
-      ap (λ (g : Gathered). over f g (flat_map part (drop (i + 1) xs))) all
-      ∙ sym (fold-append _ h (part x) (flat_map part (drop (i + 1) xs)))
+      ap (λ (g : Told). over f g (flat_map part (drop (i + 1) xs))) all
+      ∙ sym (over_append f h (part x) (flat_map part (drop (i + 1) xs)))
       ∙ sym (ap (λ (ys : List A). over f h (flat_map part ys)) (next_of xs i x lt is))
 
   pub points_next : (at : A → Point) (xs : List A) (i : ℕ) (x : A) → i < length xs → x ≡ get_or xs i x → k ≡ over_point f h (at x) →
       over_points f k (map at (drop (i + 1) xs)) ≡ over_points f h (map at (drop i xs))
   points_next at xs i x lt is all =
-      ap (λ (g : Gathered). over_points f g (map at (drop (i + 1) xs))) all
+      ap (λ (g : Told). over_points f g (map at (drop (i + 1) xs))) all
       ∙ sym (ap (λ (ys : List A). over_points f h (map at ys)) (next_of xs i x lt is))
 
   -- and past the last
@@ -160,7 +158,7 @@ module _ {A : Type 0} (f : Finder) (h k : Gathered) where
   pub owners_next : (at : A → Point) (xs : List A) (i : ℕ) (x : A) → i < length xs → x ≡ get_or xs i x → k ≡ over_owner f h (at x) →
       over_owners f k (map at (drop (i + 1) xs)) ≡ over_owners f h (map at (drop i xs))
   owners_next at xs i x lt is all =
-      ap (λ (g : Gathered). over_owners f g (map at (drop (i + 1) xs))) all
+      ap (λ (g : Told). over_owners f g (map at (drop (i + 1) xs))) all
       ∙ sym (ap (λ (ys : List A). over_owners f h (map at ys)) (next_of xs i x lt is))
 
   pub owners_past : (at : A → Point) (xs : List A) (i : ℕ) → length xs ≤ i → over_owners f h (map at (drop i xs)) ≡ k → h ≡ k
@@ -168,31 +166,26 @@ module _ {A : Type 0} (f : Finder) (h k : Gathered) where
 
 -- ---- the parts of a comparison and of an assignment
 
-pub over_compare : (f : Finder) (g h k : Gathered) (x : Condition) (sign : Comparison) (a b : Expr) → x ≡ Compare sign a b → h ≡ over f g (in_expr a) → k ≡ over f h (in_expr b) →
+pub over_compare : (f : Finder) (g h k : Told) (x : Condition) (sign : Comparison) (a b : Expr) → x ≡ Compare sign a b → h ≡ over f g (in_expr a) → k ≡ over f h (in_expr b) →
     k ≡ over f g (in_condition x)
 over_compare f g h k x sign a b is one all =
-    all ∙ ap (λ (y : Gathered). over f y (in_expr b)) one ∙ sym (fold-append _ g (in_expr a) (in_expr b)) ∙ sym (ap (λ (y : Condition). over f g (in_condition y)) is)
+    all ∙ ap (λ (y : Told). over f y (in_expr b)) one ∙ sym (over_append f g (in_expr a) (in_expr b)) ∙ sym (ap (λ (y : Condition). over f g (in_condition y)) is)
 
-module _ (f : Finder) (g h m k : Gathered) (start : ℕ) (action : Action) where
+module _ (f : Finder) (g h m k : Told) (start : ℕ) (action : Action) where
   pub over_element : (array : ℕ) (index value : Expr) → action ≡ SetElement array index value → h ≡ over f g (access start (target.element array) ∷ []) → m ≡ over f h (in_expr index) →
       k ≡ over f m (in_expr value) → k ≡ over f g (in_action start action)
   over_element array index value is one two all =
       let first = access start (target.element array) in
-      all ∙ ap (λ (y : Gathered). over f y (in_expr value)) (two ∙ ap (λ (y : Gathered). over f y (in_expr index)) one)
-      ∙ sym (fold-append _ (over f g (first ∷ [])) (in_expr index) (in_expr value))
+      all ∙ ap (λ (y : Told). over f y (in_expr value)) (two ∙ ap (λ (y : Told). over f y (in_expr index)) one)
+      ∙ sym (over_append f (over f g (first ∷ [])) (in_expr index) (in_expr value))
       ∙ sym (ap (λ (y : Action). over f g (in_action start y)) is)
 
-  pub over_field : (base : Path) (s n : ℕ) (value : Expr) → action ≡ SetField base s n value → (given : List FieldStep) (through : List ℕ) (form : Option StablePath) (lock : Option LockPath) →
-      h ≡ over f g (in_path base) → given ≡ base.fields.items → through ≡ through_of (protection_of f.program.now s n) →
-      form ≡ option_map (form_by (table_of f) through) (stable f.forms.section.now base.local given) →
-      lock ≡ field_path f.program.now s n form → m ≡ met_by h base.start lock → k ≡ over f m (in_expr value) → k ≡ over f g (in_action start action)
-  over_field base s n value is given through form lock one same way found locked two all =
+  pub over_field : (base : Path) (s n : ℕ) (value : Expr) → action ≡ SetField base s n value → (given : List FieldStep) → h ≡ over f g (in_path base) → given ≡ base.fields.items →
+      m ≡ over f h (access base.start (target.field base.local given s n) ∷ []) → k ≡ over f m (in_expr value) → k ≡ over f g (in_action start action)
+  over_field base s n value is given one same two all =
       let here = access base.start (target.field base.local base.fields.items s n) in
       all
-      ∙ ap (λ (y : Gathered). over f y (in_expr value))
-      (two ∙ ap (met_by h base.start)
-      (locked ∙ ap (field_path f.program.now s n) (found ∙ ap (λ (l : List FieldStep). option_map (form_by (table_of f) through) (stable f.forms.section.now base.local l)) same
-      ∙ ap (λ (t : List ℕ). option_map (form_by (table_of f) t) (stable f.forms.section.now base.local base.fields.items)) way)))
-      ∙ ap (λ (y : Gathered). over f y (here ∷ in_expr value)) one
-      ∙ sym (fold-append _ g (in_path base) (here ∷ in_expr value))
+      ∙ ap (λ (y : Told). over f y (in_expr value)) (two ∙ ap (λ (l : List FieldStep). over f h (access base.start (target.field base.local l s n) ∷ [])) same)
+      ∙ ap (λ (y : Told). over f y (here ∷ in_expr value)) one
+      ∙ sym (over_append f g (in_path base) (here ∷ in_expr value))
       ∙ sym (ap (λ (y : Action). over f g (in_action start y)) is)

@@ -8,3 +8,4 @@ pub mod Faulty
 pub mod Used
 pub mod Turns
 pub mod Cuts
+pub mod Placed

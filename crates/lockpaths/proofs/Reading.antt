@@ -17,18 +17,17 @@ use Rattle.core_lang.specs.declared.shape.Array.{Array}
 use Rattle.core_lang.specs.declared.typed.Cell.{Cell}
 use Rattle.core_lang.specs.declared.typed.Field.{Field}
 use Rattle.core_lang.specs.declared.typed.GlobalVariable.{GlobalVariable}
-use Rattle.core_lang.specs.declared.typed.LockClass.TheVariants as class
 use Rattle.core_lang.specs.declared.typed.Owner.{Owner}
 use Rattle.core_lang.specs.declared.typed.Owner.TheVariants as owner
 use Rattle.core_lang.specs.declared.typed.Struct.{Struct}
 use Rattle.core_lang.specs.declared.typed.Typed.{Typed}
 use Rattle.core_lang.specs.Typing.{lookup}
 use Rattle.locks.specs.Locks.{protection_of}
-use Rattle.locks.specs.declared.path.LockPath as written
-use Rattle.locks.specs.LockPaths.{LockPath, lock_path_of, global_path, class_if_global, same_path}
+use Rattle.locks.specs.LockPaths.{LockPath, global_path, class_if_global, same_path}
 use Rattle.core_lang.specs.declared.tree.Section.{Section}
 use Rattle.flow.specs.Points.{Point, points}
 use Rattle.lockpaths_forms.specs.Working.Forms.{Replacement, replacements_at}
+use Rattle.lockpaths.specs.Working.Told.{Told}
 use Rattle.lockpaths.specs.Working.Gathering.{gathered_at, gathered_in, Gathered, nothing_yet, place_from, with_owners, with_path, with_new}
 use Rattle.lockpaths.specs.Working.Numbers.{is_number}
 
@@ -77,51 +76,51 @@ pub not_global : (program : Typed) (o : Owner) → ((a : ℕ) × (b : ℕ) × (o
 not_global program o (inl e) = ap (class_if_global program) e.2
 not_global program o (inr e) = ap (class_if_global program) e.2
 
-module _ (program : Typed) (path : Option written.LockPath) where
-  pub element_here : (array : ℕ) (x : Array) (made : written.LockPath) → slice_get program.shape.arrays.items array ≡ Some x → path ≡ Some made → lock_path_of made ≡ global_path x.class →
-      option_map lock_path_of path ≡ of_array (slice_get program.shape.arrays.items array)
-  element_here array x made at is e = ap (option_map lock_path_of) is ∙ ap Some e ∙ sym (ap of_array at)
+module _ (program : Typed) (path : Option ℕ) where
+  pub element_here : (array : ℕ) (x : Array) (made : ℕ) → slice_get program.shape.arrays.items array ≡ Some x → path ≡ Some made → global_path made ≡ global_path x.class →
+      option_map global_path path ≡ of_array (slice_get program.shape.arrays.items array)
+  element_here array x made at is e = ap (option_map global_path) is ∙ ap Some e ∙ sym (ap of_array at)
 
   pub element_past : (array : ℕ) → slice_get program.shape.arrays.items array ≡ None → path ≡ None →
-      option_map lock_path_of path ≡ of_array (slice_get program.shape.arrays.items array)
-  element_past array at is = ap (option_map lock_path_of) is ∙ sym (ap of_array at)
+      option_map global_path path ≡ of_array (slice_get program.shape.arrays.items array)
+  element_past array at is = ap (option_map global_path) is ∙ sym (ap of_array at)
 
-  pub cell_past : (cell : ℕ) → slice_get program.cells.items cell ≡ None → path ≡ None → option_map lock_path_of path ≡ of_cell program (slice_get program.cells.items cell)
-  cell_past cell at is = ap (option_map lock_path_of) is ∙ sym (ap (of_cell program) at)
+  pub cell_past : (cell : ℕ) → slice_get program.cells.items cell ≡ None → path ≡ None → option_map global_path path ≡ of_cell program (slice_get program.cells.items cell)
+  cell_past cell at is = ap (option_map global_path) is ∙ sym (ap (of_cell program) at)
 
   of_owner : (cell : ℕ) (x : Cell) (o : Owner) → slice_get program.cells.items cell ≡ Some x → x.owner ≡ o →
       of_cell program (slice_get program.cells.items cell) ≡ option_map global_path (class_if_global program o)
   of_owner cell x o at is = ap (of_cell program) at ∙ ap (λ (y : Owner). option_map global_path (class_if_global program y)) is
 
-  pub global_here : (cell : ℕ) (x : Cell) (g : ℕ) (y : GlobalVariable) (made : written.LockPath) → slice_get program.cells.items cell ≡ Some x → x.owner ≡ owner.Global g →
-      slice_get program.globals.items g ≡ Some y → path ≡ Some made → lock_path_of made ≡ global_path y.class → option_map lock_path_of path ≡ of_cell program (slice_get program.cells.items cell)
+  pub global_here : (cell : ℕ) (x : Cell) (g : ℕ) (y : GlobalVariable) (made : ℕ) → slice_get program.cells.items cell ≡ Some x → x.owner ≡ owner.Global g →
+      slice_get program.globals.items g ≡ Some y → path ≡ Some made → global_path made ≡ global_path y.class → option_map global_path path ≡ of_cell program (slice_get program.cells.items cell)
   global_here cell x g y made at is there e m =
-      ap (option_map lock_path_of) e ∙ ap Some m
+      ap (option_map global_path) e ∙ ap Some m
       ∙ sym (of_owner cell x (owner.Global g) at is ∙ ap (λ (r : Option GlobalVariable). option_map global_path (lookup r (λ (z : GlobalVariable). Some z.class))) there)
 
   pub global_past : (cell : ℕ) (x : Cell) (g : ℕ) → slice_get program.cells.items cell ≡ Some x → x.owner ≡ owner.Global g → slice_get program.globals.items g ≡ None → path ≡ None →
-      option_map lock_path_of path ≡ of_cell program (slice_get program.cells.items cell)
+      option_map global_path path ≡ of_cell program (slice_get program.cells.items cell)
   global_past cell x g at is there e =
-      ap (option_map lock_path_of) e
+      ap (option_map global_path) e
       ∙ sym (of_owner cell x (owner.Global g) at is ∙ ap (λ (r : Option GlobalVariable). option_map global_path (lookup r (λ (z : GlobalVariable). Some z.class))) there)
 
   pub no_global : (cell : ℕ) (x : Cell) (o : Owner) → slice_get program.cells.items cell ≡ Some x → x.owner ≡ o → class_if_global program o ≡ None → path ≡ None →
-      option_map lock_path_of path ≡ of_cell program (slice_get program.cells.items cell)
-  no_global cell x o at is none e = ap (option_map lock_path_of) e ∙ sym (of_owner cell x o at is ∙ ap (option_map global_path) none)
+      option_map global_path path ≡ of_cell program (slice_get program.cells.items cell)
+  no_global cell x o at is none e = ap (option_map global_path) e ∙ sym (of_owner cell x o at is ∙ ap (option_map global_path) none)
 
 -- ---- the number of a path
 
-pub place_next : (path : LockPath) (k : ℕ) (items : List written.LockPath) (x : written.LockPath) → k < length items → x ≡ get_or items k x → false ≡ same_path path (lock_path_of x) →
-    place_from path (k + 1) (map lock_path_of (drop (k + 1) items)) ≡ place_from path k (map lock_path_of (drop k items))
-place_next path k items x lt is other =
-    ap (λ (b : Bool). if b then Some k else place_from path (k + 1) (map lock_path_of (drop (k + 1) items))) other
-    ∙ ap (λ (ys : List written.LockPath). place_from path k (map lock_path_of ys)) (sym (first_of_rest items k x lt is))
+pub place_next : {A : Type 0} (at : A → LockPath) (path : LockPath) (k : ℕ) (items : List A) (x : A) → k < length items → x ≡ get_or items k x → false ≡ same_path path (at x) →
+    place_from path (k + 1) (map at (drop (k + 1) items)) ≡ place_from path k (map at (drop k items))
+place_next {A = A} at path k items x lt is other =
+    ap (λ (b : Bool). if b then Some k else place_from path (k + 1) (map at (drop (k + 1) items))) other
+    ∙ ap (λ (ys : List A). place_from path k (map at ys)) (sym (first_of_rest items k x lt is))
 
-pub below_end : (k e v : ℕ) (items : List written.LockPath) → k < e → e ≡ v → v ≡ length items → k < length items
+pub below_end : {A : Type 0} (k e v : ℕ) (items : List A) → k < e → e ≡ v → v ≡ length items → k < length items
 below_end k e v items lt is at = omega arith
 
-pub below_all : (k e v : ℕ) (items : List written.LockPath) (paths : List LockPath) → k < e → e ≡ v → v ≡ length items → map lock_path_of items ≡ paths → k < length paths
-below_all k e v items paths lt is at same = let long = length-map items lock_path_of in let all = ap length same in omega arith
+pub below_all : {A : Type 0} (at : A → LockPath) (k e v : ℕ) (items : List A) (paths : List LockPath) → k < e → e ≡ v → v ≡ length items → map at items ≡ paths → k < length paths
+below_all at k e v items paths lt is here same = let long = length-map items at in let all = ap length same in omega arith
 
 pub set_next : (i k : ℕ) (numbers : List ℕ) (a b : Bool) (all : Bool) → k < length numbers → a ≡ (b || (i == get_or numbers k 0)) → (b || is_number i (drop k numbers)) ≡ all →
     (a || is_number i (drop (k + 1) numbers)) ≡ all
@@ -134,8 +133,8 @@ set_next i k numbers a b all lt is before =
 
 -- ---- what is found, with a path more
 
-abbrev pub seen : List written.LockPath → List ℕ → List ℕ → Option Mistake → Gathered
-seen paths numbers ends least = record { paths = map lock_path_of paths; numbers = numbers; ends = ends; least = least }
+abbrev pub seen : {A : Type 0} → (A → LockPath) → List A → List ℕ → List ℕ → Option Mistake → Gathered
+seen at paths numbers ends least = record { paths = map at paths; numbers = numbers; ends = ends; least = least }
 
 module _ (g : Gathered) (start : ℕ) (path : LockPath) where
   abbrev by_count : Bool → Bool → Gathered
@@ -156,62 +155,56 @@ module _ (g : Gathered) (start : ℕ) (path : LockPath) where
       let d : (length g.paths == 64) ≡ false = grind (arith, nat_tests) in
       ap (λ (b : Bool). by_count b (length g.paths == 64)) e ∙ ap (by_count false) d
 
-pub past_all : (g : Gathered) (start number v : ℕ) (path : LockPath) (items : List written.LockPath) → 64 < number → number ≡ v → v ≡ length items → map lock_path_of items ≡ g.paths →
+pub past_all : {A : Type 0} (at : A → LockPath) (g : Gathered) (start number v : ℕ) (path : LockPath) (items : List A) → 64 < number → number ≡ v → v ≡ length items → map at items ≡ g.paths →
     g ≡ with_new g start path
-past_all g start number v path items lt count at same =
-    let long = length-map items lock_path_of in let all = ap length same in let more : 64 < length g.paths = omega arith in
+past_all at g start number v path items lt count here same =
+    let long = length-map items at in let all = ap length same in let more : 64 < length g.paths = omega arith in
     sym (new_full g start path more)
 
-module _ (path : written.LockPath) (start number : ℕ) (paths more : List written.LockPath) (numbers pushed ends : List ℕ) (least : Option Mistake) (g : Gathered)
-    (is : seen paths numbers ends least ≡ g) (count : number ≡ length paths) (grown : more ≡ paths ++ path ∷ []) (counted : pushed ≡ numbers ++ number ∷ []) where
-  with_it : (last : Option Mistake) → seen more pushed ends last ≡ record (with_path (seen paths numbers ends least) (lock_path_of path)) { least = last }
+module _ {A : Type 0} (at : A → LockPath) (path : A) (start number : ℕ) (paths more : List A) (numbers pushed ends : List ℕ) (least : Option Mistake) (g : Gathered)
+    (is : seen at paths numbers ends least ≡ g) (count : number ≡ length paths) (grown : more ≡ paths ++ path ∷ []) (counted : pushed ≡ numbers ++ number ∷ []) where
+  with_it : (last : Option Mistake) → seen at more pushed ends last ≡ record (with_path (seen at paths numbers ends least) (at path)) { least = last }
   with_it last =
-      ap (λ (ps : List LockPath). record { paths = ps; numbers = pushed; ends = ends; least = last }) (ap (map lock_path_of) grown ∙ map_push lock_path_of paths path)
-      ∙ ap (λ (ns : List ℕ). record { paths = map lock_path_of paths ++ lock_path_of path ∷ []; numbers = ns; ends = ends; least = last })
-      (counted ∙ ap (λ (n : ℕ). numbers ++ n ∷ []) (count ∙ sym (length-map paths lock_path_of)))
+      ap (λ (ps : List LockPath). record { paths = ps; numbers = pushed; ends = ends; least = last }) (ap (map at) grown ∙ map_push at paths path)
+      ∙ ap (λ (ns : List ℕ). record { paths = map at paths ++ at path ∷ []; numbers = ns; ends = ends; least = last })
+      (counted ∙ ap (λ (n : ℕ). numbers ++ n ∷ []) (count ∙ sym (length-map paths at)))
 
-  pub added_below : number ≤ 64 → (number ≡ 64 → ⊥) → seen more pushed ends least ≡ with_new g start (lock_path_of path)
+  pub added_below : number ≤ 64 → (number ≡ 64 → ⊥) → seen at more pushed ends least ≡ with_new g start (at path)
   added_below le other =
-      let long = length-map paths lock_path_of in
-      let lt : length (map lock_path_of paths) < 64 = omega arith in
-      with_it least ∙ sym (new_below (seen paths numbers ends least) start (lock_path_of path) lt) ∙ ap (λ (h : Gathered). with_new h start (lock_path_of path)) is
+      let long = length-map paths at in
+      let lt : length (map at paths) < 64 = omega arith in
+      with_it least ∙ sym (new_below (seen at paths numbers ends least) start (at path) lt) ∙ ap (λ (h : Gathered). with_new h start (at path)) is
 
-  pub added_last : number ≡ 64 → (last : Option Mistake) → last ≡ lesser least (record { code = LimitExceeded; start = start }) → seen more pushed ends last ≡ with_new g start (lock_path_of path)
-  added_last at last noted =
-      let long = length-map paths lock_path_of in
-      let full : length (map lock_path_of paths) ≡ 64 = omega arith in
-      with_it last ∙ ap (λ (m : Option Mistake). record (with_path (seen paths numbers ends least) (lock_path_of path)) { least = m }) noted
-      ∙ sym (new_last (seen paths numbers ends least) start (lock_path_of path) full) ∙ ap (λ (h : Gathered). with_new h start (lock_path_of path)) is
+  pub added_last : number ≡ 64 → (last : Option Mistake) → last ≡ lesser least (record { code = LimitExceeded; start = start }) → seen at more pushed ends last ≡ with_new g start (at path)
+  added_last here last noted =
+      let long = length-map paths at in
+      let full : length (map at paths) ≡ 64 = omega arith in
+      with_it last ∙ ap (λ (m : Option Mistake). record (with_path (seen at paths numbers ends least) (at path)) { least = m }) noted
+      ∙ sym (new_last (seen at paths numbers ends least) start (at path) full) ∙ ap (λ (h : Gathered). with_new h start (at path)) is
 
-pub still_few : (paths same more : List written.LockPath) → length paths ≤ 65 → same ≡ paths → more ≡ same → length more ≤ 65
-still_few paths same more le e d = subst (λ (ps : List written.LockPath). length ps ≤ 65) (sym (d ∙ e)) le
+pub still_few : {A : Type 0} (paths same more : List A) → length paths ≤ 65 → same ≡ paths → more ≡ same → length more ≤ 65
+still_few {A = A} paths same more le e d = subst (λ (ps : List A). length ps ≤ 65) (sym (d ∙ e)) le
 
-pub one_more_few : (number v : ℕ) (paths same more : List written.LockPath) (path : written.LockPath) → number ≤ 64 → number ≡ v → v ≡ length paths → same ≡ paths → more ≡ same ++ path ∷ [] →
+pub one_more_few : {A : Type 0} (number v : ℕ) (paths same more : List A) (path : A) → number ≤ 64 → number ≡ v → v ≡ length paths → same ≡ paths → more ≡ same ++ path ∷ [] →
     length more ≤ 65
 one_more_few number v paths same more path le count at e grown = let a = ap length e in let b = ap length grown ∙ length-append same (path ∷ []) in omega arith
 
-pub number_small : (k : ℕ) (items : List written.LockPath) (paths : List LockPath) → k < length paths → map lock_path_of items ≡ paths → length items ≤ 65 → k < 256
-number_small k items paths lt same le = let long = length-map items lock_path_of in let all = ap length same in omega arith
+pub number_small : {A : Type 0} (at : A → LockPath) (k : ℕ) (items : List A) (paths : List LockPath) → k < length paths → map at items ≡ paths → length items ≤ 65 → k < 256
+number_small at k items paths lt same le = let long = length-map items at in let all = ap length same in omega arith
 
 -- ---- a whole section
 
-pub met_there : (program : Typed) (section s : Section) (least : Option Mistake) (table : List Replacement) (paths : List LockPath) (numbers ends : List ℕ) (given seen : List Point) (new : Gathered) →
-    new ≡ gathered_at program s table (record { paths = paths; numbers = numbers; ends = ends; least = least }) seen → s ≡ section → table ≡ replacements_at section given → paths ≡ [] →
-    numbers ≡ [] → ends ≡ [] → given ≡ points section → seen ≡ points section →
-    new ≡ gathered_at program section (replacements_at section (points section)) (nothing_yet least) (points section)
-met_there program section s least table paths numbers ends given seen new all same made no_paths no_numbers no_ends each every =
-    all ∙ ap (λ (x : Section). gathered_at program x table (record { paths = paths; numbers = numbers; ends = ends; least = least }) seen) same
-    ∙ ap (λ (t : List Replacement). gathered_at program section t (record { paths = paths; numbers = numbers; ends = ends; least = least }) seen) (made ∙ ap (replacements_at section) each)
-    ∙ ap (λ (p : List LockPath). gathered_at program section (replacements_at section (points section)) (record { paths = p; numbers = numbers; ends = ends; least = least }) seen) no_paths
-    ∙ ap (λ (n : List ℕ). gathered_at program section (replacements_at section (points section)) (record { paths = []; numbers = n; ends = ends; least = least }) seen) no_numbers
-    ∙ ap (λ (n : List ℕ). gathered_at program section (replacements_at section (points section)) (record { paths = []; numbers = []; ends = n; least = least }) seen) no_ends
-    ∙ ap (gathered_at program section (replacements_at section (points section)) (record { paths = []; numbers = []; ends = []; least = least })) every
-
-pub gathered_there : (program : Typed) (section s : Section) (least : Option Mistake) (named : List Point) (middle new : Gathered) →
-    middle ≡ gathered_at program section (replacements_at section (points section)) (nothing_yet least) (points section) → new ≡ with_owners s middle named → s ≡ section →
-    named ≡ points section → new ≡ gathered_in program section least
-gathered_there program section s least named middle new met all same every =
-    let before = gathered_at program section (replacements_at section (points section)) (nothing_yet least) (points section) in
-    all ∙ ap (λ (g : Gathered). with_owners s g named) met
-    ∙ ap (λ (x : Section). with_owners x before named) same
-    ∙ ap (with_owners section before) every
+pub found_there : (program : Typed) (section : Section) (least : Option Mistake) (given met named : List Point) (start middle last : Told) (table : List Replacement) →
+    start ≡ record { table = table; gathered = nothing_yet least } → table ≡ replacements_at section given →
+    middle ≡ record { table = start.table; gathered = gathered_at program section start.table start.gathered met } →
+    last ≡ record { table = middle.table; gathered = with_owners section middle.gathered named } →
+    given ≡ points section → met ≡ points section → named ≡ points section → last.gathered ≡ gathered_in program section least
+found_there program section least given met named start middle last table begun made there all each every again =
+    let t : start.table ≡ replacements_at section (points section) = ap (λ (x : Told). x.table) begun ∙ made ∙ ap (replacements_at section) each in
+    let before : middle.gathered ≡ gathered_at program section (replacements_at section (points section)) (nothing_yet least) (points section) =
+    ap (λ (x : Told). x.gathered) there
+    ∙ ap (λ (r : List Replacement). gathered_at program section r start.gathered met) t
+    ∙ ap (λ (x : Told). gathered_at program section (replacements_at section (points section)) x.gathered met) begun
+    ∙ ap (gathered_at program section (replacements_at section (points section)) (nothing_yet least)) every in
+    ap (λ (x : Told). x.gathered) all ∙ ap (λ (g : Gathered). with_owners section g named) before
+    ∙ ap (with_owners section (gathered_at program section (replacements_at section (points section)) (nothing_yet least) (points section))) again

@@ -1,71 +1,79 @@
 //! Goes over the accesses of a section.
 
-ghost use Rattle.std.specs.Prelude.{◌≡◌, [], ◌∷◌, map, IfOk, OnOk};
-ghost use Rattle.std.specs.Option.{option_copied};
+ghost use Rattle.std.specs.Prelude.{◌≡◌, [], ◌∷◌, map, Some, IfOk, OnOk};
+ghost use Rattle.std.specs.Option.{option_copied, option_map};
 ghost use Rattle.locks.specs.Locks.{protection_of};
 ghost use Rattle.flow.specs.Working.PointList.{point_at};
 ghost use Rattle.flow.specs.Points.{statement};
-ghost use Rattle.locks.specs.Accesses.{access, global, element, in_path, in_expr, in_exprs, in_condition, in_action};
-ghost use Rattle.locks.specs.LockPaths.{global_path, lock_path_of};
-ghost use Rattle.lockpaths.specs.Working.Gathering.{through_of};
-ghost use Rattle.lockpaths.specs.Working.Finding.{IsBase, IsLockOf, in_all, over, over_point, over_points, over_owner, over_owners};
+ghost use Rattle.locks.specs.Accesses.{access, global, element, field, in_path, in_expr, in_exprs, in_condition, in_action};
+ghost use Rattle.lockpaths.specs.Working.Told.{seen};
+ghost use Rattle.lockpaths.specs.Working.Finding.{IsLockOf, IsTold, in_all, over, over_point, over_points, over_owner, over_owners};
 
-use crate::found::Found;
-use core_lang::tree::{Action, Condition, Expr, FieldStep, Path, Stmt};
+use crate::found::{Found, Place};
+use core_lang::tree::{Action, Condition, Expr, FieldStep, Path, Section, Stmt};
 use core_lang::typed::{LockClass, Owner, Protection, Typed};
 use flow::points::PointRef;
-use lockpaths_forms::forms::{Form, Forms};
-use locks::path::{LockPath, Root};
+use lockpaths_forms::forms::is_fixed_local;
 use source::memory::NoMemory;
-use std::alloc::Global;
+
+/// What a field is read or written of: a local followed by fields.
+#[derive(Clone, Copy)]
+struct Base<'a> {
+    // The first name of the access.
+    start: usize,
+    local: usize,
+    fields: &'a [FieldStep],
+    // Whether a field that is not final is known to be among these.
+    is_behind: bool,
+}
 
 /// Goes over the accesses of a section of a program.
-#[derive(Drop)]
+#[derive(Clone, Copy)]
 pub struct Finder<'a> {
-    /// Where memory is taken.
-    pub alloc: Global,
     /// The program.
     pub program: &'a Typed,
-    /// The section, with the normal forms of its locals.
-    pub forms: Forms<'a>,
+    /// The section.
+    pub section: &'a Section,
+}
+
+// The place of a lock field of this class at the end of a normal form, if there is one.
+fn under(node: Option<usize>, class: usize) -> Option<Place>
+    ensures { result ≡ option_map (λ n. record { node = Some n; class = class }) node }
+{
+    match node {
+        Some(node) => Some(Place {
+            node: Some(node),
+            class,
+        }),
+        None => None,
+    }
 }
 
 impl<'a> Finder<'a> {
-    // The path that is a global lock.
-    fn global_lock(&self, class: usize) -> LockPath
-        ensures { lock_path_of result ≡ global_path class }
-    {
-        LockPath {
-            root: Root::GlobalLock,
-            finals: Vec::new(self.alloc),
-            class,
-        }
-    }
-
     fn global(&self, start: usize, cell: u32, found: &mut Found) -> Result<(), NoMemory>
-        ensures { OnOk result (found.new ≡ over self.now found.old (access start (global cell) ∷ [])) }
+        ensures { OnOk result (seen found.new ≡ over self.now (seen found.old) (access start (global cell) ∷ [])) }
     {
-        let path = match self.program.cells.get(cell as usize) {
+        let class = match self.program.cells.get(cell as usize) {
             Some(cell) => match cell.owner {
                 Owner::Global(number) => match self.program.globals.get(number) {
-                    Some(global) => Some(self.global_lock(global.class)),
+                    Some(global) => Some(global.class),
                     None => None,
                 },
                 Owner::Element { .. } | Owner::Field { .. } => None,
             },
             None => None,
         };
-        found.meet(start, path)
+        found.meet_global(start, class)
     }
 
     fn element(&self, start: usize, array: usize, found: &mut Found) -> Result<(), NoMemory>
-        ensures { OnOk result (found.new ≡ over self.now found.old (access start (element array) ∷ [])) }
+        ensures { OnOk result (seen found.new ≡ over self.now (seen found.old) (access start (element array) ∷ [])) }
     {
-        let path = match self.program.shape.arrays.get(array) {
-            Some(array) => Some(self.global_lock(array.class)),
+        let class = match self.program.shape.arrays.get(array) {
+            Some(array) => Some(array.class),
             None => None,
         };
-        found.meet(start, path)
+        found.meet_global(start, class)
     }
 
     // What protects a field of a struct.
@@ -77,67 +85,71 @@ impl<'a> Finder<'a> {
         Some(&field.protection)
     }
 
-    // The final references of what protects a field of a struct.
-    fn through(&self, structure: usize, field: u32) -> &'a [u32]
-        ensures { result.now ≡ through_of (protection_of self.now.program.now structure field) }
-    {
-        match self.protection(structure, field) {
-            Some(protection) => &protection.through,
-            None => &[],
-        }
-    }
-
-    // The lock path of a field of a base, which has this normal form, with the final references of what protects the
-    // field behind it, if it is a stable path.
-    fn field_lock(&self, structure: usize, field: u32, base: Option<Form>) -> Option<LockPath>
-        ensures { IsLockOf self.now structure field base result }
-    {
-        let protection = self.protection(structure, field)?;
-        match self.program.classes.get(protection.class) {
-            Some(LockClass::Global(_)) => Some(self.global_lock(protection.class)),
-            Some(LockClass::Field { .. }) => {
-                let base = base?;
-                Some(LockPath {
-                    root: Root::Local(base.root),
-                    finals: base.finals,
-                    class: protection.class,
-                })
-            }
-            None => None,
-        }
-    }
-
-    // The normal form of a local followed by fields and by these final references, if that is a stable path; it is none
-    // behind a field that is not final, so these are not gone over again.
-    fn base(
+    // The place of the lock of a field of a base, if it has one. Under a global lock no normal form is looked for.
+    fn lock(
         &self,
-        is_behind: bool,
-        local: usize,
-        fields: &[FieldStep],
-        through: &[u32],
-    ) -> Result<Option<Form>, NoMemory>
-        ensures { IfOk result (IsBase self.now is_behind local fields.now through.now) }
+        structure: usize,
+        number: u32,
+        base: Base<'_>,
+        found: &mut Found,
+    ) -> Result<Option<Place>, NoMemory>
+        ensures told { seen found.new ≡ seen found.old }
+        ensures place { IfOk result (IsLockOf self.now (seen found.old) structure number base.entry found.new) }
     {
-        if is_behind {
+        let Some(protection) = self.protection(structure, number) else {
             return Ok(None);
+        };
+        let class = protection.class;
+        match self.program.classes.get(class) {
+            Some(LockClass::Global(_)) => Ok(Some(Place { node: None, class })),
+            Some(LockClass::Field { .. }) => {
+                if base.is_behind {
+                    return Ok(None);
+                }
+                let node = found.normal_form(
+                    self.section,
+                    base.local,
+                    base.fields,
+                    &protection.through,
+                )?;
+                Ok(under(node, class))
+            }
+            None => Ok(None),
         }
-        self.forms.form_at(local, fields, through)
+    }
+
+    // An access to a field of a base.
+    fn field(
+        &self,
+        structure: usize,
+        number: u32,
+        base: Base<'_>,
+        found: &mut Found,
+    ) -> Result<(), NoMemory>
+        requires { IsTold base }
+        ensures { OnOk result (seen found.new ≡ over self.now (seen found.old) (access base.entry.start (field base.entry.local base.entry.fields.now structure number) ∷ [])) }
+    {
+        let place = self.lock(structure, number, base, found)?;
+        found.meet(base.start, place)
     }
 
     // The fields of a path that are not final. Behind the first of them no base is a stable path.
     fn along(&self, path: &Path, found: &mut Found) -> Result<(), NoMemory>
-        ensures { OnOk result (found.new ≡ over self.now found.old (in_path path.now)) }
+        ensures { OnOk result (seen found.new ≡ over self.now (seen found.old) (in_path path.now)) }
     {
         let mut is_behind = false;
         for k in 0..path.fields.len() {
             match path.fields[k] {
                 FieldStep::Final { .. } => {}
                 FieldStep::Field { structure, number } => {
-                    let through = self.through(structure, number);
-                    let base = self.base(is_behind, path.local, &path.fields[..k], through)?;
+                    let base = Base {
+                        start: path.start,
+                        local: path.local,
+                        fields: &path.fields[..k],
+                        is_behind,
+                    };
                     is_behind = true;
-                    let lock = self.field_lock(structure, number, base);
-                    found.meet(path.start, lock)?;
+                    self.field(structure, number, base, found)?;
                 }
             }
         }
@@ -145,7 +157,7 @@ impl<'a> Finder<'a> {
     }
 
     fn expr(&self, e: &Expr, found: &mut Found) -> Result<(), NoMemory>
-        ensures { OnOk result (found.new ≡ over self.now found.old (in_expr e.now)) }
+        ensures { OnOk result (seen found.new ≡ over self.now (seen found.old) (in_expr e.now)) }
     {
         match e {
             Expr::Number(_) | Expr::Null => Ok(()),
@@ -175,7 +187,7 @@ impl<'a> Finder<'a> {
 
     // Expressions, one after another.
     fn exprs(&self, list: &[Expr], found: &mut Found) -> Result<(), NoMemory>
-        ensures { OnOk result (found.new ≡ over self.now found.old (in_exprs list.now)) }
+        ensures { OnOk result (seen found.new ≡ over self.now (seen found.old) (in_exprs list.now)) }
     {
         for e in list {
             self.expr(e, found)?;
@@ -185,7 +197,7 @@ impl<'a> Finder<'a> {
 
     #[cycle(conditions)]
     fn condition(&self, condition: &Condition, found: &mut Found) -> Result<(), NoMemory>
-        ensures { OnOk result (found.new ≡ over self.now found.old (in_condition condition.now)) }
+        ensures { OnOk result (seen found.new ≡ over self.now (seen found.old) (in_condition condition.now)) }
     {
         match condition {
             Condition::Compare(_, a, b) => {
@@ -204,7 +216,7 @@ impl<'a> Finder<'a> {
 
     #[cycle(conditions)]
     fn conditions(&self, conditions: &[Condition], found: &mut Found) -> Result<(), NoMemory>
-        ensures { OnOk result (found.new ≡ over self.now found.old (in_all conditions.now)) }
+        ensures { OnOk result (seen found.new ≡ over self.now (seen found.old) (in_all conditions.now)) }
     {
         for condition in conditions {
             self.condition(condition, found)?;
@@ -214,7 +226,7 @@ impl<'a> Finder<'a> {
 
     // What a statement does at its point.
     fn action(&self, start: usize, action: &Action, found: &mut Found) -> Result<(), NoMemory>
-        ensures { OnOk result (found.new ≡ over self.now found.old (in_action start action.now)) }
+        ensures { OnOk result (seen found.new ≡ over self.now (seen found.old) (in_action start action.now)) }
     {
         match action {
             Action::Bind { value, .. } | Action::SetLocal { value, .. } | Action::Print(value) => {
@@ -242,10 +254,13 @@ impl<'a> Finder<'a> {
                 value,
             } => {
                 self.along(base, found)?;
-                let through = self.through(*structure, *field);
-                let form = self.forms.form_at(base.local, &base.fields, through)?;
-                let lock = self.field_lock(*structure, *field, form);
-                found.meet(base.start, lock)?;
+                let whole = Base {
+                    start: base.start,
+                    local: base.local,
+                    fields: &base.fields,
+                    is_behind: false,
+                };
+                self.field(*structure, *field, whole, found)?;
                 self.expr(value, found)?;
                 Ok(())
             }
@@ -258,7 +273,7 @@ impl<'a> Finder<'a> {
 
     /// The accesses of a point.
     pub fn point(&self, point: PointRef<'a>, found: &mut Found) -> Result<(), NoMemory>
-        ensures { OnOk result (found.new ≡ over_point self.now found.old (point_at point.entry)) }
+        ensures { OnOk result (seen found.new ≡ over_point self.now (seen found.old) (point_at point.entry)) }
     {
         match point {
             PointRef::Statement(statement) => {
@@ -271,7 +286,7 @@ impl<'a> Finder<'a> {
 
     /// The accesses of points.
     pub fn points(&self, points: &[PointRef<'a>], found: &mut Found) -> Result<(), NoMemory>
-        ensures { OnOk result (found.new ≡ over_points self.now found.old (map point_at points.now)) }
+        ensures { OnOk result (seen found.new ≡ over_points self.now (seen found.old) (map point_at points.now)) }
     {
         for point in points {
             self.point(*point, found)?;
@@ -281,12 +296,12 @@ impl<'a> Finder<'a> {
 
     // The `where` of a statement, if it names a `var`.
     fn owner(&self, action: &Action, found: &mut Found) -> Result<(), NoMemory>
-        ensures { OnOk result (found.new ≡ over_owner self.now found.old (statement 0 action.now)) }
+        ensures { OnOk result (seen found.new ≡ over_owner self.now (seen found.old) (statement 0 action.now)) }
     {
         if let Action::Bind { value, .. } = action {
             if let Expr::Owned { start, owner, .. } = value {
-                if !self.forms.is_fixed(*owner as usize) {
-                    found.meet(*start, None)?;
+                if !is_fixed_local(self.section, *owner as usize) {
+                    found.meet_global(*start, None)?;
                 }
             }
         }
@@ -295,7 +310,7 @@ impl<'a> Finder<'a> {
 
     /// The `where`s of points.
     pub fn owners(&self, points: &[PointRef<'a>], found: &mut Found) -> Result<(), NoMemory>
-        ensures { OnOk result (found.new ≡ over_owners self.now found.old (map point_at points.now)) }
+        ensures { OnOk result (seen found.new ≡ over_owners self.now (seen found.old) (map point_at points.now)) }
     {
         for point in points {
             if let PointRef::Statement(statement) = *point {

@@ -1,10 +1,15 @@
 //! What is found of a section, access by access.
 
-ghost use Rattle.std.specs.Prelude.{◌≡◌, ◌<◌, length, IfSome, OnOk};
+ghost use Rattle.std.specs.Prelude.{◌≡◌, ◌<◌, length, map, IfOk, IfSome, OnOk};
 ghost use Rattle.std.specs.Option.{option_map};
-ghost use Rattle.locks.specs.LockPaths.{lock_path_of, same_root, same_numbers, same_path};
-ghost use Rattle.lockpaths.specs.Working.Gathering.{ended, met, place_from, with_new};
+ghost use Rattle.locks.specs.LockPaths.{global_path, lock_path_of, same_path};
+ghost use Rattle.lockpaths_forms.specs.Working.States.{IsFormOf};
+ghost use Rattle.lockpaths.specs.Working.Gathering.{nothing_yet, place_from};
+ghost use Rattle.lockpaths.specs.Working.Places.{IsPlace, has_same_path, path_at};
+ghost use Rattle.lockpaths.specs.Working.Told.{seen, ended_told, met_told, told_with_new};
 
+use core_lang::tree::{FieldStep, Section};
+use lockpaths_forms::forms::Forms;
 use locks::path::{LockPath, Root};
 use source::fault::Code;
 use source::memory::NoMemory;
@@ -15,11 +20,23 @@ use std::marker::Model;
 // How many lock paths a section may have.
 const PATH_LIMIT: usize = 64;
 
+/// Where a lock path leads: to a global lock, or to a lock field at the end of a normal form.
+#[derive(Clone, Copy)]
+pub struct Place {
+    /// The normal form, by its number; none for a global lock.
+    pub node: Option<usize>,
+    /// The class of the lock.
+    pub class: usize,
+}
+
 /// The lock paths so far.
 #[derive(Drop)]
 pub struct Found {
-    /// Each once, in the order of their first accesses; behind the first that is too many, none is kept.
-    pub paths: Vec<LockPath>,
+    alloc: Global,
+    // What stands for the section's locals, and the normal forms of the paths so far.
+    forms: Forms,
+    // Each once, in the order of their first accesses; behind the first that is too many, none is kept.
+    places: Vec<Place>,
     /// The number of the path of each access that has one, up to the first that is too many.
     pub numbers: Vec<u8>,
     /// For each point how many of these there are up to its end.
@@ -29,47 +46,76 @@ pub struct Found {
 }
 
 impl Model for Found {
-    ghost use Rattle.std.specs.Prelude.{◌≤◌, map, length};
-    ghost use Rattle.locks.specs.LockPaths.{lock_path_of};
-    ghost use Rattle.lockpaths.specs.Working.Gathering.{Gathered};
+    ghost use Rattle.std.specs.Prelude.{◌≤◌, length};
+    ghost use Rattle.lockpaths.specs.Working.Told.{Seen};
 
-    ghost Value = { Gathered };
+    ghost Value = { Seen };
 
-    ghost view = { λ f. record { paths = map lock_path_of f.paths.items; numbers = f.numbers.items; ends = f.ends.items; least = f.least } };
+    ghost use Rattle.lockpaths.specs.Working.Places.{gathered_of, AreFound};
 
-    ghost invariant = { λ f. length f.paths.items ≤ 65 };
-}
+    ghost view = { λ f. record { known = f.forms; gathered = gathered_of f.forms.paths f.places.items f.numbers.items f.ends.items f.least } };
 
-fn is_same_root(a: Root, b: Root) -> bool
-    ensures { result ≡ same_root a b }
-{
-    match (a, b) {
-        (Root::GlobalLock, Root::GlobalLock) => true,
-        (Root::Local(a), Root::Local(b)) => a == b,
-        _ => false,
-    }
-}
-
-fn are_same_numbers(a: &[u32], b: &[u32]) -> bool
-    ensures { result ≡ same_numbers a.now b.now }
-{
-    a == b
-}
-
-fn is_same(a: &LockPath, b: &LockPath) -> bool
-    ensures { result ≡ same_path (lock_path_of a.now) (lock_path_of b.now) }
-{
-    is_same_root(a.root, b.root) && are_same_numbers(&a.finals, &b.finals) && a.class == b.class
+    ghost invariant = { λ f. AreFound f.forms.paths f.places.items };
 }
 
 impl Found {
-    // The number of a path, if it was met before.
-    fn number_of(&self, path: &LockPath) -> Option<usize>
-        ensures place { result ≡ place_from (lock_path_of path.now) 0 self.now.paths }
-        ensures within { IfSome result (λ k. k < length self.now.paths) }
+    /// Nothing yet of a section whose locals stand for this, behind the least fault of those before it.
+    pub fn new(alloc: Global, forms: Forms, least: Option<Mistake>) -> Found
+        ensures { result ≡ record { known = forms; gathered = nothing_yet least } }
     {
-        for k in 0..self.paths.len() {
-            if is_same(path, &self.paths[k]) {
+        Found {
+            alloc,
+            forms,
+            places: Vec::new(alloc),
+            numbers: Vec::new(alloc),
+            ends: Vec::new(alloc),
+            least,
+        }
+    }
+
+    /// The normal form of a local followed by fields, and by these final references, if that is a stable path.
+    pub fn normal_form(
+        &mut self,
+        section: &Section,
+        local: usize,
+        fields: &[FieldStep],
+        through: &[u32],
+    ) -> Result<Option<usize>, NoMemory>
+        ensures told { seen self.new ≡ seen self.old }
+        ensures node { IfOk result (IsFormOf section.now self.new.known local fields.now through.now) }
+    {
+        self.forms.form_at(section, local, fields, through)
+    }
+
+    // Whether two places have one normal form, or are of global locks.
+    fn has_same_path(&self, a: Place, b: Place) -> bool
+        requires a { IsPlace self.now.known.paths a }
+        requires b { IsPlace self.now.known.paths b }
+        ensures { result ≡ has_same_path self.now.known.paths a.node b.node }
+    {
+        match (a.node, b.node) {
+            (None, None) => true,
+            (Some(a), Some(b)) => self.forms.is_same(a, b),
+            _ => false,
+        }
+    }
+
+    fn is_same(&self, a: Place, b: Place) -> bool
+        requires a { IsPlace self.now.known.paths a }
+        requires b { IsPlace self.now.known.paths b }
+        ensures { result ≡ same_path (path_at self.now.known.paths a) (path_at self.now.known.paths b) }
+    {
+        self.has_same_path(a, b) && a.class == b.class
+    }
+
+    // The number of a path, if it was met before.
+    fn number_of(&self, place: Place) -> Option<usize>
+        requires { IsPlace self.now.known.paths place }
+        ensures place { result ≡ place_from (path_at self.now.known.paths place) 0 self.now.gathered.paths }
+        ensures within { IfSome result (λ k. k < length self.now.gathered.paths) }
+    {
+        for k in 0..self.places.len() {
+            if self.is_same(place, self.places[k]) {
                 return Some(k);
             }
         }
@@ -77,27 +123,39 @@ impl Found {
     }
 
     /// Meets an access that starts there and has this lock path, if it has one.
-    pub fn meet(&mut self, start: usize, path: Option<LockPath>) -> Result<(), NoMemory>
-        ensures { OnOk result (self.new ≡ met self.old start (option_map lock_path_of path)) }
+    pub fn meet(&mut self, start: usize, place: Option<Place>) -> Result<(), NoMemory>
+        requires { IfSome place (IsPlace self.old.known.paths) }
+        ensures { OnOk result (seen self.new ≡ met_told (seen self.old) start (option_map (path_at self.old.known.paths) place)) }
     {
-        let Some(path) = path else {
+        let Some(place) = place else {
             note(&mut self.least, Code::UnstableBase, start);
             return Ok(());
         };
-        match self.number_of(&path) {
+        match self.number_of(place) {
             Some(number) => {
                 self.numbers.push(number as u8)?;
                 Ok(())
             }
-            None => self.add(start, path),
+            None => self.add(start, place),
+        }
+    }
+
+    /// Meets an access that starts there and is under the global lock of this class, if it has one.
+    pub fn meet_global(&mut self, start: usize, class: Option<usize>) -> Result<(), NoMemory>
+        ensures { OnOk result (seen self.new ≡ met_told (seen self.old) start (option_map global_path class)) }
+    {
+        match class {
+            Some(class) => self.meet(start, Some(Place { node: None, class })),
+            None => self.meet(start, None),
         }
     }
 
     // A path that was not met before.
-    fn add(&mut self, start: usize, path: LockPath) -> Result<(), NoMemory>
-        ensures { OnOk result (self.new ≡ with_new self.old start (lock_path_of path)) }
+    fn add(&mut self, start: usize, place: Place) -> Result<(), NoMemory>
+        requires { IsPlace self.old.known.paths place }
+        ensures { OnOk result (seen self.new ≡ told_with_new (seen self.old) start (path_at self.old.known.paths place)) }
     {
-        let number = self.paths.len();
+        let number = self.places.len();
         if number > PATH_LIMIT {
             return Ok(());
         }
@@ -105,15 +163,49 @@ impl Found {
             note(&mut self.least, Code::LimitExceeded, start);
         }
         self.numbers.push(number as u8)?;
-        self.paths.push(path)?;
+        self.places.push(place)?;
         Ok(())
     }
 
     /// Ends a point.
     pub fn end_point(&mut self) -> Result<(), NoMemory>
-        ensures { OnOk result (self.new ≡ ended self.old) }
+        ensures { OnOk result (seen self.new ≡ ended_told (seen self.old)) }
     {
         self.ends.push(self.numbers.len())?;
         Ok(())
+    }
+
+    // The lock path that leads to a place.
+    fn lock_path(&self, place: Place) -> Result<LockPath, NoMemory>
+        requires { IsPlace self.now.known.paths place }
+        ensures { IfOk result (λ path. lock_path_of path ≡ path_at self.now.known.paths place) }
+    {
+        match place.node {
+            None => Ok(LockPath {
+                root: Root::GlobalLock,
+                finals: Vec::new(self.alloc),
+                class: place.class,
+            }),
+            Some(node) => {
+                let form = self.forms.path(node)?;
+                Ok(LockPath {
+                    root: Root::Local(form.root),
+                    finals: form.finals,
+                    class: place.class,
+                })
+            }
+        }
+    }
+
+    /// The lock paths.
+    pub fn lock_paths(&self) -> Result<Vec<LockPath>, NoMemory>
+        ensures { IfOk result (λ list. map lock_path_of list.items ≡ self.now.gathered.paths) }
+    {
+        let mut list = Vec::with_capacity(self.alloc, self.places.len())?;
+        for place in &self.places {
+            let path = self.lock_path(*place)?;
+            list.push(path)?;
+        }
+        Ok(list)
     }
 }

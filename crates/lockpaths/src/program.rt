@@ -30,21 +30,12 @@ fn found_in(
     section: &Section,
     least: Option<Mistake>,
 ) -> Result<Found, NoMemory>
-    ensures { IfOk result (λ found. found ≡ gathered_in program.now section.now least) }
+    ensures { IfOk result (λ found. found.gathered ≡ gathered_in program.now section.now least) }
 {
     let points = points_of(alloc, section)?;
     let forms = Forms::of(alloc, section, &points)?;
-    let finder = Finder {
-        alloc,
-        program,
-        forms,
-    };
-    let mut found = Found {
-        paths: Vec::new(alloc),
-        numbers: Vec::new(alloc),
-        ends: Vec::new(alloc),
-        least,
-    };
+    let finder = Finder { program, section };
+    let mut found = Found::new(alloc, forms, least);
     finder.points(&points, &mut found)?;
     finder.owners(&points, &mut found)?;
     Ok(found)
@@ -80,12 +71,13 @@ fn sets_of(alloc: Global, numbers: &[u8], ends: &[usize]) -> Result<Vec<PathSet>
 
 // What is found of a section without a fault, with a set for each point.
 fn section_paths(alloc: Global, found: Found) -> Result<SectionPaths, NoMemory>
-    requires { IsComplete found }
-    ensures { IfOk result (IsFinished found) }
+    requires { IsComplete found.gathered }
+    ensures { IfOk result (IsFinished found.gathered) }
 {
+    let paths = found.lock_paths()?;
     let used = sets_of(alloc, &found.numbers, &found.ends)?;
     Ok(SectionPaths {
-        paths: found.paths,
+        paths,
         used,
         of_access: found.numbers,
     })

@@ -1,2 +1,5 @@
 pub mod Walks
 pub mod Replaced
+pub mod Places
+pub mod Numbered
+pub mod Walked

@@ -7,7 +7,7 @@ use Rattle.locks.specs.LockPaths.{StablePath}
 use Rattle.lockpaths_forms.specs.declared.forms.Bound.{Bound}
 use Rattle.lockpaths_forms.specs.Working.Forms.{Replacement, replacement_of, put_in, replaced_by, all_replaced_by}
 
-behind_last : (rs : List Replacement) (r : Replacement) (path : StablePath) → all_replaced_by (rs ++ r ∷ []) path ≡ all_replaced_by rs (replaced_by r path)
+pub behind_last : (rs : List Replacement) (r : Replacement) (path : StablePath) → all_replaced_by (rs ++ r ∷ []) path ≡ all_replaced_by rs (replaced_by r path)
 behind_last [] r path = refl
 behind_last (x ∷ rs) r path = ap (replaced_by x) (behind_last rs r path)
 

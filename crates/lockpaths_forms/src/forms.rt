@@ -1,33 +1,23 @@
 //! The normal forms of a section's stable paths.
 
-ghost use Rattle.std.specs.Prelude.{◌≡◌, ◌++◌, [], map, None, IfOk, OnOk, not};
+ghost use Rattle.std.specs.Prelude.{◌≡◌, ◌<◌, ◌++◌, ◌∷◌, [], length, get_or, map, IfOk, not};
 ghost use Rattle.std.specs.Option.{option_map};
 ghost use Rattle.flow.specs.Working.PointList.{point_at};
-ghost use Rattle.locks.specs.LockPaths.{is_fixed, stable, stable_value, owner_of, owned_path, or_behind};
-ghost use Rattle.lockpaths_forms.specs.Working.Forms.{stable_path_of, owner_path_of, replacement_of, replacements_of, replacements_at, replacement, of_action, owner_path, by_itself, put_in, all_replaced_by, IsFormOf, IsPushed};
+ghost use Rattle.locks.specs.LockPaths.{is_fixed, stable, stable_value, owner_of};
+ghost use Rattle.lockpaths_forms.specs.declared.form.State.TheVariants.{Where};
+ghost use Rattle.lockpaths_forms.specs.Working.Forms.{stable_path_of, owner_path_of, owner_path, replacement_of, bound_as, replacements_at, of_action, by_itself, IsPushed};
+ghost use Rattle.lockpaths_forms.specs.Working.Nodes.{local_path, nowhere, same_stable, IsNodeOf};
+ghost use Rattle.lockpaths_forms.specs.Working.States.{reads, or_local, IsState, IsTurn, IsTurnOf, IsStateOf, IsBoundIn, IsKept, IsReadAs, IsReached, IsFormOf};
+ghost use Rattle.lockpaths_forms.specs.Working.Walking.{IsNextOf};
 
+use crate::form::{Form, Owner, State, Turn};
+use crate::nodes::Nodes;
 use core_lang::tree::{Action, Expr, FieldStep, LocalKind, Section};
 use flow::points::PointRef;
+use indexmap::IndexMap;
 use source::memory::NoMemory;
 use std::alloc::Global;
-
-/// A stable path: a parameter or a `let`, and the final references that lead on from it.
-#[derive(Drop)]
-pub struct Form {
-    /// The local, an index into [`core_lang::tree::Section::locals`].
-    pub root: usize,
-    /// The final references, each by its number among those of the struct reached.
-    pub finals: Vec<u32>,
-}
-
-/// A final reference of a local, and the local that a `where` says it names.
-#[derive(Clone, Copy)]
-pub struct Owner {
-    /// The final reference, by its number among those of the struct.
-    pub number: u32,
-    /// The local, an index into [`core_lang::tree::Section::locals`].
-    pub local: usize,
-}
+use std::marker::Model;
 
 /// What a `let` or a `var` says of the stable paths that begin at it.
 #[derive(Drop)]
@@ -38,16 +28,33 @@ pub struct Bound {
     pub owner: Option<Owner>,
     /// What it is bound to, if that is a stable path.
     pub value: Option<Form>,
+    /// How a walk from it goes on, if it has a `where` that names a parameter or a `let`.
+    pub turn: Option<Turn>,
 }
 
-/// What a section's locals stand for.
+/// What a section's locals stand for: the state from which a walk along a path that begins at a local goes on. So what a
+/// local is bound to is walked once, and not for each path that begins at it.
 #[derive(Drop)]
-pub struct Forms<'a> {
+pub struct Forms {
     alloc: Global,
-    /// The section.
-    pub section: &'a Section,
-    /// What is bound, in the order of the points.
-    pub bounds: Vec<Bound>,
+    // Normal forms, and what they begin with.
+    nodes: Nodes,
+    // What is bound, in the order of the points.
+    bounds: Vec<Bound>,
+    // The state of each local that is bound.
+    states: IndexMap<usize, State>,
+}
+
+impl Model for Forms {
+    ghost use Rattle.std.specs.Prelude.{nat_eq};
+    ghost use Rattle.indexmap.specs.IndexMap.{get};
+    ghost use Rattle.lockpaths_forms.specs.Working.States.{Known, AreForms, known};
+
+    ghost Value = { Known };
+
+    ghost view = { λ f. known f.bounds.items f.nodes };
+
+    ghost invariant = { λ f. AreForms (known f.bounds.items f.nodes) (get nat_eq f.states) };
 }
 
 // Adds the numbers of fields, and tells whether all of them are final.
@@ -69,99 +76,142 @@ fn can_change(kind: LocalKind) -> bool
     matches!(kind, LocalKind::Var)
 }
 
-impl Bound {
-    // A path that begins at the local and goes on over its owner, from what the owner is on.
-    fn past_owner(&self, alloc: Global, form: &Form) -> Result<Option<Form>, NoMemory>
-        ensures { IfOk result (λ past. option_map stable_path_of past ≡ owned_path (option_map owner_path_of self.now.owner) (stable_path_of form.now)) }
-    {
-        let Some(owner) = self.owner else {
-            return Ok(None);
-        };
-        let [first, rest @ ..] = form.finals.as_slice() else {
-            return Ok(None);
-        };
-        if *first != owner.number {
-            return Ok(None);
-        }
-        let finals = rest.to_vec(alloc)?;
-        Ok(Some(Form {
-            root: owner.local,
-            finals,
-        }))
-    }
-
-    // A path that begins at the local, behind what the local is bound to.
-    fn behind(&self, form: Form) -> Result<Form, NoMemory>
-        ensures { IfOk result (λ next. stable_path_of next ≡ or_behind None (option_map stable_path_of self.now.value) (stable_path_of form)) }
-    {
-        let Some(value) = &self.value else {
-            return Ok(form);
-        };
-        let mut finals = value.finals.clone()?;
-        finals.extend_from_slice(&form.finals)?;
-        Ok(Form {
-            root: value.root,
-            finals,
-        })
-    }
-
-    // A path that begins at the local, with what stands for the local in its place.
-    fn replaced(&self, alloc: Global, form: Form) -> Result<Form, NoMemory>
-        ensures { IfOk result (λ next. stable_path_of next ≡ put_in (replacement_of self.now) (stable_path_of form)) }
-    {
-        match self.past_owner(alloc, &form)? {
-            Some(past) => Ok(past),
-            None => self.behind(form),
-        }
+/// Whether a local is a parameter or a `let`, so that it is a stable path by itself.
+pub fn is_fixed_local(section: &Section, local: usize) -> bool
+    ensures { stable section.now local [] ≡ by_itself local result }
+{
+    match section.locals.get(local) {
+        Some(declared) => !can_change(declared.kind),
+        None => false,
     }
 }
 
-impl<'a> Forms<'a> {
+// A local followed by fields, if that is a stable path.
+fn stable(
+    alloc: Global,
+    section: &Section,
+    local: usize,
+    fields: &[FieldStep],
+) -> Result<Option<Form>, NoMemory>
+    ensures { IfOk result (λ form. option_map stable_path_of form ≡ stable section.now local fields.now) }
+{
+    let Some(declared) = section.locals.get(local) else {
+        return Ok(None);
+    };
+    if can_change(declared.kind) {
+        return Ok(None);
+    }
+    let mut finals = Vec::new(alloc);
+    if push_finals(&mut finals, fields)? {
+        Ok(Some(Form {
+            root: local,
+            finals,
+        }))
+    } else {
+        Ok(None)
+    }
+}
+
+// An initialiser, if it is a stable path, with a `where` or without.
+fn stable_value(alloc: Global, section: &Section, value: &Expr) -> Result<Option<Form>, NoMemory>
+    ensures { IfOk result (λ form. option_map stable_path_of form ≡ stable_value section.now value.now) }
+{
+    match value {
+        Expr::Place(path) => {
+            if path.in_parentheses {
+                return Ok(None);
+            }
+            stable(alloc, section, path.local, &path.fields)
+        }
+        Expr::Owned { value, .. } => stable_value(alloc, section, value),
+        Expr::Number(_)
+        | Expr::Null
+        | Expr::Global { .. }
+        | Expr::Element { .. }
+        | Expr::Member { .. }
+        | Expr::Negate(_)
+        | Expr::Chain { .. } => Ok(None),
+    }
+}
+
+// What the `where` of an initialiser says.
+fn owner(section: &Section, value: &Expr) -> Option<Owner>
+    ensures { option_map owner_path_of result ≡ owner_of section.now value.now }
+{
+    match value {
+        Expr::Owned { number, owner, .. } => fixed_owner(section, *number, *owner as usize),
+        Expr::Number(_)
+        | Expr::Null
+        | Expr::Place(_)
+        | Expr::Global { .. }
+        | Expr::Element { .. }
+        | Expr::Member { .. }
+        | Expr::Negate(_)
+        | Expr::Chain { .. } => None,
+    }
+}
+
+fn fixed_owner(section: &Section, number: u32, local: usize) -> Option<Owner>
+    ensures { option_map owner_path_of result ≡ option_map (owner_path number) (stable section.now local []) }
+{
+    if is_fixed_local(section, local) {
+        Some(Owner { number, local })
+    } else {
+        None
+    }
+}
+
+// How a walk goes on.
+#[derive(Clone, Copy)]
+enum Next {
+    // From this node.
+    From(usize),
+    // By a `where`, which has led to this state.
+    To(State),
+}
+
+impl Forms {
     /// What stands for the locals of a section that has these points.
-    pub fn of(
-        alloc: Global,
-        section: &'a Section,
-        points: &[PointRef<'a>],
-    ) -> Result<Forms<'a>, NoMemory>
-        ensures section { IfOk result (λ f. f.section.now ≡ section.now) }
-        ensures bounds { IfOk result (λ f. replacements_of f ≡ replacements_at section.now (map point_at points.now)) }
+    pub fn of(alloc: Global, section: &Section, points: &[PointRef]) -> Result<Forms, NoMemory>
+        ensures { IfOk result (λ f. f.table ≡ replacements_at section.now (map point_at points.now)) }
     {
         let mut forms = Forms {
             alloc,
-            section,
+            nodes: Nodes::new(alloc),
             bounds: Vec::new(alloc),
+            states: IndexMap::new(alloc),
         };
         for point in points {
-            if let PointRef::Statement(statement) = *point {
-                forms.bind(&statement.action)?;
-            }
+            forms = forms.behind_point(section, *point)?;
         }
         Ok(forms)
     }
 
+    // Behind a point.
+    fn behind_point(self, section: &Section, point: PointRef<'_>) -> Result<Forms, NoMemory>
+        ensures { IfOk result (λ f. f.table ≡ self.table ++ replacements_at section.now (point_at point.entry ∷ [])) }
+    {
+        match point {
+            PointRef::Statement(statement) => self.behind(section, &statement.action),
+            PointRef::Result(_) => Ok(self),
+        }
+    }
+
     // Behind a statement.
-    fn bind(&mut self, action: &Action) -> Result<(), NoMemory>
-        ensures section { self.new.section.now ≡ self.old.section.now }
-        ensures bounds { OnOk result (replacements_of self.new ≡ replacements_of self.old ++ of_action self.old.section.now action.now) }
+    fn behind(self, section: &Section, action: &Action) -> Result<Forms, NoMemory>
+        ensures { IfOk result (λ f. f.table ≡ self.table ++ of_action section.now action.now) }
     {
         match action {
             Action::Bind { local, value } => {
-                let bound = self.bound(*local, value)?;
-                self.bounds.push(bound)?;
-                Ok(())
+                let owner = owner(section, value);
+                let form = stable_value(self.alloc, section, value)?;
+                self.bind(*local, owner, form)
             }
             // The value of a helper is no stable path.
             Action::Call {
                 result: Some(local),
                 ..
-            } => {
-                self.bounds.push(Bound {
-                    local: *local,
-                    owner: None,
-                    value: None,
-                })?;
-                Ok(())
-            }
+            } => self.bind(*local, None, None),
             Action::Call { result: None, .. }
             | Action::SetLocal { .. }
             | Action::SetGlobal { .. }
@@ -170,133 +220,214 @@ impl<'a> Forms<'a> {
             | Action::Print(_)
             | Action::If { .. }
             | Action::IfElse { .. }
-            | Action::While { .. } => Ok(()),
+            | Action::While { .. } => Ok(self),
         }
     }
 
-    // A `let` or a `var`, and its initialiser.
-    fn bound(&self, local: usize, value: &Expr) -> Result<Bound, NoMemory>
-        ensures { IfOk result (λ b. replacement_of b ≡ replacement self.now.section.now local value.now) }
+    // Behind a `let` or a `var`.
+    fn bind(
+        self,
+        local: usize,
+        owner: Option<Owner>,
+        value: Option<Form>,
+    ) -> Result<Forms, NoMemory>
+        ensures { IfOk result (λ f. f.table ≡ self.table ++ bound_as local owner value ∷ []) }
     {
-        let owner = self.owner(value);
-        let form = self.value(value)?;
-        Ok(Bound {
-            local,
-            owner,
-            value: form,
+        let mut forms = self;
+        let other = forms.other(local, &value)?;
+        let turn = forms.turn(owner, other)?;
+        let state = forms.bound_state(turn, other);
+        forms.with(
+            Bound {
+                local,
+                owner,
+                value,
+                turn,
+            },
+            state,
+        )
+    }
+
+    // The state of a local, as it is without a `where`, behind what it is bound to.
+    fn other(&mut self, local: usize, value: &Option<Form>) -> Result<State, NoMemory>
+        ensures kept { IsKept self.old self.new }
+        ensures state { IfOk result (λ s. IsReadAs self.new s (or_local local value.now)) }
+    {
+        match value {
+            Some(form) => self.state_of(form),
+            None => self.state(local),
+        }
+    }
+
+    // How a walk goes on by a `where`.
+    fn turn(&mut self, owner: Option<Owner>, other: State) -> Result<Option<Turn>, NoMemory>
+        requires { IsState self.old other }
+        ensures kept { IsKept self.old self.new }
+        ensures turn { IfOk result (IsTurnOf self.new owner other) }
+    {
+        let Some(owner) = owner else {
+            return Ok(None);
+        };
+        let past = self.state(owner.local)?;
+        Ok(Some(Turn {
+            number: owner.number,
+            past,
+            other,
+            node: self.node(other),
+        }))
+    }
+
+    // The state of what is bound next.
+    fn bound_state(&self, turn: Option<Turn>, other: State) -> State
+        ensures { IsStateOf self.now other result turn }
+    {
+        match turn {
+            Some(_) => State::Where(self.bounds.len()),
+            None => other,
+        }
+    }
+
+    // With a binding more, and the state of its local.
+    fn with(self, bound: Bound, state: State) -> Result<Forms, NoMemory>
+        requires { IsBoundIn self bound state }
+        ensures { IfOk result (λ f. f.table ≡ self.table ++ replacement_of bound ∷ []) }
+    {
+        let Forms {
+            alloc,
+            nodes,
+            mut bounds,
+            mut states,
+        } = self;
+        states.insert(bound.local, state)?;
+        bounds.push(bound)?;
+        Ok(Forms {
+            alloc,
+            nodes,
+            bounds,
+            states,
         })
     }
 
-    // What the `where` of an initialiser says.
-    fn owner(&self, value: &Expr) -> Option<Owner>
-        ensures { option_map owner_path_of result ≡ owner_of self.now.section.now value.now }
+    // The state of a local by itself.
+    fn state(&mut self, local: usize) -> Result<State, NoMemory>
+        ensures kept { IsKept self.old self.new }
+        ensures state { IfOk result (λ s. IsReadAs self.new s (local_path local)) }
     {
-        match value {
-            Expr::Owned { number, owner, .. } => self.fixed_owner(*number, *owner as usize),
-            Expr::Number(_)
-            | Expr::Null
-            | Expr::Place(_)
-            | Expr::Global { .. }
-            | Expr::Element { .. }
-            | Expr::Member { .. }
-            | Expr::Negate(_)
-            | Expr::Chain { .. } => None,
+        match self.states.get(&local) {
+            Some(state) => Ok(*state),
+            None => Ok(State::Node(self.nodes.local(local)?)),
         }
     }
 
-    fn fixed_owner(&self, number: u32, local: usize) -> Option<Owner>
-        ensures { option_map owner_path_of result ≡ option_map (owner_path number) (stable self.now.section.now local []) }
+    // The state of a stable path.
+    fn state_of(&mut self, form: &Form) -> Result<State, NoMemory>
+        ensures kept { IsKept self.old self.new }
+        ensures state { IfOk result (λ s. IsReadAs self.new s (stable_path_of form.now)) }
     {
-        if self.is_fixed(local) {
-            Some(Owner { number, local })
-        } else {
-            None
+        let state = self.state(form.root)?;
+        self.walk(state, &form.finals)
+    }
+
+    // The state to which final references lead on from one.
+    fn walk(&mut self, state: State, numbers: &[u32]) -> Result<State, NoMemory>
+        requires { IsState self.old state }
+        ensures kept { IsKept self.old self.new }
+        ensures state { IfOk result (IsReached self.old state numbers.now self.new) }
+    {
+        let mut at = state;
+        for number in numbers {
+            at = self.step(at, *number)?;
+        }
+        Ok(at)
+    }
+
+    // The state to which a final reference leads on from one.
+    fn step(&mut self, state: State, number: u32) -> Result<State, NoMemory>
+        requires { IsState self.old state }
+        ensures kept { IsKept self.old self.new }
+        ensures state { IfOk result (IsReached self.old state (number ∷ []) self.new) }
+    {
+        match self.next(state, number) {
+            Next::To(state) => Ok(state),
+            Next::From(node) => Ok(State::Node(self.nodes.step(node, number)?)),
         }
     }
 
-    /// Whether a local is a parameter or a `let`, so that it is a stable path by itself.
-    pub fn is_fixed(&self, local: usize) -> bool
-        ensures { stable self.now.section.now local [] ≡ by_itself local result }
+    // How a walk goes on from a state by a final reference. A `where` goes ahead of what is bound with it.
+    fn next(&self, state: State, number: u32) -> Next
+        requires { IsState self.now state }
+        ensures { IsNextOf self.now state number result }
     {
-        match self.section.locals.get(local) {
-            Some(declared) => !can_change(declared.kind),
-            None => false,
-        }
-    }
-
-    // An initialiser, if it is a stable path, with a `where` or without.
-    fn value(&self, value: &Expr) -> Result<Option<Form>, NoMemory>
-        ensures { IfOk result (λ form. option_map stable_path_of form ≡ stable_value self.now.section.now value.now) }
-    {
-        match value {
-            Expr::Place(path) => {
-                if path.in_parentheses {
-                    return Ok(None);
+        let mut at = state;
+        'states: loop {
+            match at {
+                State::Node(node) => return Next::From(node),
+                State::Where(bound) => {
+                    let turn = self.turn_at(bound);
+                    if turn.number == number {
+                        return Next::To(turn.past);
+                    }
+                    at = turn.other;
                 }
-                self.stable(path.local, &path.fields)
             }
-            Expr::Owned { value, .. } => self.value(value),
-            Expr::Number(_)
-            | Expr::Null
-            | Expr::Global { .. }
-            | Expr::Element { .. }
-            | Expr::Member { .. }
-            | Expr::Negate(_)
-            | Expr::Chain { .. } => Ok(None),
         }
     }
 
-    // A local followed by fields, if that is a stable path.
-    fn stable(&self, local: usize, fields: &[FieldStep]) -> Result<Option<Form>, NoMemory>
-        ensures { IfOk result (λ form. option_map stable_path_of form ≡ stable self.now.section.now local fields.now) }
+    // How a walk goes on from what is bound with a `where`.
+    fn turn_at(&self, bound: usize) -> Turn
+        requires { IsState self.now (Where bound) }
+        ensures { IsTurn self.now bound result }
     {
-        let Some(declared) = self.section.locals.get(local) else {
-            return Ok(None);
-        };
-        if can_change(declared.kind) {
-            return Ok(None);
-        }
-        let mut finals = Vec::new(self.alloc);
-        if push_finals(&mut finals, fields)? {
-            Ok(Some(Form {
-                root: local,
-                finals,
-            }))
-        } else {
-            Ok(None)
+        match self.bounds[bound].turn {
+            Some(turn) => turn,
+            None => unreachable!(),
         }
     }
 
-    // A path with each local replaced by what stands for it, from the last that is bound to the first.
-    fn all_replaced(&self, path: Form) -> Result<Form, NoMemory>
-        ensures { IfOk result (λ form. stable_path_of form ≡ all_replaced_by (replacements_of self.now) (stable_path_of path)) }
+    // The normal form at a state.
+    fn node(&self, state: State) -> usize
+        requires { IsState self.now state }
+        ensures { IsNodeOf self.now.paths (reads self.now state []) result }
     {
-        let mut form = path;
-        let mut left = self.bounds.len();
-        while left > 0 {
-            left -= 1;
-            let bound = &self.bounds[left];
-            if bound.local == form.root {
-                form = bound.replaced(self.alloc, form)?;
-            }
+        match state {
+            State::Node(node) => node,
+            State::Where(bound) => self.turn_at(bound).node,
         }
-        Ok(form)
     }
 
     /// The normal form of a local followed by fields, and by these final references, if that is a stable path.
     pub fn form_at(
-        &self,
+        &mut self,
+        section: &Section,
         local: usize,
         fields: &[FieldStep],
         through: &[u32],
-    ) -> Result<Option<Form>, NoMemory>
-        ensures { IfOk result (IsFormOf self.now.section.now (replacements_of self.now) local fields.now through.now) }
+    ) -> Result<Option<usize>, NoMemory>
+        ensures kept { IsKept self.old self.new }
+        ensures node { IfOk result (IsFormOf section.now self.new local fields.now through.now) }
     {
-        let Some(mut form) = self.stable(local, fields)? else {
+        let Some(mut form) = stable(self.alloc, section, local, fields)? else {
             return Ok(None);
         };
         form.finals.extend_from_slice(through)?;
-        let normal = self.all_replaced(form)?;
-        Ok(Some(normal))
+        let state = self.state_of(&form)?;
+        Ok(Some(self.node(state)))
+    }
+
+    /// Whether two normal forms are one path.
+    pub fn is_same(&self, a: usize, b: usize) -> bool
+        requires a { a < length self.now.paths }
+        requires b { b < length self.now.paths }
+        ensures { result ≡ same_stable (get_or self.now.paths a nowhere) (get_or self.now.paths b nowhere) }
+    {
+        self.nodes.is_same(a, b)
+    }
+
+    /// The path that a normal form is.
+    pub fn path(&self, node: usize) -> Result<Form, NoMemory>
+        requires { node < length self.now.paths }
+        ensures { IfOk result (λ form. stable_path_of form ≡ get_or self.now.paths node nowhere) }
+    {
+        self.nodes.path(node)
     }
 }

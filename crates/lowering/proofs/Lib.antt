@@ -2,5 +2,5 @@ pub mod NeedViews
 pub mod Depths
 pub mod Pushes
 pub mod Most
-pub mod Determined
+pub mod NothingTaken
 mod Crossing

@@ -6,4 +6,4 @@ pub use Rattle.lowering.specs.Lowered.{StructTexts, AreNames, IsLowered, lists_a
 pub use Rattle.lowering.specs.Working.Rooms.{most_cells, IsRoomOf, AreRoomsOf}
 pub use Rattle.lowering.specs.Plans.{Plan, IsCompiled, CodesBehave, CompiledRunAlike}
 pub use Rattle.lowering.specs.Working.Compiled.{IsRoomAt}
-pub use Rattle.lowering.specs.Working.PlanLaws.{NothingIsTaken, ListsDependOnTheSection, RanksStay}
+pub use Rattle.lowering.specs.Working.PlanLaws.{NothingIsTaken}

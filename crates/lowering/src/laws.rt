@@ -3,7 +3,7 @@
 ghost use denote.Param.Send.{IsSync};
 ghost use Rattle.lowering.specs.contracts.compiled.Program as program;
 ghost use Rattle.lowering.specs.Plans.{CodesBehave, CompiledRunAlike};
-ghost use Rattle.lowering.specs.Working.PlanLaws.{NothingIsTaken, ListsDependOnTheSection, RanksStay};
+ghost use Rattle.lowering.specs.Working.PlanLaws.{NothingIsTaken};
 
 /// The code of each section of a well-formed program behaves as the section, whatever lists stand before its points: alone
 /// it comes to an outcome exactly where the section, run whole, is over, and then to the same outcome, prints and heap; and
@@ -25,17 +25,6 @@ pub fn compiled_run_alike()
 /// Nothing is taken in a section that accesses nothing.
 pub fn no_access_no_acquisition()
     ensures { NothingIsTaken }
-{}
-
-/// What is taken before the points of a section depends on the section itself, the declarations and the ranks alone: of
-/// programs that share the values of these.
-pub fn sections_stand_alone()
-    ensures { ListsDependOnTheSection }
-{}
-
-/// A section that accesses nothing, added behind the others, changes no rank, where the declarations stay the same values.
-pub fn ranks_stay()
-    ensures { RanksStay }
 {}
 
 /// A compiled program may be lent to many threads at once, by itself and as a part of what is.

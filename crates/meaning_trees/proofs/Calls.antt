@@ -11,9 +11,9 @@ use Rattle.core_lang.specs.declared.tree.Section.{Section}
 use Rattle.core_lang.specs.Cells.{with}
 use Rattle.core_lang.specs.Meaning.{State, value_of, values_of, helped, run_from, if_there}
 use Rattle.core_lang.specs.Whole.{Run, default_local}
-use Rattle.meaning_trees.specs.declared.execution.Stop.{Stop}
-use Rattle.meaning_trees.specs.declared.execution.Stop.TheVariants as stop
-use Rattle.meaning_trees.specs.Working.Stops.{stop_of, Concludes, Gives}
+use Rattle.meaning_trees.specs.declared.execution.Halt.{Halt}
+use Rattle.meaning_trees.specs.declared.execution.Halt.TheVariants as halt
+use Rattle.meaning_trees.specs.Working.Halts.{halt_of, Concludes, Gives}
 
 -- an argument without a value
 pub argument_fails : (items : List Expr) (i : ℕ) (item : Expr) (shape : Shape) (locals heap front : List Value) (whole : Result (List Value) Failure)
@@ -25,20 +25,20 @@ argument_fails items i item shape locals heap front whole f lt is fails e =
     ∙ ap (λ es. with (values_of es shape locals heap) (λ vs. Ok (front ++ vs))) here
     ∙ ap (λ r. with (with r (λ v. with (values_of (drop (suc i) items) shape locals heap) (λ vs. Ok (v ∷ vs)))) (λ vs. Ok (front ++ vs))) fails
 
-pub gives_none : (r : Result (Vec Value Global) Stop) (f : Failure) (whole : Result (List Value) Failure) → IsErrAnd r (λ y. y ≡ stop_of f) →
+pub gives_none : (r : Result (Vec Value Global) Halt) (f : Failure) (whole : Result (List Value) Failure) → IsErrAnd r (λ y. y ≡ halt_of f) →
     whole ≡ Err f → Gives r whole
 gives_none (Ok values) f whole is e = absurd is
 gives_none (Err y) (Trap t) whole is e = subst (λ z. Gives (Err z) whole) (sym is) e
 gives_none (Err y) Wrong whole is e = subst (λ z. Gives (Err z) whole) (sym is) e
 
 -- how a run ends does not depend on the locals that are left
-pub concludes_with : (r : Result Outcome Stop) (s : State) (locals : List Value) (run run' : Run) → run ≡ run' → Concludes r s run →
+pub concludes_with : (r : Result Outcome Halt) (s : State) (locals : List Value) (run run' : Run) → run ≡ run' → Concludes r s run →
     Concludes r (record s { locals = locals }) run'
 concludes_with (Ok outcome) s locals run run' same e = sym same ∙ e
-concludes_with (Err (stop.Trap t)) s locals run run' same e = sym same ∙ e
-concludes_with (Err stop.Beyond) s locals run run' same e = sym same ∙ e
-concludes_with (Err stop.Wrong) s locals run run' same e = sym same ∙ e
-concludes_with (Err stop.NoMemory) s locals run run' same e = e
+concludes_with (Err (halt.Trap t)) s locals run run' same e = sym same ∙ e
+concludes_with (Err halt.Beyond) s locals run run' same e = sym same ∙ e
+concludes_with (Err halt.Wrong) s locals run run' same e = sym same ∙ e
+concludes_with (Err halt.NoMemory) s locals run run' same e = e
 
 -- the run of a helper that is there
 pub helper_run : (depth : ℕ) (shape : Shape) (n helper : ℕ) (arguments heap : List Value) (prints : List ℤ) (section : Section) (locals : List Value) →

@@ -16,9 +16,9 @@ use Rattle.core_lang.specs.declared.tree.Action.{Action, SetGlobal, SetElement, 
 use Rattle.core_lang.specs.Cells.{with, found, element_cell, field_cell, not_null}
 use Rattle.meaning_trees.proofs.Rows.{effect_if, effect_if_else}
 use Rattle.core_lang.specs.Meaning.{State, Flow, GoesOn, Beyond, Astray, Helpers, given, choose, after, turns, value_of, place_of, truth_of, effect_by, sequence_by, stored, written, printed}
-use Rattle.meaning_trees.specs.declared.execution.Stop.{Stop}
-use Rattle.meaning_trees.specs.declared.execution.Stop.TheVariants as stop
-use Rattle.meaning_trees.specs.Working.Stops.{stop_of, Follows}
+use Rattle.meaning_trees.specs.declared.execution.Halt.{Halt}
+use Rattle.meaning_trees.specs.declared.execution.Halt.TheVariants as halt
+use Rattle.meaning_trees.specs.Working.Halts.{halt_of, Follows}
 
 -- ---- a value at the state
 
@@ -39,7 +39,7 @@ with_both x a f r e is = ap (λ y. with y f) e ∙ sym is
 
 -- ---- a failure
 
-pub stops : {A : Type 0} (r : Result (Unit {0}) Stop) (f : Failure) (s : State) (flow : Flow) (go : A → Flow) → IsErrAnd r (λ y. y ≡ stop_of f) →
+pub stops : {A : Type 0} (r : Result (Unit {0}) Halt) (f : Failure) (s : State) (flow : Flow) (go : A → Flow) → IsErrAnd r (λ y. y ≡ halt_of f) →
     flow ≡ given (Err f) s go → Follows r s flow
 stops (Ok u) f s flow go is e = absurd is
 stops (Err y) (Trap t) s flow go is e = subst (λ z. Follows (Err z) s flow) (sym is) e
@@ -109,11 +109,11 @@ turns_fail (suc left) test body s Wrong whole fails e = sym e ∙ ap (λ r. give
 
 -- ---- one statement after another
 
-stays_stopped : (y : Stop) (s : State) (flow : Flow) (go : State → Flow) → Follows (Err y) s flow → Follows (Err y) s (after flow go)
-stays_stopped (stop.Trap t) s flow go e = ap (λ f. after f go) e
-stays_stopped stop.Beyond s flow go e = ap (λ f. after f go) e
-stays_stopped stop.Wrong s flow go e = ap (λ f. after f go) e
-stays_stopped stop.NoMemory s flow go e = e
+stays_stopped : (y : Halt) (s : State) (flow : Flow) (go : State → Flow) → Follows (Err y) s flow → Follows (Err y) s (after flow go)
+stays_stopped (halt.Trap t) s flow go e = ap (λ f. after f go) e
+stays_stopped halt.Beyond s flow go e = ap (λ f. after f go) e
+stays_stopped halt.Wrong s flow go e = ap (λ f. after f go) e
+stays_stopped halt.NoMemory s flow go e = e
 
 pub sequence_ends : (call : Helpers) (items : List Stmt) (i : ℕ) (shape : Shape) (n : ℕ) (s : State) (whole : Flow) → length items ≤ i →
     sequence_by call (drop i items) shape n s ≡ whole → whole ≡ GoesOn s
@@ -129,7 +129,7 @@ module _ (call : Helpers) (items : List Stmt) (i : ℕ) (item : Stmt) (shape : S
       ap (λ k. sequence_by call (drop k items) shape n s') (add-one i)
       ∙ sym (ap (λ f. after f (sequence_by call (drop (suc i) items) shape n)) goes) ∙ next
 
-  pub sequence_stops : (r : Result (Unit {0}) Stop) (y : Stop) (s' : State) → IsErrAnd r (λ z. z ≡ y) → Follows (Err y) s' (effect_by call item.action shape n s) →
+  pub sequence_stops : (r : Result (Unit {0}) Halt) (y : Halt) (s' : State) → IsErrAnd r (λ z. z ≡ y) → Follows (Err y) s' (effect_by call item.action shape n s) →
       Follows r s' whole
   sequence_stops (Ok u) y s' fails stopped = absurd fails
   sequence_stops (Err z) y s' fails stopped =

@@ -2,7 +2,7 @@
 
 ghost use Rattle.std.specs.Prelude.{◌≡◌, Ok};
 ghost use Rattle.core_lang.specs.Meaning.{values_of, stored, written, printed, received};
-ghost use Rattle.meaning_trees.specs.Working.Stops.{Follows, Concludes, Gives};
+ghost use Rattle.meaning_trees.specs.Working.Halts.{Follows, Concludes, Gives};
 ghost use Rattle.meaning_trees.specs.Working.Execution.{state_of, assigned, run_from, Keeps};
 ghost use Rattle.meaning_trees.specs.Working.Within.{effect_within, sequence_within, while_within, called, helped_within, run_within};
 
@@ -24,7 +24,7 @@ const DEEPEST: u32 = 8;
 
 /// Why a statement does not lead on.
 #[derive(Drop)]
-pub enum Stop {
+pub enum Halt {
     /// The section is cut short.
     Trap(Trap),
     /// A loop would make more turns than it may.
@@ -35,26 +35,26 @@ pub enum Stop {
     NoMemory,
 }
 
-impl From<Failure> for Stop {
-    ghost use Rattle.meaning_trees.specs.Working.Stops.{stop_of};
+impl From<Failure> for Halt {
+    ghost use Rattle.meaning_trees.specs.Working.Halts.{halt_of};
 
-    ghost from_gives = { λ failure stop. stop ≡ stop_of failure };
+    ghost from_gives = { λ failure halt. halt ≡ halt_of failure };
 
-    fn from(failure: Failure) -> Stop {
+    fn from(failure: Failure) -> Halt {
         match failure {
-            Failure::Trap(trap) => Stop::Trap(trap),
-            Failure::Wrong => Stop::Wrong,
+            Failure::Trap(trap) => Halt::Trap(trap),
+            Failure::Wrong => Halt::Wrong,
         }
     }
 }
 
-impl From<AllocError> for Stop {
-    ghost use Rattle.meaning_trees.specs.declared.execution.Stop.TheVariants.{NoMemory};
+impl From<AllocError> for Halt {
+    ghost use Rattle.meaning_trees.specs.declared.execution.Halt.TheVariants.{NoMemory};
 
-    ghost from_gives = { λ _ stop. stop ≡ NoMemory };
+    ghost from_gives = { λ _ halt. halt ≡ NoMemory };
 
-    fn from(_error: AllocError) -> Stop {
-        Stop::NoMemory
+    fn from(_error: AllocError) -> Halt {
+        Halt::NoMemory
     }
 }
 
@@ -80,48 +80,48 @@ pub struct Execution {
 
 impl Execution {
     #[inline(always)]
-    fn store(&mut self, local: usize, value: Value) -> Result<(), Stop>
+    fn store(&mut self, local: usize, value: Value) -> Result<(), Halt>
         ensures follows { Follows result (state_of self.new) (stored local value (state_of self.old)) }
         ensures keeps { Keeps self.old self.new }
     {
         if local >= self.locals.len() {
-            return Err(Stop::Wrong);
+            return Err(Halt::Wrong);
         }
         self.locals[local] = value;
         Ok(())
     }
 
     #[inline(always)]
-    fn write(&mut self, cell: usize, value: Value) -> Result<(), Stop>
+    fn write(&mut self, cell: usize, value: Value) -> Result<(), Halt>
         ensures follows { Follows result (state_of self.new) (written cell value (state_of self.old)) }
         ensures keeps { Keeps self.old self.new }
     {
         if cell >= self.draft.cells().len() {
-            return Err(Stop::Wrong);
+            return Err(Halt::Wrong);
         }
         self.draft.write(cell, value)?;
         Ok(())
     }
 
-    fn print(&mut self, value: Value) -> Result<(), Stop>
+    fn print(&mut self, value: Value) -> Result<(), Halt>
         ensures follows { Follows result (state_of self.new) (printed value (state_of self.old)) }
         ensures keeps { Keeps self.old self.new }
     {
         let Value::Int(n) = value else {
-            return Err(Stop::Wrong);
+            return Err(Halt::Wrong);
         };
         if self.prints.len() >= MOST_PRINTS {
-            return Err(Stop::Trap(Trap::TooManyPrints));
+            return Err(Halt::Trap(Trap::TooManyPrints));
         }
         match self.prints.push(n) {
             Ok(()) => Ok(()),
-            Err(_) => Err(Stop::NoMemory),
+            Err(_) => Err(Halt::NoMemory),
         }
     }
 
     // An assignment to a local.
     #[inline(never)]
-    fn set(&mut self, local: usize, value: &Expr, shape: &Shape) -> Result<(), Stop>
+    fn set(&mut self, local: usize, value: &Expr, shape: &Shape) -> Result<(), Halt>
         ensures follows { Follows result (state_of self.new) (assigned local value.now shape.now (state_of self.old)) }
         ensures keeps { Keeps self.old self.new }
     {
@@ -130,7 +130,7 @@ impl Execution {
     }
 
     #[cycle(run)]
-    fn run(&mut self, action: &Action, shape: &Shape, bounds: &Bounds) -> Result<(), Stop>
+    fn run(&mut self, action: &Action, shape: &Shape, bounds: &Bounds) -> Result<(), Halt>
         ensures follows { Follows result (state_of self.new) (effect_within action.now shape.now bounds.now (state_of self.old)) }
         ensures keeps { Keeps self.old self.new }
     {
@@ -205,14 +205,14 @@ impl Execution {
         condition: &Condition,
         shape: &Shape,
         bounds: &Bounds,
-    ) -> Result<(), Stop>
+    ) -> Result<(), Halt>
         ensures follows { Follows result (state_of self.new) (while_within condition.now body.now shape.now bounds.now (state_of self.old)) }
         ensures keeps { Keeps self.old self.new }
     {
         let mut left = bounds.turns;
         while is_true(condition, shape, &self.locals, self.draft.cells())? {
             if left == 0 {
-                return Err(Stop::Beyond);
+                return Err(Halt::Beyond);
             }
             left -= 1;
             self.steps(body, shape, bounds)?;
@@ -222,7 +222,7 @@ impl Execution {
 
     #[inline(never)]
     #[cycle(run)]
-    fn run_all(&mut self, block: &[Stmt], shape: &Shape, bounds: &Bounds) -> Result<(), Stop>
+    fn run_all(&mut self, block: &[Stmt], shape: &Shape, bounds: &Bounds) -> Result<(), Halt>
         ensures follows { Follows result (state_of self.new) (sequence_within block.now shape.now bounds.now (state_of self.old)) }
         ensures keeps { Keeps self.old self.new }
     {
@@ -231,7 +231,7 @@ impl Execution {
 
     #[inline(always)]
     #[cycle(run)]
-    fn steps(&mut self, block: &[Stmt], shape: &Shape, bounds: &Bounds) -> Result<(), Stop>
+    fn steps(&mut self, block: &[Stmt], shape: &Shape, bounds: &Bounds) -> Result<(), Halt>
         ensures follows { Follows result (state_of self.new) (sequence_within block.now shape.now bounds.now (state_of self.old)) }
         ensures keeps { Keeps self.old self.new }
     {
@@ -242,14 +242,14 @@ impl Execution {
     }
 
     // The values of arguments, from left to right.
-    fn values(&self, arguments: &[Expr], shape: &Shape) -> Result<Vec<Value>, Stop>
+    fn values(&self, arguments: &[Expr], shape: &Shape) -> Result<Vec<Value>, Halt>
         ensures { Gives result (values_of arguments.now shape.now self.now.locals.items self.now.draft.now) }
     {
         let mut values = Vec::with_capacity(*self.locals.allocator(), arguments.len())?;
         for argument in arguments {
             let value = evaluate(argument, shape, &self.locals, self.draft.cells())?;
             if values.push(value).is_err() {
-                return Err(Stop::NoMemory);
+                return Err(Halt::NoMemory);
             }
         }
         Ok(values)
@@ -264,7 +264,7 @@ impl Execution {
         arguments: &[Expr],
         shape: &Shape,
         bounds: &Bounds,
-    ) -> Result<Outcome, Stop>
+    ) -> Result<Outcome, Halt>
         ensures follows { Concludes result (state_of self.new) (called helper arguments.now shape.now bounds.now (state_of self.old)) }
         ensures locals { self.new.locals.items ≡ self.old.locals.items }
         ensures keeps { Keeps self.old self.new }
@@ -282,16 +282,16 @@ impl Execution {
         arguments: Vec<Value>,
         shape: &Shape,
         bounds: &Bounds,
-    ) -> Result<Outcome, Stop>
+    ) -> Result<Outcome, Halt>
         ensures follows { Concludes result (state_of self.new) (helped_within helper arguments.items shape.now bounds.now (state_of self.old)) }
         ensures locals { self.new.locals.items ≡ self.old.locals.items }
         ensures keeps { Keeps self.old self.new }
     {
         if bounds.depth == 0 {
-            return Err(Stop::Wrong);
+            return Err(Halt::Wrong);
         }
         let Some(section) = shape.helpers.get(helper) else {
-            return Err(Stop::Wrong);
+            return Err(Halt::Wrong);
         };
         let deeper = Bounds {
             turns: bounds.turns,
@@ -305,21 +305,21 @@ impl Execution {
     }
 
     // Goes on behind a call: its value is bound to a `let`, or dropped.
-    fn receive(&mut self, outcome: Outcome, local: Option<usize>) -> Result<(), Stop>
+    fn receive(&mut self, outcome: Outcome, local: Option<usize>) -> Result<(), Halt>
         ensures follows { Follows result (state_of self.new) (received outcome local (state_of self.old)) }
         ensures keeps { Keeps self.old self.new }
     {
         match (outcome, local) {
-            (Outcome::Traps(trap), _) => Err(Stop::Trap(trap)),
+            (Outcome::Traps(trap), _) => Err(Halt::Trap(trap)),
             (Outcome::Returns(value), Some(local)) => self.store(local, value),
-            (Outcome::Ends, Some(_)) => Err(Stop::Wrong),
+            (Outcome::Ends, Some(_)) => Err(Halt::Wrong),
             (_, None) => Ok(()),
         }
     }
 
     // Runs the statements of a section or a helper, and says how it ends.
     #[cycle(run)]
-    fn finish(&mut self, section: &Section, shape: &Shape, bounds: &Bounds) -> Result<Outcome, Stop>
+    fn finish(&mut self, section: &Section, shape: &Shape, bounds: &Bounds) -> Result<Outcome, Halt>
         ensures follows { Concludes result (state_of self.new) (run_within section.now shape.now bounds.now (state_of self.old)) }
         ensures keeps { Keeps self.old self.new }
     {
@@ -339,7 +339,7 @@ impl Execution {
         section: &Section,
         shape: &Shape,
         turns: u64,
-    ) -> Result<Outcome, Stop>
+    ) -> Result<Outcome, Halt>
         ensures follows { Concludes result (state_of self.new) (run_from section.now shape.now turns (state_of self.old)) }
         ensures keeps { Keeps self.old self.new }
     {

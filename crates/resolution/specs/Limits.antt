@@ -2,6 +2,8 @@
 use Rattle.std.specs.Prelude.{ℕ, nat_le, if◌then◌else◌, Option, Some, None}
 use Rattle.source.specs.Texts.{SOURCE_LIMIT}
 use Rattle.resolution.specs.declared.body_limits.BodyLimits.{BodyLimits}
+-- the locals of a section, parameters included, with those that calls bring or without
+pub use Rattle.core_lang_calls.specs.Faults.{LOCAL_LIMIT}
 
 abbrev pub STRUCT_LIMIT : ℕ
 STRUCT_LIMIT = 64
@@ -33,10 +35,6 @@ THREAD_LIMIT = 64
 -- the parameters of a section
 abbrev pub PARAMETER_LIMIT : ℕ
 PARAMETER_LIMIT = 8
-
--- the locals of a section, parameters included
-abbrev pub LOCAL_LIMIT : ℕ
-LOCAL_LIMIT = 64
 
 -- what a section may have
 abbrev pub section_limits : BodyLimits

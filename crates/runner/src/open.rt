@@ -18,8 +18,8 @@ use lock_manager::ticket::Ticket;
 use locks::lock::Lock;
 use lowering::compiled::Program;
 use moved_cells::grant::Grant;
-use runner_machine::answer::Answer;
 use runner_machine::machine::Machine;
+use runner_machine::progress::Progress;
 use std::marker::Model;
 
 // A section that runs, or that is to be granted locks.
@@ -101,13 +101,13 @@ impl<'p> Open<'p> {
         let _code = self.program.code();
         let instruction = self.instruction();
         match self.machine.step(&self.program.typed().shape, instruction) {
-            Answer::Moved => None,
-            Answer::Asks(point) => {
+            Progress::Moved => None,
+            Progress::Asks(point) => {
                 self.pass_on(point);
                 None
             }
-            Answer::Finished(outcome) => Some(outcome),
-            Answer::Undefined => unreachable!(),
+            Progress::Finished(outcome) => Some(outcome),
+            Progress::Undefined => unreachable!(),
         }
     }
 }

@@ -9,9 +9,9 @@ ghost use Rattle.runner_machine.specs.Working.Machines.{FitsRoom, HasSmallCells,
 ghost use Rattle.runner_machine.specs.Working.Machines.{storing_found, getting, setting, storing, owner_test, on_one, on_both, testing, passing};
 ghost use Rattle.runner_machine.specs.Working.Machines.{if_passed, loading_named, storing_named, branching, printing, back_by, returning};
 
-use crate::answer::{Answer, failed};
 use crate::operands::Operands;
 use crate::prints::Prints;
+use crate::progress::{Progress, failed};
 use crate::truths::{agrees, negate_truth, truth_in, truth_value};
 use code::instr::Instr;
 use core_lang::shape::Shape;
@@ -177,18 +177,18 @@ fn store(held: &mut Holding, cell: usize, value: Value) -> bool
 impl<'p> Machine<'p> {
     // A value on the top.
     #[inline(always)]
-    fn push(&mut self, value: Value) -> Answer
+    fn push(&mut self, value: Value) -> Progress
         requires { FitsRoom self.old.operand_room (putting_on self.old.machine.stack (Ok value) self.old.machine) }
         ensures { HasEffect (putting_on self.old.machine.stack (Ok value) self.old.machine) self.old result self.new }
     {
         self.operands.push(value);
         self.place += 1;
-        Answer::Moved
+        Progress::Moved
     }
 
     // A value in place of the top.
     #[inline(always)]
-    fn replace_top(&mut self, value: Result<Value, Failure>) -> Answer
+    fn replace_top(&mut self, value: Result<Value, Failure>) -> Progress
         requires top { 0 < length self.old.machine.stack }
         requires fits { FitsRoom self.old.operand_room (putting_on (drop 1 self.old.machine.stack) value self.old.machine) }
         ensures { HasEffect (putting_on (drop 1 self.old.machine.stack) value self.old.machine) self.old result self.new }
@@ -197,7 +197,7 @@ impl<'p> Machine<'p> {
             Ok(value) => {
                 self.operands.set_top(value);
                 self.place += 1;
-                Answer::Moved
+                Progress::Moved
             }
             Err(failure) => failed(failure),
         }
@@ -205,7 +205,7 @@ impl<'p> Machine<'p> {
 
     // A value in place of the two on top.
     #[inline(always)]
-    fn replace_two(&mut self, value: Result<Value, Failure>) -> Answer
+    fn replace_two(&mut self, value: Result<Value, Failure>) -> Progress
         requires top { 1 < length self.old.machine.stack }
         requires fits { FitsRoom self.old.operand_room (putting_on (drop 2 self.old.machine.stack) value self.old.machine) }
         ensures { HasEffect (putting_on (drop 2 self.old.machine.stack) value self.old.machine) self.old result self.new }
@@ -215,7 +215,7 @@ impl<'p> Machine<'p> {
                 self.operands.pop();
                 self.operands.set_top(value);
                 self.place += 1;
-                Answer::Moved
+                Progress::Moved
             }
             Err(failure) => failed(failure),
         }
@@ -223,51 +223,51 @@ impl<'p> Machine<'p> {
 
     // On, where a test of the top is passed.
     #[inline(always)]
-    fn go_on_if<T: Drop>(&mut self, test: Result<T, Failure>) -> Answer
+    fn go_on_if<T: Drop>(&mut self, test: Result<T, Failure>) -> Progress
         requires { FitsRoom self.old.operand_room (passing test self.old.machine) }
         ensures { HasEffect (passing test self.old.machine) self.old result self.new }
     {
         match test {
             Ok(_) => {
                 self.place += 1;
-                Answer::Moved
+                Progress::Moved
             }
             Err(failure) => failed(failure),
         }
     }
 
     #[inline(always)]
-    fn load_global(&mut self, cell: u32) -> Answer
+    fn load_global(&mut self, cell: u32) -> Progress
         requires { FitsRoom self.old.operand_room (loading_on self.old.machine.stack cell self.old.machine) }
         ensures { HasEffect (loading_on self.old.machine.stack cell self.old.machine) self.old result self.new }
     {
         let Some(value) = self.held.load(cell) else {
-            return Answer::Undefined;
+            return Progress::Undefined;
         };
         self.operands.push(value);
         self.place += 1;
-        Answer::Moved
+        Progress::Moved
     }
 
     #[inline(always)]
-    fn put_global(&mut self, cell: u32) -> Answer
+    fn put_global(&mut self, cell: u32) -> Progress
         requires { FitsRoom self.old.operand_room (storing cell self.old.machine) }
         ensures { HasEffect (storing cell self.old.machine) self.old result self.new }
     {
         let Some(value) = self.operands.top() else {
-            return Answer::Undefined;
+            return Progress::Undefined;
         };
         if !self.held.store(cell, value) {
-            return Answer::Undefined;
+            return Progress::Undefined;
         }
         self.operands.pop();
         self.place += 1;
-        Answer::Moved
+        Progress::Moved
     }
 
     // What a cell holds in place of the top.
     #[inline(always)]
-    fn load_cell(&mut self, cell: Result<usize, Failure>) -> Answer
+    fn load_cell(&mut self, cell: Result<usize, Failure>) -> Progress
         requires top { 0 < length self.old.machine.stack }
         requires small { HasSmallCells self.old.machine.memory }
         requires fits { FitsRoom self.old.operand_room (or_trap cell (λ c. loading_on (drop 1 self.old.machine.stack) c self.old.machine)) }
@@ -276,11 +276,11 @@ impl<'p> Machine<'p> {
         match cell {
             Ok(cell) => {
                 let Some(value) = load(&mut self.held, cell) else {
-                    return Answer::Undefined;
+                    return Progress::Undefined;
                 };
                 self.operands.set_top(value);
                 self.place += 1;
-                Answer::Moved
+                Progress::Moved
             }
             Err(failure) => failed(failure),
         }
@@ -288,7 +288,7 @@ impl<'p> Machine<'p> {
 
     // A value in a cell, and the two on top off.
     #[inline(always)]
-    fn store_cell(&mut self, cell: Result<usize, Failure>, value: Value) -> Answer
+    fn store_cell(&mut self, cell: Result<usize, Failure>, value: Value) -> Progress
         requires top { 1 < length self.old.machine.stack }
         requires small { HasSmallCells self.old.machine.memory }
         requires fits { FitsRoom self.old.operand_room (storing_found (drop 2 self.old.machine.stack) cell value self.old.machine) }
@@ -297,12 +297,12 @@ impl<'p> Machine<'p> {
         match cell {
             Ok(cell) => {
                 if !store(&mut self.held, cell, value) {
-                    return Answer::Undefined;
+                    return Progress::Undefined;
                 }
                 self.operands.pop();
                 self.operands.pop();
                 self.place += 1;
-                Answer::Moved
+                Progress::Moved
             }
             Err(failure) => failed(failure),
         }
@@ -311,7 +311,7 @@ impl<'p> Machine<'p> {
 
 impl<'p> Machine<'p> {
     #[inline(always)]
-    fn get_local(&mut self, local: usize) -> Answer
+    fn get_local(&mut self, local: usize) -> Progress
         requires { FitsRoom self.old.operand_room (getting local self.old.machine) }
         ensures { HasEffect (getting local self.old.machine) self.old result self.new }
     {
@@ -320,143 +320,143 @@ impl<'p> Machine<'p> {
                 let value = *value;
                 self.push(value)
             }
-            None => Answer::Undefined,
+            None => Progress::Undefined,
         }
     }
 
     #[inline(always)]
-    fn put_local(&mut self, local: usize) -> Answer
+    fn put_local(&mut self, local: usize) -> Progress
         requires { FitsRoom self.old.operand_room (setting local self.old.machine) }
         ensures { HasEffect (setting local self.old.machine) self.old result self.new }
     {
         let Some(value) = self.operands.top() else {
-            return Answer::Undefined;
+            return Progress::Undefined;
         };
         if local >= self.locals.len() {
-            return Answer::Undefined;
+            return Progress::Undefined;
         }
         self.locals[local] = value;
         self.operands.pop();
         self.place += 1;
-        Answer::Moved
+        Progress::Moved
     }
 
     #[inline(always)]
-    fn load_element(&mut self, shape: &Shape, array: usize) -> Answer
+    fn load_element(&mut self, shape: &Shape, array: usize) -> Progress
         requires small { HasSmallCells self.old.machine.memory }
         requires fits { FitsRoom self.old.operand_room (loading_named (element_cell shape.now array) self.old.machine) }
         ensures { HasEffect (loading_named (element_cell shape.now array) self.old.machine) self.old result self.new }
     {
         let Some(index) = self.operands.top() else {
-            return Answer::Undefined;
+            return Progress::Undefined;
         };
         self.load_cell(cell_of_element(shape, array, index))
     }
 
     #[inline(always)]
-    fn bound(&mut self, shape: &Shape, array: usize) -> Answer
+    fn bound(&mut self, shape: &Shape, array: usize) -> Progress
         requires { FitsRoom self.old.operand_room (if_passed (element_cell shape.now array) self.old.machine) }
         ensures { HasEffect (if_passed (element_cell shape.now array) self.old.machine) self.old result self.new }
     {
         let Some(index) = self.operands.top() else {
-            return Answer::Undefined;
+            return Progress::Undefined;
         };
         self.go_on_if(cell_of_element(shape, array, index))
     }
 
     #[inline(always)]
-    fn put_element(&mut self, shape: &Shape, array: usize) -> Answer
+    fn put_element(&mut self, shape: &Shape, array: usize) -> Progress
         requires small { HasSmallCells self.old.machine.memory }
         requires fits { FitsRoom self.old.operand_room (storing_named (element_cell shape.now array) self.old.machine) }
         ensures { HasEffect (storing_named (element_cell shape.now array) self.old.machine) self.old result self.new }
     {
         let Some(index) = self.operands.second() else {
-            return Answer::Undefined;
+            return Progress::Undefined;
         };
         let Some(value) = self.operands.top() else {
-            return Answer::Undefined;
+            return Progress::Undefined;
         };
         self.store_cell(cell_of_element(shape, array, index), value)
     }
 
     #[inline(always)]
-    fn get_member(&mut self, shape: &Shape, pool: usize) -> Answer
+    fn get_member(&mut self, shape: &Shape, pool: usize) -> Progress
         requires { FitsRoom self.old.operand_room (on_one (member_of shape.now pool) self.old.machine) }
         ensures { HasEffect (on_one (member_of shape.now pool) self.old.machine) self.old result self.new }
     {
         let Some(index) = self.operands.top() else {
-            return Answer::Undefined;
+            return Progress::Undefined;
         };
         self.replace_top(member(shape, pool, index))
     }
 
     #[inline(always)]
-    fn load_final(&mut self, shape: &Shape, number: u32) -> Answer
+    fn load_final(&mut self, shape: &Shape, number: u32) -> Progress
         requires { FitsRoom self.old.operand_room (on_one (λ base. final_value shape.now base number) self.old.machine) }
         ensures { HasEffect (on_one (λ base. final_value shape.now base number) self.old.machine) self.old result self.new }
     {
         let Some(base) = self.operands.top() else {
-            return Answer::Undefined;
+            return Progress::Undefined;
         };
         self.replace_top(value_of_final(shape, base, number))
     }
 
     #[inline(always)]
-    fn load_field(&mut self, shape: &Shape, number: u32) -> Answer
+    fn load_field(&mut self, shape: &Shape, number: u32) -> Progress
         requires small { HasSmallCells self.old.machine.memory }
         requires fits { FitsRoom self.old.operand_room (loading_named (λ base. field_cell shape.now base number) self.old.machine) }
         ensures { HasEffect (loading_named (λ base. field_cell shape.now base number) self.old.machine) self.old result self.new }
     {
         let Some(base) = self.operands.top() else {
-            return Answer::Undefined;
+            return Progress::Undefined;
         };
         self.load_cell(cell_of_field(shape, base, number))
     }
 
     #[inline(always)]
-    fn check_null(&mut self) -> Answer
+    fn check_null(&mut self) -> Progress
         requires { FitsRoom self.old.operand_room (if_passed not_null self.old.machine) }
         ensures { HasEffect (if_passed not_null self.old.machine) self.old result self.new }
     {
         let Some(base) = self.operands.top() else {
-            return Answer::Undefined;
+            return Progress::Undefined;
         };
         self.go_on_if(non_null(base))
     }
 
     #[inline(always)]
-    fn put_field(&mut self, shape: &Shape, number: u32) -> Answer
+    fn put_field(&mut self, shape: &Shape, number: u32) -> Progress
         requires small { HasSmallCells self.old.machine.memory }
         requires fits { FitsRoom self.old.operand_room (storing_named (λ base. field_cell shape.now base number) self.old.machine) }
         ensures { HasEffect (storing_named (λ base. field_cell shape.now base number) self.old.machine) self.old result self.new }
     {
         let Some(base) = self.operands.second() else {
-            return Answer::Undefined;
+            return Progress::Undefined;
         };
         let Some(value) = self.operands.top() else {
-            return Answer::Undefined;
+            return Progress::Undefined;
         };
         self.store_cell(cell_of_field(shape, base, number), value)
     }
 
     #[inline(always)]
-    fn negate_top(&mut self) -> Answer
+    fn negate_top(&mut self) -> Progress
         requires { FitsRoom self.old.operand_room (on_one negated self.old.machine) }
         ensures { HasEffect (on_one negated self.old.machine) self.old result self.new }
     {
         let Some(top) = self.operands.top() else {
-            return Answer::Undefined;
+            return Progress::Undefined;
         };
         self.replace_top(negate(top))
     }
 
     #[inline(always)]
-    fn check_owner(&mut self, shape: &Shape, number: u32, local: usize) -> Answer
+    fn check_owner(&mut self, shape: &Shape, number: u32, local: usize) -> Progress
         requires { FitsRoom self.old.operand_room (on_one (owner_test shape.now number local self.old.machine.locals) self.old.machine) }
         ensures { HasEffect (on_one (owner_test shape.now number local self.old.machine.locals) self.old.machine) self.old result self.new }
     {
         let Some(top) = self.operands.top() else {
-            return Answer::Undefined;
+            return Progress::Undefined;
         };
         let owned = self.owned(shape, top, number, local);
         self.replace_top(owned)
@@ -478,40 +478,40 @@ impl<'p> Machine<'p> {
     }
 
     #[inline(always)]
-    fn not_top(&mut self) -> Answer
+    fn not_top(&mut self) -> Progress
         requires { FitsRoom self.old.operand_room (on_one negation self.old.machine) }
         ensures { HasEffect (on_one negation self.old.machine) self.old result self.new }
     {
         let Some(top) = self.operands.top() else {
-            return Answer::Undefined;
+            return Progress::Undefined;
         };
         self.replace_top(negate_truth(top))
     }
 
     #[inline(always)]
-    fn operate(&mut self, operator: Operator) -> Answer
+    fn operate(&mut self, operator: Operator) -> Progress
         requires { FitsRoom self.old.operand_room (on_both (on_values operator) self.old.machine) }
         ensures { HasEffect (on_both (on_values operator) self.old.machine) self.old result self.new }
     {
         let Some(left) = self.operands.second() else {
-            return Answer::Undefined;
+            return Progress::Undefined;
         };
         let Some(right) = self.operands.top() else {
-            return Answer::Undefined;
+            return Progress::Undefined;
         };
         self.replace_two(operate(operator, left, right))
     }
 
     #[inline(always)]
-    fn test(&mut self, comparison: Comparison) -> Answer
+    fn test(&mut self, comparison: Comparison) -> Progress
         requires { FitsRoom self.old.operand_room (testing comparison self.old.machine) }
         ensures { HasEffect (testing comparison self.old.machine) self.old result self.new }
     {
         let Some(left) = self.operands.second() else {
-            return Answer::Undefined;
+            return Progress::Undefined;
         };
         let Some(right) = self.operands.top() else {
-            return Answer::Undefined;
+            return Progress::Undefined;
         };
         match compare(comparison, left, right) {
             Ok(holds) => self.replace_two(Ok(truth_value(holds))),
@@ -520,39 +520,39 @@ impl<'p> Machine<'p> {
     }
 
     #[inline(always)]
-    fn jump(&mut self, over: usize) -> Answer
+    fn jump(&mut self, over: usize) -> Progress
         requires { FitsRoom self.old.operand_room (jumps self.old.machine over self.old.machine.stack) }
         ensures { HasEffect (jumps self.old.machine over self.old.machine.stack) self.old result self.new }
     {
         self.place += 1 + over;
-        Answer::Moved
+        Progress::Moved
     }
 
     #[inline(always)]
-    fn go_on(&mut self) -> Answer
+    fn go_on(&mut self) -> Progress
         requires { FitsRoom self.old.operand_room (advances self.old.machine self.old.machine.stack) }
         ensures { HasEffect (advances self.old.machine self.old.machine.stack) self.old result self.new }
     {
         self.place += 1;
-        Answer::Moved
+        Progress::Moved
     }
 
     #[inline(always)]
-    fn jump_back(&mut self, back: usize) -> Answer
+    fn jump_back(&mut self, back: usize) -> Progress
         ensures { HasEffect (back_by back self.old.machine) self.old result self.new }
     {
         self.place = self.place.saturating_sub(back);
-        Answer::Moved
+        Progress::Moved
     }
 
     // Behind so many instructions, where the truth value on the top is this; it is taken off.
     #[inline(always)]
-    fn branch(&mut self, over: usize, on: bool) -> Answer
+    fn branch(&mut self, over: usize, on: bool) -> Progress
         requires { FitsRoom self.old.operand_room (branching on over self.old.machine) }
         ensures { HasEffect (branching on over self.old.machine) self.old result self.new }
     {
         let Some(top) = self.operands.top() else {
-            return Answer::Undefined;
+            return Progress::Undefined;
         };
         match truth_in(top) {
             Ok(truth) => {
@@ -568,30 +568,30 @@ impl<'p> Machine<'p> {
     }
 
     #[inline(always)]
-    fn print_top(&mut self) -> Answer
+    fn print_top(&mut self) -> Progress
         requires { FitsRoom self.old.operand_room (printing self.old.machine) }
         ensures { HasEffect (printing self.old.machine) self.old result self.new }
     {
         let Some(top) = self.operands.top() else {
-            return Answer::Undefined;
+            return Progress::Undefined;
         };
         match self.prints.print(top) {
             Ok(()) => {
                 self.operands.pop();
                 self.place += 1;
-                Answer::Moved
+                Progress::Moved
             }
             Err(failure) => failed(failure),
         }
     }
 
     #[inline(always)]
-    fn finish(&mut self) -> Answer
+    fn finish(&mut self) -> Progress
         ensures { HasEffect (returning self.old.machine) self.old result self.new }
     {
         match self.operands.top() {
-            Some(value) => Answer::Finished(Outcome::Returns(value)),
-            None => Answer::Undefined,
+            Some(value) => Progress::Finished(Outcome::Returns(value)),
+            None => Progress::Undefined,
         }
     }
 }
@@ -600,7 +600,7 @@ impl<'p> Machine<'p> {
     /// Does one instruction. The machine is moved where the answer says so, and else as it was; an instruction that asks for
     /// locks doesn't move it yet.
     #[inline]
-    pub fn step(&mut self, shape: &Shape, instruction: Instr) -> Answer
+    pub fn step(&mut self, shape: &Shape, instruction: Instr) -> Progress
         requires small { HasSmallCells self.old.machine.memory }
         requires fits { FitsRoom self.old.operand_room (effect_of shape.now instruction self.old) }
         ensures { HasEffect (effect_of shape.now instruction self.old) self.old result self.new }
@@ -630,9 +630,9 @@ impl<'p> Machine<'p> {
             Instr::JumpIfFalse(over) => self.branch(over, false),
             Instr::JumpIfTrue(over) => self.branch(over, true),
             Instr::PrintTop => self.print_top(),
-            Instr::Acquire(point) => Answer::Asks(point),
+            Instr::Acquire(point) => Progress::Asks(point),
             Instr::Return => self.finish(),
-            Instr::End => Answer::Finished(Outcome::Ends),
+            Instr::End => Progress::Finished(Outcome::Ends),
         }
     }
 }

@@ -32,7 +32,6 @@ use types_constants::initial::note_init;
 use types_constants::thread::{note_items, typed_calls};
 use types_declarations::grown::{Builder, Grown, add_helper, add_lock, add_section};
 use types_declarations::pool::note_missing;
-use types_declarations::struct_builder::note_members;
 use types_expressions::wanted::want;
 use types_sections::section::{judge_helper, judge_section};
 use types_symbols::members::Structure;
@@ -59,14 +58,7 @@ impl<'a> Judge<'a> {
         ensures faults { OnOk result (least.new ≡ least_of least.old (decl_faults (known self.now) place (struct (struct_of table.now)))) }
     {
         let members = &table.item().members;
-        note_members(
-            self.builder.alloc,
-            self.builder.symbols,
-            place,
-            table,
-            members,
-            least,
-        )?;
+        self.builder.note_members(place, table, members, least)?;
         if grown.is_right {
             grown.is_right = self.builder.add_struct(place, table, &mut grown.typed)?;
         }

@@ -4,11 +4,11 @@ ghost use Rattle.std.specs.Prelude.{◌≡◌, OnOk, IfOk, option_map, map, Some
 ghost use Rattle.syntax.specs.Views.{ident, protection_of as protection_view, option_of};
 ghost use Rattle.resolution.specs.CoreViews.{core_protection};
 ghost use Rattle.resolution.specs.Scopes.{the_member};
-ghost use Rattle.resolution.specs.Annotations.{class_in, class_of, at_struct, stepped_on, ended};
+ghost use Rattle.resolution.specs.Annotations.{class_in, class_of, at_struct, cursor_at, stepped_on, ended};
 ghost use Rattle.source.specs.Mistakes.{least_of};
 ghost use Rattle.resolution.specs.Working.FaultLists.{lock_faults};
-ghost use Rattle.types_symbols.specs.Working.Views.{decls_of, decl_named};
-ghost use Rattle.types_annotations.specs.Working.AnnotationCursors.{cursor_seen, lock_name_faults, passed_at, ended_at, protection_along, faults_along, field_protection, field_protection_faults};
+ghost use Rattle.types_symbols.specs.Working.Views.{decls_of, decl_named, members_seen};
+ghost use Rattle.types_annotations.specs.Working.AnnotationCursors.{cursor_of, cursor_seen, lock_name_faults, passed_at, ended_at, protection_along, faults_along, field_protection, field_protection_faults};
 
 use core_lang::typed::Protection;
 use source::fault::Code;
@@ -33,6 +33,29 @@ pub(crate) struct AnnotationCursor<'a, 't> {
     pub structure: &'a Structure<'t>,
     /// The final references, each by the number by which paths name it.
     pub through: Vec<u32>,
+}
+
+/// What a walk along an annotation's names needs at each of them.
+#[derive(Clone, Copy)]
+pub(crate) struct AnnotationWalk<'a, 't> {
+    /// What is declared.
+    pub symbols: &'a SymbolTable<'t>,
+    /// Where the first of the names starts.
+    pub start: usize,
+}
+
+/// The annotations of a struct's fields: each may name a lock field of the struct itself or of one that final references
+/// lead to, or a global lock.
+#[derive(Clone, Copy)]
+pub struct FieldAnnotations<'a, 't> {
+    /// Where memory is taken.
+    pub alloc: Global,
+    /// What is declared.
+    pub symbols: &'a SymbolTable<'t>,
+    /// The struct's place among the declarations.
+    pub place: usize,
+    /// The struct, with its tables.
+    pub structure: &'a Structure<'t>,
 }
 
 /// The class of a global lock that is named alone.
@@ -97,233 +120,219 @@ pub fn note_lock(
     }
 }
 
-/// At the struct of a final reference, which is one of those on the way there.
-fn at_struct<'a, 't>(
-    symbols: &'a SymbolTable<'t>,
-    through: Vec<u32>,
-    number: u32,
-    target: &Name,
-) -> Result<Option<AnnotationCursor<'a, 't>>, AllocError>
-    ensures { IfOk result (λ r. cursor_seen r ≡ at_struct through.items number (decl_named symbols.now target.now)) }
-{
-    let Some((place, structure)) = symbols.struct_of(target) else {
-        drop(through);
-        return Ok(None);
-    };
-    let mut through = through;
-    let Ok(()) = through.push(number) else {
-        drop(through);
-        return Err(AllocError);
-    };
-    Ok(Some(AnnotationCursor {
-        place,
-        structure,
-        through,
-    }))
-}
-
-/// Over a final reference to its struct; nothing else leads on.
-fn stepped_on<'a, 't>(
-    symbols: &'a SymbolTable<'t>,
-    cursor: Option<AnnotationCursor<'a, 't>>,
-    y: &Name,
-) -> Result<Option<AnnotationCursor<'a, 't>>, AllocError>
-    ensures { IfOk result (λ r. cursor_seen r ≡ stepped_on (decls_of symbols.now) (cursor_seen cursor.entry) (ident y.now)) }
-{
-    let Some(cursor) = cursor else {
-        return Ok(None);
-    };
-    let Some((place, m)) = cursor.structure.find(y.text.as_str()) else {
-        drop(cursor);
-        return Ok(None);
-    };
-    match m {
-        Member::Final(reference) => {
-            let number = cursor.structure.step(place, m);
-            at_struct(symbols, cursor.through, number, &reference.target)
-        }
-        Member::Lock(_) | Member::Field(_) => {
-            drop(cursor);
-            Ok(None)
-        }
-    }
-}
-
-/// The walk's end: a lock field.
-fn ended(symbols: &SymbolTable, cursor: Option<AnnotationCursor>, y: &Name) -> Option<Protection>
-    ensures { option_map core_protection result ≡ ended (decls_of symbols.now) (cursor_seen cursor.entry) (ident y.now) }
-{
-    let cursor = cursor?;
-    let Some((place, m)) = cursor.structure.find(y.text.as_str()) else {
-        drop(cursor);
-        return None;
-    };
-    match m {
-        Member::Lock(_) => {
-            let number = cursor.structure.number(place, m);
-            Some(Protection {
-                through: cursor.through,
-                class: symbols.class(cursor.place, number),
-            })
-        }
-        Member::Final(_) | Member::Field(_) => {
-            drop(cursor);
-            None
-        }
-    }
-}
-
-/// Along names, the last of which is the lock's.
-fn along<'a, 't>(
-    symbols: &'a SymbolTable<'t>,
-    cursor: Option<AnnotationCursor<'a, 't>>,
-    first: &Name,
-    rest: &[Name],
-) -> Result<Option<Protection>, AllocError>
-    ensures { IfOk result (λ r. option_map core_protection r ≡ protection_along symbols.now cursor.entry first.now rest.now) }
-{
-    let mut cursor = cursor;
-    let mut y = first;
-    for z in rest {
-        cursor = stepped_on(symbols, cursor, y)?;
-        y = z;
-    }
-    Ok(ended(symbols, cursor, y))
-}
-
-/// What protects a field of the struct at a place: a lock field of the struct itself or of one that final references
-/// lead to, or a global lock. `None` where it has no annotation, or that names no lock. The one error is a refused
-/// growth.
-pub fn protection_of<'a, 't>(
-    alloc: Global,
-    symbols: &'a SymbolTable<'t>,
-    place: usize,
-    structure: &'a Structure<'t>,
-    p: &Option<tree::Protection>,
-) -> Result<Option<Protection>, AllocError>
-    ensures { IfOk result (λ r. option_map core_protection r ≡ field_protection symbols.now place structure.now p.now) }
-{
-    let Some(p) = p else {
-        return Ok(None);
-    };
-    if structure.find(p.first.text.as_str()).is_some() {
-        let cursor = Some(AnnotationCursor {
+impl<'a, 't> AnnotationWalk<'a, 't> {
+    // At the struct of a final reference, which is one of those on the way there.
+    fn at_struct(
+        &self,
+        through: Vec<u32>,
+        number: u32,
+        target: &Name,
+    ) -> Result<Option<AnnotationCursor<'a, 't>>, AllocError>
+        ensures { IfOk result (λ r. cursor_seen r ≡ at_struct through.items number (decl_named self.now.symbols.now target.now)) }
+    {
+        let Some((place, structure)) = self.symbols.struct_of(target) else {
+            drop(through);
+            return Ok(None);
+        };
+        let mut through = through;
+        let Ok(()) = through.push(number) else {
+            drop(through);
+            return Err(AllocError);
+        };
+        Ok(Some(AnnotationCursor {
             place,
             structure,
-            through: Vec::new(alloc),
-        });
-        return along(symbols, cursor, &p.first, &p.rest);
+            through,
+        }))
     }
-    match class_in(symbols, &p.first, &p.rest) {
-        Some(class) => Ok(Some(Protection {
-            through: Vec::new(alloc),
-            class,
-        })),
-        None => Ok(None),
-    }
-}
 
-/// Notes what is wrong with a name that others follow.
-fn note_passed(
-    symbols: &SymbolTable,
-    start: usize,
-    cursor: &Option<AnnotationCursor>,
-    y: &Name,
-    least: &mut Option<Mistake>,
-)
-    ensures { least.new ≡ least_of least.old (passed_at symbols.now start cursor.now y.now) }
-{
-    let Some(cursor) = cursor else {
-        return;
-    };
-    match cursor.structure.find(y.text.as_str()) {
-        None => note(least, Code::UnknownName, y.start as usize),
-        Some((_, Member::Final(_))) => {
-            let is_over = FINAL_LIMIT <= cursor.through.len();
-            note_if(is_over, Code::LimitExceeded, start, least);
-        }
-        Some((_, m)) => {
-            let code = Code::ProtectedByPassesNonFinal;
-            note_unfit_member(symbols, code, y.start as usize, m, least);
+    // Over a final reference to its struct; nothing else leads on.
+    fn stepped_on(
+        &self,
+        cursor: Option<AnnotationCursor<'a, 't>>,
+        y: &Name,
+    ) -> Result<Option<AnnotationCursor<'a, 't>>, AllocError>
+        ensures { IfOk result (λ r. cursor_seen r ≡ stepped_on (decls_of self.now.symbols.now) (cursor_seen cursor.entry) (ident y.now)) }
+    {
+        let Some(cursor) = cursor else {
+            return Ok(None);
+        };
+        let Some((place, m)) = cursor.structure.find(y.text.as_str()) else {
+            drop(cursor);
+            return Ok(None);
+        };
+        match m {
+            Member::Final(reference) => {
+                let number = cursor.structure.step(place, m);
+                self.at_struct(cursor.through, number, &reference.target)
+            }
+            Member::Lock(_) | Member::Field(_) => {
+                drop(cursor);
+                Ok(None)
+            }
         }
     }
-}
 
-/// Notes what is wrong with the last name.
-fn note_last(
-    symbols: &SymbolTable,
-    start: usize,
-    cursor: &Option<AnnotationCursor>,
-    y: &Name,
-    least: &mut Option<Mistake>,
-)
-    ensures { least.new ≡ least_of least.old (ended_at symbols.now start cursor.now y.now) }
-{
-    let Some(cursor) = cursor else {
-        return;
-    };
-    match cursor.structure.find(y.text.as_str()) {
-        None => note(least, Code::UnknownName, y.start as usize),
-        Some((_, Member::Lock(_))) => {}
-        Some((_, m)) => note_unfit_member(symbols, Code::ProtectedByNoLock, start, m, least),
+    // The walk's end: a lock field.
+    fn ended(&self, cursor: Option<AnnotationCursor>, y: &Name) -> Option<Protection>
+        ensures { option_map core_protection result ≡ ended (decls_of self.now.symbols.now) (cursor_seen cursor.entry) (ident y.now) }
+    {
+        let cursor = cursor?;
+        let Some((place, m)) = cursor.structure.find(y.text.as_str()) else {
+            drop(cursor);
+            return None;
+        };
+        match m {
+            Member::Lock(_) => {
+                let number = cursor.structure.number(place, m);
+                Some(Protection {
+                    through: cursor.through,
+                    class: self.symbols.class(cursor.place, number),
+                })
+            }
+            Member::Final(_) | Member::Field(_) => {
+                drop(cursor);
+                None
+            }
+        }
+    }
+
+    // Along names, the last of which is the lock's.
+    fn along(
+        &self,
+        cursor: Option<AnnotationCursor<'a, 't>>,
+        first: &Name,
+        rest: &[Name],
+    ) -> Result<Option<Protection>, AllocError>
+        ensures { IfOk result (λ r. option_map core_protection r ≡ protection_along self.now cursor.entry first.now rest.now) }
+    {
+        let mut cursor = cursor;
+        let mut y = first;
+        for z in rest {
+            cursor = self.stepped_on(cursor, y)?;
+            y = z;
+        }
+        Ok(self.ended(cursor, y))
+    }
+
+    // Notes what is wrong with a name that others follow.
+    fn note_passed(&self, cursor: &Option<AnnotationCursor>, y: &Name, least: &mut Option<Mistake>)
+        ensures { least.new ≡ least_of least.old (passed_at self.now cursor.now y.now) }
+    {
+        let Some(cursor) = cursor else {
+            return;
+        };
+        match cursor.structure.find(y.text.as_str()) {
+            None => note(least, Code::UnknownName, y.start as usize),
+            Some((_, Member::Final(_))) => {
+                let is_over = FINAL_LIMIT <= cursor.through.len();
+                note_if(is_over, Code::LimitExceeded, self.start, least);
+            }
+            Some((_, m)) => {
+                let code = Code::ProtectedByPassesNonFinal;
+                note_unfit_member(self.symbols, code, y.start as usize, m, least);
+            }
+        }
+    }
+
+    // Notes what is wrong with the last name.
+    fn note_last(&self, cursor: &Option<AnnotationCursor>, y: &Name, least: &mut Option<Mistake>)
+        ensures { least.new ≡ least_of least.old (ended_at self.now cursor.now y.now) }
+    {
+        let Some(cursor) = cursor else {
+            return;
+        };
+        match cursor.structure.find(y.text.as_str()) {
+            None => note(least, Code::UnknownName, y.start as usize),
+            Some((_, Member::Lock(_))) => {}
+            Some((_, m)) => {
+                let code = Code::ProtectedByNoLock;
+                note_unfit_member(self.symbols, code, self.start, m, least);
+            }
+        }
+    }
+
+    // Notes what is wrong along names.
+    fn note_along(
+        &self,
+        cursor: Option<AnnotationCursor<'a, 't>>,
+        first: &Name,
+        rest: &[Name],
+        least: &mut Option<Mistake>,
+    ) -> Result<(), AllocError>
+        ensures { OnOk result (least.new ≡ least_of least.old (faults_along self.now cursor.entry first.now rest.now)) }
+    {
+        let mut cursor = cursor;
+        let mut y = first;
+        for z in rest {
+            self.note_passed(&cursor, y, least);
+            cursor = self.stepped_on(cursor, y)?;
+            y = z;
+        }
+        self.note_last(&cursor, y, least);
+        drop(cursor);
+        Ok(())
     }
 }
 
-/// Notes what is wrong along names, of which the first of all starts there.
-fn note_along<'a, 't>(
-    symbols: &'a SymbolTable<'t>,
-    start: usize,
-    cursor: Option<AnnotationCursor<'a, 't>>,
-    first: &Name,
-    rest: &[Name],
-    least: &mut Option<Mistake>,
-) -> Result<(), AllocError>
-    ensures { OnOk result (least.new ≡ least_of least.old (faults_along symbols.now start cursor.entry first.now rest.now)) }
-{
-    let mut cursor = cursor;
-    let mut y = first;
-    for z in rest {
-        note_passed(symbols, start, &cursor, y, least);
-        cursor = stepped_on(symbols, cursor, y)?;
-        y = z;
+impl<'a, 't> FieldAnnotations<'a, 't> {
+    // The struct itself, before a walk.
+    fn own(&self) -> AnnotationCursor<'a, 't>
+        ensures { cursor_of result ≡ cursor_at self.now.place (members_seen self.now.structure.now) }
+    {
+        AnnotationCursor {
+            place: self.place,
+            structure: self.structure,
+            through: Vec::new(self.alloc),
+        }
     }
-    note_last(symbols, start, &cursor, y, least);
-    drop(cursor);
-    Ok(())
-}
 
-/// Notes what is wrong with the annotation of a field of the struct at a place: there is none, it names no lock, or it
-/// goes over what is no final reference or over too many. `name` is the field's. The one error is a refused growth.
-pub fn note_protection<'a, 't>(
-    alloc: Global,
-    symbols: &'a SymbolTable<'t>,
-    place: usize,
-    structure: &'a Structure<'t>,
-    name: &Name,
-    p: &Option<tree::Protection>,
-    least: &mut Option<Mistake>,
-) -> Result<(), AllocError>
-    ensures { OnOk result (least.new ≡ least_of least.old (field_protection_faults symbols.now place structure.now name.now p.now)) }
-{
-    let Some(p) = p else {
-        note(least, Code::NeitherFinalNorProtected, name.start as usize);
-        return Ok(());
-    };
-    if structure.find(p.first.text.as_str()).is_some() {
-        let cursor = Some(AnnotationCursor {
-            place,
-            structure,
-            through: Vec::new(alloc),
-        });
-        return note_along(
-            symbols,
-            p.first.start as usize,
-            cursor,
-            &p.first,
-            &p.rest,
-            least,
-        );
+    /// What protects a field with this annotation. `None` where it has none, or that names no lock. The one error is a
+    /// refused growth.
+    pub fn protection(&self, p: &Option<tree::Protection>) -> Result<Option<Protection>, AllocError>
+        ensures { IfOk result (λ r. option_map core_protection r ≡ field_protection self.now p.now) }
+    {
+        let Some(p) = p else {
+            return Ok(None);
+        };
+        if self.structure.find(p.first.text.as_str()).is_some() {
+            let walk = AnnotationWalk {
+                symbols: self.symbols,
+                start: p.first.start as usize,
+            };
+            return walk.along(Some(self.own()), &p.first, &p.rest);
+        }
+        match class_in(self.symbols, &p.first, &p.rest) {
+            Some(class) => Ok(Some(Protection {
+                through: Vec::new(self.alloc),
+                class,
+            })),
+            None => Ok(None),
+        }
     }
-    note_global_lock(symbols, &p.first, &p.rest, least);
-    Ok(())
+
+    /// Notes what is wrong with a field's annotation: there is none, it names no lock, or it goes over what is no final
+    /// reference or over too many. `name` is the field's. The one error is a refused growth.
+    pub fn note(
+        &self,
+        name: &Name,
+        p: &Option<tree::Protection>,
+        least: &mut Option<Mistake>,
+    ) -> Result<(), AllocError>
+        ensures { OnOk result (least.new ≡ least_of least.old (field_protection_faults self.now name.now p.now)) }
+    {
+        let Some(p) = p else {
+            note(least, Code::NeitherFinalNorProtected, name.start as usize);
+            return Ok(());
+        };
+        if self.structure.find(p.first.text.as_str()).is_some() {
+            let walk = AnnotationWalk {
+                symbols: self.symbols,
+                start: p.first.start as usize,
+            };
+            return walk.note_along(Some(self.own()), &p.first, &p.rest, least);
+        }
+        note_global_lock(self.symbols, &p.first, &p.rest, least);
+        Ok(())
+    }
 }

@@ -1,7 +1,7 @@
 //! Annotations: which lock protects a global, an array or a field, and what is wrong with each.
 //!
 //! - [`class_of`], [`note_lock`]: of a global or an array.
-//! - [`protection_of`], [`note_protection`]: of a field.
+//! - [`FieldAnnotations`]: of the fields of a struct.
 //!
 //! Where a walk along an annotation stands is said in `specs/Working/AnnotationCursors.antt`. Which lock an annotation names, and
 //! where its faults stand, is defined in `resolution`.
@@ -9,4 +9,4 @@
 
 mod annotation;
 
-pub use annotation::{class_of, note_lock, note_protection, protection_of};
+pub use annotation::{FieldAnnotations, class_of, note_lock};

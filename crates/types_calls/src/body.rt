@@ -4,9 +4,8 @@ ghost use Rattle.std.specs.Prelude.{◌≡◌, IfOk};
 ghost use Rattle.syntax.specs.Views.{section_of};
 ghost use Rattle.core_lang_calls.specs.Graphs.{body_of};
 ghost use Rattle.resolution.specs.Scopes.{result_of};
-ghost use Rattle.resolution.specs.Resolution.{ahead_of};
-ghost use Rattle.resolution.specs.CallGraphs.{body_in};
 ghost use Rattle.types_symbols.specs.{decls_of};
+ghost use Rattle.types_calls.specs.Working.Bodies.{body_within};
 
 use crate::walk::{Reader, Walk};
 use core_lang::value::ValueType;
@@ -29,7 +28,7 @@ impl Reader<'_> {
 
     /// What counts of a section or a helper that may have so many parameters and locals. The one error is a refused growth.
     pub fn body(&self, s: &Section, limits: BodyLimits) -> Result<Body, AllocError>
-        ensures { IfOk result (λ body. body_of body ≡ body_in (ahead_of (decls_of self.now.symbols.now) limits (section_of s.now)) (section_of s.now)) }
+        ensures { IfOk result (λ body. body_of body ≡ body_within (decls_of self.now.symbols.now) limits (section_of s.now)) }
     {
         let mut walk = Walk {
             locals: Locals::new(self.alloc, self.result_type(s), limits),

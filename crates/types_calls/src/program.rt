@@ -4,9 +4,9 @@ ghost use Rattle.std.specs.Prelude.{◌≡◌, [], OnOk};
 ghost use Rattle.source.specs.Mistakes.{least_of};
 ghost use Rattle.core_lang_calls.specs.Graphs.{graph_of};
 ghost use Rattle.core_lang_calls.specs.Working.FaultLists.{graph_faults};
-ghost use Rattle.resolution.specs.CallGraphs.{section_bodies, tree_graph};
+ghost use Rattle.resolution.specs.CallGraphs.{tree_graph};
 ghost use Rattle.types_symbols.specs.{decls_of};
-ghost use Rattle.types_calls.specs.Working.Bodies.{first_helpers};
+ghost use Rattle.types_calls.specs.Working.Bodies.{all_sections, first_helpers};
 
 use crate::walk::Reader;
 use core_lang_calls::graph::{CallGraph, HELPER_LIMIT};
@@ -48,7 +48,7 @@ impl Reader<'_> {
     // Adds the sections.
     fn add_sections(&self, graph: &mut CallGraph) -> Result<(), AllocError>
         requires { (graph_of graph.old).sections ≡ [] }
-        ensures { OnOk result (graph_of graph.new ≡ record (graph_of graph.old) { sections = section_bodies (decls_of self.now.symbols.now) (decls_of self.now.symbols.now) }) }
+        ensures { OnOk result (graph_of graph.new ≡ record (graph_of graph.old) { sections = all_sections (decls_of self.now.symbols.now) }) }
     {
         for d in self.symbols.items() {
             if let Decl::Atomic(s) = d {

@@ -8,7 +8,7 @@ ghost use Rattle.resolution.specs.Scopes.{bound, entered, meaning, type_of};
 ghost use Rattle.resolution.specs.Statements.{after, after_else, after_all};
 ghost use Rattle.resolution.specs.CallGraphs.{call_sites, stmt_calls, else_calls, stmts_calls, stmt_points, else_points, stmts_points};
 ghost use Rattle.types_symbols.specs.{decls_of};
-ghost use Rattle.types_calls.specs.Working.Walks.{scope_at, number_meant, behind_block};
+ghost use Rattle.types_calls.specs.Working.Walks.{scope_at, number_meant, behind_block, Leads, AddsCalls};
 
 use core_lang::tree::LocalKind;
 use core_lang_calls::graph::CallSite;
@@ -70,7 +70,7 @@ impl Reader<'_> {
     // A call, if it is one of a helper.
     fn call(&self, call: &HelperCall, is_bound: bool, walk: &mut Walk) -> Result<(), AllocError>
         ensures locals { walk.new.locals ≡ walk.old.locals }
-        ensures calls { OnOk result (walk.new.calls.items ≡ walk.old.calls.items ++ call_sites (scope_at self.now walk.old.locals) is_bound (helper_call_of call.now)) }
+        ensures calls { OnOk result (AddsCalls self.now walk.old walk.new (λ sc. call_sites sc is_bound (helper_call_of call.now))) }
         ensures points { walk.new.points ≡ walk.old.points }
     {
         if let Some(helper) = self.number(&walk.locals, &call.helper) {
@@ -91,7 +91,7 @@ impl Reader<'_> {
         value_type: &tree::ValueType,
         locals: &mut Locals,
     ) -> Result<(), AllocError>
-        ensures { OnOk result (scope_at self.now locals.new ≡ bound (scope_at self.now locals.old) kind (ident name.now) (type_of (scope_at self.now locals.old) (type_seen value_type.now))) }
+        ensures { OnOk result (Leads self.now locals.old locals.new (λ sc. bound sc kind (ident name.now) (type_of sc (type_seen value_type.now)))) }
     {
         let value_type = type_at(self.symbols, locals, value_type);
         locals.bind(self.alloc, name, kind, value_type)
@@ -99,7 +99,7 @@ impl Reader<'_> {
 
     /// The parameters of a section or a helper.
     pub fn params(&self, params: &[Param], locals: &mut Locals) -> Result<(), AllocError>
-        ensures { OnOk result (scope_at self.now locals.new ≡ entered (scope_at self.now locals.old) (map param_of params.now)) }
+        ensures { OnOk result (Leads self.now locals.old locals.new (λ sc. entered sc (map param_of params.now))) }
     {
         for param in params {
             let value_type = type_outside(self.symbols, &param.value_type);
@@ -110,7 +110,7 @@ impl Reader<'_> {
 
     // A `let` or `var` with its value.
     fn local(&self, kind: LocalKind, local: &tree::Local, walk: &mut Walk) -> Result<(), AllocError>
-        ensures scope { OnOk result (scope_at self.now walk.new.locals ≡ bound (scope_at self.now walk.old.locals) kind (local_of local.now).name (type_of (scope_at self.now walk.old.locals) (local_of local.now).value_type)) }
+        ensures scope { OnOk result (Leads self.now walk.old.locals walk.new.locals (λ sc. bound sc kind (local_of local.now).name (type_of sc (local_of local.now).value_type))) }
         ensures calls { OnOk result (walk.new.calls ≡ walk.old.calls) }
         ensures points { OnOk result (walk.new.points ≡ walk.old.points + 1) }
     {
@@ -121,8 +121,8 @@ impl Reader<'_> {
     // A statement.
     #[cycle(stmts)]
     fn stmt(&self, s: &Stmt, walk: &mut Walk) -> Result<(), AllocError>
-        ensures scope { OnOk result (scope_at self.now walk.new.locals ≡ after (scope_at self.now walk.old.locals) (stmt_of s.now)) }
-        ensures calls { OnOk result (walk.new.calls.items ≡ walk.old.calls.items ++ stmt_calls (scope_at self.now walk.old.locals) (stmt_of s.now)) }
+        ensures scope { OnOk result (Leads self.now walk.old.locals walk.new.locals (λ sc. after sc (stmt_of s.now))) }
+        ensures calls { OnOk result (AddsCalls self.now walk.old walk.new (λ sc. stmt_calls sc (stmt_of s.now))) }
         ensures points { OnOk result (walk.new.points ≡ walk.old.points + stmt_points (stmt_of s.now)) }
     {
         match s {
@@ -149,8 +149,8 @@ impl Reader<'_> {
     // A loop.
     #[cycle(stmts)]
     fn repetition(&self, repetition: &tree::While, walk: &mut Walk) -> Result<(), AllocError>
-        ensures scope { OnOk result (scope_at self.now walk.new.locals ≡ after (scope_at self.now walk.old.locals) (while_of repetition.now)) }
-        ensures calls { OnOk result (walk.new.calls.items ≡ walk.old.calls.items ++ stmt_calls (scope_at self.now walk.old.locals) (while_of repetition.now)) }
+        ensures scope { OnOk result (Leads self.now walk.old.locals walk.new.locals (λ sc. after sc (while_of repetition.now))) }
+        ensures calls { OnOk result (AddsCalls self.now walk.old walk.new (λ sc. stmt_calls sc (while_of repetition.now))) }
         ensures points { OnOk result (walk.new.points ≡ walk.old.points + stmt_points (while_of repetition.now)) }
     {
         walk.point()?;
@@ -160,8 +160,8 @@ impl Reader<'_> {
     // A choice.
     #[cycle(stmts)]
     fn choice(&self, choice: &If, walk: &mut Walk) -> Result<(), AllocError>
-        ensures scope { OnOk result (scope_at self.now walk.new.locals ≡ after (scope_at self.now walk.old.locals) (if_of choice.now)) }
-        ensures calls { OnOk result (walk.new.calls.items ≡ walk.old.calls.items ++ stmt_calls (scope_at self.now walk.old.locals) (if_of choice.now)) }
+        ensures scope { OnOk result (Leads self.now walk.old.locals walk.new.locals (λ sc. after sc (if_of choice.now))) }
+        ensures calls { OnOk result (AddsCalls self.now walk.old walk.new (λ sc. stmt_calls sc (if_of choice.now))) }
         ensures points { OnOk result (walk.new.points ≡ walk.old.points + stmt_points (if_of choice.now)) }
     {
         walk.point()?;
@@ -172,8 +172,8 @@ impl Reader<'_> {
     // What stands behind `else`.
     #[cycle(stmts)]
     fn otherwise(&self, other: &Option<Block>, walk: &mut Walk) -> Result<(), AllocError>
-        ensures scope { OnOk result (scope_at self.now walk.new.locals ≡ after_else (scope_at self.now walk.old.locals) (else_of other.now)) }
-        ensures calls { OnOk result (walk.new.calls.items ≡ walk.old.calls.items ++ else_calls (scope_at self.now walk.old.locals) (else_of other.now)) }
+        ensures scope { OnOk result (Leads self.now walk.old.locals walk.new.locals (λ sc. after_else sc (else_of other.now))) }
+        ensures calls { OnOk result (AddsCalls self.now walk.old walk.new (λ sc. else_calls sc (else_of other.now))) }
         ensures points { OnOk result (walk.new.points ≡ walk.old.points + else_points (else_of other.now)) }
     {
         match other {
@@ -185,8 +185,8 @@ impl Reader<'_> {
     // A block. Its locals are out of scope behind it.
     #[cycle(stmts)]
     fn block(&self, block: &Block, walk: &mut Walk) -> Result<(), AllocError>
-        ensures scope { OnOk result (scope_at self.now walk.new.locals ≡ behind_block (scope_at self.now walk.old.locals) (stmts_of block.now.stmts.items)) }
-        ensures calls { OnOk result (walk.new.calls.items ≡ walk.old.calls.items ++ stmts_calls (scope_at self.now walk.old.locals) (stmts_of block.now.stmts.items)) }
+        ensures scope { OnOk result (Leads self.now walk.old.locals walk.new.locals (λ sc. behind_block sc (stmts_of block.now.stmts.items))) }
+        ensures calls { OnOk result (AddsCalls self.now walk.old walk.new (λ sc. stmts_calls sc (stmts_of block.now.stmts.items))) }
         ensures points { OnOk result (walk.new.points ≡ walk.old.points + stmts_points (stmts_of block.now.stmts.items)) }
     {
         let ahead = walk.locals.len();
@@ -198,8 +198,8 @@ impl Reader<'_> {
     /// Statements, one after another.
     #[cycle(stmts)]
     pub fn stmts(&self, stmts: &[Stmt], walk: &mut Walk) -> Result<(), AllocError>
-        ensures scope { OnOk result (scope_at self.now walk.new.locals ≡ after_all (scope_at self.now walk.old.locals) (stmts_of stmts.now)) }
-        ensures calls { OnOk result (walk.new.calls.items ≡ walk.old.calls.items ++ stmts_calls (scope_at self.now walk.old.locals) (stmts_of stmts.now)) }
+        ensures scope { OnOk result (Leads self.now walk.old.locals walk.new.locals (λ sc. after_all sc (stmts_of stmts.now))) }
+        ensures calls { OnOk result (AddsCalls self.now walk.old walk.new (λ sc. stmts_calls sc (stmts_of stmts.now))) }
         ensures points { OnOk result (walk.new.points ≡ walk.old.points + stmts_points (stmts_of stmts.now)) }
     {
         for s in stmts {

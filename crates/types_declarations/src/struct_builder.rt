@@ -14,10 +14,9 @@ use core_lang::value::ValueType;
 use source::mistake::Mistake;
 use std::alloc::{AllocError, Global};
 use syntax::tree::{Member, Name};
-use types_annotations::{note_protection, protection_of};
+use types_annotations::FieldAnnotations;
 use types_symbols::members::Structure;
 use types_symbols::scope::{note_target, note_type, struct_named, type_outside};
-use types_symbols::table::SymbolTable;
 
 /// A struct with some of its members, and the lock classes so far.
 #[derive(Drop)]
@@ -116,13 +115,13 @@ impl<'a> Builder<'a> {
             }
             Member::Field(f) => {
                 let t = type_outside(self.symbols, &f.value_type);
-                let protection = protection_of(
-                    self.alloc,
-                    self.symbols,
-                    here.place,
-                    here.table,
-                    &f.protection,
-                )?;
+                let annotations = FieldAnnotations {
+                    alloc: self.alloc,
+                    symbols: self.symbols,
+                    place: here.place,
+                    structure: here.table,
+                };
+                let protection = annotations.protection(&f.protection)?;
                 builder.add_field(self.alloc, &f.name, t, protection)
             }
         }
@@ -144,55 +143,50 @@ impl<'a> Builder<'a> {
         }
         Ok(true)
     }
-}
 
-/// Notes what is wrong with a member of the struct at a place.
-#[tactic(auto, using(source::specs::Theory::Leasts::least_append))]
-fn note_member<'a, 't>(
-    alloc: Global,
-    symbols: &'a SymbolTable<'t>,
-    place: usize,
-    structure: &'a Structure<'t>,
-    m: &Member,
-    least: &mut Option<Mistake>,
-) -> Result<(), AllocError>
-    ensures { OnOk result (least.new ≡ least_of least.old (member_faults_of symbols.now place structure.now m.now)) }
-{
-    match m {
-        Member::Lock(_) => Ok(()),
-        Member::Final(f) => {
-            note_target(symbols, &f.target, least);
-            Ok(())
-        }
-        Member::Field(f) => {
-            note_type(symbols, &f.value_type, least);
-            note_protection(
-                alloc,
-                symbols,
-                place,
-                structure,
-                &f.name,
-                &f.protection,
-                least,
-            )
+    // Notes what is wrong with a member of the struct at a place.
+    #[tactic(auto, using(source::specs::Theory::Leasts::least_append))]
+    fn note_member(
+        &self,
+        place: usize,
+        table: &'a Structure<'a>,
+        m: &Member,
+        least: &mut Option<Mistake>,
+    ) -> Result<(), AllocError>
+        ensures { OnOk result (least.new ≡ least_of least.old (member_faults_of self.now place table.now m.now)) }
+    {
+        match m {
+            Member::Lock(_) => Ok(()),
+            Member::Final(f) => {
+                note_target(self.symbols, &f.target, least);
+                Ok(())
+            }
+            Member::Field(f) => {
+                note_type(self.symbols, &f.value_type, least);
+                let annotations = FieldAnnotations {
+                    alloc: self.alloc,
+                    symbols: self.symbols,
+                    place,
+                    structure: table,
+                };
+                annotations.note(&f.name, &f.protection, least)
+            }
         }
     }
-}
 
-/// Notes what is wrong with members of the struct at a place.
-#[tactic(auto, using(source::specs::Theory::Leasts::least_append))]
-pub fn note_members<'a, 't>(
-    alloc: Global,
-    symbols: &'a SymbolTable<'t>,
-    place: usize,
-    structure: &'a Structure<'t>,
-    members: &[Member],
-    least: &mut Option<Mistake>,
-) -> Result<(), AllocError>
-    ensures { OnOk result (least.new ≡ least_of least.old (members_faults_of symbols.now place structure.now members.now)) }
-{
-    for m in members {
-        note_member(alloc, symbols, place, structure, m, least)?;
+    /// Notes what is wrong with members of the struct at a place. The one error is a refused growth.
+    pub fn note_members(
+        &self,
+        place: usize,
+        table: &'a Structure<'a>,
+        members: &[Member],
+        least: &mut Option<Mistake>,
+    ) -> Result<(), AllocError>
+        ensures { OnOk result (least.new ≡ least_of least.old (members_faults_of self.now place table.now members.now)) }
+    {
+        for m in members {
+            self.note_member(place, table, m, least)?;
+        }
+        Ok(())
     }
-    Ok(())
 }

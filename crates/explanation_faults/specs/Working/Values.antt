@@ -5,11 +5,13 @@ use Rattle.std.specs.Option.{option_map}
 use Rattle.core_lang.specs.WellFormed.{IsWellFormed}
 use Rattle.core_lang.specs.declared.typed.Typed.{Typed}
 use Rattle.explanation.specs.Notes.{Note, note_of}
+pub use Rattle.explanation_names.specs.Working.Values.{ident_at, idents}
+pub use Rattle.explanation_types.specs.Working.Values.{FoundNote}
 use Rattle.explanation.specs.declared.note.Note as written_note
 use Rattle.resolution.specs.Constants.{members_of}
 use Rattle.resolution.specs.Working.FaultLists.{is_at}
 use Rattle.resolution.specs.Faults.{HasNoFault}
-use Rattle.resolution.specs.Scopes.{declared, member_bears, member_name, place_of, the_member}
+use Rattle.resolution.specs.Scopes.{member_bears, member_name, place_of, the_member}
 use Rattle.source.specs.Texts.{HasTokens, IsFault, SOURCE_LIMIT}
 use Rattle.source.specs.Tokens.{Tok, seen, seen_token}
 use Rattle.source.specs.declared.fault.Code.{Code}
@@ -46,20 +48,9 @@ use Rattle.explanation_faults.specs.declared.missing_inits.Gap.{Gap}
 use Rattle.explanation_faults.specs.declared.passed_members.Sought.{Sought}
 use Rattle.explanation_faults.specs.declared.tree_notes.Faulty.{Faulty}
 
--- the names that these are
-abbrev pub ident_at : Bor Name → Ident
-ident_at name = ident name.now
-
-abbrev pub idents : List (Bor Name) → List Ident
-idents names = map ident_at names
-
 abbrev pub FoundName : (Ident → Type 0) → Option (Bor Name) → Type 0
 FoundName Is (Some name) = Is (ident_at name)
 FoundName Is None = (x : Ident) → Is x → ⊥
-
--- the name of a declaration, if it has one
-abbrev pub IsNameOf : written_decl.Decl → Option (Bor Name) → Type 0
-IsNameOf d name = option_map ident_at name ≡ declared (decl_of d)
 
 abbrev pub name_of_member : written_member.Member → Ident
 name_of_member m = member_name (member_of m)
@@ -75,11 +66,6 @@ decls_of x = decls_in x.symbols.now
 
 abbrev pub tokens_of : Faulty → List Tok
 tokens_of x = seen x.tokens.now
-
--- a note of the kind, if there is one
-abbrev pub FoundNote : (Note → Type 0) → Option written_note.Note → Type 0
-FoundNote Is (Some note) = Is (note_of note)
-FoundNote Is None = (note : Note) → Is note → ⊥
 
 -- a true note, or none, where none must be
 abbrev pub IsNoteIfTold : Faulty → Code → Option written_note.Note → Type 0

@@ -7,7 +7,7 @@ use Rattle.layout.specs.declared.room.Room.{Room}
 use Rattle.code.specs.Memory.{overwritten, Agrees}
 use Rattle.moved_cells.specs.Working.Grants.{GrantOf, IsWhole, cells_in, locks_of}
 use Rattle.history.specs.Commits.{Commit}
-use Rattle.lock_manager.specs.declared.places.Place.TheVariants.{Free, Taken}
+use Rattle.lock_manager.specs.declared.places.LockPlace.TheVariants.{Free, Taken}
 use Rattle.lock_manager.specs.declared.queue.Waiter.{Waiter}
 use Rattle.lock_manager.specs.declared.answer.Answer.{Answer}
 use Rattle.lock_manager.specs.declared.answer.Answer.TheVariants.{Granted, Held}

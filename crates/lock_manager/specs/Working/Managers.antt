@@ -12,8 +12,8 @@ use Rattle.layout.specs.LockCells.{same_lock, cells_of}
 use Rattle.layout.specs.Layouts.{LayoutOf, AreDistinct, IsLayoutOf}
 use Rattle.moved_cells.specs.Working.Grants.{GrantOf, cells_in, values_on}
 use Rattle.history.specs.Commits.{Commit, committed, IsLegal}
-use Rattle.lock_manager.specs.declared.places.Place.{Place}
-use Rattle.lock_manager.specs.declared.places.Place.TheVariants.{Free, Taken}
+use Rattle.lock_manager.specs.declared.places.LockPlace.{LockPlace}
+use Rattle.lock_manager.specs.declared.places.LockPlace.TheVariants.{Free, Taken}
 use Rattle.lock_manager.specs.declared.queue.Waiter.{Waiter}
 use Rattle.lock_manager.specs.Working.Sessions.{SessionOf}
 use Rattle.lock_manager.specs.Working.Queues.{waiting_in}
@@ -24,14 +24,14 @@ use Rattle.lock_manager.specs.Working.Committed.{CommittedOf}
 pub record Managed : Type 0 where
   pub layout : LayoutOf
   pub ranks : List ℕ
-  pub places : List Place
+  pub places : List LockPlace
   pub waiters : List Waiter
   pub slots : List (Option SessionOf)
   pub history : List Commit
   pub values : List Value
 
 abbrev pub managed :
-    CommittedOf → List ℕ → List Place → List Waiter → List (Option SessionOf) → List Commit → Managed
+    CommittedOf → List ℕ → List LockPlace → List Waiter → List (Option SessionOf) → List Commit → Managed
 managed committed ranks places waiters slots history = record {
   layout = committed.layout;
   ranks = ranks;
@@ -50,11 +50,11 @@ number_from n [] lock = None
 number_from n (l ∷ ls) lock = if same_lock l lock then Some n else number_from (n + 1) ls lock
 
 -- where the cells of a lock are: with the manager, or with a thread
-abbrev pub place_of : Managed → Lock → Option Place
+abbrev pub place_of : Managed → Lock → Option LockPlace
 place_of m lock = lookup (number_from 0 m.layout.locks lock) (λ n. slice_get m.places n)
 
 -- the thread that has a lock's cells
-abbrev pub taker : Option Place → Option ℕ
+abbrev pub taker : Option LockPlace → Option ℕ
 taker (Some (Taken t)) = Some t
 taker (Some (Free values)) = None
 taker None = None
@@ -78,7 +78,7 @@ abbrev pub IsQuiet : Managed → Type 0
 IsQuiet m = (t : ℕ) → session_of m t ≡ None
 
 -- what a cell of a lock holds, if the lock's cells are here
-abbrev pub value_in : List Lock → Lock → Option Place → ℕ → Option Value
+abbrev pub value_in : List Lock → Lock → Option LockPlace → ℕ → Option Value
 value_in cell_locks lock (Some (Free values)) cell =
     value_at (cells_in cell_locks (record { lock = lock; values = values })) cell
 value_in cell_locks lock (Some (Taken t)) cell = None
@@ -92,16 +92,16 @@ cell_of m cell =
 -- ---- changing
 
 -- with something put at a number, if there is one
-abbrev pub put_number : Option ℕ → List Place → Place → List Place
+abbrev pub put_number : Option ℕ → List LockPlace → LockPlace → List LockPlace
 put_number None places place = places
 put_number (Some n) places place = slice_set places n place
 
 -- with the cells of a lock put elsewhere
-abbrev pub put_for : List Lock → List Place → Lock → Place → List Place
+abbrev pub put_for : List Lock → List LockPlace → Lock → LockPlace → List LockPlace
 put_for locks places lock place = put_number (number_from 0 locks lock) places place
 
 -- with the cells of these grants back
-abbrev pub given_back : List Lock → List Place → List GrantOf → List Place
+abbrev pub given_back : List Lock → List LockPlace → List GrantOf → List LockPlace
 given_back locks places [] = places
 given_back locks places (g ∷ gs) = put_for locks (given_back locks places gs) g.lock (Free g.values)
 

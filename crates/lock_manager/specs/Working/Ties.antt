@@ -6,7 +6,7 @@ use Rattle.locks.specs.declared.lock.Lock.{Lock}
 use Rattle.code.specs.Memory.{overwritten, Agrees}
 use Rattle.moved_cells.specs.Working.Grants.{GrantOf, cells_in, locks_of}
 use Rattle.history.specs.Working.Histories.{PromisedOf}
-use Rattle.lock_manager.specs.declared.places.Place.{Place}
+use Rattle.lock_manager.specs.declared.places.LockPlace.{LockPlace}
 use Rattle.lock_manager.specs.Working.Committed.{CommittedOf, restored}
 use Rattle.lock_manager.specs.Working.Sessions.{SessionOf}
 use Rattle.lock_manager.specs.Working.Managers.{Managed, session_in, given_back}
@@ -28,7 +28,7 @@ IsChanged change slots t slots' =
     (s : SessionOf) → session_in slots t ≡ Some s → slots' ≡ slice_set slots t (Some (change s))
 
 -- the cells of these grants are back, as they were left
-abbrev pub all_restored : CommittedOf → List Place → List GrantOf → List Place
+abbrev pub all_restored : CommittedOf → List LockPlace → List GrantOf → List LockPlace
 all_restored c places grants = given_back c.layout.locks places (map (restored c) (locks_of grants))
 
 -- the grants are what is left, with these writes made

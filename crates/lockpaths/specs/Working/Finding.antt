@@ -1,50 +1,47 @@
 -- Going over accesses with the values of the code. Nobody has to believe these.
-use Rattle.std.specs.Prelude.{◌≡◌, ℕ, Bool, true, List, Option, None}
-use Rattle.std.specs.Option.{option_map}
+use Rattle.std.specs.Prelude.{◌≡◌, ℕ, true, List, Option, None}
+use Rattle.std.specs.Option.{option_map, IfSome}
 use Rattle.std.specs.List.{flat_map}
 use Rattle.core_lang.specs.declared.tree.Condition.{Condition}
-use Rattle.core_lang.specs.declared.tree.FieldStep.{FieldStep}
 use Rattle.core_lang.specs.declared.tree.Operation.{Operation}
 use Rattle.flow.specs.Points.{Point}
-use Rattle.locks.specs.Accesses.{Access, Target, in_condition}
+use Rattle.locks.specs.Accesses.{Access, Target, field, in_condition}
 use Rattle.locks.specs.Theory.Lists.{in_operand}
-use Rattle.locks.specs.declared.path.LockPath as written
-use Rattle.locks.specs.LockPaths.{LockPath, all_final, lock_path_of}
+use Rattle.locks.specs.LockPaths.{LockPath, all_final}
+use Rattle.lockpaths.specs.declared.finder.Base.{Base}
 use Rattle.lockpaths.specs.declared.finder.Finder.{Finder}
-use Rattle.lockpaths_forms.specs.declared.forms.Form.{Form}
-use Rattle.lockpaths_forms.specs.Working.Forms.{Replacement, stable_path_of, replacements_of, IsFormOf}
-use Rattle.lockpaths.specs.Working.Gathering.{Gathered, path_by, field_path, gathered, gathered_at, with_accesses_of, with_owner, with_owners}
+use Rattle.lockpaths.specs.declared.found.Place.{Place}
+use Rattle.lockpaths.specs.Working.Gathering.{path_by, gathered, gathered_at, with_accesses_of, with_owner, with_owners}
+use Rattle.lockpaths.specs.Working.Places.{IsPlace, path_at}
+use Rattle.lockpaths.specs.Working.Told.{Seen, Told}
 
--- what stands for the section's locals
-abbrev pub table_of : Finder → List Replacement
-table_of f = replacements_of f.forms
+abbrev pub target_of : Finder → Told → Target → Option LockPath
+target_of f t target = path_by f.program.now f.section.now t.table target
 
--- the normal form of a base with final references behind it, which is none behind a field that is not final
-abbrev pub IsBase : Finder → Bool → ℕ → List FieldStep → List ℕ → Option Form → Type 0
-IsBase f is_behind local fields through base =
-    (is_behind ≡ true → all_final fields ≡ None) → IsFormOf f.forms.section.now (table_of f) local fields through base
+abbrev pub over : Finder → Told → List Access → Told
+over f t accesses = record { table = t.table; gathered = gathered f.program.now f.section.now t.table t.gathered accesses }
 
--- the lock path of a field of a base
-abbrev pub IsLockOf : Finder → ℕ → ℕ → Option Form → Option written.LockPath → Type 0
-IsLockOf f structure field base path = option_map lock_path_of path ≡ field_path f.program.now structure field (option_map stable_path_of base)
+abbrev pub over_point : Finder → Told → Point → Told
+over_point f t point = record { table = t.table; gathered = with_accesses_of f.program.now f.section.now t.table t.gathered point }
 
-abbrev pub target_of : Finder → Target → Option LockPath
-target_of f target = path_by f.program.now f.forms.section.now (table_of f) target
+abbrev pub over_points : Finder → Told → List Point → Told
+over_points f t points = record { table = t.table; gathered = gathered_at f.program.now f.section.now t.table t.gathered points }
 
-abbrev pub over : Finder → Gathered → List Access → Gathered
-over f g accesses = gathered f.program.now f.forms.section.now (table_of f) g accesses
+abbrev pub over_owner : Finder → Told → Point → Told
+over_owner f t point = record { table = t.table; gathered = with_owner f.section.now t.gathered point }
 
-abbrev pub over_point : Finder → Gathered → Point → Gathered
-over_point f g point = with_accesses_of f.program.now f.forms.section.now (table_of f) g point
+abbrev pub over_owners : Finder → Told → List Point → Told
+over_owners f t points = record { table = t.table; gathered = with_owners f.section.now t.gathered points }
 
-abbrev pub over_points : Finder → Gathered → List Point → Gathered
-over_points f g points = gathered_at f.program.now f.forms.section.now (table_of f) g points
+-- a base is behind a field that is not final only if it has one
+abbrev pub IsTold : Base → Type 0
+IsTold base = base.is_behind ≡ true → all_final base.fields.now ≡ None
 
-abbrev pub over_owner : Finder → Gathered → Point → Gathered
-over_owner f g point = with_owner f.forms.section.now g point
-
-abbrev pub over_owners : Finder → Gathered → List Point → Gathered
-over_owners f g points = with_owners f.forms.section.now g points
+-- the place of the lock of a field of a base
+abbrev pub IsLockOf : Finder → Told → ℕ → ℕ → Base → Seen → Option Place → Type 0
+IsLockOf f t structure number base new place =
+    IfSome place (IsPlace new.known.paths)
+    × (IsTold base → option_map (path_at new.known.paths) place ≡ target_of f t (field base.local base.fields.now structure number))
 
 -- the accesses of conditions, and of the operands of a chain, one after another
 abbrev pub in_all : List Condition → List Access

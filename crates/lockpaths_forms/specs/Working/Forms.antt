@@ -8,11 +8,10 @@ use Rattle.core_lang.specs.declared.tree.Expr.{Expr}
 use Rattle.core_lang.specs.declared.tree.FieldStep.{FieldStep}
 use Rattle.core_lang.specs.declared.tree.Section.{Section}
 use Rattle.flow.specs.Points.{Point, statement}
-use Rattle.locks.specs.LockPaths.{StablePath, OwnerPath, Binding, binding_at, all_final, stable, stable_value, owner_of, owned_path, or_behind}
-use Rattle.lockpaths_forms.specs.declared.forms.Form.{Form}
-use Rattle.lockpaths_forms.specs.declared.forms.Owner.{Owner}
+use Rattle.locks.specs.LockPaths.{StablePath, OwnerPath, Binding, binding_at, all_final, stable_value, owner_of, owned_path, or_behind}
+use Rattle.lockpaths_forms.specs.declared.form.Form.{Form}
+use Rattle.lockpaths_forms.specs.declared.form.Owner.{Owner}
 use Rattle.lockpaths_forms.specs.declared.forms.Bound.{Bound}
-use Rattle.lockpaths_forms.specs.declared.forms.Forms.{Forms}
 
 abbrev pub stable_path_of : Form → StablePath
 stable_path_of form = record { root = form.root; finals = form.finals.items }
@@ -29,11 +28,11 @@ pub record Replacement : Type 0 where
   pub owner : Option OwnerPath
   pub value : Option StablePath
 
-abbrev pub replacement_of : Bound → Replacement
-replacement_of b = record { local = b.local; owner = option_map owner_path_of b.owner; value = option_map stable_path_of b.value }
+abbrev pub bound_as : ℕ → Option Owner → Option Form → Replacement
+bound_as local owner value = record { local = local; owner = option_map owner_path_of owner; value = option_map stable_path_of value }
 
-abbrev pub replacements_of : Forms → List Replacement
-replacements_of f = map replacement_of f.bounds.items
+abbrev pub replacement_of : Bound → Replacement
+replacement_of b = bound_as b.local b.owner b.value
 
 -- of a `let` or a `var`, and its initialiser
 abbrev pub replacement : Section → ℕ → Expr → Replacement
@@ -75,6 +74,3 @@ all_replaced_by (r ∷ rs) path = replaced_by r (all_replaced_by rs path)
 -- the normal form of a local followed by fields, and by final references, if that is a stable path
 abbrev pub form_by : List Replacement → List ℕ → StablePath → StablePath
 form_by rs through base = all_replaced_by rs (record { root = base.root; finals = base.finals ++ through })
-
-abbrev pub IsFormOf : Section → List Replacement → ℕ → List FieldStep → List ℕ → Option Form → Type 0
-IsFormOf section rs local fields through form = option_map stable_path_of form ≡ option_map (form_by rs through) (stable section local fields)

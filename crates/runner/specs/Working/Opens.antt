@@ -12,7 +12,7 @@ use Rattle.layout.specs.LockCells.{cells_of}
 use Rattle.moved_cells.specs.Working.Grants.{GrantOf, IsWhole, numbered, locks_of}
 use Rattle.runner_cells.specs.Working.Held.{cells_granted}
 use Rattle.history.specs.Commits.{Commit, IsTrueCommit}
-use Rattle.lock_manager.specs.declared.places.Place.TheVariants.{Free, Taken}
+use Rattle.lock_manager.specs.declared.places.LockPlace.TheVariants.{Free, Taken}
 use Rattle.lock_manager.specs.Working.Sessions.{SessionOf, TicketOf, ReceiptOf}
 use Rattle.lock_manager.specs.Working.Managers.{Managed, place_of}
 use Rattle.lock_manager.specs.Working.Calls.{Begins, Knows, CanRelease, Releases, GivesUp, after_grant, after_refusal}

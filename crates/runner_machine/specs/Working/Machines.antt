@@ -18,8 +18,8 @@ use Rattle.code.specs.Machine.{Machine, Effect, Moves, Asks, Finishes, Undefined
 use Rattle.code.specs.Memory.{HeldCells, none_held, value_at, load_held, store_held}
 use Rattle.moved_cells.specs.Working.Grants.{IsWhole, locks_of}
 use Rattle.runner_cells.specs.Working.Held.{HoldingOf, cells_granted}
-use Rattle.runner_machine.specs.declared.answer.Answer.{Answer}
-use Rattle.runner_machine.specs.declared.answer.Answer.TheVariants as answer
+use Rattle.runner_machine.specs.declared.progress.Progress.{Progress}
+use Rattle.runner_machine.specs.declared.progress.Progress.TheVariants as answer
 use Rattle.runner_machine.specs.declared.machine.Left.{Left}
 
 -- a machine over the cells that a section holds; for how many operands it has room; and beside its cells what belongs to
@@ -86,14 +86,14 @@ abbrev pub effect_of : Shape → Instr → RunOf → Effect HeldCells
 effect_of shape instruction r = act load_held store_held shape (Some instruction) r.machine
 
 -- the effect is told, and made: where it moves the machine it is where it moves it, and else it is as it was
-abbrev pub HasEffect : Effect HeldCells → RunOf → Answer → RunOf → Type 0
+abbrev pub HasEffect : Effect HeldCells → RunOf → Progress → RunOf → Type 0
 HasEffect effect old answer.Moved new = (effect ≡ Moves new.machine) × (new ≡ with_machine old new.machine)
 HasEffect effect old (answer.Asks point) new = (effect ≡ Asks point) × (new ≡ old)
 HasEffect effect old (answer.Finished outcome) new = (effect ≡ Finishes outcome) × (new ≡ old)
 HasEffect effect old answer.Undefined new = (effect ≡ Undefined) × (new ≡ old)
 
 -- what an answer says where there is a failure
-abbrev pub told : Failure → Answer
+abbrev pub told : Failure → Progress
 told (Trap t) = answer.Finished (Traps t)
 told Wrong = answer.Undefined
 

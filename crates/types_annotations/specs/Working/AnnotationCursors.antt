@@ -1,9 +1,8 @@
 -- Where walks along annotations stand, and what annotations name.
-use Rattle.std.specs.Prelude.{ℕ, List, map, Option, option_map}
+use Rattle.std.specs.Prelude.{List, map, Option, option_map}
 use Rattle.source.specs.declared.mistake.Mistake.{Mistake}
 use Rattle.syntax.specs.declared.tree.Name.{Name}
 use Rattle.syntax.specs.declared.tree.Protection as written
-use Rattle.syntax.specs.declared.tree.Struct.{Struct}
 use Rattle.syntax.specs.Views.{ident, protection_of as protection_view, option_of}
 use Rattle.resolution.specs.Core.{Protection}
 use Rattle.resolution.specs.Annotations.{AnnotationCursor, along, protection_of}
@@ -11,6 +10,8 @@ use Rattle.resolution.specs.Working.FaultLists.{named_lock_faults, passed, ended
 use Rattle.types_symbols.specs.declared.declarations.Declarations.{Declarations}
 use Rattle.types_symbols.specs.Working.Views.{decls_of, members_seen}
 use Rattle.types_annotations.specs.declared.annotation.AnnotationCursor as s
+use Rattle.types_annotations.specs.declared.annotation.AnnotationWalk.{AnnotationWalk}
+use Rattle.types_annotations.specs.declared.annotation.FieldAnnotations.{FieldAnnotations}
 
 abbrev pub cursor_of : s.AnnotationCursor → AnnotationCursor
 cursor_of s = record { structure = s.place; members = members_seen s.structure.now; through = s.through.items }
@@ -23,24 +24,24 @@ cursor_seen cursor = option_map cursor_of cursor
 abbrev pub lock_name_faults : Declarations → Name → List Name → List Mistake
 lock_name_faults d x ys = named_lock_faults (decls_of d) (ident x) (map ident ys)
 
--- with a name that others follow, where a walk stands that begins there
-abbrev pub passed_at : Declarations → ℕ → Option s.AnnotationCursor → Name → List Mistake
-passed_at d first cursor y = passed (decls_of d) first (cursor_seen cursor) (ident y)
+-- with a name that others follow
+abbrev pub passed_at : AnnotationWalk → Option s.AnnotationCursor → Name → List Mistake
+passed_at walk cursor y = passed (decls_of walk.symbols.now) walk.start (cursor_seen cursor) (ident y)
 
 -- with the last name
-abbrev pub ended_at : Declarations → ℕ → Option s.AnnotationCursor → Name → List Mistake
-ended_at d first cursor y = ended (decls_of d) first (cursor_seen cursor) (ident y)
+abbrev pub ended_at : AnnotationWalk → Option s.AnnotationCursor → Name → List Mistake
+ended_at walk cursor y = ended (decls_of walk.symbols.now) walk.start (cursor_seen cursor) (ident y)
 
 -- what a walk from there along names comes to, and what is wrong with it
-abbrev pub protection_along : Declarations → Option s.AnnotationCursor → Name → List Name → Option Protection
-protection_along d cursor y zs = along (decls_of d) (cursor_seen cursor) (ident y) (map ident zs)
+abbrev pub protection_along : AnnotationWalk → Option s.AnnotationCursor → Name → List Name → Option Protection
+protection_along walk cursor y zs = along (decls_of walk.symbols.now) (cursor_seen cursor) (ident y) (map ident zs)
 
-abbrev pub faults_along : Declarations → ℕ → Option s.AnnotationCursor → Name → List Name → List Mistake
-faults_along d first cursor y zs = along_faults (decls_of d) first (cursor_seen cursor) (ident y) (map ident zs)
+abbrev pub faults_along : AnnotationWalk → Option s.AnnotationCursor → Name → List Name → List Mistake
+faults_along walk cursor y zs = along_faults (decls_of walk.symbols.now) walk.start (cursor_seen cursor) (ident y) (map ident zs)
 
--- what the annotation of a field of the struct at this place names, and what is wrong with it
-abbrev pub field_protection : Declarations → ℕ → Struct → Option written.Protection → Option Protection
-field_protection d place s p = protection_of (decls_of d) place (members_seen s) (option_of protection_view p)
+-- what a field's annotation names, and what is wrong with that of the field of this name
+abbrev pub field_protection : FieldAnnotations → Option written.Protection → Option Protection
+field_protection at p = protection_of (decls_of at.symbols.now) at.place (members_seen at.structure.now) (option_of protection_view p)
 
-abbrev pub field_protection_faults : Declarations → ℕ → Struct → Name → Option written.Protection → List Mistake
-field_protection_faults d place s x p = protection_faults (decls_of d) place (members_seen s) x.start (option_of protection_view p)
+abbrev pub field_protection_faults : FieldAnnotations → Name → Option written.Protection → List Mistake
+field_protection_faults at x p = protection_faults (decls_of at.symbols.now) at.place (members_seen at.structure.now) x.start (option_of protection_view p)

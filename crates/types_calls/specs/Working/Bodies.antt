@@ -1,10 +1,20 @@
 -- The bodies of a tree.
 use Rattle.std.specs.Prelude.{List, take}
-use Rattle.syntax.specs.Trees.{Decl}
+use Rattle.syntax.specs.Trees.{Decl, Section}
 use Rattle.core_lang_calls.specs.Graphs.{Body}
+use Rattle.resolution.specs.declared.body_limits.BodyLimits.{BodyLimits}
 use Rattle.resolution.specs.Limits.{SECTION_LIMIT}
-use Rattle.resolution.specs.CallGraphs.{helper_bodies}
+use Rattle.resolution.specs.Resolution.{ahead_of}
+use Rattle.resolution.specs.CallGraphs.{body_in, helper_bodies, section_bodies}
 
 -- the helpers, as many as there may be
 abbrev pub first_helpers : List Decl → List Body
 first_helpers decls = take SECTION_LIMIT (helper_bodies decls decls)
+
+-- the sections, all of them
+abbrev pub all_sections : List Decl → List Body
+all_sections decls = section_bodies decls decls
+
+-- of a section or a helper that may have so much
+abbrev pub body_within : List Decl → BodyLimits → Section → Body
+body_within decls limits s = body_in (ahead_of decls limits s) s

@@ -1,10 +1,12 @@
 -- What a walk over statements knows.
-use Rattle.std.specs.Prelude.{ℕ, List, Option, Some, None}
+use Rattle.std.specs.Prelude.{◌≡◌, ◌++◌, ℕ, List, Option, Some, None}
+use Rattle.core_lang_calls.specs.declared.graph.CallSite.{CallSite}
 use Rattle.syntax.specs.Trees.{Decl, helper, Stmts}
 use Rattle.resolution.specs.Scopes.{Scope, Meaning, a_decl, number_at, left}
 use Rattle.resolution.specs.Statements.{after_all}
 use Rattle.types_symbols.specs.{decls_of, KnownLocals, scope_of}
 use Rattle.types_calls.specs.declared.walk.Reader.{Reader}
+use Rattle.types_calls.specs.declared.walk.Walk.{Walk}
 
 -- the scope with these locals
 abbrev pub scope_at : Reader → KnownLocals → Scope
@@ -17,3 +19,11 @@ number_meant decls _ = None
 
 abbrev pub behind_block : Scope → Stmts → Scope
 behind_block sc body = left sc (after_all sc body)
+
+-- locals that lead from one scope to another
+abbrev pub Leads : Reader → KnownLocals → KnownLocals → (Scope → Scope) → Type 0
+Leads reader old new go = scope_at reader new ≡ go (scope_at reader old)
+
+-- a walk that has some calls more
+abbrev pub AddsCalls : Reader → Walk → Walk → (Scope → List CallSite) → Type 0
+AddsCalls reader old new calls = new.calls.items ≡ old.calls.items ++ calls (scope_at reader old.locals)

@@ -69,12 +69,12 @@ members_added_of b here st ms = members_added (known b) here.number here.place (
 -- ---- faults
 
 -- of a member of the struct at a place
-abbrev pub member_faults_of : SymbolTable → ℕ → Structure → Member → List Mistake
-member_faults_of symbols place structure m = member_faults (decls_of symbols) place (members_seen structure) (member_of m)
+abbrev pub member_faults_of : Builder → ℕ → Structure → Member → List Mistake
+member_faults_of b place structure m = member_faults (known b) place (members_seen structure) (member_of m)
 
 -- of members of it
-abbrev pub members_faults_of : SymbolTable → ℕ → Structure → List Member → List Mistake
-members_faults_of symbols place structure ms = members_faults (decls_of symbols) place (members_seen structure) (map member_of ms)
+abbrev pub members_faults_of : Builder → ℕ → Structure → List Member → List Mistake
+members_faults_of b place structure ms = members_faults (known b) place (members_seen structure) (map member_of ms)
 
 -- of the pool at a place, where a final reference isn't given
 abbrev pub missing_faults_of : SymbolTable → ℕ → Pool → List Mistake

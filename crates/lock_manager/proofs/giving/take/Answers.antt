@@ -1,5 +1,5 @@
 use Rattle.std.proofs.Common.{ap, ◌∙◌, sym, Some}
-use Rattle.lock_manager.specs.declared.places.Place.TheVariants.{Taken}
+use Rattle.lock_manager.specs.declared.places.LockPlace.TheVariants.{Taken}
 use Rattle.lock_manager.proofs.Lists.{set_set, set_itself, read_at}
 use Rattle.lock_manager.proofs.giving.take.Goals as goal
 

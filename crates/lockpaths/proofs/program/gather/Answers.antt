@@ -6,7 +6,7 @@ use Rattle.core_lang.specs.declared.tree.Section.{Section}
 use Rattle.lockpaths.specs.declared.table.SectionPaths.{SectionPaths}
 use Rattle.lockpaths.specs.Working.Faulted.{faults_in}
 use Rattle.lockpaths.specs.Working.Numbers.{AreEach}
-use Rattle.lockpaths.specs.Working.Gathering.{Gathered}
+use Rattle.lockpaths.specs.Working.Told.{Seen}
 use Rattle.lockpaths.proofs.Used.{IsFound, found_none}
 use Rattle.lockpaths.proofs.Turns.{not_some, not_none, least_next, each_next}
 use Rattle.lockpaths.proofs.program.gather.Goals as goal
@@ -14,24 +14,24 @@ use Rattle.lockpaths.proofs.program.gather.Goals.{then-is_none+in_ok-paths+in_ok
 
 pub section_paths-requires : goal.section_paths-requires
 section_paths-requires c =
-    let told : c.found.inside.least ≡ c.in_ok-found.found.least = ap (λ (g : Gathered). g.least) c.found.view_is in
-    let found : IsFound c.args.program.now c.section-item.result c.in_ok-found.found =
-    found_none c.each_path_once.ensures.same c.each_path_once.ensures.once c.args.program.now c.section-item.result c.loop-section.least c.in_ok-found.found c.in_ok-found.ensures
+    let told : c.found.inside.least ≡ c.in_ok-found.found.gathered.least = ap (λ (s : Seen). s.gathered.least) c.found.view_is in
+    let found : IsFound c.args.program.now c.section-item.result c.in_ok-found.found.gathered =
+    found_none c.each_path_once.ensures.same c.each_path_once.ensures.once c.args.program.now c.section-item.result c.loop-section.least c.in_ok-found.found.gathered c.in_ok-found.ensures
     (sym told ∙ not_some c.found.inside.least c.if-is_none.ensures) in
     found.complete
 
 pub loop-section-preserved : goal.loop-section-preserved
 loop-section-preserved c =
-    let told : c.found.inside.least ≡ c.in_ok-found.found.least = ap (λ (g : Gathered). g.least) c.found.view_is in
+    let told : c.found.inside.least ≡ c.in_ok-found.found.gathered.least = ap (λ (s : Seen). s.gathered.least) c.found.view_is in
     let least =
     least_next c.args.program.now c.deref-section-items.result.now c.loop-section.section-index c.section-item.result c.section-item.is c.loop-section-test.true
-    c.each_path_once.ensures.same c.each_path_once.ensures.once c.loop-section.least c.in_ok-found.found c.in_ok-found.ensures c.found.inside.least told c.loop-section.invariant.least in
+    c.each_path_once.ensures.same c.each_path_once.ensures.once c.loop-section.least c.in_ok-found.found.gathered c.in_ok-found.ensures c.found.inside.least told c.loop-section.invariant.least in
     elim c.if-is_none.branch [
       | then-is_none+in_ok-paths+in_ok-push w ↦ record {
         least = least;
         found =
             each_next c.args.program.now c.deref-section-items.result.now c.loop-section.section-index c.section-item.result c.section-item.is c.loop-section-test.true
-            c.each_path_once.ensures.same c.each_path_once.ensures.once c.loop-section.least c.in_ok-found.found c.in_ok-found.ensures c.found.inside.least told
+            c.each_path_once.ensures.same c.each_path_once.ensures.once c.loop-section.least c.in_ok-found.found.gathered c.in_ok-found.ensures c.found.inside.least told
             c.loop-section.sections.items c.if-is_none.sections.items w.in_ok-paths.paths c.loop-section.invariant.found w.in_ok-paths.ensures
             (ap (λ v. v.items) w.sections-is ∙ w.in_ok-push.ensures.items);
       }

@@ -3,7 +3,7 @@ use Rattle.std.specs.Prelude.{slice_get}
 use Rattle.std.specs.List.{All}
 use Rattle.core_lang.specs.declared.value.Value.{Value}
 use Rattle.moved_cells.specs.Working.Grants.{values_on}
-use Rattle.lock_manager.specs.declared.places.Place.TheVariants.{Free}
+use Rattle.lock_manager.specs.declared.places.LockPlace.TheVariants.{Free}
 use Rattle.lock_manager.specs.Working.Committed.{CommittedOf, rows, members_of}
 use Rattle.lock_manager.proofs.Lists.{read_at, map_at}
 use Rattle.lock_manager.proofs.Members.{row_within, rows_long}

@@ -1,6 +1,6 @@
 use Rattle.std.proofs.Common.{take, map, ◌≡◌, List, ℕ}
 use Rattle.moved_cells.specs.Working.Grants.{values_on}
-use Rattle.lock_manager.specs.declared.places.Place.TheVariants.{Free}
+use Rattle.lock_manager.specs.declared.places.LockPlace.TheVariants.{Free}
 use Rattle.lock_manager.specs.Working.Committed.{rows}
 use Rattle.lock_manager.proofs.committed.Committed.free_places.Given as goal
 

@@ -1,6 +1,6 @@
 use Rattle.std.proofs.Common.{ℕ, Option, Some, set, ◌∙◌, sym, ap, subst, ◌≡◌}
 use Rattle.locks.specs.declared.lock.Lock.{Lock}
-use Rattle.lock_manager.specs.declared.places.Place.TheVariants.{Taken, Free}
+use Rattle.lock_manager.specs.declared.places.LockPlace.TheVariants.{Taken, Free}
 use Rattle.lock_manager.specs.Working.Sessions.{with_lock, with_ask}
 use Rattle.lock_manager.specs.Working.Queues.{leaving, joining}
 use Rattle.lock_manager.specs.Working.Managers.{Managed, managed, session_in, place_of}

@@ -1,6 +1,7 @@
 use Rattle.std.proofs.Common.{◌∙◌}
 use Rattle.locks.specs.Accesses.{in_condition}
 use Rattle.lockpaths.proofs.Going.{over_both, over_compare, over_next}
+use Rattle.lockpaths.specs.Working.Told.{seen}
 use Rattle.lockpaths.proofs.finder.Finder.+conditions.Goals as goal
 
 pub condition-returns-in_ok-condition-in-And : goal.condition-returns-in_ok-condition-in-And
@@ -10,11 +11,11 @@ condition-returns-in_ok-condition-in-And t c =
 
 pub condition-returns-in_ok-expr-in-Compare-2 : goal.condition-returns-in_ok-expr-in-Compare-2
 condition-returns-in_ok-expr-in-Compare-2 t c =
-    over_compare c.args.self.now c.args.found.now c.expr.new.found c.expr-in-Compare.new.found c.args.condition.now c.in-Compare.field-0 c.in-Compare.a c.in-Compare.b c.in-Compare.is
+    over_compare c.args.self.now (seen c.args.found.now) (seen c.expr.new.found) (seen c.expr-in-Compare.new.found) c.args.condition.now c.in-Compare.field-0 c.in-Compare.a c.in-Compare.b c.in-Compare.is
     c.in_ok-expr-in-Compare.ensures c.in_ok-expr-in-Compare-2.ensures
 
 pub conditions-loop-condition-preserved : goal.conditions-loop-condition-preserved
 conditions-loop-condition-preserved t c =
-    over_next c.args.self.now c.loop-condition.found c.condition.new.found in_condition c.args.conditions.now c.loop-condition.condition-index c.condition-item.result
+    over_next c.args.self.now (seen c.loop-condition.found) (seen c.condition.new.found) in_condition c.args.conditions.now c.loop-condition.condition-index c.condition-item.result
     c.loop-condition-test.true c.condition-item.is c.in_ok-condition.ensures
     ∙ c.loop-condition.invariant

@@ -9,7 +9,7 @@ use Rattle.meaning_trees.proofs.Calls.{concludes_with, helper_run}
 use Rattle.meaning_trees.proofs.Depths.{room, helper_fits, one_less}
 use denote.Param.Weighed.{most}
 use Rattle.core_lang.specs.declared.tree.Stmt.{size-Stmt}
-use Rattle.meaning_trees.specs.Working.Stops.{Follows}
+use Rattle.meaning_trees.specs.Working.Halts.{Follows}
 use Rattle.meaning_trees.specs.Working.Execution.{state_of}
 use Rattle.meaning_trees.proofs.Blocks.{if_true, if_false, if_else_true, if_else_false, while_is, while_turns}
 use Rattle.meaning_trees.proofs.execution.Execution.+run.Goals as goal

@@ -1,0 +1,11 @@
+use Rattle.lockpaths_forms.specs.Working.States.{or_local}
+use Rattle.lockpaths_forms.proofs.Walked.{read_as_kept}
+use Rattle.lockpaths_forms.proofs.forms.Forms.bind.Goals as goal
+
+pub with-requires : goal.with-requires
+with-requires c = (
+  c.in_ok-other.other,
+  read_as_kept c.other.new.self c.turn.new.self c.in_ok-turn.ensures.kept c.in_ok-other.other (or_local c.args.local c.args.value) c.in_ok-other.ensures.state,
+  c.in_ok-turn.ensures.turn,
+  c.bound_state-state.ensures,
+)

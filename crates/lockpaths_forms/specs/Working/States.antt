@@ -1,0 +1,103 @@
+-- States of a walk along a stable path, and what is read from them on. Nobody has to believe these.
+use Rattle.std.specs.Prelude.{◌≡◌, ℕ, ◌+◌, ◌<◌, ◌==◌, Bool, false, List, [], ◌∷◌, ◌++◌, map, length, take, get_or, slice_get, Option, Some, None, ⊤}
+use Rattle.std.specs.Option.{option_map}
+use Rattle.core_lang.specs.declared.tree.FieldStep.{FieldStep}
+use Rattle.core_lang.specs.declared.tree.Section.{Section}
+use Rattle.locks.specs.LockPaths.{StablePath, stable}
+use Rattle.lockpaths_forms.specs.declared.form.Form.{Form}
+use Rattle.lockpaths_forms.specs.declared.form.Owner.{Owner}
+use Rattle.lockpaths_forms.specs.declared.form.State.{State}
+use Rattle.lockpaths_forms.specs.declared.form.State.TheVariants.{Node, Where}
+use Rattle.lockpaths_forms.specs.declared.form.Turn.{Turn}
+use Rattle.lockpaths_forms.specs.declared.forms.Bound.{Bound}
+use Rattle.lockpaths_forms.specs.Working.Forms.{Replacement, stable_path_of, replacement_of, all_replaced_by, form_by}
+use Rattle.lockpaths_forms.specs.Working.Nodes.{local_path, nowhere, onto, IsGrown, IsNodeOf}
+
+-- what stands for the locals that are bound so far, how walks from them go on, and the paths that are numbered
+pub record Known : Type 0 where
+  pub table : List Replacement
+  pub turns : List (Option Turn)
+  pub paths : List StablePath
+
+abbrev pub known : List Bound → List StablePath → Known
+known bounds paths = record { table = map replacement_of bounds; turns = map (λ (b : Bound). b.turn) bounds; paths = paths }
+
+abbrev pub nothing_bound : Replacement
+nothing_bound = record { local = 0; owner = None; value = None }
+
+-- the normal form to which numbers lead on from a state; from what is bound, what is bound behind it counts for nothing
+abbrev pub reads : Known → State → List ℕ → StablePath
+reads f (Node n) ns = onto (get_or f.paths n nowhere) ns
+reads f (Where k) ns = all_replaced_by (take (k + 1) f.table) (record { root = (get_or f.table k nothing_bound).local; finals = ns })
+
+abbrev pub IsState : Known → State → Type 0
+IsState f (Node n) = n < length f.paths
+IsState f (Where k) = (t : Turn) × (slice_get f.turns k ≡ Some (Some t))
+
+abbrev pub IsBefore : ℕ → State → Type 0
+IsBefore k (Node n) = ⊤
+IsBefore k (Where j) = j < k
+
+-- numbers begin with this one
+abbrev pub begins : ℕ → List ℕ → Bool
+begins n [] = false
+begins n (m ∷ ms) = n == m
+
+-- how a walk goes on from what is bound: by the number of the `where`, and by any other
+pub record IsTurn (f : Known) (k : ℕ) (t : Turn) : Type 0 where
+  pub past : IsState f t.past
+  pub other : IsState f t.other
+  pub earlier : IsBefore k t.other
+  pub node : IsNodeOf f.paths (reads f (Where k) []) t.node
+  pub leads : (ns : List ℕ) → reads f t.past ns ≡ reads f (Where k) (t.number ∷ ns)
+  pub stays : (ns : List ℕ) → begins t.number ns ≡ false → reads f t.other ns ≡ reads f (Where k) ns
+
+-- a state is that of a path: what is read from it on is the normal form of the path with numbers behind
+pub record IsReadAs (f : Known) (s : State) (path : StablePath) : Type 0 where
+  pub is : IsState f s
+  pub same : (ns : List ℕ) → reads f s ns ≡ all_replaced_by f.table (onto path ns)
+
+-- of a local, which has a state if it is bound
+abbrev pub IsOfLocal : Known → ℕ → Option State → Type 0
+IsOfLocal f local None = (ns : List ℕ) → onto (local_path local) ns ≡ all_replaced_by f.table (onto (local_path local) ns)
+IsOfLocal f local (Some s) = IsReadAs f s (local_path local)
+
+pub record AreForms (f : Known) (states : ℕ → Option State) : Type 0 where
+  pub even : length f.turns ≡ length f.table
+  pub turns : (k : ℕ) (t : Turn) → slice_get f.turns k ≡ Some (Some t) → IsTurn f k t
+  pub locals : (local : ℕ) → IsOfLocal f local (states local)
+
+-- nothing more is bound
+pub record IsKept (old new : Known) : Type 0 where
+  pub table : new.table ≡ old.table
+  pub turns : new.turns ≡ old.turns
+  pub paths : IsGrown old.paths new.paths
+
+-- numbers lead from one state to another
+pub record IsReached (old : Known) (s : State) (ms : List ℕ) (new : Known) (t : State) : Type 0 where
+  pub is : IsState new t
+  pub same : (ns : List ℕ) → reads new t ns ≡ reads old s (ms ++ ns)
+
+-- what a local is bound to, or the local itself
+abbrev pub or_local : ℕ → Option Form → StablePath
+or_local local None = local_path local
+or_local local (Some form) = stable_path_of form
+
+-- how a walk goes on by a `where`, if there is one, and otherwise from this state
+abbrev pub IsTurnOf : Known → Option Owner → State → Option Turn → Type 0
+IsTurnOf f None other turn = turn ≡ None
+IsTurnOf f (Some owner) other turn =
+    (t : Turn) × (turn ≡ Some t) × (t.number ≡ owner.number) × (t.other ≡ other) × IsNodeOf f.paths (reads f other []) t.node × IsReadAs f t.past (local_path owner.local)
+
+-- the state of what is bound: from which its turn goes on, if it has one
+abbrev pub IsStateOf : Known → State → State → Option Turn → Type 0
+IsStateOf f other state None = state ≡ other
+IsStateOf f other state (Some t) = state ≡ Where (length f.table)
+
+abbrev pub IsBoundIn : Known → Bound → State → Type 0
+IsBoundIn f b state = (other : State) × IsReadAs f other (or_local b.local b.value) × IsTurnOf f b.owner other b.turn × IsStateOf f other state b.turn
+
+-- the normal form of a local followed by fields and by final references is numbered so, if it is a stable path
+abbrev pub IsFormOf : Section → Known → ℕ → List FieldStep → List ℕ → Option ℕ → Type 0
+IsFormOf section f local fields through node =
+    option_map (slice_get f.paths) node ≡ option_map (λ base. Some (form_by f.table through base)) (stable section local fields)
