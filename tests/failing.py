@@ -166,10 +166,10 @@ def of_cases(a):
 
 
 def of_unit_tests(a):
-    crates = [TOP / f"crates/{crate}/out/{crate}_tests" for crate in ("unit_tests", "command_tests", "thread_tests")]
+    crates = [TOP / f"crates/{crate}/out/{crate}_tests" for crate in ("test_units", "test_commands", "test_workers")]
     for path in [a.program] if a.program else crates:
         program = str(path.resolve())
-        most = 300 if path.name == "thread_tests_tests" and not a.test else 1 << 62
+        most = 300 if path.name == "test_workers_tests" and not a.test else 1 << 62
         listed = subprocess.run([program, "--list"], capture_output=True, check=True, text=True)
         for name in re.findall(r"^(\S+): test$", listed.stdout + listed.stderr, re.M):
             if a.test not in (None, name):
