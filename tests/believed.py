@@ -228,7 +228,7 @@ def wrong_words(counted):
 
 
 def others():
-    """All public calls of the crates that are no part of the engines."""
+    """All public calls of the crates that are no part of the engines, and of those that are laws for their readers."""
     lines = re.findall(r"^(\w+)[^:\n]*:(.*)$", (TOP / "crates.txt").read_text(), re.M)
     below, todo = set(), ["driver"]
     deps = {name: names.split() for name, names in lines}
@@ -237,7 +237,7 @@ def others():
         if crate in deps and crate not in below:
             below.add(crate)
             todo += deps[crate]
-    return {str(it.relative_to(TOP)): None for crate in deps if crate not in below for it in (CRATES / crate).glob("src/**/*.rt")}
+    return {str(it.relative_to(TOP)): None for crate in deps if crate not in below or crate.endswith("_laws") for it in (CRATES / crate).glob("src/**/*.rt")}
 
 
 def main():

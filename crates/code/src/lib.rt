@@ -4,7 +4,7 @@
 //! - [`point_laws`]: what holds of the code of a section's points, and that it is never stuck.
 //! - [`run_laws`]: a section's code behaves as the section.
 //! - [`instr::Instr`]: one instruction.
-//! - [`section_code::Code`]: the code of a program.
+//! - [`section_code::ProgramCode`]: the code of a program.
 //! - [`listing`]: its listing, a line for each instruction.
 //!
 //! `specs/` says what an instruction does over any memory (`Machine`), which memories there are (`Memory`) and what is

@@ -8,8 +8,8 @@ ghost use Rattle.locks.specs.Texts.{AddsText};
 ghost use Rattle.code.specs.Working.Naming.{IsIndexOf, IsMnemonic, operand_text};
 
 use crate::instr::Instr;
-use crate::names::{GlobalName, Names};
-use crate::section_code::{Code, SectionCode};
+use crate::names::{GlobalName, ListingNames};
+use crate::section_code::{ProgramCode, SectionCode};
 use core_lang::tree::{Comparison, Operator};
 use indexmap::IndexMap;
 use source::memory::NoMemory;
@@ -60,11 +60,11 @@ fn operator_word(operator: Operator) -> &'static str
     ensures { result.now ≡ operator_text operator }
 {
     match operator {
-        Operator::Plus => "add",
-        Operator::Minus => "sub",
-        Operator::Times => "mul",
-        Operator::Divide => "div",
-        Operator::Remainder => "rem",
+        Operator::Add => "add",
+        Operator::Sub => "sub",
+        Operator::Mul => "mul",
+        Operator::Div => "div",
+        Operator::Rem => "rem",
     }
 }
 
@@ -74,11 +74,11 @@ fn comparison_word(comparison: Comparison) -> &'static str
 {
     match comparison {
         Comparison::Equal => "eq",
-        Comparison::Unequal => "ne",
+        Comparison::NotEqual => "ne",
         Comparison::Less => "lt",
-        Comparison::LessEqual => "le",
+        Comparison::LessOrEqual => "le",
         Comparison::Greater => "gt",
-        Comparison::GreaterEqual => "ge",
+        Comparison::GreaterOrEqual => "ge",
     }
 }
 
@@ -158,7 +158,7 @@ fn index_by_cell<'a>(
 #[derive(Drop)]
 struct Lister<'a> {
     /// The names of the program.
-    names: &'a Names,
+    names: &'a ListingNames,
     /// For each cell the first global that has it. A line may name any global, so the globals are not gone through.
     globals: IndexMap<u32, &'a GlobalName>,
     ghost indexed: { IsIndexOf names.now.globals.items globals } by { Prim.hlevel props },
@@ -166,7 +166,7 @@ struct Lister<'a> {
 
 impl<'a> Lister<'a> {
     // A lister of code with these names.
-    fn new(alloc: Global, names: &'a Names) -> Result<Lister<'a>, AllocError>
+    fn new(alloc: Global, names: &'a ListingNames) -> Result<Lister<'a>, AllocError>
         ensures { IfOk result (λ lister. lister.names.now ≡ names.now) }
     {
         let globals = index_by_cell(alloc, &names.globals)?;
@@ -294,7 +294,7 @@ impl<'a> Lister<'a> {
 }
 
 /// The instructions of each section, a line for each with its place. The only error is a refused growth.
-pub fn listing(alloc: Global, code: &Code) -> Result<String, NoMemory>
+pub fn listing(alloc: Global, code: &ProgramCode) -> Result<String, NoMemory>
     ensures { IfOk result (λ listed. string_bytes listed ≡ listing_text code.now) }
 {
     let lister = Lister::new(alloc, &code.names)?;

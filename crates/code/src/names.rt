@@ -22,7 +22,7 @@ pub struct StructNames {
 
 /// The names of what instructions refer to by number.
 #[derive(Drop)]
-pub struct Names {
+pub struct ListingNames {
     /// Of globals that are no arrays.
     pub globals: Vec<GlobalName>,
     /// Of arrays.

@@ -1,7 +1,7 @@
 //! The code of a program.
 
 use crate::instr::Instr;
-use crate::names::Names;
+use crate::names::ListingNames;
 
 /// The code of a section.
 #[derive(Drop)]
@@ -18,9 +18,9 @@ pub struct SectionCode {
 
 /// The code of a program.
 #[derive(Drop)]
-pub struct Code {
+pub struct ProgramCode {
     /// The names that its listing shows.
-    pub names: Names,
+    pub names: ListingNames,
     /// The code of each section.
     pub sections: Vec<SectionCode>,
 }

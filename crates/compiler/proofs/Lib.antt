@@ -5,3 +5,4 @@ pub mod FaultlessLemmas
 pub mod WrittenAlike
 pub mod LocalsAlike
 pub mod ExpandedAlike
+pub mod Alone

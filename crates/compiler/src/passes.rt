@@ -1,16 +1,18 @@
 //! The passes in order.
 
-ghost use Rattle.std.specs.Prelude.{IfOk, IfErr, OnOk};
+ghost use Rattle.std.specs.Prelude.{◌≡◌, IfOk, IfErr, OnOk};
 ghost use Rattle.core_lang.specs.WellFormed.{IsChecked, IsWellFormed};
 ghost use Rattle.core_lang_expansion.specs.Data.{IsExpanded};
 ghost use Rattle.lockpaths.specs.Paths.{ArePaths};
 ghost use Rattle.lockorder.specs.Edges.{AreRanksOf, RiseIn};
 ghost use Rattle.lockorder.specs.Faults.{HasNoFault};
 ghost use Rattle.lowering.specs.Plans.{IsCompiled};
+ghost use Rattle.lowering.specs.Working.Compiled.{program_of};
 ghost use Rattle.compiler.specs.Programs.{Accepts, IsForMemory, IsOrderRefusal, IsRefusal};
 
 use core_lang::typed::Typed;
 use core_lang_expansion::program::expand;
+use core_lang_laws::laws::a_program_without_helpers_is_its_own_expansion;
 use lexer::lex;
 use lockorder::order;
 use lockorder::ranks::{OrderRefusal, Ranks};
@@ -56,6 +58,28 @@ pub(crate) fn written_out(alloc: Global, program: &Typed) -> Result<Typed, Refus
     }
 }
 
+// The program as it was accepted, and the same with its helpers written out; one tree where it has none.
+fn trees(alloc: Global, accepted: Typed) -> Result<Trees, Refusal>
+    requires { IsChecked accepted }
+    ensures accepted { IfOk result (λ trees. trees.accepted ≡ accepted) }
+    ensures expanded { IfOk result (λ trees. IsExpanded accepted (program_of trees)) }
+    ensures well_formed { IfOk result (λ trees. IsWellFormed (program_of trees)) }
+    ensures fault { IfErr result IsForMemory }
+{
+    a_program_without_helpers_is_its_own_expansion();
+    if accepted.shape.helpers.is_empty() {
+        return Ok(Trees {
+            accepted,
+            written: None,
+        });
+    }
+    let written = written_out(alloc, &accepted)?;
+    Ok(Trees {
+        accepted,
+        written: Some(written),
+    })
+}
+
 /// The program that the text means, compiled; or the fault of the first pass that has one.
 ///
 /// # Errors
@@ -71,10 +95,11 @@ pub fn compile(alloc: Global, text: &[u8]) -> Result<Program, Refusal>
     drop(tokens);
     let accepted = check(alloc, &tree)?;
     drop(tree);
-    let written = written_out(alloc, &accepted)?;
-    let found = paths(alloc, &written)?;
-    let ranks = ranked(alloc, &written, &found)?;
-    match Program::of(alloc, Trees { accepted, written }, found, ranks) {
+    let trees = trees(alloc, accepted)?;
+    let program = trees.program();
+    let found = paths(alloc, program)?;
+    let ranks = ranked(alloc, program, &found)?;
+    match Program::of(alloc, trees, found, ranks) {
         Ok(program) => Ok(program),
         Err(NoMemory) => Err(Refusal::NoMemory),
     }

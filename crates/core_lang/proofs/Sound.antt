@@ -15,9 +15,9 @@ use Rattle.core_lang.specs.declared.shape.Pool.{Pool}
 use Rattle.core_lang.specs.declared.shape.Object.{Object}
 use Rattle.core_lang.specs.declared.shape.Shape.{Shape}
 use Rattle.core_lang.specs.declared.tree.Operator.{Operator}
-use Rattle.core_lang.specs.declared.tree.Operator.TheVariants.{Plus, Minus, Times, Divide, Remainder}
+use Rattle.core_lang.specs.declared.tree.Operator.TheVariants.{Add, Sub, Mul, Div, Rem}
 use Rattle.core_lang.specs.declared.tree.Comparison.{Comparison}
-use Rattle.core_lang.specs.declared.tree.Comparison.TheVariants.{Equal, Unequal, Less, LessEqual, Greater, GreaterEqual}
+use Rattle.core_lang.specs.declared.tree.Comparison.TheVariants.{Equal, NotEqual, Less, LessOrEqual, Greater, GreaterOrEqual}
 use Rattle.core_lang.specs.declared.tree.FieldStep.{FieldStep}
 use Rattle.core_lang.specs.declared.tree.FieldStep.TheVariants as step
 use Rattle.core_lang.specs.declared.tree.Path.{Path}
@@ -85,12 +85,12 @@ number_sound : (shape : Shape) (z : ℤ) → Gives (HasType shape Integer) (numb
 number_sound shape z = gives_if (HasType shape Integer) (fits z) (Ok (Int z)) (Err (Trap Overflow)) tt tt
 
 arithmetic_sound : (shape : Shape) (o : Operator) (a b : ℤ) → Gives (HasType shape Integer) (arithmetic o a b)
-arithmetic_sound shape Plus a b = number_sound shape (a +ℤ b)
-arithmetic_sound shape Minus a b = number_sound shape (a -ℤ b)
-arithmetic_sound shape Times a b = number_sound shape (a *ℤ b)
-arithmetic_sound shape Divide a b =
+arithmetic_sound shape Add a b = number_sound shape (a +ℤ b)
+arithmetic_sound shape Sub a b = number_sound shape (a -ℤ b)
+arithmetic_sound shape Mul a b = number_sound shape (a *ℤ b)
+arithmetic_sound shape Div a b =
     gives_if (HasType shape Integer) (is_zero b) (Err (Trap ZeroDivisor)) (number_of (int_div a b)) tt (number_sound shape (int_div a b))
-arithmetic_sound shape Remainder a b =
+arithmetic_sound shape Rem a b =
     let inner = gives_if (HasType shape Integer) (fits (int_div a b)) (Ok (Int (int_rem a b))) (Err (Trap Overflow)) tt tt in
     gives_if (HasType shape Integer) (is_zero b) (Err (Trap ZeroDivisor)) (if fits (int_div a b) then Ok (Int (int_rem a b)) else Err (Trap Overflow)) tt inner
 
@@ -114,33 +114,33 @@ equal_sound shape (Reference s) (Int a) (Ref b) h g = absurd h
 equal_sound shape Integer (Ref a) (Int b) h g = absurd h
 equal_sound shape (Reference s) (Ref a) (Int b) h g = absurd g
 
-unequal_sound : (shape : Shape) (t : ValueType) (v w : Value) → HasType shape t v → HasType shape t w → Gives IsAny (compared Unequal v w)
-unequal_sound shape t (Int a) (Int b) h g = tt
-unequal_sound shape t (Ref a) (Ref b) h g = tt
-unequal_sound shape Integer (Int a) (Ref b) h g = absurd g
-unequal_sound shape (Reference s) (Int a) (Ref b) h g = absurd h
-unequal_sound shape Integer (Ref a) (Int b) h g = absurd h
-unequal_sound shape (Reference s) (Ref a) (Int b) h g = absurd g
+not_equal_sound : (shape : Shape) (t : ValueType) (v w : Value) → HasType shape t v → HasType shape t w → Gives IsAny (compared NotEqual v w)
+not_equal_sound shape t (Int a) (Int b) h g = tt
+not_equal_sound shape t (Ref a) (Ref b) h g = tt
+not_equal_sound shape Integer (Int a) (Ref b) h g = absurd g
+not_equal_sound shape (Reference s) (Int a) (Ref b) h g = absurd h
+not_equal_sound shape Integer (Ref a) (Int b) h g = absurd h
+not_equal_sound shape (Reference s) (Ref a) (Int b) h g = absurd g
 
 less_sound : (shape : Shape) (v w : Value) → HasType shape Integer v → HasType shape Integer w → Gives IsAny (compared Less v w)
 less_sound shape (Int a) (Int b) h g = tt
 less_sound shape (Int a) (Ref b) h g = absurd g
 less_sound shape (Ref a) w h g = absurd h
 
-less_equal_sound : (shape : Shape) (v w : Value) → HasType shape Integer v → HasType shape Integer w → Gives IsAny (compared LessEqual v w)
-less_equal_sound shape (Int a) (Int b) h g = tt
-less_equal_sound shape (Int a) (Ref b) h g = absurd g
-less_equal_sound shape (Ref a) w h g = absurd h
+less_or_equal_sound : (shape : Shape) (v w : Value) → HasType shape Integer v → HasType shape Integer w → Gives IsAny (compared LessOrEqual v w)
+less_or_equal_sound shape (Int a) (Int b) h g = tt
+less_or_equal_sound shape (Int a) (Ref b) h g = absurd g
+less_or_equal_sound shape (Ref a) w h g = absurd h
 
 greater_sound : (shape : Shape) (v w : Value) → HasType shape Integer v → HasType shape Integer w → Gives IsAny (compared Greater v w)
 greater_sound shape (Int a) (Int b) h g = tt
 greater_sound shape (Int a) (Ref b) h g = absurd g
 greater_sound shape (Ref a) w h g = absurd h
 
-greater_equal_sound : (shape : Shape) (v w : Value) → HasType shape Integer v → HasType shape Integer w → Gives IsAny (compared GreaterEqual v w)
-greater_equal_sound shape (Int a) (Int b) h g = tt
-greater_equal_sound shape (Int a) (Ref b) h g = absurd g
-greater_equal_sound shape (Ref a) w h g = absurd h
+greater_or_equal_sound : (shape : Shape) (v w : Value) → HasType shape Integer v → HasType shape Integer w → Gives IsAny (compared GreaterOrEqual v w)
+greater_or_equal_sound shape (Int a) (Int b) h g = tt
+greater_or_equal_sound shape (Int a) (Ref b) h g = absurd g
+greater_or_equal_sound shape (Ref a) w h g = absurd h
 
 index_if : (P : ℕ → Type 0) (first count i : ℕ) (b : Bool) → ((j : ℕ) → j < count → P (first + j)) → nat_lt i count ≡ b →
     Gives P (if b then Ok (first + i) else Err (Trap OutOfRange))
@@ -322,11 +322,11 @@ module _ (program : Typed) (types : List ValueType) (laid : IsLaidOut program) (
   compare_sound : (c : Comparison) (a b : Expr) (s : State) → IsTyped s → CanCompare program types c a b →
       Gives IsAny (with (value_of a program.shape s.locals s.heap) (λ x. with (value_of b program.shape s.locals s.heap) (λ y. compared c x y)))
   compare_sound Equal a b s ty is = two_sound Equal is.0 a b s ty is.1 is.2 (equal_sound program.shape is.0)
-  compare_sound Unequal a b s ty is = two_sound Unequal is.0 a b s ty is.1 is.2 (unequal_sound program.shape is.0)
+  compare_sound NotEqual a b s ty is = two_sound NotEqual is.0 a b s ty is.1 is.2 (not_equal_sound program.shape is.0)
   compare_sound Less a b s ty is = two_sound Less Integer a b s ty is.0 is.1 (less_sound program.shape)
-  compare_sound LessEqual a b s ty is = two_sound LessEqual Integer a b s ty is.0 is.1 (less_equal_sound program.shape)
+  compare_sound LessOrEqual a b s ty is = two_sound LessOrEqual Integer a b s ty is.0 is.1 (less_or_equal_sound program.shape)
   compare_sound Greater a b s ty is = two_sound Greater Integer a b s ty is.0 is.1 (greater_sound program.shape)
-  compare_sound GreaterEqual a b s ty is = two_sound GreaterEqual Integer a b s ty is.0 is.1 (greater_equal_sound program.shape)
+  compare_sound GreaterOrEqual a b s ty is = two_sound GreaterOrEqual Integer a b s ty is.0 is.1 (greater_or_equal_sound program.shape)
 
   and_sound : (r q : Result Bool Failure) → Gives IsAny r → Gives IsAny q → Gives IsAny (and_then r q)
   and_sound (Ok true) q h k = k

@@ -10,15 +10,15 @@ use crate::value::ValueType;
 #[derive(Clone, Copy, PartialEq, Eq, Debug)]
 pub enum Operator {
     /// `+`
-    Plus,
+    Add,
     /// `-`
-    Minus,
+    Sub,
     /// `*`
-    Times,
+    Mul,
     /// `/`, which truncates toward zero.
-    Divide,
+    Div,
     /// `%`, which has the sign of its left side.
-    Remainder,
+    Rem,
 }
 
 /// A comparison of two values: of two numbers, and the first two also of two references.
@@ -27,15 +27,15 @@ pub enum Comparison {
     /// `==`
     Equal,
     /// `!=`
-    Unequal,
+    NotEqual,
     /// `<`
     Less,
     /// `<=`
-    LessEqual,
+    LessOrEqual,
     /// `>`
     Greater,
     /// `>=`
-    GreaterEqual,
+    GreaterOrEqual,
 }
 
 /// A field of the struct that has been reached.

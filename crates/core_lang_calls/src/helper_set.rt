@@ -12,7 +12,7 @@ pub struct Half {
 
 impl Half {
     /// None of them.
-    pub fn empty() -> Half
+    pub fn new() -> Half
         ensures { (k : ℕ) → has_half result k ≡ false }
     {
         Half { bits: 0 }
@@ -57,12 +57,12 @@ pub struct HelperSet {
 
 impl HelperSet {
     /// None of them.
-    pub fn empty() -> HelperSet
+    pub fn new() -> HelperSet
         ensures { (h : ℕ) → has_helper result h ≡ false }
     {
         HelperSet {
-            low: Half::empty(),
-            high: Half::empty(),
+            low: Half::new(),
+            high: Half::new(),
         }
     }
 

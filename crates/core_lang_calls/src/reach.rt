@@ -19,7 +19,7 @@ pub struct Reach {
 fn called(calls: &[CallSite]) -> HelperSet
     ensures { (g : ℕ) → g < 256 → has_helper result g ≡ is_called calls.now g }
 {
-    let mut set = HelperSet::empty();
+    let mut set = HelperSet::new();
     for call in calls {
         if call.helper < HELPER_LIMIT {
             set = set.with(call.helper);

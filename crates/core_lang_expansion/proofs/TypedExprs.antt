@@ -5,7 +5,7 @@ use Rattle.std.specs.List.{Contains}
 use Rattle.core_lang.specs.declared.value.ValueType.{ValueType}
 use Rattle.core_lang.specs.declared.value.ValueType.TheVariants.{Integer, Reference}
 use Rattle.core_lang.specs.declared.tree.Comparison.{Comparison}
-use Rattle.core_lang.specs.declared.tree.Comparison.TheVariants.{Equal, Unequal, Less, LessEqual, Greater, GreaterEqual}
+use Rattle.core_lang.specs.declared.tree.Comparison.TheVariants.{Equal, NotEqual, Less, LessOrEqual, Greater, GreaterOrEqual}
 use Rattle.core_lang.specs.declared.tree.FieldStep.{FieldStep}
 use Rattle.core_lang.specs.declared.tree.FieldStep.TheVariants as step
 use Rattle.core_lang.specs.declared.tree.Path.{Path}
@@ -70,11 +70,11 @@ module _ (program program' : Typed) (expands : IsExpansion program program') (sa
   compares : (c c' : Comparison) (a b a' b' : Expr) → c' ≡ c → Renames scope a a' → Renames scope b b' → CanCompare program (local_types own) c a b →
       CanCompare program' (types_of all) c' a' b'
   compares Equal c' a b a' b' e r s h = subst (λ z. CanCompare program' (types_of all) z a' b') (sym e) (h.0, typed a a' h.0 r h.1, typed b b' h.0 s h.2)
-  compares Unequal c' a b a' b' e r s h = subst (λ z. CanCompare program' (types_of all) z a' b') (sym e) (h.0, typed a a' h.0 r h.1, typed b b' h.0 s h.2)
+  compares NotEqual c' a b a' b' e r s h = subst (λ z. CanCompare program' (types_of all) z a' b') (sym e) (h.0, typed a a' h.0 r h.1, typed b b' h.0 s h.2)
   compares Less c' a b a' b' e r s h = subst (λ z. CanCompare program' (types_of all) z a' b') (sym e) (typed a a' Integer r h.0, typed b b' Integer s h.1)
-  compares LessEqual c' a b a' b' e r s h = subst (λ z. CanCompare program' (types_of all) z a' b') (sym e) (typed a a' Integer r h.0, typed b b' Integer s h.1)
+  compares LessOrEqual c' a b a' b' e r s h = subst (λ z. CanCompare program' (types_of all) z a' b') (sym e) (typed a a' Integer r h.0, typed b b' Integer s h.1)
   compares Greater c' a b a' b' e r s h = subst (λ z. CanCompare program' (types_of all) z a' b') (sym e) (typed a a' Integer r h.0, typed b b' Integer s h.1)
-  compares GreaterEqual c' a b a' b' e r s h = subst (λ z. CanCompare program' (types_of all) z a' b') (sym e) (typed a a' Integer r h.0, typed b b' Integer s h.1)
+  compares GreaterOrEqual c' a b a' b' e r s h = subst (λ z. CanCompare program' (types_of all) z a' b') (sym e) (typed a a' Integer r h.0, typed b b' Integer s h.1)
 
   mutual
     pub test_typed : (c c' : Condition) → RenamesTest scope c c' → IsTest program (local_types own) c → IsTest program' (types_of all) c'

@@ -1,5 +1,6 @@
-//! What holds of every program, in the language's own words, where a slip in a definition would show. Nothing stands on
-//! these laws: they are for readers who ask whether the definitions of `core_lang` say what they mean.
+//! What holds of every program, in the language's own words, where a slip in a definition would show. They are for readers
+//! who ask whether the definitions of `core_lang` say what they mean; only on the first does code rely (`compiler`, which
+//! keeps one tree of a program without helpers).
 //!
 //! - [`laws`]: programs without helpers, helpers that none calls, sections that only call one, and `where`.
 #![tactic(auto)]

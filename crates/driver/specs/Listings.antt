@@ -1,6 +1,6 @@
 -- What `listing` answers.
 use Rattle.std.specs.Prelude.{◌≡◌, ℕ, List, []}
-use Rattle.code.specs.declared.section_code.Code.{Code}
+use Rattle.code.specs.declared.section_code.ProgramCode.{ProgramCode}
 use Rattle.code.specs.Listing.{listing_text}
 use Rattle.lowering.specs.Lowered.{IsCodeOf}
 use Rattle.lowering.specs.Plans.{Plan}
@@ -10,7 +10,7 @@ use Rattle.driver.specs.Answers.{TextAnswers}
 
 -- out lists the program's code, err is empty
 pub record IsListed (plan : Plan) (status : Status) (out err : List ℕ) : Type 0 where
-  pub code : Code
+  pub code : ProgramCode
   pub made : IsCodeOf plan.program plan.lists code
   pub ended : status ≡ Done
   pub written : out ≡ listing_text code

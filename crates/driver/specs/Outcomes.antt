@@ -2,7 +2,7 @@
 use Rattle.std.specs.Prelude.{◌≡◌, ℕ, List, [], ◌∷◌, ◌++◌, slice_index, Option, Some, None, option_map, option_to_list}
 use Rattle.core_lang.specs.declared.typed.Typed.{Typed}
 use Rattle.core_lang.specs.Serial.{Invocation, Scheduled}
-use Rattle.outcomes.specs.Ends.{Told, AreAllEnds, AreDrawnEnds, HasPlaces, StopsAfter, done_after}
+use Rattle.outcomes.specs.Ends.{Told, AreAllEnds, AreDrawnEnds, HasConfigurations, StopsAfter, done_after}
 use Rattle.outcomes.specs.Orders.{next_call, one_more, none_done}
 use Rattle.report_outcomes.specs.Outcomes.{outcomes_text}
 use Rattle.report.specs.History.{unsettled_of}
@@ -30,7 +30,7 @@ pub record TellsAll (turns : ℕ) (program : Typed) (status : Status) (out err :
   pub ends : List Told
   pub all : AreAllEnds program turns ends
   pub states : ℕ
-  pub counted : HasPlaces program states
+  pub counted : HasConfigurations program states
   pub ended : status ≡ Done
   pub written : out ≡ outcomes_text program (Some states) ends
   pub told : err ≡ []

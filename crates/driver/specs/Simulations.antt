@@ -8,7 +8,7 @@ use Rattle.source_steps.specs.Steps.{turns_in, steps_fault_text}
 use Rattle.worlds.specs.Worlds.{final}
 use Rattle.worlds.specs.Claims.{Headline}
 use Rattle.code.specs.Listing.{line}
-use Rattle.report.specs.Simulation.{simulation_of}
+use Rattle.report_simulation.specs.Simulation.{simulation_of}
 use Rattle.driver.specs.declared.status.Status.{Status}
 use Rattle.driver.specs.declared.status.Status.TheVariants.{Done, BadInput}
 use Rattle.driver.specs.Answers.{TextAnswers}

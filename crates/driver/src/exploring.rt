@@ -106,7 +106,10 @@ impl Exploring<'_> {
     {
         let program = self.prepared.program();
         match self.found(alloc)? {
-            Found::All { ends, places } => told(alloc, program, Some(places), &ends),
+            Found::All {
+                ends,
+                configurations,
+            } => told(alloc, program, Some(configurations), &ends),
             Found::Drawn(ends) => told(alloc, program, None, &ends),
             Found::Unsettled { order, thread } => self.stopped(alloc, &order, thread),
         }

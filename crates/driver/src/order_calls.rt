@@ -30,30 +30,30 @@ impl OrderCalls<'_> {
 }
 
 /// The call that a thread makes next, where so many calls of each thread are done.
-fn next<'a>(typed: &'a Typed, done: &[usize], thread: usize) -> Option<ScheduledCall<'a>>
-    ensures next { option_map scheduled_of result ≡ scheduled_next typed.entry.now done.now thread }
-    ensures thread { IfSome result (λ _. thread < length typed.entry.now.threads.items) }
+fn next<'a>(program: &'a Typed, done: &[usize], thread: usize) -> Option<ScheduledCall<'a>>
+    ensures next { option_map scheduled_of result ≡ scheduled_next program.entry.now done.now thread }
+    ensures thread { IfSome result (λ _. thread < length program.entry.now.threads.items) }
     ensures step { IfSome result (λ call. call.step + 1 < 2 ^ 64) }
 {
     let step = done.get(thread).copied().unwrap_or(0);
-    let call = typed.threads.get(thread)?.calls.get(step)?;
+    let call = program.threads.get(thread)?.calls.get(step)?;
     Some(ScheduledCall { thread, step, call })
 }
 
 /// The calls of an order each of whose threads has a call left there.
 pub fn order_calls<'a>(
     alloc: Global,
-    typed: &'a Typed,
+    program: &'a Typed,
     order: &[usize],
 ) -> Result<OrderCalls<'a>, NoMemory>
-    requires { length (calls_in typed.now order.now) ≡ length order.now }
-    ensures calls { IfOk result (λ made. map scheduled_of made.calls.items ≡ scheduled_in typed.entry.now order.now) }
-    ensures done { IfOk result (λ made. made.done.items ≡ done_after (none_done typed.entry.now) order.now) }
+    requires { length (calls_in program.now order.now) ≡ length order.now }
+    ensures calls { IfOk result (λ made. map scheduled_of made.calls.items ≡ scheduled_in program.entry.now order.now) }
+    ensures done { IfOk result (λ made. made.done.items ≡ done_after (none_done program.entry.now) order.now) }
 {
     let mut calls = Vec::with_capacity(alloc, order.len())?;
-    let mut done = vec![in alloc; 0; typed.threads.len()]?;
+    let mut done = vec![in alloc; 0; program.threads.len()]?;
     for thread in order {
-        if let Some(call) = next(typed, &done, *thread) {
+        if let Some(call) = next(program, &done, *thread) {
             done[*thread] = call.step + 1;
             calls.push(call)?;
         }

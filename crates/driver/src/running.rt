@@ -96,16 +96,16 @@ pub fn run_calls(
 /// turns of each execution of a loop settle them.
 pub fn run_scripts(
     alloc: Global,
-    typed: &Typed,
+    program: &Typed,
     prepared: &Prepared<'_>,
     turns: u64,
 ) -> Result<Ran, NoMemory>
-    requires checked { IsChecked typed.now }
-    requires same { prepared.now.program.now ≡ typed.now }
-    requires expansion { IsExpansion typed.now prepared.now.written.now }
-    ensures ran { IfOk result (IsRan turns typed.now (all_calls typed.now)) }
-    ensures cells { IfOk result (λ ran. HasCells typed.now ran.heap) }
+    requires checked { IsChecked program.now }
+    requires same { prepared.now.program.now ≡ program.now }
+    requires expansion { IsExpansion program.now prepared.now.written.now }
+    ensures ran { IfOk result (IsRan turns program.now (all_calls program.now)) }
+    ensures cells { IfOk result (λ ran. HasCells program.now ran.heap) }
 {
-    let calls = schedule(alloc, typed)?;
+    let calls = schedule(alloc, program)?;
     run_calls(alloc, prepared, turns, &calls)
 }

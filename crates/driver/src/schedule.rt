@@ -34,11 +34,11 @@ fn push_script<'a>(
 }
 
 /// The calls of all scripts, thread 0's whole script first, then thread 1's, and so on.
-pub fn schedule<'a>(alloc: Global, typed: &'a Typed) -> Result<Vec<ScheduledCall<'a>>, NoMemory>
-    ensures { IfOk result (λ all. map scheduled_of all.items ≡ all_calls typed.entry.now) }
+pub fn schedule<'a>(alloc: Global, program: &'a Typed) -> Result<Vec<ScheduledCall<'a>>, NoMemory>
+    ensures { IfOk result (λ all. map scheduled_of all.items ≡ all_calls program.entry.now) }
 {
     let mut all = Vec::new(alloc);
-    for (thread, script) in typed.threads.iter().enumerate() {
+    for (thread, script) in program.threads.iter().enumerate() {
         push_script(&mut all, thread, &script.calls)?;
     }
     Ok(all)

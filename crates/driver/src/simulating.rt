@@ -8,7 +8,7 @@ use crate::answer::Answer;
 use crate::status::Status;
 use interleavings::world::run;
 use lowering::compiled::Program;
-use report::simulation_text;
+use report_simulation::simulation_text;
 use source::memory::NoMemory;
 use source_steps::refusal::{StepsFault, StepsRefusal};
 use source_steps::{read_steps, steps_fault_line};

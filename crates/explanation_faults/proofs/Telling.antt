@@ -21,7 +21,6 @@ use Rattle.explanation_faults.specs.PathsPassed.{ArePathsFirst}
 use Rattle.explanation_faults.specs.Working.VarsFound.{var_noted}
 use Rattle.explanation_faults.specs.Working.Values.{decls_of, tokens_of, FoundNote, IsNoteIfTold}
 use Rattle.explanation_faults.proofs.Given.{first_of_given}
-use Rattle.explanation_faults.proofs.LocksAtHand.{is_at_hand, lock_some}
 use Rattle.explanation_faults.proofs.PassedMembers.{passed_some}
 use Rattle.explanation_faults.proofs.Twice.{first_of_twice}
 use Rattle.explanation_faults.proofs.VarsThere.{is_var_note, no_var_there}
@@ -57,9 +56,7 @@ module _ (decls : List Decl) (at : ℕ) where
   type_told said = (said.note, said.is_true)
 
   pub lock_told : IsLockWanted decls at → (note : Note) × IsLockNote decls at note
-  lock_told wanted =
-      let l = lock_some decls wanted.lock_name wanted.has_lock at wanted.lacking in
-      (lock_note l.0, record { name = l.0; at_hand = is_at_hand decls at l.0 l.1; said = refl })
+  lock_told wanted = (lock_note wanted.name, record { name = wanted.name; at_hand = wanted.at_hand; said = refl })
 
   pub passed_told : PassesNonFinal decls at → (note : Note) × IsPassedNote decls at note
   passed_told is_passed =

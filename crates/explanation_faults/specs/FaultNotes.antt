@@ -3,9 +3,8 @@ use Rattle.std.specs.Fmt.{decimal}
 use Rattle.std.specs.Prelude.{◌≡◌, ◌≤◌, ℕ, List, ◌∷◌, ◌++◌, Some, All, codes, length}
 use Rattle.explanation.specs.Notes.{Note}
 use Rattle.resolution.specs.Constants.{init_target_of, giver}
-use Rattle.resolution.specs.Faults.{IsDeclaredTwice, IsUnprotected, PassesNonFinal, IsFinalMissing}
+use Rattle.resolution.specs.Faults.{IsDeclaredTwice, PassesNonFinal, IsFinalMissing}
 use Rattle.resolution.specs.Scopes.{member_name}
-use Rattle.resolution.specs.Where.{Has}
 use Rattle.resolution.specs.declared.init_target.InitTarget.{InitTarget}
 use Rattle.source.specs.declared.fault.Code.{Code}
 use Rattle.source.specs.declared.fault.Code.TheVariants.{DeclaredTwice, UnknownName, WrongType, NeitherFinalNorProtected, ProtectedByPassesNonFinal, UnstableBase, LimitExceeded, FinalWithoutOpeningValue, InitOutOfRangeOrRepeated, MisplacedReturn}
@@ -155,11 +154,10 @@ pub record HasTypeNote (decls : List Decl) (at : ℕ) : Type 0 where
   pub note : Note
   pub is_true : IsTypeNote decls at note
 
--- something there lacks an annotation, and the top level has a lock
+-- something there lacks an annotation, and a lock could protect it
 pub record IsLockWanted (decls : List Decl) (at : ℕ) : Type 0 where
-  pub lock_name : Ident
-  pub lacking : IsUnprotected decls at
-  pub has_lock : Has decls (lock lock_name)
+  pub name : Ident
+  pub at_hand : IsAtHand decls at name
 
 -- an `init` there gives what one before it gives
 pub data IsGivenAgain (decls : List Decl) : ℕ → Type 0 where

@@ -11,10 +11,10 @@ use Rattle.syntax.specs.declared.tree.Param as the_param
 use Rattle.syntax.specs.declared.tree.Stmt as the_stmt
 use Rattle.syntax.specs.Views.{param_of, stmt_of, stmts_of}
 use Rattle.explanation_names.specs.declared.found.Found.{Found}
-use Rattle.explanation_names.specs.declared.search.Typed as the_typed
+use Rattle.explanation_names.specs.declared.search.LocalInScope as the_local
 use Rattle.explanation_names.specs.declared.search.Search.{Search}
 use Rattle.explanation_names.specs.Working.Found.{meant_by}
-use Rattle.explanation_names.specs.Locals.{Typed, declared_by, typed_param}
+use Rattle.explanation_names.specs.Locals.{LocalInScope, declared_by, param_in_scope}
 use Rattle.explanation_names.specs.Sought.{Use}
 use Rattle.explanation_names.specs.Working.UsesFound.{all_declared, uses_by, uses_in_blocks, uses_in_stmts}
 use Rattle.explanation_names.specs.Working.Values.{Adds, Binds, Says, decls_at, ident_at, idents, meant_for, option_list, typed_seen}
@@ -171,58 +171,58 @@ told_when {s = s} {q = q} e l = record {
   };
 }
 
-pub after_binding : {a b : Vec the_typed.Typed Global} {s : Search} {p q r : Found} {us : List Use} {xs : List Typed} → Says s p q us → Binds a b q r xs → Says s p r us
+pub after_binding : {a b : Vec the_local.LocalInScope Global} {s : Search} {p q r : Found} {us : List Use} {xs : List LocalInScope} → Says s p q us → Binds a b q r xs → Says s p r us
 after_binding {s = s} {us = us} says binds = record { found = spelled (append-nil (meant_for s us)) (followed_by says.found binds.adds) }
 
 -- one statement further
-module _ (s : Search) {q r t u : Found} {b d : Vec the_typed.Typed Global} (ss : List the_stmt.Stmt) (i : ℕ) (x : the_stmt.Stmt) (xs o : List Typed)
+module _ (s : Search) {q r t u : Found} {b d : Vec the_local.LocalInScope Global} (ss : List the_stmt.Stmt) (i : ℕ) (x : the_stmt.Stmt) (xs o : List LocalInScope)
     (below : i < length ss) (is : x ≡ get_or ss i x) (declares : o ≡ declared_by (stmt_of x))
     (own : Says s q r (uses_by xs (stmt_of x))) (inner : Says s r t (uses_in_blocks xs (stmt_of x))) (keeps : t.is_refused ≡ false → typed_seen b.items ≡ xs)
     (binds : Binds b d t u o) where
   grown : u.is_refused ≡ false → typed_seen d.items ≡ xs ++ declared_by (stmt_of x)
-  grown ok = binds.scope ok ∙ ap (λ (ys : List Typed). ys ++ o) (keeps (binds.adds.unrefused ok)) ∙ ap (λ (ys : List Typed). xs ++ ys) declares
+  grown ok = binds.scope ok ∙ ap (λ (ys : List LocalInScope). ys ++ o) (keeps (binds.adds.unrefused ok)) ∙ ap (λ (ys : List LocalInScope). xs ++ ys) declares
 
   pub stmt_said : {p : Found} {whole : List Use} → Tells s p q (uses_in_stmts xs (stmts_of (drop i ss))) whole → Tells s p u (uses_in_stmts (typed_seen d.items) (stmts_of (drop (i + 1) ss))) whole
   stmt_said l =
-      told_when (λ ok. ap (λ (ys : List Typed). uses_in_stmts ys (stmts_of (drop (i + 1) ss))) (sym (grown ok)))
+      told_when (λ ok. ap (λ (ys : List LocalInScope). uses_in_stmts ys (stmts_of (drop (i + 1) ss))) (sym (grown ok)))
       (item_said_then (λ l. uses_in_stmts xs (stmts_of l)) (λ l. uses_in_stmts (xs ++ declared_by (stmt_of x)) (stmts_of l)) ss i x below is refl l (after_binding (both own inner) binds))
 
-  pub stmt_grown : {whole : List Typed} → (q.is_refused ≡ false → xs ++ all_declared (stmts_of (drop i ss)) ≡ whole) →
+  pub stmt_grown : {whole : List LocalInScope} → (q.is_refused ≡ false → xs ++ all_declared (stmts_of (drop i ss)) ≡ whole) →
       u.is_refused ≡ false → typed_seen d.items ++ all_declared (stmts_of (drop (i + 1) ss)) ≡ whole
   stmt_grown so_far ok =
-      ap (λ (ys : List Typed). ys ++ all_declared (stmts_of (drop (i + 1) ss))) (grown ok)
+      ap (λ (ys : List LocalInScope). ys ++ all_declared (stmts_of (drop (i + 1) ss))) (grown ok)
       ∙ append_assoc xs (declared_by (stmt_of x)) (all_declared (stmts_of (drop (i + 1) ss)))
       ∙ ap (λ (y : the_stmt.Stmt). xs ++ (declared_by (stmt_of y) ++ all_declared (stmts_of (drop (i + 1) ss)))) is
       ∙ sym (at_drop_more (λ l. xs ++ all_declared (stmts_of l)) ss i x below)
       ∙ so_far (own.found.unrefused (inner.found.unrefused (binds.adds.unrefused ok)))
 
 -- in a loop over parameters: those in scope so far and the rest are all, and no name is found
-pub record Binding (a b : Vec the_typed.Typed Global) (first here : Found) (rest whole : List Typed) : Type 0 where
+pub record Binding (a b : Vec the_local.LocalInScope Global) (first here : Found) (rest whole : List LocalInScope) : Type 0 where
   pub leads : Leads first here [] []
   pub scope : here.is_refused ≡ false → typed_seen b.items ++ rest ≡ typed_seen a.items ++ whole
 
-pub binds_first : (a : Vec the_typed.Typed Global) (p : Found) (whole : List Typed) → Binding a a p p whole whole
+pub binds_first : (a : Vec the_local.LocalInScope Global) (p : Found) (whole : List LocalInScope) → Binding a a p p whole whole
 binds_first a p whole = record { leads = at_first p []; scope = λ ok. refl }
 
 -- one parameter further
-pub param_bound : {p q r : Found} {a b d : Vec the_typed.Typed Global} (ps : List the_param.Param) (i : ℕ) (x : the_param.Param) (o : List Typed)
-    → i < length ps → x ≡ get_or ps i x → o ≡ typed_param (param_of x) ∷ []
-    → Binding a b p q (map typed_param (map param_of (drop i ps))) (map typed_param (map param_of ps)) → Binds b d q r o
-    → Binding a d p r (map typed_param (map param_of (drop (i + 1) ps))) (map typed_param (map param_of ps))
+pub param_bound : {p q r : Found} {a b d : Vec the_local.LocalInScope Global} (ps : List the_param.Param) (i : ℕ) (x : the_param.Param) (o : List LocalInScope)
+    → i < length ps → x ≡ get_or ps i x → o ≡ param_in_scope (param_of x) ∷ []
+    → Binding a b p q (map param_in_scope (map param_of (drop i ps))) (map param_in_scope (map param_of ps)) → Binds b d q r o
+    → Binding a d p r (map param_in_scope (map param_of (drop (i + 1) ps))) (map param_in_scope (map param_of ps))
 param_bound {b = b} {d = d} ps i x o below is one l binds = record {
   leads = one_further l.leads binds.adds;
   scope = λ ok.
-      ap (λ (ys : List Typed). ys ++ map typed_param (map param_of (drop (i + 1) ps))) (binds.scope ok ∙ ap (λ (ys : List Typed). typed_seen b.items ++ ys) one)
-      ∙ append_assoc (typed_seen b.items) (typed_param (param_of x) ∷ []) (map typed_param (map param_of (drop (i + 1) ps)))
-      ∙ ap (λ (y : the_param.Param). typed_seen b.items ++ (typed_param (param_of y) ∷ map typed_param (map param_of (drop (i + 1) ps)))) is
-      ∙ sym (at_drop_more (λ l. typed_seen b.items ++ map typed_param (map param_of l)) ps i x below)
+      ap (λ (ys : List LocalInScope). ys ++ map param_in_scope (map param_of (drop (i + 1) ps))) (binds.scope ok ∙ ap (λ (ys : List LocalInScope). typed_seen b.items ++ ys) one)
+      ∙ append_assoc (typed_seen b.items) (param_in_scope (param_of x) ∷ []) (map param_in_scope (map param_of (drop (i + 1) ps)))
+      ∙ ap (λ (y : the_param.Param). typed_seen b.items ++ (param_in_scope (param_of y) ∷ map param_in_scope (map param_of (drop (i + 1) ps)))) is
+      ∙ sym (at_drop_more (λ l. typed_seen b.items ++ map param_in_scope (map param_of l)) ps i x below)
       ∙ l.scope (binds.adds.unrefused ok);
 }
 
-pub all_bound : {p q : Found} {a b : Vec the_typed.Typed Global} (ps : List the_param.Param) (i : ℕ) → length ps ≤ i
-    → Binding a b p q (map typed_param (map param_of (drop i ps))) (map typed_param (map param_of ps)) → Binds a b p q (map typed_param (map param_of ps))
+pub all_bound : {p q : Found} {a b : Vec the_local.LocalInScope Global} (ps : List the_param.Param) (i : ℕ) → length ps ≤ i
+    → Binding a b p q (map param_in_scope (map param_of (drop i ps))) (map param_in_scope (map param_of ps)) → Binds a b p q (map param_in_scope (map param_of ps))
 all_bound {b = b} ps i above l = record {
   adds = at_last l.leads;
   scope = λ ok.
-      sym (at_drop_all (λ l. typed_seen b.items ++ map typed_param (map param_of l)) ps i above ∙ append-nil (typed_seen b.items)) ∙ l.scope ok;
+      sym (at_drop_all (λ l. typed_seen b.items ++ map param_in_scope (map param_of l)) ps i above ∙ append-nil (typed_seen b.items)) ∙ l.scope ok;
 }

@@ -12,7 +12,7 @@ use Rattle.resolution.specs.Statements.{first_name}
 use Rattle.resolution.specs.Annotations.{AnnotationCursor}
 use Rattle.syntax.specs.Trees.{Ident, ValueType, Const, Place, lone, element, path, Expr, HelperCall, Stmt, Stmts, Struct, Member, Protection, Section, Decl}
 use Rattle.explanation_names.specs.Working.Laws.{IsSoughtAt, seekers}
-use Rattle.explanation_names.specs.Locals.{Typed, Stands, here, later, in_then, in_else, in_while, declared_by, typed_param, HasBody, of_section, of_helper, HasStmt, in_body}
+use Rattle.explanation_names.specs.Locals.{LocalInScope, Stands, here, later, in_then, in_else, in_while, declared_by, param_in_scope, HasBody, of_section, of_helper, HasStmt, in_body}
 use Rattle.explanation_names.specs.Sought.{Use, Uses, a_value, an_element, a_base, a_way, an_owner, an_owner_local, a_struct, a_helper, a_section, a_pool, a_pool_given, a_field_given, a_lock, a_guard, a_guard_way, HasExpr, of_let, of_owned, of_var, of_assign, of_index, of_if, of_while, of_print, of_return, of_argument, HasHelperCall, by_let, by_itself, HasPlace, is_read, is_written, HasType, of_global, of_array, of_pool, of_final, of_field, of_parameter, of_result, of_local, HasConst, opening, initial, argument, Guards, guards}
 use Rattle.explanation_names.proofs.Lists as l
 
@@ -22,11 +22,11 @@ has_at {A = A} (y ∷ xs) zero {x = x} is = let e : y ≡ x = cc in subst (λ (z
 has_at (y ∷ xs) (suc k) is = further (has_at xs k is)
 
 -- with some locals in scope
-record Scoped (P : List Typed → Type 0) : Type 0 where
-  locals : List Typed
+record Scoped (P : List LocalInScope → Type 0) : Type 0 where
+  locals : List LocalInScope
   holds : P locals
 
-to_stands : {sc last : Scope} {ss : Stmts} {t : Stmt} → there.Among sc ss last t → (xs : List Typed) → Scoped (λ ys. Stands xs ss ys t)
+to_stands : {sc last : Scope} {ss : Stmts} {t : Stmt} → there.Among sc ss last t → (xs : List LocalInScope) → Scoped (λ ys. Stands xs ss ys t)
 to_stands there.here xs = record { locals = xs; holds = here }
 to_stands (there.later {s = s} a) xs = let b = to_stands a (xs ++ declared_by s) in record { locals = b.locals; holds = later b.holds }
 to_stands (there.in_then a) xs = let b = to_stands a xs in record { locals = b.locals; holds = in_then b.holds }
@@ -44,13 +44,13 @@ module _ (decls : List Decl) where
 
   stmt : {sc : Scope} {s : Stmt} → there.HasStmt decls sc s → Scoped (λ xs. HasStmt decls xs s)
   stmt (there.in_body {x = x} b a) =
-      let c = to_stands a (map typed_param x.params) in record { locals = c.locals; holds = in_body (body b) c.holds }
+      let c = to_stands a (map param_in_scope x.params) in record { locals = c.locals; holds = in_body (body b) c.holds }
 
   helper_call : {sc : Scope} {c : HelperCall} → there.HasHelperCall decls sc c → Scoped (λ xs. HasHelperCall decls xs c)
   helper_call (there.by_let has) = let s = stmt has in record { locals = s.locals; holds = by_let s.holds }
   helper_call (there.by_itself has) = let s = stmt has in record { locals = s.locals; holds = by_itself s.holds }
 
-  asked : {xs : List Typed} {sc : Scope} {s : Stmt} {w : Want} {e : Expr} → there.Asks sc s w e → HasStmt decls xs s → HasExpr decls xs e
+  asked : {xs : List LocalInScope} {sc : Scope} {s : Stmt} {w : Want} {e : Expr} → there.Asks sc s w e → HasStmt decls xs s → HasExpr decls xs e
   asked there.of_let has = of_let has
   asked there.of_owned has = of_owned has
   asked (there.of_let_call is) has = of_argument (by_let has) (passed is)

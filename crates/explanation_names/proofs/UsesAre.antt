@@ -6,11 +6,11 @@ use Rattle.resolution.specs.declared.wanted.Want.{Want}
 use Rattle.resolution.specs.declared.wanted.Want.TheVariants.{Anything, Value}
 use Rattle.resolution.specs.Where.{Has, first, further, Within, itself, in_parentheses, in_prefix, in_first, in_operand, in_index, HasLink, this_link, later_link, HasCall, in_thread, InItems, this_call, in_repeat, later_call, HasLock, of_variable, of_elements, operand_want, prefix_want, side_want}
 use Rattle.resolution.specs.Where as where_
-use Rattle.syntax.specs.declared.tree.Op.{Op}
+use Rattle.syntax.specs.declared.tree.Operator.{Operator}
 use Rattle.syntax.specs.Trees.{Ident, ValueType, int_type, ref_type, Const, int_const, negative, null_const, member_const, Expr, int, null, place, paren, prefix, chain, compare, Place, lone, element, path, Links, no_links, link, HelperCall, Stmt, let_local, let_owned, let_call, var_local, assign, if_then, while, print, return_value, Stmts, no_stmts, stmt, Otherwise, no_else, else_do, Protection, Member, lock_member, final_member, field_member, Struct, Variable, Array, Init, Section, Call, Item, call, repeat, Items, no_items, item, Decl, lock, struct, global, array, pool, init, atomic, helper, thread}
 use Rattle.syntax.specs.Trees as tree
 use Rattle.explanation_names.specs.declared.sought.Sought.TheVariants as kind
-use Rattle.explanation_names.specs.Locals.{Typed, declared_by, typed_param, Stands, here, later, in_then, in_else, in_while, HasBody, of_section, of_helper, HasStmt, in_body}
+use Rattle.explanation_names.specs.Locals.{LocalInScope, declared_by, param_in_scope, Stands, here, later, in_then, in_else, in_while, HasBody, of_section, of_helper, HasStmt, in_body}
 use Rattle.explanation_names.specs.Sought.{Use, of_kind, by_dots, by_init, by_owner, Uses, a_value, an_element, a_base, a_way, an_owner, an_owner_local, a_struct, a_helper, a_section, a_pool, a_pool_given, a_field_given, a_lock, a_guard, a_guard_way, HasExpr, of_let, of_owned, of_var, of_assign, of_index, of_if, of_while, of_print, of_return, of_argument, HasHelperCall, by_let, by_itself, HasPlace, is_read, is_written, HasType, of_global, of_array, of_pool, of_final, of_field, of_parameter, of_result, of_local, HasConst, opening, initial, argument, Guards, guards}
 use Rattle.explanation_names.specs.Working.UsesFound.{uses_in, uses_at, uses_behind, uses_of_type, uses_of_call, uses_of_local, uses_by, uses_in_blocks, uses_in_else, uses_in_stmts, uses_of_body, uses_of_const, uses_of_value, uses_of_result, uses_of_section_call, uses_of_item, uses_of_items, uses_of_annotation, uses_of_guard, uses_of_member, uses_of_param, uses_of_section, uses_of_decl}
 use Rattle.explanation_names.proofs.Lists as l
@@ -18,13 +18,13 @@ use Rattle.explanation_names.proofs.Lists as l
 -- ---- in expressions
 
 -- the uses of a place itself
-abbrev own : List Typed → Place → List Use
+abbrev own : List LocalInScope → Place → List Use
 own xs (lone x) = of_kind kind.Value xs x ∷ []
 own xs (element x e) = of_kind kind.Indexed xs x ∷ []
 own xs (path x fs) = of_kind kind.Local xs x ∷ by_dots xs x fs ∷ []
 
-module _ (xs : List Typed) {u : Use} where
-  link_found : {links : Links} {o : Op} {f : Expr} → HasLink links o f → Has (uses_in xs f) u → Has (uses_behind xs links) u
+module _ (xs : List LocalInScope) {u : Use} where
+  link_found : {links : Links} {o : Operator} {f : Expr} → HasLink links o f → Has (uses_in xs f) u → Has (uses_behind xs links) u
   link_found (this_link {e = e} {rest = rest}) h = l.in_left (uses_in xs e) (uses_behind xs rest) h
   link_found (later_link {e = e} {rest = rest} has) h = l.in_right (uses_in xs e) (uses_behind xs rest) (link_found has h)
 
@@ -59,7 +59,7 @@ module _ (xs : List Typed) {u : Use} where
           (from_expr (side_want c) a (λ v p k. up v p (where_.in_left k)))
           (from_expr (side_want c) b (λ v p k. up v p (where_.in_right k))) h
 
-      from_links : (w : Want) (links : Links) → ((o : Op) (f : Expr) (v : Want) (p : Place) → HasLink links o f → Within w f v (place p) → Has (own xs p) u → P) →
+      from_links : (w : Want) (links : Links) → ((o : Operator) (f : Expr) (v : Want) (p : Place) → HasLink links o f → Within w f v (place p) → Has (own xs p) u → P) →
           Has (uses_behind xs links) u → P
       from_links w no_links up h = elim h [ ]
       from_links w (link o e rest) up h =
@@ -70,7 +70,7 @@ module _ (xs : List Typed) {u : Use} where
 -- ---- in statements
 
 module _ {u : Use} where
-  stands_found : {xs ys : List Typed} {ss : Stmts} {t : Stmt} → Stands xs ss ys t → Has (uses_by ys t) u → Has (uses_in_stmts xs ss) u
+  stands_found : {xs ys : List LocalInScope} {ss : Stmts} {t : Stmt} → Stands xs ss ys t → Has (uses_by ys t) u → Has (uses_in_stmts xs ss) u
   stands_found (here {xs = xs} {s = s} {rest = rest}) h =
       l.in_left (uses_by xs s ++ uses_in_blocks xs s) (uses_in_stmts (xs ++ declared_by s) rest) (l.in_left (uses_by xs s) (uses_in_blocks xs s) h)
   stands_found (later {xs = xs} {s = s} {rest = rest} stands) h =
@@ -90,8 +90,8 @@ module _ {u : Use} where
 
   module _ (P : Type 0) where
     mutual
-      from_blocks : (xs : List Typed) (s : Stmt) (rest : Stmts) →
-          ((ys : List Typed) (t : Stmt) → Stands xs (stmt s rest) ys t → Has (uses_by ys t) u → P) → Has (uses_in_blocks xs s) u → P
+      from_blocks : (xs : List LocalInScope) (s : Stmt) (rest : Stmts) →
+          ((ys : List LocalInScope) (t : Stmt) → Stands xs (stmt s rest) ys t → Has (uses_by ys t) u → P) → Has (uses_in_blocks xs s) u → P
       from_blocks xs (let_local k) rest up h = elim h [ ]
       from_blocks xs (let_owned k o) rest up h = elim h [ ]
       from_blocks xs (let_call k) rest up h = elim h [ ]
@@ -108,8 +108,8 @@ module _ {u : Use} where
       from_blocks xs (return_value start e) rest up h = elim h [ ]
       from_blocks xs (tree.call start c) rest up h = elim h [ ]
 
-      from_stmts : (xs : List Typed) (ss : Stmts) →
-          ((ys : List Typed) (t : Stmt) → Stands xs ss ys t → Has (uses_by ys t) u → P) → Has (uses_in_stmts xs ss) u → P
+      from_stmts : (xs : List LocalInScope) (ss : Stmts) →
+          ((ys : List LocalInScope) (t : Stmt) → Stands xs ss ys t → Has (uses_by ys t) u → P) → Has (uses_in_stmts xs ss) u → P
       from_stmts xs no_stmts up h = elim h [ ]
       from_stmts xs (stmt s rest) up h =
           l.either (uses_by xs s ++ uses_in_blocks xs s) (uses_in_stmts (xs ++ declared_by s) rest)
@@ -117,7 +117,7 @@ module _ {u : Use} where
           (from_stmts (xs ++ declared_by s) rest (λ ys t a. up ys t (later a))) h
 
   -- the type of the local that a statement declares
-  declared_found : (xs : List Typed) (s : Stmt) {x : Typed} → Has (declared_by s) x → Has (uses_of_type xs x.value_type) u → Has (uses_by xs s) u
+  declared_found : (xs : List LocalInScope) (s : Stmt) {x : LocalInScope} → Has (declared_by s) x → Has (uses_of_type xs x.value_type) u → Has (uses_by xs s) u
   declared_found xs (let_local k) first h = l.in_left (uses_of_type xs k.value_type) (uses_in xs k.value) h
   declared_found xs (let_owned k o) first h =
       l.in_left (uses_of_local xs k) (by_owner k.value_type o.field ∷ of_kind kind.Local xs o.local ∷ [])
@@ -151,15 +151,15 @@ module _ (decls : List Decl) {u : Use} where
   before_result : {s : Section} → HasBody decls s → Has (uses_of_body s ++ flat_map (uses_of_param []) s.params) u → IsFound decls u
   before_result {s = s} body h = section_found body (l.in_left (uses_of_body s ++ flat_map (uses_of_param []) s.params) (uses_of_result [] s.result) h)
 
-  stmt_found : {xs : List Typed} {t : Stmt} → HasStmt decls xs t → Has (uses_by xs t) u → IsFound decls u
+  stmt_found : {xs : List LocalInScope} {t : Stmt} → HasStmt decls xs t → Has (uses_by xs t) u → IsFound decls u
   stmt_found (in_body {s = s} body stands) h =
       before_result body (l.in_left (uses_of_body s) (flat_map (uses_of_param []) s.params) (stands_found stands h))
 
-  call_found : {xs : List Typed} {c : HelperCall} → HasHelperCall decls xs c → Has (uses_of_call xs c) u → IsFound decls u
+  call_found : {xs : List LocalInScope} {c : HelperCall} → HasHelperCall decls xs c → Has (uses_of_call xs c) u → IsFound decls u
   call_found {xs = xs} (by_let {l = k} has) h = stmt_found has (l.in_right (uses_of_type xs k.value_type) (uses_of_call xs k.call) h)
   call_found (by_itself has) h = stmt_found has h
 
-  expr_found : {xs : List Typed} {e : Expr} → HasExpr decls xs e → Has (uses_in xs e) u → IsFound decls u
+  expr_found : {xs : List LocalInScope} {e : Expr} → HasExpr decls xs e → Has (uses_in xs e) u → IsFound decls u
   expr_found {xs = xs} (of_let {l = k} has) h = stmt_found has (l.in_right (uses_of_type xs k.value_type) (uses_in xs k.value) h)
   expr_found {xs = xs} (of_owned {l = k} {o = o} has) h =
       stmt_found has (l.in_left (uses_of_local xs k) (by_owner k.value_type o.field ∷ of_kind kind.Local xs o.local ∷ [])
@@ -173,14 +173,14 @@ module _ (decls : List Decl) {u : Use} where
   expr_found (of_return has) h = stmt_found has h
   expr_found {xs = xs} (of_argument {c = c} called has) h = call_found called (further (l.flat_in (uses_in xs) c.arguments has h))
 
-  place_found : {xs : List Typed} {p : Place} → HasPlace decls xs p → Has (uses_at xs p) u → IsFound decls u
+  place_found : {xs : List LocalInScope} {p : Place} → HasPlace decls xs p → Has (uses_at xs p) u → IsFound decls u
   place_found {xs = xs} (is_read has k) h = expr_found has (within_found xs k h)
   place_found {xs = xs} (is_written {p = p} {e = e} has) h = stmt_found has (l.in_left (uses_at xs p) (uses_in xs e) h)
 
   member_found : {s : Struct} {m : Member} → Has decls (struct s) → Has s.members m → Has (uses_of_member [] s.name m) u → IsFound decls u
   member_found {s = s} has member h = decl_found has (l.flat_in (uses_of_member [] s.name) s.members member h)
 
-  type_found : {xs : List Typed} {t : ValueType} → HasType decls xs t → Has (uses_of_type xs t) u → IsFound decls u
+  type_found : {xs : List LocalInScope} {t : ValueType} → HasType decls xs t → Has (uses_of_type xs t) u → IsFound decls u
   type_found (of_global {v = v} has) h =
       decl_found has (l.in_left (uses_of_type [] v.value_type ++ uses_of_annotation [] v.protection) (uses_of_value [] v.value)
       (l.in_left (uses_of_type [] v.value_type) (uses_of_annotation [] v.protection) h))
@@ -247,7 +247,7 @@ is_found decls (a_guard_way has) = guard_found decls has (further first)
 -- ---- each that is found is one
 
 module _ (decls : List Decl) where
-  own_used : {xs : List Typed} {u : Use} (p : Place) → HasPlace decls xs p → Has (own xs p) u → Uses decls u
+  own_used : {xs : List LocalInScope} {u : Use} (p : Place) → HasPlace decls xs p → Has (own xs p) u → Uses decls u
   own_used (lone x) has first = a_value has
   own_used (lone x) has (further h) = elim h [ ]
   own_used (element x e) has first = an_element has
@@ -256,34 +256,34 @@ module _ (decls : List Decl) where
   own_used (path x fs) has (further first) = a_way has
   own_used (path x fs) has (further (further h)) = elim h [ ]
 
-  read_used : {xs : List Typed} {u : Use} {e : Expr} → HasExpr decls xs e → Has (uses_in xs e) u → Uses decls u
+  read_used : {xs : List LocalInScope} {u : Use} {e : Expr} → HasExpr decls xs e → Has (uses_in xs e) u → Uses decls u
   read_used {xs = xs} {u = u} {e = e} has h = from_expr xs (Uses decls u) Anything e (λ v p k. own_used p (is_read has k)) h
 
-  written_used : {xs : List Typed} {u : Use} (p : Place) {e : Expr} → HasStmt decls xs (assign p e) → Has (uses_at xs p) u → Uses decls u
+  written_used : {xs : List LocalInScope} {u : Use} (p : Place) {e : Expr} → HasStmt decls xs (assign p e) → Has (uses_at xs p) u → Uses decls u
   written_used (lone x) has h = own_used (lone x) (is_written has) h
   written_used {xs = xs} (element x i) has h =
       l.either (own xs (element x i)) (uses_in xs i) (own_used (element x i) (is_written has)) (read_used (of_index has)) h
   written_used (path x fs) has h = own_used (path x fs) (is_written has) h
 
-  type_used : {xs : List Typed} {u : Use} (t : ValueType) → HasType decls xs t → Has (uses_of_type xs t) u → Uses decls u
+  type_used : {xs : List LocalInScope} {u : Use} (t : ValueType) → HasType decls xs t → Has (uses_of_type xs t) u → Uses decls u
   type_used int_type has h = elim h [ ]
   type_used (ref_type x) has first = a_struct has
   type_used (ref_type x) has (further h) = elim h [ ]
 
-  call_used : {xs : List Typed} {u : Use} {c : HelperCall} → HasHelperCall decls xs c → Has (uses_of_call xs c) u → Uses decls u
+  call_used : {xs : List LocalInScope} {u : Use} {c : HelperCall} → HasHelperCall decls xs c → Has (uses_of_call xs c) u → Uses decls u
   call_used has first = a_helper has
   call_used {xs = xs} {c = c} has (further h) = l.flat_from (uses_in xs) c.arguments (λ e one. read_used (of_argument has one)) h
 
-  local_used : {xs : List Typed} {u : Use} (k : tree.Local) → HasType decls xs k.value_type → HasExpr decls xs k.value → Has (uses_of_local xs k) u → Uses decls u
+  local_used : {xs : List LocalInScope} {u : Use} (k : tree.Local) → HasType decls xs k.value_type → HasExpr decls xs k.value → Has (uses_of_local xs k) u → Uses decls u
   local_used {xs = xs} k one other h = l.either (uses_of_type xs k.value_type) (uses_in xs k.value) (type_used k.value_type one) (read_used other) h
 
-  owner_used : {xs : List Typed} {u : Use} {k : tree.Local} {o : tree.Owner} → HasStmt decls xs (let_owned k o) →
+  owner_used : {xs : List LocalInScope} {u : Use} {k : tree.Local} {o : tree.Owner} → HasStmt decls xs (let_owned k o) →
       Has (by_owner k.value_type o.field ∷ of_kind kind.Local xs o.local ∷ []) u → Uses decls u
   owner_used has first = an_owner has
   owner_used has (further first) = an_owner_local has
   owner_used has (further (further h)) = elim h [ ]
 
-  stmt_used : {xs : List Typed} {u : Use} (s : Stmt) → HasStmt decls xs s → Has (uses_by xs s) u → Uses decls u
+  stmt_used : {xs : List LocalInScope} {u : Use} (s : Stmt) → HasStmt decls xs s → Has (uses_by xs s) u → Uses decls u
   stmt_used (let_local k) has h = local_used k (of_local has first) (of_let has) h
   stmt_used {xs = xs} (let_owned k o) has h =
       l.either (uses_of_local xs k) (by_owner k.value_type o.field ∷ of_kind kind.Local xs o.local ∷ [])
@@ -355,7 +355,7 @@ module _ (decls : List Decl) where
   section_used {u = u} s body h =
       l.either (uses_of_body s ++ flat_map (uses_of_param []) s.params) (uses_of_result [] s.result)
       (l.either (uses_of_body s) (flat_map (uses_of_param []) s.params)
-      (from_stmts (Uses decls u) (map typed_param s.params) s.body.stmts (λ ys t stands. stmt_used t (in_body body stands)))
+      (from_stmts (Uses decls u) (map param_in_scope s.params) s.body.stmts (λ ys t stands. stmt_used t (in_body body stands)))
       (l.flat_from (uses_of_param []) s.params (λ p has. type_used p.value_type (of_parameter body has))))
       (result_used body s.result refl) h
 

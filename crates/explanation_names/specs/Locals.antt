@@ -5,15 +5,15 @@ use Rattle.source.specs.declared.span.Span.{Span}
 use Rattle.syntax.specs.Trees.{Ident, ValueType, Expr, Stmt, let_local, let_owned, let_call, var_local, if_then, while, Stmts, stmt, Otherwise, else_do, Param, Section, Decl, atomic, helper}
 
 -- a local with its type
-pub record Typed : Type 0 where
+pub record LocalInScope : Type 0 where
   pub name : Ident
   pub value_type : ValueType
 
-abbrev pub typed_param : Param → Typed
-typed_param p = record { name = p.name; value_type = p.value_type }
+abbrev pub param_in_scope : Param → LocalInScope
+param_in_scope p = record { name = p.name; value_type = p.value_type }
 
 -- the local that a statement declares, if it does
-abbrev pub declared_by : Stmt → List Typed
+abbrev pub declared_by : Stmt → List LocalInScope
 declared_by (let_local l) = record { name = l.name; value_type = l.value_type } ∷ []
 declared_by (let_owned l o) = record { name = l.name; value_type = l.value_type } ∷ []
 declared_by (let_call l) = record { name = l.name; value_type = l.value_type } ∷ []
@@ -22,15 +22,15 @@ declared_by _ = []
 
 -- among statements ahead of which these locals are in scope, a statement stands where those are: a local is in scope in
 -- the statements behind its own, up to the end of its block
-pub data Stands : List Typed → Stmts → List Typed → Stmt → Type 0 where
-  here : {xs : List Typed} {s : Stmt} {rest : Stmts} → Stands xs (stmt s rest) xs s
-  later : {xs ys : List Typed} {s t : Stmt} {rest : Stmts} →
+pub data Stands : List LocalInScope → Stmts → List LocalInScope → Stmt → Type 0 where
+  here : {xs : List LocalInScope} {s : Stmt} {rest : Stmts} → Stands xs (stmt s rest) xs s
+  later : {xs ys : List LocalInScope} {s t : Stmt} {rest : Stmts} →
       Stands (xs ++ declared_by s) rest ys t → Stands xs (stmt s rest) ys t
-  in_then : {xs ys : List Typed} {t : Stmt} {start close : Span} {e : Expr} {body rest : Stmts} {other : Otherwise} →
+  in_then : {xs ys : List LocalInScope} {t : Stmt} {start close : Span} {e : Expr} {body rest : Stmts} {other : Otherwise} →
       Stands xs body ys t → Stands xs (stmt (if_then start e body close other) rest) ys t
-  in_else : {xs ys : List Typed} {t : Stmt} {start close end : Span} {e : Expr} {body other rest : Stmts} →
+  in_else : {xs ys : List LocalInScope} {t : Stmt} {start close end : Span} {e : Expr} {body other rest : Stmts} →
       Stands xs other ys t → Stands xs (stmt (if_then start e body close (else_do other end)) rest) ys t
-  in_while : {xs ys : List Typed} {t : Stmt} {start close : Span} {e : Expr} {body rest : Stmts} →
+  in_while : {xs ys : List LocalInScope} {t : Stmt} {start close : Span} {e : Expr} {body rest : Stmts} →
       Stands xs body ys t → Stands xs (stmt (while start e body close) rest) ys t
 
 pub data HasBody (decls : List Decl) : Section → Type 0 where
@@ -38,6 +38,6 @@ pub data HasBody (decls : List Decl) : Section → Type 0 where
   of_helper : {s : Section} → Has decls (helper s) → HasBody decls s
 
 -- a statement of the program, with the locals in scope there
-pub data HasStmt (decls : List Decl) : List Typed → Stmt → Type 0 where
-  in_body : {s : Section} {xs : List Typed} {t : Stmt} →
-      HasBody decls s → Stands (map typed_param s.params) s.body.stmts xs t → HasStmt decls xs t
+pub data HasStmt (decls : List Decl) : List LocalInScope → Stmt → Type 0 where
+  in_body : {s : Section} {xs : List LocalInScope} {t : Stmt} →
+      HasBody decls s → Stands (map param_in_scope s.params) s.body.stmts xs t → HasStmt decls xs t

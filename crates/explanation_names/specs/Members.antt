@@ -6,7 +6,7 @@ use Rattle.resolution.specs.Where.{Has}
 use Rattle.syntax.specs.Trees.{Ident, ValueType, int_type, ref_type, Member, lock_member, final_member, field_member, Decl, Protection}
 use Rattle.explanation_names.specs.declared.members.Role.{Role}
 use Rattle.explanation_names.specs.declared.members.Role.TheVariants as role
-use Rattle.explanation_names.specs.Locals.{Typed}
+use Rattle.explanation_names.specs.Locals.{LocalInScope}
 use Rattle.explanation_names.specs.Sought.{Use, by_dots, by_init, by_annotation, by_owner}
 
 -- the members of the struct to which a type refers
@@ -30,7 +30,7 @@ pub data Leads (decls : List Decl) (at : ℕ) : List Member → List Ident → L
 -- by such a use of a name that begins at the byte a member in this role is looked for among these: on the way behind a
 -- local's name, in an `init`, on the way of an annotation from its own struct on, or behind `where`
 pub data IsAmong (decls : List Decl) (at : ℕ) : Use → Role → List Member → Type 0 where
-  behind_dots : {xs : List Typed} {l : Typed} {x : Ident} {fs : List Ident} {ms to : List Member} →
+  behind_dots : {xs : List LocalInScope} {l : LocalInScope} {x : Ident} {fs : List Ident} {ms to : List Member} →
       Has xs l → l.name.text ≡ x.text → members_behind decls l.value_type ≡ Some ms → Leads decls at ms fs to →
       IsAmong decls at (by_dots xs x fs) role.Value to
   in_init : {p f : Ident} {ms : List Member} →

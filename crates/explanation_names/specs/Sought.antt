@@ -8,48 +8,48 @@ use Rattle.syntax.specs.Trees.{Ident, ValueType, ref_type, Const, member_const, 
 use Rattle.syntax.specs.Trees as tree
 use Rattle.explanation_names.specs.declared.sought.Sought.{Sought}
 use Rattle.explanation_names.specs.declared.sought.Sought.TheVariants as kind
-use Rattle.explanation_names.specs.Locals.{Typed, HasBody, HasStmt, declared_by}
+use Rattle.explanation_names.specs.Locals.{LocalInScope, HasBody, HasStmt, declared_by}
 
 -- what is looked for by a name: a thing of a kind, with these locals in scope; or a member of a struct, by the names behind
 -- a local's, by the field that an `init` gives, by those of an annotation in a struct, or by the one behind `where` at a
 -- local of this type
 pub data Use : Type 0 where
-  of_kind : Sought → List Typed → (name : Ident) → Use
-  by_dots : List Typed → (local : Ident) → (fields : List Ident) → Use
+  of_kind : Sought → List LocalInScope → (name : Ident) → Use
+  by_dots : List LocalInScope → (local : Ident) → (fields : List Ident) → Use
   by_init : (pool field : Ident) → Use
   by_annotation : (structure : Ident) → Protection → Use
   by_owner : ValueType → (field : Ident) → Use
 
 -- a call of a helper
-pub data HasHelperCall (decls : List Decl) : List Typed → HelperCall → Type 0 where
-  by_let : {xs : List Typed} {l : CalledLocal} → HasStmt decls xs (let_call l) → HasHelperCall decls xs l.call
-  by_itself : {xs : List Typed} {start : Span} {c : HelperCall} →
+pub data HasHelperCall (decls : List Decl) : List LocalInScope → HelperCall → Type 0 where
+  by_let : {xs : List LocalInScope} {l : CalledLocal} → HasStmt decls xs (let_call l) → HasHelperCall decls xs l.call
+  by_itself : {xs : List LocalInScope} {start : Span} {c : HelperCall} →
       HasStmt decls xs (tree.call start c) → HasHelperCall decls xs c
 
 -- an expression that is no part of another
-pub data HasExpr (decls : List Decl) : List Typed → Expr → Type 0 where
-  of_let : {xs : List Typed} {l : Local} → HasStmt decls xs (let_local l) → HasExpr decls xs l.value
-  of_owned : {xs : List Typed} {l : Local} {o : Owner} → HasStmt decls xs (let_owned l o) → HasExpr decls xs l.value
-  of_var : {xs : List Typed} {l : Local} → HasStmt decls xs (var_local l) → HasExpr decls xs l.value
-  of_assign : {xs : List Typed} {p : Place} {e : Expr} → HasStmt decls xs (assign p e) → HasExpr decls xs e
-  of_index : {xs : List Typed} {x : Ident} {i e : Expr} → HasStmt decls xs (assign (element x i) e) → HasExpr decls xs i
-  of_if : {xs : List Typed} {start close : Span} {e : Expr} {body : Stmts} {other : Otherwise} →
+pub data HasExpr (decls : List Decl) : List LocalInScope → Expr → Type 0 where
+  of_let : {xs : List LocalInScope} {l : Local} → HasStmt decls xs (let_local l) → HasExpr decls xs l.value
+  of_owned : {xs : List LocalInScope} {l : Local} {o : Owner} → HasStmt decls xs (let_owned l o) → HasExpr decls xs l.value
+  of_var : {xs : List LocalInScope} {l : Local} → HasStmt decls xs (var_local l) → HasExpr decls xs l.value
+  of_assign : {xs : List LocalInScope} {p : Place} {e : Expr} → HasStmt decls xs (assign p e) → HasExpr decls xs e
+  of_index : {xs : List LocalInScope} {x : Ident} {i e : Expr} → HasStmt decls xs (assign (element x i) e) → HasExpr decls xs i
+  of_if : {xs : List LocalInScope} {start close : Span} {e : Expr} {body : Stmts} {other : Otherwise} →
       HasStmt decls xs (if_then start e body close other) → HasExpr decls xs e
-  of_while : {xs : List Typed} {start close : Span} {e : Expr} {body : Stmts} →
+  of_while : {xs : List LocalInScope} {start close : Span} {e : Expr} {body : Stmts} →
       HasStmt decls xs (while start e body close) → HasExpr decls xs e
-  of_print : {xs : List Typed} {start : Span} {e : Expr} → HasStmt decls xs (print start e) → HasExpr decls xs e
-  of_return : {xs : List Typed} {start : Span} {e : Expr} → HasStmt decls xs (return_value start e) → HasExpr decls xs e
-  of_argument : {xs : List Typed} {c : HelperCall} {e : Expr} →
+  of_print : {xs : List LocalInScope} {start : Span} {e : Expr} → HasStmt decls xs (print start e) → HasExpr decls xs e
+  of_return : {xs : List LocalInScope} {start : Span} {e : Expr} → HasStmt decls xs (return_value start e) → HasExpr decls xs e
+  of_argument : {xs : List LocalInScope} {c : HelperCall} {e : Expr} →
       HasHelperCall decls xs c → Has c.arguments e → HasExpr decls xs e
 
 -- a place that is read or written
-pub data HasPlace (decls : List Decl) : List Typed → Place → Type 0 where
-  is_read : {xs : List Typed} {w v : Want} {e : Expr} {p : Place} →
+pub data HasPlace (decls : List Decl) : List LocalInScope → Place → Type 0 where
+  is_read : {xs : List LocalInScope} {w v : Want} {e : Expr} {p : Place} →
       HasExpr decls xs e → Within w e v (place p) → HasPlace decls xs p
-  is_written : {xs : List Typed} {p : Place} {e : Expr} → HasStmt decls xs (assign p e) → HasPlace decls xs p
+  is_written : {xs : List LocalInScope} {p : Place} {e : Expr} → HasStmt decls xs (assign p e) → HasPlace decls xs p
 
 -- a type
-pub data HasType (decls : List Decl) : List Typed → ValueType → Type 0 where
+pub data HasType (decls : List Decl) : List LocalInScope → ValueType → Type 0 where
   of_global : {v : Variable} → Has decls (global v) → HasType decls [] v.value_type
   of_array : {a : Array} → Has decls (array a) → HasType decls [] a.value_type
   of_pool : {p : Pool} → Has decls (pool p) → HasType decls [] (ref_type p.target)
@@ -59,7 +59,7 @@ pub data HasType (decls : List Decl) : List Typed → ValueType → Type 0 where
       Has decls (struct s) → Has s.members (field_member f) → HasType decls [] f.value_type
   of_parameter : {s : Section} {p : Param} → HasBody decls s → Has s.params p → HasType decls [] p.value_type
   of_result : {s : Section} {t : ValueType} → HasBody decls s → s.result ≡ Some t → HasType decls [] t
-  of_local : {xs : List Typed} {s : Stmt} {l : Typed} →
+  of_local : {xs : List LocalInScope} {s : Stmt} {l : LocalInScope} →
       HasStmt decls xs s → Has (declared_by s) l → HasType decls xs l.value_type
 
 -- a constant
@@ -77,21 +77,21 @@ pub data Guards (decls : List Decl) : Struct → Protection → Type 0 where
 pub data Uses (decls : List Decl) : Use → Type 0 where
   -- by a name alone a global or a local; ahead of an index an array or a pool; ahead of a dot a local, and behind it a
   -- member
-  a_value : {xs : List Typed} {x : Ident} → HasPlace decls xs (lone x) → Uses decls (of_kind kind.Value xs x)
-  an_element : {xs : List Typed} {x : Ident} {e : Expr} →
+  a_value : {xs : List LocalInScope} {x : Ident} → HasPlace decls xs (lone x) → Uses decls (of_kind kind.Value xs x)
+  an_element : {xs : List LocalInScope} {x : Ident} {e : Expr} →
       HasPlace decls xs (element x e) → Uses decls (of_kind kind.Indexed xs x)
-  a_base : {xs : List Typed} {x : Ident} {fs : List Ident} →
+  a_base : {xs : List LocalInScope} {x : Ident} {fs : List Ident} →
       HasPlace decls xs (path x fs) → Uses decls (of_kind kind.Local xs x)
-  a_way : {xs : List Typed} {x : Ident} {fs : List Ident} → HasPlace decls xs (path x fs) → Uses decls (by_dots xs x fs)
+  a_way : {xs : List LocalInScope} {x : Ident} {fs : List Ident} → HasPlace decls xs (path x fs) → Uses decls (by_dots xs x fs)
   -- behind `where` a final reference, and a local
-  an_owner : {xs : List Typed} {l : Local} {o : Owner} →
+  an_owner : {xs : List LocalInScope} {l : Local} {o : Owner} →
       HasStmt decls xs (let_owned l o) → Uses decls (by_owner l.value_type o.field)
-  an_owner_local : {xs : List Typed} {l : Local} {o : Owner} →
+  an_owner_local : {xs : List LocalInScope} {l : Local} {o : Owner} →
       HasStmt decls xs (let_owned l o) → Uses decls (of_kind kind.Local xs o.local)
   -- in a type a struct
-  a_struct : {xs : List Typed} {x : Ident} → HasType decls xs (ref_type x) → Uses decls (of_kind kind.Struct xs x)
+  a_struct : {xs : List LocalInScope} {x : Ident} → HasType decls xs (ref_type x) → Uses decls (of_kind kind.Struct xs x)
   -- in calls a helper, and a section
-  a_helper : {xs : List Typed} {c : HelperCall} →
+  a_helper : {xs : List LocalInScope} {c : HelperCall} →
       HasHelperCall decls xs c → Uses decls (of_kind kind.Helper xs c.helper)
   a_section : {c : Call} → HasCall decls c → Uses decls (of_kind kind.Section [] c.section)
   -- in a constant a pool; in an `init` a pool and a member

@@ -12,7 +12,7 @@ ghost use Rattle.explanation_names.specs.Sought.{by_annotation, by_init, by_owne
 ghost use Rattle.explanation_names.specs.Working.Values.{Adds, Says, along_from, behind_one, dots_at, ident_at, members_at, members_in_pool, next_from};
 
 use crate::found::Found;
-use crate::search::{Search, Typed, begins};
+use crate::search::{LocalInScope, Search, begins};
 use syntax::tree::{Decl, Init, Member, Name, Path, Protection, ValueType};
 use types_symbols::members::Structure;
 use types_symbols::table::SymbolTable;
@@ -152,7 +152,7 @@ impl<'s, 't> Search<'s, 't> {
     }
 
     // Behind a local, if it is the one that is named.
-    fn behind_one(&self, path: &Path, local: Typed<'t>, found: &mut Found<'t>)
+    fn behind_one(&self, path: &Path, local: LocalInScope<'t>, found: &mut Found<'t>)
         ensures { Adds found.old found.new (behind_one self.now path.now local.entry) }
     {
         if local.name.text.as_str() != path.first.text.as_str() {

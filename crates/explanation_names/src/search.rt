@@ -4,7 +4,7 @@ ghost use Rattle.std.specs.List.{filter_map};
 ghost use Rattle.std.specs.Prelude.{◌≡◌, ◌∷◌, [], map};
 ghost use Rattle.syntax.specs.Views.{ident};
 ghost use Rattle.explanation_names.specs.Working.Found.{begins, declared_as, names_of};
-ghost use Rattle.explanation_names.specs.Locals.{Typed as LocalSeen};
+ghost use Rattle.explanation_names.specs.Locals.{LocalInScope as LocalSeen};
 ghost use Rattle.explanation_names.specs.Sought.{of_kind};
 ghost use Rattle.explanation_names.specs.Working.Values.{Adds, Says, decls_at, locals_at};
 
@@ -16,7 +16,7 @@ use types_symbols::table::SymbolTable;
 
 /// A local with its type.
 #[derive(Clone, Copy)]
-pub struct Typed<'t> {
+pub struct LocalInScope<'t> {
     /// Its name.
     pub name: &'t Name,
     /// Its type, as it is written.
@@ -33,7 +33,7 @@ pub struct Search<'s, 't> {
     /// The byte.
     pub at: usize,
     /// The locals in scope.
-    pub locals: &'s [Typed<'t>],
+    pub locals: &'s [LocalInScope<'t>],
 }
 
 /// Whether a name begins there.

@@ -3,32 +3,32 @@
 ghost use Rattle.std.specs.Option.{option_map};
 ghost use Rattle.std.specs.Prelude.{◌≡◌, map};
 ghost use Rattle.syntax.specs.Views.{else_of, param_of, stmt_of, stmts_of};
-ghost use Rattle.explanation_names.specs.Locals.{declared_by, typed_param};
+ghost use Rattle.explanation_names.specs.Locals.{declared_by, param_in_scope};
 ghost use Rattle.explanation_names.specs.Working.UsesFound.{all_declared, uses_in_blocks, uses_in_else, uses_in_stmts};
 ghost use Rattle.explanation_names.specs.Working.Values.{Binds, Grows, Keeps, Says, option_list, typed_of, typed_seen};
 
 use crate::found::Found;
-use crate::search::{Search, Typed};
+use crate::search::{LocalInScope, Search};
 use syntax::tree::{Block, Param, Stmt};
 
 /// The local that a statement declares, if it does.
-fn declared_by(s: &Stmt) -> Option<Typed<'_>>
+fn declared_by(s: &Stmt) -> Option<LocalInScope<'_>>
     ensures { option_list (option_map typed_of result) ≡ declared_by (stmt_of s.now) }
 {
     match s {
-        Stmt::Let(local) => Some(Typed {
+        Stmt::Let(local) => Some(LocalInScope {
             name: &local.name,
             value_type: &local.value_type,
         }),
-        Stmt::LetOwned(owned) => Some(Typed {
+        Stmt::LetOwned(owned) => Some(LocalInScope {
             name: &owned.local.name,
             value_type: &owned.local.value_type,
         }),
-        Stmt::LetCall(called) => Some(Typed {
+        Stmt::LetCall(called) => Some(LocalInScope {
             name: &called.name,
             value_type: &called.value_type,
         }),
-        Stmt::Var(local) => Some(Typed {
+        Stmt::Var(local) => Some(LocalInScope {
             name: &local.name,
             value_type: &local.value_type,
         }),
@@ -42,7 +42,11 @@ fn declared_by(s: &Stmt) -> Option<Typed<'_>>
 }
 
 /// One more local is in scope, if there is one.
-fn bind<'t>(local: Option<Typed<'t>>, scope: &mut Vec<Typed<'t>>, found: &mut Found<'t>)
+fn bind<'t>(
+    local: Option<LocalInScope<'t>>,
+    scope: &mut Vec<LocalInScope<'t>>,
+    found: &mut Found<'t>,
+)
     ensures { Binds scope.old scope.new found.old found.new (option_list (option_map typed_of local.entry)) }
 {
     if let Some(local) = local {
@@ -53,11 +57,15 @@ fn bind<'t>(local: Option<Typed<'t>>, scope: &mut Vec<Typed<'t>>, found: &mut Fo
 }
 
 /// Parameters are in scope.
-pub fn push_params<'t>(params: &'t [Param], scope: &mut Vec<Typed<'t>>, found: &mut Found<'t>)
-    ensures { Binds scope.old scope.new found.old found.new (map typed_param (map param_of params.now)) }
+pub fn push_params<'t>(
+    params: &'t [Param],
+    scope: &mut Vec<LocalInScope<'t>>,
+    found: &mut Found<'t>,
+)
+    ensures { Binds scope.old scope.new found.old found.new (map param_in_scope (map param_of params.now)) }
 {
     for param in params {
-        let local = Typed {
+        let local = LocalInScope {
             name: &param.name,
             value_type: &param.value_type,
         };
@@ -68,7 +76,12 @@ pub fn push_params<'t>(params: &'t [Param], scope: &mut Vec<Typed<'t>>, found: &
 impl<'s, 't> Search<'s, 't> {
     /// In statements ahead of which these locals are in scope, behind which their own are.
     #[cycle(stmts)]
-    pub fn in_stmts(&self, stmts: &'t [Stmt], scope: &mut Vec<Typed<'t>>, found: &mut Found<'t>)
+    pub fn in_stmts(
+        &self,
+        stmts: &'t [Stmt],
+        scope: &mut Vec<LocalInScope<'t>>,
+        found: &mut Found<'t>,
+    )
         ensures found { Says self.now found.old found.new (uses_in_stmts (typed_seen scope.old.items) (stmts_of stmts.now)) }
         ensures scope { Grows found.new scope.old scope.new (all_declared (stmts_of stmts.now)) }
     {
@@ -86,7 +99,7 @@ impl<'s, 't> Search<'s, 't> {
     }
 
     #[cycle(stmts)]
-    fn in_blocks(&self, s: &'t Stmt, scope: &mut Vec<Typed<'t>>, found: &mut Found<'t>)
+    fn in_blocks(&self, s: &'t Stmt, scope: &mut Vec<LocalInScope<'t>>, found: &mut Found<'t>)
         ensures found { Says self.now found.old found.new (uses_in_blocks (typed_seen scope.old.items) (stmt_of s.now)) }
         ensures scope { Keeps found.new scope.old scope.new }
     {
@@ -109,7 +122,7 @@ impl<'s, 't> Search<'s, 't> {
 
     // The locals of a block are out of scope behind it.
     #[cycle(stmts)]
-    fn in_block(&self, block: &'t Block, scope: &mut Vec<Typed<'t>>, found: &mut Found<'t>)
+    fn in_block(&self, block: &'t Block, scope: &mut Vec<LocalInScope<'t>>, found: &mut Found<'t>)
         ensures found { Says self.now found.old found.new (uses_in_stmts (typed_seen scope.old.items) (stmts_of block.now.stmts.items)) }
         ensures scope { Keeps found.new scope.old scope.new }
     {
@@ -119,7 +132,12 @@ impl<'s, 't> Search<'s, 't> {
     }
 
     #[cycle(stmts)]
-    fn in_else(&self, other: &'t Option<Block>, scope: &mut Vec<Typed<'t>>, found: &mut Found<'t>)
+    fn in_else(
+        &self,
+        other: &'t Option<Block>,
+        scope: &mut Vec<LocalInScope<'t>>,
+        found: &mut Found<'t>,
+    )
         ensures found { Says self.now found.old found.new (uses_in_else (typed_seen scope.old.items) (else_of other.now)) }
         ensures scope { Keeps found.new scope.old scope.new }
     {

@@ -2,7 +2,7 @@
 use Rattle.std.proofs.Common.{List}
 use Rattle.explanation_types.specs.declared.clash.Clash.{Clash}
 use Rattle.core_lang.specs.declared.value.ValueType.TheVariants.{Integer}
-use Rattle.syntax.specs.declared.tree.Op.{Op}
+use Rattle.syntax.specs.declared.tree.Operator.{Operator}
 use Rattle.syntax.specs.declared.tree.Level.{Level}
 use Rattle.syntax.specs.Trees.{Place, lone, element, path, Expr, int, null, place, paren, prefix, chain, compare, Links, no_links, link}
 use Rattle.resolution.specs.declared.wanted.Want.{Want}
@@ -16,7 +16,7 @@ use Rattle.explanation_types.proofs.Lists as l
 module _ (say : Scope → Want → Expr → List Clash) (sc : Scope) (n : Clash) where
   -- ---- what is said of one within is said
 
-  link_has : (level : Level) {links : Links} {o : Op} {f : Expr} → HasLink links o f → Has (of_expr say sc (operand_want level) f) n → Has (in_links say sc level links) n
+  link_has : (level : Level) {links : Links} {o : Operator} {f : Expr} → HasLink links o f → Has (of_expr say sc (operand_want level) f) n → Has (in_links say sc level links) n
   link_has level (this_link {e = e} {rest = rest}) h = l.in_left (of_expr say sc (operand_want level) e) (in_links say sc level rest) h
   link_has level (later_link {e = e} {rest = rest} k) h = l.in_right (of_expr say sc (operand_want level) e) _ (link_has level k h)
 
@@ -62,7 +62,7 @@ module _ (say : Scope → Want → Expr → List Clash) (sc : Scope) (n : Clash)
       from_place w (element y e) up h = one (Value Integer) e (λ v x i. up v x (in_index i)) (from_inside (Value Integer) e (λ v x i. up v x (in_index i))) h
       from_place w (path y fs) up h = elim h [ ]
 
-      from_links : (level : Level) (links : Links) → ((o : Op) (f : Expr) (v : Want) (x : Expr) → HasLink links o f → Within (operand_want level) f v x → Has (say sc v x) n → P) → Has (in_links say sc level links) n → P
+      from_links : (level : Level) (links : Links) → ((o : Operator) (f : Expr) (v : Want) (x : Expr) → HasLink links o f → Within (operand_want level) f v x → Has (say sc v x) n → P) → Has (in_links say sc level links) n → P
       from_links level no_links up h = elim h [ ]
       from_links level (link o e rest) up h =
           l.either (of_expr say sc (operand_want level) e) (in_links say sc level rest)

@@ -39,12 +39,12 @@ impl Model for History {
 
 impl History {
     /// No entries.
-    pub fn empty(alloc: Global) -> History
+    pub fn new(alloc: Global) -> History
         ensures { result ≡ record { commits = []; promised = nothing_promised } }
     {
         History {
             entries: Vec::new(alloc),
-            lists: Lists::empty(alloc),
+            lists: Lists::new(alloc),
         }
     }
 

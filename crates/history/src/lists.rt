@@ -95,7 +95,7 @@ impl Model for Lists {
 
 impl Lists {
     /// No lists.
-    pub fn empty(alloc: Global) -> Lists
+    pub fn new(alloc: Global) -> Lists
         ensures { result ≡ record { arguments = []; reads = []; writes = []; prints = []; promised = nothing_promised } }
     {
         Lists {

@@ -12,8 +12,8 @@ use Rattle.source.specs.Faults.{IsBare, IsFaultAt}
 use Rattle.source.specs.declared.token.Token.{Token}
 use Rattle.source.specs.Tokens.{Lexeme, end, Tok, seen, seen_token}
 use Rattle.source.specs.Texts.{SOURCE_LIMIT, HasTokens, DoRise, AreSlices, IsFaultFrom, IsFault, too_big, within, IsRefusal, end_at}
-use Rattle.lexer.specs.declared.stop.Stop.{Stop}
-use Rattle.lexer.specs.declared.stop.Stop.TheVariants as stop
+use Rattle.lexer.specs.declared.token_error.TokenError.{TokenError}
+use Rattle.lexer.specs.declared.token_error.TokenError.TheVariants as stop
 use Rattle.lexer.specs.Working.Reading.{skip, unit_at, Fails, Refuses}
 use Rattle.lexer.proofs.Steps.{State, token_on, end_found, end_only, no_fault, no_tokens, one_fault, is_fault, tokens_rise, tokens_sliced}
 
@@ -71,16 +71,16 @@ module _ (text rest : List ℕ) (tokens : List Token) (state : State (length tex
   none_refused done l code start h = no_fault (length text) text rest (seen tokens) state done code start (fault_within h l)
 
   module _ (some : skip rest ≡ [] → ⊥) (l : length text ≤ SOURCE_LIMIT) where
-    pub stop_fault : (e : Stop) (r : Refusal) → Fails e (unit_at (skip rest)) → Refuses e (length text - length (skip rest)) r → IsRefusal text r
+    pub stop_fault : (e : TokenError) (r : Refusal) → Fails e (unit_at (skip rest)) → Refuses e (length text - length (skip rest)) r → IsRefusal text r
     stop_fault (stop.Bad c) (Fault f) h is = (rw (is.0, is.1) (within l (is_fault (length text) text rest (seen tokens) state c h some)), is.2)
     stop_fault (stop.Bad c) NoMemory h is = absurd is
     stop_fault stop.NoMemory r h is = rw is tt
 
-    pub stop_only : (e : Stop) (r : Refusal) → Fails e (unit_at (skip rest)) → Refuses e (length text - length (skip rest)) r → (ts : List Tok) → HasTokens text ts → r ≡ NoMemory
+    pub stop_only : (e : TokenError) (r : Refusal) → Fails e (unit_at (skip rest)) → Refuses e (length text - length (skip rest)) r → (ts : List Tok) → HasTokens text ts → r ≡ NoMemory
     stop_only (stop.Bad c) r h is ts g = absurd (no_tokens (length text) text rest (seen tokens) state c h some ts g)
     stop_only stop.NoMemory r h is ts g = is
 
-    pub stop_refused : (e : Stop) (r : Refusal) → Fails e (unit_at (skip rest)) → Refuses e (length text - length (skip rest)) r → (code : Code) (start : ℕ) → IsFault text code start → IsFaultAt code start r
+    pub stop_refused : (e : TokenError) (r : Refusal) → Fails e (unit_at (skip rest)) → Refuses e (length text - length (skip rest)) r → (code : Code) (start : ℕ) → IsFault text code start → IsFaultAt code start r
     stop_refused (stop.Bad c) (Fault f) h is code start g =
         let p = one_fault (length text) text rest (seen tokens) state c h some code start (fault_within g l) in
         rw (sym p.0, sym p.1) is

@@ -6,7 +6,7 @@
 
 mod bytes;
 mod names;
-mod stop;
+mod token_error;
 mod unit;
 mod whole;
 mod words;

@@ -4,7 +4,7 @@
 //! - [`manager::Manager`]: opens sections, grants locks, ends sections.
 //! - [`ticket::Ticket`], [`ticket::Receipt`]: the right to ask for a section's locks and to end it, and what ending
 //!   it gives.
-//! - [`answer::Answer`]: what a request is answered.
+//! - [`response::Response`]: what a request is answered.
 //!
 //! To it a section is a transaction under strict two-phase locking: it takes locks as it goes on, and gives all of them
 //! back at its end, when its entry goes into the history.
@@ -14,7 +14,6 @@
 //! the code relies on; nobody has to believe them.
 #![tactic(auto)]
 
-pub mod answer;
 mod asking;
 mod committed;
 mod fitting;
@@ -23,6 +22,7 @@ pub mod manager;
 mod opening;
 mod places;
 mod queue;
+pub mod response;
 mod sections;
 mod session;
 pub mod ticket;

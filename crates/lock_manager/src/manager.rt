@@ -6,13 +6,13 @@ ghost use Rattle.locks.specs.Waiting.{HasNoCycle};
 ghost use Rattle.lock_manager.specs.Working.Managers.{IsLayout, IsKept, opened, waiting_for, session_of, IsQuiet, holder_of, cell_of, askers_of};
 ghost use Rattle.lock_manager.specs.Working.Calls.{Begins, Answers, CanAsk, Knows, Fits, CanRelease, Releases, GivesUp, AreOf, AreItsGrants};
 
-use crate::answer::Answer;
 use crate::asking::comes_after;
 use crate::committed::Committed;
 use crate::fitting::{all_granted, all_held};
 use crate::giving::{let_go, take};
 use crate::places::LockPlace;
 use crate::queue::{Queue, Waiter};
+use crate::response::Response;
 use crate::sections::Sections;
 use crate::ticket::{Receipt, Spare, Ticket};
 use core_lang::value::Value;
@@ -72,14 +72,14 @@ impl<'p> Manager<'p> {
     {
         let committed = Committed::open(alloc, layout)?;
         let places = committed.free_places(alloc)?;
-        let queue = Queue::empty(alloc)?;
-        let sections = Sections::none(alloc)?;
+        let queue = Queue::new(alloc)?;
+        let sections = Sections::new(alloc)?;
         Ok(Manager {
             ranks,
             places,
             queue,
             sections,
-            history: History::empty(alloc),
+            history: History::new(alloc),
             committed,
         })
     }
@@ -110,7 +110,7 @@ impl<'p> Manager<'p> {
     }
 
     /// Asks for a lock.
-    pub fn request(&mut self, ticket: &mut Ticket, lock: Lock) -> Answer
+    pub fn request(&mut self, ticket: &mut Ticket, lock: Lock) -> Response
         requires known { Knows self.old ticket.old }
         requires asks { CanAsk self.old ticket.old lock }
         ensures { Answers self.old ticket.old lock result self.new ticket.new }
@@ -123,13 +123,13 @@ impl<'p> Manager<'p> {
                 self.queue.leave(thread);
                 self.sections.grant(thread, lock);
                 ticket.grant(lock);
-                Answer::Granted(Grant::new(lock, cells))
+                Response::Granted(Grant::new(lock, cells))
             }
             Err(holder) => {
                 self.queue.wait(ticket.ask(), Waiter { thread, lock });
                 self.sections.note(thread, lock);
                 ticket.note(lock);
-                Answer::Held(holder)
+                Response::Held(holder)
             }
         }
     }

@@ -37,7 +37,7 @@ impl Model for Queue {
 
 impl Queue {
     /// Nobody waits; there is room for 64 threads.
-    pub fn empty(alloc: Global) -> Result<Queue, NoMemory>
+    pub fn new(alloc: Global) -> Result<Queue, NoMemory>
         ensures { IfOk result (λ queue. queue ≡ []) }
     {
         let waiters = Vec::with_capacity(alloc, 64)?;

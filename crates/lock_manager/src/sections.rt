@@ -36,7 +36,7 @@ impl Model for Sections {
 
 impl Sections {
     /// No section is open; there is a slot for each of 64 threads.
-    pub fn none(alloc: Global) -> Result<Sections, NoMemory>
+    pub fn new(alloc: Global) -> Result<Sections, NoMemory>
         ensures { IfOk result (λ sections. sections ≡ replicate 64 None) }
     {
         let mut slots = Vec::with_capacity(alloc, 64)?;

@@ -33,7 +33,7 @@ pub struct Spare {
 
 impl Spare {
     /// None yet.
-    pub fn none() -> Spare {
+    pub fn new() -> Spare {
         Spare { pass: None }
     }
 

@@ -30,7 +30,7 @@ pub fn cells_with(alloc: Global, row: &[usize], values: &[Value]) -> Result<Cell
     requires { All (λ cell. cell < length values.now) row.now }
     ensures { IfOk result (λ cells. cells ≡ values_on values.now row.now) }
 {
-    let mut cells = Cells::none(alloc);
+    let mut cells = Cells::new(alloc);
     for cell in row {
         cells.push(values[*cell])?;
     }

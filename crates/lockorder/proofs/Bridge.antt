@@ -8,10 +8,9 @@ use Rattle.std.proofs.lemmas.List.Elements.{All-contains_itself, All-weaker}
 use Rattle.core_lang.specs.declared.tree.Section.{Section}
 use Rattle.core_lang.specs.declared.typed.Typed.{Typed}
 use Rattle.core_lang.specs.WellFormed.{IsWellFormed}
-use Rattle.flow.specs.Skeletons.{skeleton}
-use Rattle.flow.specs.Flow.{Plus, one, more, Follows, Before}
+use Rattle.flow.specs.Skeletons.{Skeleton, skeleton}
+use Rattle.flow.specs.Flow.{Before}
 use Rattle.flow.specs.Points.{points}
-use Rattle.flow.specs.Working.Laws.{PairsLeadBetweenPoints}
 use Rattle.locks.specs.declared.path_set.PathSet.{PathSet}
 use Rattle.locks.specs.LockPaths.{LockPath, Uses, BindsRoot, lock_paths}
 use Rattle.locks.specs.Working.Laws.{UsedAreListed, PathsHaveClasses}
@@ -20,7 +19,7 @@ use Rattle.points.specs.declared.table.Points.{Points}
 use Rattle.points.specs.Working.Points.{ArePoints}
 use Rattle.points.specs.Used.{IsUsedBefore}
 use Rattle.lockorder.specs.Edges.{Makes, Edge}
-use Rattle.lockorder.specs.Working.Sections.{set_at, no_paths, IsOfClass, HasClass, BindsAt, UsesAt, MakesSomewhere, MakesAt, LeadBetween}
+use Rattle.lockorder.specs.Working.Sections.{set_at, no_paths, IsOfClass, HasClass, BindsAt, UsesAt, MakesSomewhere, MakesAt}
 use Rattle.lockorder.specs.Working.Tellings.{AreBetween, AreEdges}
 use Rattle.lockorder.proofs.Lists.{contains_there, there_contains}
 use Rattle.lockorder.proofs.InSection.{set_within}
@@ -33,11 +32,7 @@ map_some : {A B : Type 0} (f : A → B) (o : Option A) (y : B) → option_map f 
 map_some f None y e = absurd (none-some y e)
 map_some f (Some x) y e = (x, refl, same_Some (f x) y e)
 
-map_plus : (R S : ℕ → ℕ → Type 0) → ((a b : ℕ) → R a b → S a b) → {p q : ℕ} → Plus R p q → Plus S p q
-map_plus R S to {p} {q} (one r) = one (to p q r)
-map_plus R S to {p} (more {q} r s) = more (to p q r) (map_plus R S to s)
-
-module _ (program : Typed) (well : IsWellFormed program) (listed : UsedAreListed) (classes : PathsHaveClasses) (between : PairsLeadBetweenPoints)
+module _ (program : Typed) (well : IsWellFormed program) (listed : UsedAreListed) (classes : PathsHaveClasses)
     (k : ℕ) (section : Section) (here : slice_get program.sections.items k ≡ Some section) (x : Points) (are : ArePoints program section x) where
   abbrev paths : List LockPath
   paths = lock_paths program section
@@ -103,7 +98,7 @@ module _ (program : Typed) (well : IsWellFormed program) (listed : UsedAreListed
         binds = (b.0, b.3.0, b.3.1, b.1, b.2);
         order = elim m.0.1 [
           | inl e ↦ inl e
-          | inr p ↦ inr (map_plus (λ q r. Contains x.pairs.items (q, r)) (Follows (skeleton section)) (λ q r h. (are.pairs q r).0 h) p)
+          | inr p ↦ inr (subst (λ (s : Skeleton). Before s used bound) are.parts p)
         ];
       }
 
@@ -124,7 +119,7 @@ module _ (program : Typed) (well : IsWellFormed program) (listed : UsedAreListed
       uses_at used c uses u uc,
       elim order [
         | inl e ↦ inl e
-        | inr p ↦ inr (map_plus (Follows (skeleton section)) (λ q r. Contains x.pairs.items (q, r)) (λ q r f. (are.pairs q r).1 f) p)
+        | inr p ↦ inr (subst (λ (s : Skeleton). Before s used bound) (sym are.parts) p)
       ],
     ),
     binds_at bound user d binds v b bd,
@@ -162,11 +157,6 @@ module _ (program : Typed) (well : IsWellFormed program) (listed : UsedAreListed
 
   pub made_somewhere : (c d : ℕ) → MakesSomewhere x c d → (used bound : ℕ) × MakesAt x c d used bound
   made_somewhere c d h = let m = somewhere_makes c d h in (m.0, m.1, makes_at_points m.0 m.1 c d m.2)
-
-  pub pairs_within : LeadBetween (length x.used.items) x.pairs.items
-  pairs_within =
-      All-weaker (Contains x.pairs.items) (λ (p : ℕ × ℕ). (p.0 < length x.used.items) × (p.1 < length x.used.items))
-      (λ p h. let w = between section p.0 p.1 ((are.pairs p.0 p.1).0 h) in (omega (arith, w.0, are.used.0), omega (arith, w.1, are.used.0))) x.pairs.items (All-contains_itself x.pairs.items)
 
   pub classes_within : All (λ c. c < length program.classes.items) x.classes.items
   classes_within =

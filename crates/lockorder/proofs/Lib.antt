@@ -4,6 +4,7 @@ pub mod Stuck
 pub mod Ranked
 pub mod Blame
 pub mod Bridge
+pub mod Flows
 pub mod Tells
 pub mod Listed
 pub mod Making

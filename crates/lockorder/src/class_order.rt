@@ -30,11 +30,10 @@ fn table(alloc: Global, program: &Typed, paths: &Paths) -> Result<Table, NoMemor
     ensures classes { IfOk result (λ table. length table.before.items ≡ length program.now.classes.items) }
     ensures edges { IfOk result (λ table. HasEdgesOf table.before.items (program_edges.Edge program.now)) }
 {
-    // The laws tell which paths a section has, that their classes are the program's, and that flow leads between points.
+    // The laws tell which paths a section has, and that their classes are the program's.
     locks::laws::each_path_once();
     locks::laws::paths_have_classes();
-    flow::laws::pairs_lead_between_points();
-    let mut table = Table::empty(alloc, program.classes.len())?;
+    let mut table = Table::new(alloc, program.classes.len())?;
     for section in 0..program.sections.len() {
         let points = points(alloc, program, section, paths)?;
         let edges = SectionEdges { points: &points };
@@ -58,7 +57,6 @@ fn told(
 {
     locks::laws::each_path_once();
     locks::laws::paths_have_classes();
-    flow::laws::pairs_lead_between_points();
     let mut telling = Telling::open(alloc, pairs)?;
     for section in 0..program.sections.len() {
         let points = points(alloc, program, section, paths)?;

@@ -12,7 +12,7 @@ pub struct ClassSet {
 
 impl ClassSet {
     /// None of them.
-    pub fn empty() -> ClassSet
+    pub fn new() -> ClassSet
         ensures { (c : ℕ) → has_class result c ≡ false }
     {
         ClassSet { bits: 0 }

@@ -46,7 +46,7 @@ impl Table {
         for _class in 0..classes {
             ranks.push(0)?;
         }
-        let mut listed = ClassSet::empty();
+        let mut listed = ClassSet::new();
         for rank in 0..classes {
             let Some(class) = self.next(listed) else {
                 return Ok(None);

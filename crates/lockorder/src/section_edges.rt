@@ -5,7 +5,7 @@ ghost use Rattle.std.specs.Bool.{Decides};
 ghost use Rattle.std.specs.List.{All};
 ghost use Rattle.locks.specs.Sets.{has};
 ghost use Rattle.lockorder.specs.Working.Tables.{InSet, has_class, AddsEdges, HasEdgesOf};
-ghost use Rattle.lockorder.specs.Working.Sections.{AreUsedSoFar, HasClass, IsOfClass, IsUseOrNone, KeepsLower, LeadBetween, LeadsToRoots, MakesAt, MakesFirstAt, MakesSomewhere};
+ghost use Rattle.lockorder.specs.Working.Sections.{AreFlowPairs, AreUsedSoFar, HasClass, IsOfClass, IsUseOrNone, KeepsLower, LeadsToRoots, MakesAt, MakesFirstAt, MakesSomewhere};
 
 use crate::before::{leads_on, points_before};
 use crate::class_set::ClassSet;
@@ -46,7 +46,7 @@ impl<'a> SectionEdges<'a> {
         requires { All (λ c. c < 128) self.now.points.now.classes.items }
         ensures { (c : ℕ) → Decides (has_class result c) (HasClass self.now.points.now set c) }
     {
-        let mut classes = ClassSet::empty();
+        let mut classes = ClassSet::new();
         for path in 0..self.points.classes.len() {
             if set.contains(path) {
                 classes = classes.with(self.points.classes[path]);
@@ -59,7 +59,7 @@ impl<'a> SectionEdges<'a> {
     fn paths_of(&self, class: usize) -> PathSet
         ensures { (i : ℕ) → Decides (has result i) (IsOfClass self.now.points.now class i) }
     {
-        let mut paths = PathSet::empty();
+        let mut paths = PathSet::new();
         for path in 0..self.points.classes.len() {
             if self.points.classes[path] == class {
                 paths = paths.with(path);
@@ -76,7 +76,7 @@ impl<'a> SectionEdges<'a> {
     {
         for point in 0..self.points.bound.len() {
             let bound = self.points.bound[point];
-            if bound != PathSet::empty() {
+            if bound != PathSet::new() {
                 let used = self.classes_of(self.used_so_far(point));
                 self.add_roots(bound, used, table);
             }
@@ -104,7 +104,7 @@ impl<'a> SectionEdges<'a> {
         ensures classes { IfOk result (λ table. length table.before.items ≡ classes) }
         ensures edges { IfOk result (λ table. HasEdgesOf table.before.items (MakesSomewhere self.now.points.now)) }
     {
-        let mut table = Table::empty(alloc, classes)?;
+        let mut table = Table::new(alloc, classes)?;
         self.add_to(&mut table);
         Ok(table)
     }
@@ -113,13 +113,14 @@ impl<'a> SectionEdges<'a> {
     fn first_use(
         &self,
         alloc: Global,
+        pairs: &[(usize, usize)],
         users: PathSet,
         bound: usize,
     ) -> Result<Option<usize>, NoMemory>
-        requires { LeadBetween (length self.now.points.now.used.items) self.now.points.now.pairs.items }
+        requires { AreFlowPairs self.now.points.now pairs.now }
         ensures { IfOk result (IsUseOrNone self.now.points.now users bound) }
     {
-        let before = points_before(alloc, &self.points.pairs, self.points.used.len(), bound)?;
+        let before = points_before(alloc, pairs, self.points.used.len(), bound)?;
         for used in 0..self.points.used.len() {
             if leads_on(used, bound, &before) && share(self.points.used[used], users) {
                 return Ok(Some(used));
@@ -128,9 +129,16 @@ impl<'a> SectionEdges<'a> {
         Ok(None)
     }
 
-    /// What makes an edge: of those that do, by the lowest use, and of these by the lowest binding.
-    pub fn first_made(&self, alloc: Global, from: usize, to: usize) -> Result<Made, NoMemory>
-        requires pairs { LeadBetween (length self.now.points.now.used.items) self.now.points.now.pairs.items }
+    /// What makes an edge: of those that do, by the lowest use, and of these by the lowest binding; the pairs are the
+    /// section's.
+    pub fn first_made(
+        &self,
+        alloc: Global,
+        pairs: &[(usize, usize)],
+        from: usize,
+        to: usize,
+    ) -> Result<Made, NoMemory>
+        requires pairs { AreFlowPairs self.now.points.now pairs.now }
         requires made { (used bound : ℕ) × MakesAt self.now.points.now from to used bound }
         ensures { IfOk result (λ made. MakesFirstAt self.now.points.now from to made.used made.bound) }
     {
@@ -139,7 +147,7 @@ impl<'a> SectionEdges<'a> {
         let mut least = None;
         for bound in 0..self.points.bound.len() {
             if share(self.points.bound[bound], roots) {
-                if let Some(used) = self.first_use(alloc, users, bound)? {
+                if let Some(used) = self.first_use(alloc, pairs, users, bound)? {
                     note(&mut least, Made { used, bound });
                 }
             }

@@ -18,12 +18,12 @@ pub struct Table {
 
 impl Table {
     /// So many classes, without an edge.
-    pub fn empty(alloc: Global, classes: usize) -> Result<Table, NoMemory>
+    pub fn new(alloc: Global, classes: usize) -> Result<Table, NoMemory>
         requires { classes ≤ 128 }
         ensures classes { IfOk result (λ table. length table.before.items ≡ classes) }
         ensures edges { IfOk result (λ table. (c d : ℕ) → has_edge table.before.items c d ≡ false) }
     {
-        let before = vec![in alloc; ClassSet::empty(); classes]?;
+        let before = vec![in alloc; ClassSet::new(); classes]?;
         Ok(Table { before })
     }
 

@@ -1,7 +1,7 @@
 //! What makes the edges between pairs of classes.
 
 ghost use Rattle.std.specs.Prelude.{◌≡◌, ◌<◌, ℕ, length, None, IsSome, IfOk, OnOk};
-ghost use Rattle.lockorder.specs.Working.Sections.{LeadBetween, MakesSomewhere};
+ghost use Rattle.lockorder.specs.Working.Sections.{MakesSomewhere};
 ghost use Rattle.lockorder.specs.Working.Tables.{HasEdgesOf};
 ghost use Rattle.lockorder.specs.Working.Tellings.{told_at, AreBetween, AreClosed, AreToldMore, MakesBySome};
 
@@ -43,17 +43,17 @@ impl<'a> Telling<'a> {
         requires long { length self.old.told.items ≡ length self.old.pairs.now }
         requires between { AreBetween (length table.now.before.items) self.old.pairs.now }
         requires edges { HasEdgesOf table.now.before.items (MakesSomewhere points.now) }
-        requires pairs { LeadBetween (length points.now.used.items) points.now.pairs.items }
         requires made { MakesBySome points.now }
         ensures pairs { self.new.pairs.now ≡ self.old.pairs.now }
         ensures long { length self.new.told.items ≡ length self.old.told.items }
         ensures told { OnOk result (AreToldMore points.now section self.old.pairs.now self.old.told.items self.new.told.items) }
     {
         let edges = SectionEdges { points };
+        let point_pairs = points.pairs(alloc)?;
         for place in 0..self.pairs.len() {
             let (class, next) = self.pairs[place];
             if self.told[place].is_none() && table.has_edge(class, next) {
-                let made = edges.first_made(alloc, class, next)?;
+                let made = edges.first_made(alloc, &point_pairs, class, next)?;
                 self.told[place] = Some(Edge {
                     class,
                     section,

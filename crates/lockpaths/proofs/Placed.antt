@@ -11,7 +11,7 @@ use Rattle.locks.specs.LockPaths.{StablePath, LockPath, lock_path_of}
 use Rattle.lockpaths_forms.specs.Working.Forms.{Replacement}
 use Rattle.lockpaths_forms.specs.Working.Nodes.{nowhere, IsGrown}
 use Rattle.lockpaths_forms.specs.Working.States.{Known, IsKept}
-use Rattle.lockpaths.specs.declared.found.Place.{Place}
+use Rattle.lockpaths.specs.declared.found.Destination.{Destination}
 use Rattle.lockpaths.specs.Working.Gathering.{Gathered}
 use Rattle.lockpaths.specs.Working.Places.{root_at, finals_at, path_at, is_numbered, IsPlace, AreFound, gathered_of}
 use Rattle.lockpaths.specs.Working.Told.{Seen, Told, seen}
@@ -28,12 +28,12 @@ module _ (old new : List StablePath) (grown : IsGrown old new) where
   finals_same None is = refl
   finals_same (Some n) is = ap (λ (p : StablePath). p.finals) (there n is)
 
-  pub path_same : (p : Place) → IsPlace old p → path_at new p ≡ path_at old p
+  pub path_same : (p : Destination) → IsPlace old p → path_at new p ≡ path_at old p
   path_same p is =
       ap (λ (r : Root). record { root = r; finals = finals_at new p.node; class = p.class }) (root_same p.node is)
       ∙ ap (λ (fs : List ℕ). record { root = root_at old p.node; finals = fs; class = p.class }) (finals_same p.node is)
 
-  pub paths_same : (ps : List Place) → All (IsPlace old) ps → map (path_at new) ps ≡ map (path_at old) ps
+  pub paths_same : (ps : List Destination) → All (IsPlace old) ps → map (path_at new) ps ≡ map (path_at old) ps
   paths_same [] all = refl
   paths_same (p ∷ ps) all =
       ap (λ (x : LockPath). x ∷ map (path_at new) ps) (path_same p (All-head (IsPlace old) p ps all))
@@ -43,7 +43,7 @@ pub told_same : (s t : List Replacement) (g h : Gathered) → s ≡ t → g ≡ 
 told_same s t g h a b = ap (λ (x : List Replacement). record { table = x; gathered = g }) a ∙ ap (λ (x : Gathered). record { table = t; gathered = x }) b
 
 -- what is found stays as it is when there are more normal forms
-pub found_same : (old new : Known) (places : List Place) (numbers ends : List ℕ) (least : Option Mistake) (now : Seen) → AreFound old.paths places → IsKept old new →
+pub found_same : (old new : Known) (places : List Destination) (numbers ends : List ℕ) (least : Option Mistake) (now : Seen) → AreFound old.paths places → IsKept old new →
     record { known = old; gathered = gathered_of old.paths places numbers ends least } ≡ now →
     record { table = new.table; gathered = gathered_of new.paths places numbers ends least } ≡ seen now
 found_same old new places numbers ends least now are kept is =
@@ -52,7 +52,7 @@ found_same old new places numbers ends least now are kept is =
     ∙ ap seen is
 
 -- one lock path more that is written out
-pub one_written : (paths : List StablePath) (places : List Place) (i : ℕ) (p : Place) (made : written.LockPath) (list more : List written.LockPath) → i < length places → p ≡ get_or places i p →
+pub one_written : (paths : List StablePath) (places : List Destination) (i : ℕ) (p : Destination) (made : written.LockPath) (list more : List written.LockPath) → i < length places → p ≡ get_or places i p →
     map lock_path_of list ≡ map (path_at paths) (take i places) → lock_path_of made ≡ path_at paths p → more ≡ list ++ made ∷ [] →
     map lock_path_of more ≡ map (path_at paths) (take (i + 1) places)
 one_written paths places i p made list more lt is before one grown =
@@ -60,4 +60,4 @@ one_written paths places i p made list more lt is before one grown =
     ∙ ap (λ (xs : List LockPath). xs ++ lock_path_of made ∷ []) before
     ∙ ap (λ (x : LockPath). map (path_at paths) (take i places) ++ x ∷ []) one
     ∙ sym (map_push (path_at paths) (take i places) p)
-    ∙ sym (ap (map (path_at paths)) (take_more places i p lt ∙ ap (λ (x : Place). take i places ++ x ∷ []) (sym is)))
+    ∙ sym (ap (map (path_at paths)) (take_more places i p lt ∙ ap (λ (x : Destination). take i places ++ x ∷ []) (sym is)))

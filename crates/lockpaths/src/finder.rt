@@ -9,7 +9,7 @@ ghost use Rattle.locks.specs.Accesses.{access, global, element, field, in_path, 
 ghost use Rattle.lockpaths.specs.Working.Told.{seen};
 ghost use Rattle.lockpaths.specs.Working.Finding.{IsLockOf, IsTold, in_all, over, over_point, over_points, over_owner, over_owners};
 
-use crate::found::{Found, Place};
+use crate::found::{Destination, Found};
 use core_lang::tree::{Action, Condition, Expr, FieldStep, Path, Section, Stmt};
 use core_lang::typed::{LockClass, Owner, Protection, Typed};
 use flow::points::PointRef;
@@ -37,11 +37,11 @@ pub struct Finder<'a> {
 }
 
 // The place of a lock field of this class at the end of a normal form, if there is one.
-fn under(node: Option<usize>, class: usize) -> Option<Place>
+fn under(node: Option<usize>, class: usize) -> Option<Destination>
     ensures { result ≡ option_map (λ n. record { node = Some n; class = class }) node }
 {
     match node {
-        Some(node) => Some(Place {
+        Some(node) => Some(Destination {
             node: Some(node),
             class,
         }),
@@ -92,7 +92,7 @@ impl<'a> Finder<'a> {
         number: u32,
         base: Base<'_>,
         found: &mut Found,
-    ) -> Result<Option<Place>, NoMemory>
+    ) -> Result<Option<Destination>, NoMemory>
         ensures told { seen found.new ≡ seen found.old }
         ensures place { IfOk result (IsLockOf self.now (seen found.old) structure number base.entry found.new) }
     {
@@ -101,7 +101,7 @@ impl<'a> Finder<'a> {
         };
         let class = protection.class;
         match self.program.classes.get(class) {
-            Some(LockClass::Global(_)) => Ok(Some(Place { node: None, class })),
+            Some(LockClass::Global(_)) => Ok(Some(Destination { node: None, class })),
             Some(LockClass::Field { .. }) => {
                 if base.is_behind {
                     return Ok(None);

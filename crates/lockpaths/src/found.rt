@@ -22,7 +22,7 @@ const PATH_LIMIT: usize = 64;
 
 /// Where a lock path leads: to a global lock, or to a lock field at the end of a normal form.
 #[derive(Clone, Copy)]
-pub struct Place {
+pub struct Destination {
     /// The normal form, by its number; none for a global lock.
     pub node: Option<usize>,
     /// The class of the lock.
@@ -36,7 +36,7 @@ pub struct Found {
     // What stands for the section's locals, and the normal forms of the paths so far.
     forms: Forms,
     // Each once, in the order of their first accesses; behind the first that is too many, none is kept.
-    places: Vec<Place>,
+    places: Vec<Destination>,
     /// The number of the path of each access that has one, up to the first that is too many.
     pub numbers: Vec<u8>,
     /// For each point how many of these there are up to its end.
@@ -88,7 +88,7 @@ impl Found {
     }
 
     // Whether two places have one normal form, or are of global locks.
-    fn has_same_path(&self, a: Place, b: Place) -> bool
+    fn has_same_path(&self, a: Destination, b: Destination) -> bool
         requires a { IsPlace self.now.known.paths a }
         requires b { IsPlace self.now.known.paths b }
         ensures { result ≡ has_same_path self.now.known.paths a.node b.node }
@@ -100,7 +100,7 @@ impl Found {
         }
     }
 
-    fn is_same(&self, a: Place, b: Place) -> bool
+    fn is_same(&self, a: Destination, b: Destination) -> bool
         requires a { IsPlace self.now.known.paths a }
         requires b { IsPlace self.now.known.paths b }
         ensures { result ≡ same_path (path_at self.now.known.paths a) (path_at self.now.known.paths b) }
@@ -109,7 +109,7 @@ impl Found {
     }
 
     // The number of a path, if it was met before.
-    fn number_of(&self, place: Place) -> Option<usize>
+    fn number_of(&self, place: Destination) -> Option<usize>
         requires { IsPlace self.now.known.paths place }
         ensures place { result ≡ place_from (path_at self.now.known.paths place) 0 self.now.gathered.paths }
         ensures within { IfSome result (λ k. k < length self.now.gathered.paths) }
@@ -123,7 +123,7 @@ impl Found {
     }
 
     /// Meets an access that starts there and has this lock path, if it has one.
-    pub fn meet(&mut self, start: usize, place: Option<Place>) -> Result<(), NoMemory>
+    pub fn meet(&mut self, start: usize, place: Option<Destination>) -> Result<(), NoMemory>
         requires { IfSome place (IsPlace self.old.known.paths) }
         ensures { OnOk result (seen self.new ≡ met_told (seen self.old) start (option_map (path_at self.old.known.paths) place)) }
     {
@@ -145,13 +145,13 @@ impl Found {
         ensures { OnOk result (seen self.new ≡ met_told (seen self.old) start (option_map global_path class)) }
     {
         match class {
-            Some(class) => self.meet(start, Some(Place { node: None, class })),
+            Some(class) => self.meet(start, Some(Destination { node: None, class })),
             None => self.meet(start, None),
         }
     }
 
     // A path that was not met before.
-    fn add(&mut self, start: usize, place: Place) -> Result<(), NoMemory>
+    fn add(&mut self, start: usize, place: Destination) -> Result<(), NoMemory>
         requires { IsPlace self.old.known.paths place }
         ensures { OnOk result (seen self.new ≡ told_with_new (seen self.old) start (path_at self.old.known.paths place)) }
     {
@@ -176,7 +176,7 @@ impl Found {
     }
 
     // The lock path that leads to a place.
-    fn lock_path(&self, place: Place) -> Result<LockPath, NoMemory>
+    fn lock_path(&self, place: Destination) -> Result<LockPath, NoMemory>
         requires { IsPlace self.now.known.paths place }
         ensures { IfOk result (λ path. lock_path_of path ≡ path_at self.now.known.paths place) }
     {

@@ -46,7 +46,7 @@ fn set_of(numbers: &[u8]) -> PathSet
     requires { All (λ n. n < 64) numbers.now }
     ensures { IsSetOf result numbers.now }
 {
-    let mut set = PathSet::empty();
+    let mut set = PathSet::new();
     for number in numbers {
         set = set.with(*number as usize);
     }

@@ -11,11 +11,11 @@ use Rattle.lockpaths_forms.specs.declared.form.Form.{Form}
 use Rattle.lockpaths_forms.specs.declared.form.Owner.{Owner}
 use Rattle.lockpaths_forms.specs.declared.form.State.{State}
 use Rattle.lockpaths_forms.specs.declared.form.State.TheVariants.{Node, Where}
-use Rattle.lockpaths_forms.specs.declared.form.Turn.{Turn}
+use Rattle.lockpaths_forms.specs.declared.form.Branch.{Branch}
 use Rattle.lockpaths_forms.specs.declared.forms.Bound.{Bound}
 use Rattle.lockpaths_forms.specs.Working.Forms.{Replacement, stable_path_of, owner_path_of, replacement_of, bound_as, put_in, all_replaced_by}
 use Rattle.lockpaths_forms.specs.Working.Nodes.{local_path, longer, nowhere, onto, IsGrown, IsNodeOf}
-use Rattle.lockpaths_forms.specs.Working.States.{Known, known, nothing_bound, reads, IsState, IsBefore, begins, IsTurn, IsReadAs, IsOfLocal, AreForms, IsKept, IsReached, or_local, IsTurnOf, IsStateOf, IsBoundIn}
+use Rattle.lockpaths_forms.specs.Working.States.{Known, known, nothing_bound, reads, IsState, IsBefore, begins, IsBranch, IsReadAs, IsOfLocal, AreForms, IsKept, IsReached, or_local, IsBranchOf, IsStateOf, IsBoundIn}
 use Rattle.lockpaths_forms.proofs.Places.{stands_left, stands_last, stood_or_last}
 use Rattle.lockpaths_forms.proofs.Replaced.{behind_last}
 use Rattle.lockpaths_forms.proofs.Numbered.{onto_nothing, onto_longer}
@@ -32,19 +32,19 @@ module _ (old new : Known) (kept : IsKept old new) where
   pub is_kept : (s : State) → IsState old s → IsState new s
   is_kept (Node n) is =
       let all = ap length kept.paths.1 in let long = length-append old.paths kept.paths.0 in omega (arith, is, all, long)
-  is_kept (Where k) is = (is.0, ap (λ (ts : List (Option Turn)). slice_get ts k) kept.turns ∙ is.1)
+  is_kept (Where k) is = (is.0, ap (λ (ts : List (Option Branch)). slice_get ts k) kept.branches ∙ is.1)
 
   node_kept : (path : StablePath) (node : ℕ) → IsNodeOf old.paths path node → IsNodeOf new.paths path node
   node_kept path node is = ap (λ (ps : List StablePath). slice_get ps node) kept.paths.1 ∙ stands_left old.paths kept.paths.0 node path is
 
-  turn_kept : (k : ℕ) (t : Turn) → IsState old (Where k) → IsTurn old k t → IsTurn new k t
-  turn_kept k t there turn = record {
-    past = is_kept t.past turn.past;
-    other = is_kept t.other turn.other;
-    earlier = turn.earlier;
-    node = subst (λ (p : StablePath). IsNodeOf new.paths p t.node) (sym (reads_kept (Where k) there [])) (node_kept _ t.node turn.node);
-    leads = λ ns. reads_kept t.past turn.past ns ∙ turn.leads ns ∙ sym (reads_kept (Where k) there (t.number ∷ ns));
-    stays = λ ns other. reads_kept t.other turn.other ns ∙ turn.stays ns other ∙ sym (reads_kept (Where k) there ns);
+  branch_kept : (k : ℕ) (t : Branch) → IsState old (Where k) → IsBranch old k t → IsBranch new k t
+  branch_kept k t there branch = record {
+    past = is_kept t.past branch.past;
+    other = is_kept t.other branch.other;
+    earlier = branch.earlier;
+    node = subst (λ (p : StablePath). IsNodeOf new.paths p t.node) (sym (reads_kept (Where k) there [])) (node_kept _ t.node branch.node);
+    leads = λ ns. reads_kept t.past branch.past ns ∙ branch.leads ns ∙ sym (reads_kept (Where k) there (t.number ∷ ns));
+    stays = λ ns other. reads_kept t.other branch.other ns ∙ branch.stays ns other ∙ sym (reads_kept (Where k) there ns);
   }
 
   pub read_as_kept : (s : State) (path : StablePath) → IsReadAs old s path → IsReadAs new s path
@@ -59,18 +59,18 @@ module _ (old new : Known) (kept : IsKept old new) where
 
   pub forms_kept : (states : ℕ → Option State) → AreForms old states → AreForms new states
   forms_kept states are = record {
-    even = ap length kept.turns ∙ are.even ∙ sym (ap length kept.table);
-    turns = λ k t at. let before = sym (ap (λ (ts : List (Option Turn)). slice_get ts k) kept.turns) ∙ at in turn_kept k t (t, before) (are.turns k t before);
+    even = ap length kept.branches ∙ are.even ∙ sym (ap length kept.table);
+    branches = λ k t at. let before = sym (ap (λ (ts : List (Option Branch)). slice_get ts k) kept.branches) ∙ at in branch_kept k t (t, before) (are.branches k t before);
     locals = λ local. local_kept local (states local) (are.locals local);
   }
 
 pub kept_same : (f : Known) → IsKept f f
-kept_same f = record { table = refl; turns = refl; paths = ([], sym (append-nil f.paths)) }
+kept_same f = record { table = refl; branches = refl; paths = ([], sym (append-nil f.paths)) }
 
 pub kept_on : (a b d : Known) → IsKept a b → IsKept b d → IsKept a d
 kept_on a b d x y = record {
   table = y.table ∙ x.table;
-  turns = y.turns ∙ x.turns;
+  branches = y.branches ∙ x.branches;
   paths = (x.paths.0 ++ y.paths.0, y.paths.1 ∙ ap (λ (ps : List StablePath). ps ++ y.paths.0) x.paths.1 ∙ append_assoc a.paths x.paths.0 y.paths.0);
 }
 
@@ -103,12 +103,12 @@ not_owned owner path other = by path.finals other
 is_owned : (owner : Owner) (local : ℕ) (ns : List ℕ) → owned_path (Some (owner_path_of owner)) (record { root = local; finals = owner.number ∷ ns }) ≡ Some (onto (local_path owner.local) ns)
 is_owned owner local ns = ap (λ (b : Bool). if b then Some (record { root = owner.local; finals = ns }) else None) (eq-eqb owner.number owner.number refl)
 
-module _ (f : Known) (even : length f.turns ≡ length f.table) (r : Replacement) (o : Option Turn) where
+module _ (f : Known) (even : length f.branches ≡ length f.table) (r : Replacement) (o : Option Branch) where
   abbrev with_one : Known
-  with_one = record { table = f.table ++ r ∷ []; turns = f.turns ++ o ∷ []; paths = f.paths }
+  with_one = record { table = f.table ++ r ∷ []; branches = f.branches ++ o ∷ []; paths = f.paths }
 
   within : (k : ℕ) → IsState f (Where k) → k < length f.table
-  within k is = let lt = slice_get_within f.turns k (Some is.0) is.1 in omega (arith, lt, even)
+  within k is = let lt = slice_get_within f.branches k (Some is.0) is.1 in omega (arith, lt, even)
 
   reads_more : (s : State) → IsState f s → (ns : List ℕ) → reads with_one s ns ≡ reads f s ns
   reads_more (Node n) is ns = refl
@@ -120,16 +120,16 @@ module _ (f : Known) (even : length f.turns ≡ length f.table) (r : Replacement
 
   is_more : (s : State) → IsState f s → IsState with_one s
   is_more (Node n) is = is
-  is_more (Where k) is = (is.0, stands_left f.turns (o ∷ []) k (Some is.0) is.1)
+  is_more (Where k) is = (is.0, stands_left f.branches (o ∷ []) k (Some is.0) is.1)
 
-  turn_more : (k : ℕ) (t : Turn) → IsState f (Where k) → IsTurn f k t → IsTurn with_one k t
-  turn_more k t there turn = record {
-    past = is_more t.past turn.past;
-    other = is_more t.other turn.other;
-    earlier = turn.earlier;
-    node = subst (λ (p : StablePath). IsNodeOf f.paths p t.node) (sym (reads_more (Where k) there [])) turn.node;
-    leads = λ ns. reads_more t.past turn.past ns ∙ turn.leads ns ∙ sym (reads_more (Where k) there (t.number ∷ ns));
-    stays = λ ns other. reads_more t.other turn.other ns ∙ turn.stays ns other ∙ sym (reads_more (Where k) there ns);
+  branch_more : (k : ℕ) (t : Branch) → IsState f (Where k) → IsBranch f k t → IsBranch with_one k t
+  branch_more k t there branch = record {
+    past = is_more t.past branch.past;
+    other = is_more t.other branch.other;
+    earlier = branch.earlier;
+    node = subst (λ (p : StablePath). IsNodeOf f.paths p t.node) (sym (reads_more (Where k) there [])) branch.node;
+    leads = λ ns. reads_more t.past branch.past ns ∙ branch.leads ns ∙ sym (reads_more (Where k) there (t.number ∷ ns));
+    stays = λ ns other. reads_more t.other branch.other ns ∙ branch.stays ns other ∙ sym (reads_more (Where k) there ns);
   }
 
   -- what is read from the binding itself on
@@ -140,11 +140,11 @@ module _ (f : Known) (even : length f.turns ≡ length f.table) (r : Replacement
       (take_all (k + 1) (f.table ++ r ∷ []) (omega (arith, long, at)))
       ∙ ap (λ (x : Replacement). all_replaced_by (f.table ++ r ∷ []) (record { root = x.local; finals = ns })) (get_or_push f.table r nothing_bound k (sym at))
 
-before_last : (f : Known) → length f.turns ≡ length f.table → (k : ℕ) → k ≡ length f.table → (s : State) → IsState f s → IsBefore k s
+before_last : (f : Known) → length f.branches ≡ length f.table → (k : ℕ) → k ≡ length f.table → (s : State) → IsState f s → IsBefore k s
 before_last f even k at (Node n) is = tt
-before_last f even k at (Where j) is = let lt = slice_get_within f.turns j (Some is.0) is.1 in omega (arith, lt, even, at)
+before_last f even k at (Where j) is = let lt = slice_get_within f.branches j (Some is.0) is.1 in omega (arith, lt, even, at)
 
-module _ (f : Known) (even : length f.turns ≡ length f.table) (local : ℕ) (owner : Option Owner) (value : Option Form) (other : State) (is : IsReadAs f other (or_local local value)) where
+module _ (f : Known) (even : length f.branches ≡ length f.table) (local : ℕ) (owner : Option Owner) (value : Option Form) (other : State) (is : IsReadAs f other (or_local local value)) where
   abbrev bound : Replacement
   bound = bound_as local owner value
 
@@ -156,8 +156,8 @@ module _ (f : Known) (even : length f.turns ≡ length f.table) (local : ℕ) (o
       ∙ sym (ap (all_replaced_by f.table) (ap (λ (q : Option StablePath). or_behind q (option_map stable_path_of value) (record { root = local; finals = ns })) none ∙ behind_value local value ns))
       ∙ sym (put f.table bound ns)
 
-module _ (f : Known) (even : length f.turns ≡ length f.table) (local : ℕ) (owner : Owner) (value : Option Form) (other : State) (is : IsReadAs f other (or_local local value))
-    (t : Turn) (number : t.number ≡ owner.number) (same : t.other ≡ other) (node : IsNodeOf f.paths (reads f other []) t.node) (past : IsReadAs f t.past (local_path owner.local)) where
+module _ (f : Known) (even : length f.branches ≡ length f.table) (local : ℕ) (owner : Owner) (value : Option Form) (other : State) (is : IsReadAs f other (or_local local value))
+    (t : Branch) (number : t.number ≡ owner.number) (same : t.other ≡ other) (node : IsNodeOf f.paths (reads f other []) t.node) (past : IsReadAs f t.past (local_path owner.local)) where
   abbrev r : Replacement
   r = bound_as local (Some owner) value
 
@@ -176,8 +176,8 @@ module _ (f : Known) (even : length f.turns ≡ length f.table) (local : ℕ) (o
       ∙ put f.table r (owner.number ∷ ns)
       ∙ ap (λ (q : Option StablePath). all_replaced_by f.table (or_behind q (option_map stable_path_of value) (record { root = local; finals = owner.number ∷ ns }))) (is_owned owner local ns))
 
-  new_turn : (k : ℕ) → k ≡ length f.table → IsTurn g k t
-  new_turn k at = record {
+  new_branch : (k : ℕ) → k ≡ length f.table → IsBranch g k t
+  new_branch k at = record {
     past = is_more f even r (Some t) t.past past.is;
     other = is_more f even r (Some t) t.other (subst (IsState f) (sym same) is.is);
     earlier = before_last f even k at t.other (subst (IsState f) (sym same) is.is);
@@ -189,57 +189,57 @@ module _ (f : Known) (even : length f.turns ≡ length f.table) (local : ℕ) (o
 
   new_state : (k : ℕ) → k ≡ length f.table → IsReadAs g (Where k) (local_path local)
   new_state k at =
-      let even' : length f.turns ≡ k = even ∙ sym at in record {
-        is = (t, ap (slice_get (f.turns ++ Some t ∷ [])) (sym even') ∙ stands_last f.turns (Some t));
+      let even' : length f.branches ≡ k = even ∙ sym at in record {
+        is = (t, ap (slice_get (f.branches ++ Some t ∷ [])) (sym even') ∙ stands_last f.branches (Some t));
         same = reads_last f even r (Some t) k at;
       }
 
-module _ (f : Known) (even : length f.turns ≡ length f.table) (local : ℕ) (value : Option Form) (other : State) (is : IsReadAs f other (or_local local value)) (turn : Option Turn) where
-  turn_last : (owner : Option Owner) → IsTurnOf f owner other turn → (k : ℕ) → k ≡ length f.table → (t : Turn) → turn ≡ Some t → IsTurn (with_one f even (bound_as local owner value) turn) k t
-  turn_last None none k at t some = absurd (none-some t (sym none ∙ some))
-  turn_last (Some owner) of k at t some =
-      let made = new_turn f even local owner value other is of.0 of.2 of.3 of.4 of.5 k at in
-      subst (λ (u : Option Turn). IsTurn (with_one f even (bound_as local (Some owner) value) u) k t) (sym of.1)
-      (subst (IsTurn (with_one f even (bound_as local (Some owner) value) (Some of.0)) k) (same_Some of.0 t (sym of.1 ∙ some)) made)
+module _ (f : Known) (even : length f.branches ≡ length f.table) (local : ℕ) (value : Option Form) (other : State) (is : IsReadAs f other (or_local local value)) (branch : Option Branch) where
+  branch_last : (owner : Option Owner) → IsBranchOf f owner other branch → (k : ℕ) → k ≡ length f.table → (t : Branch) → branch ≡ Some t → IsBranch (with_one f even (bound_as local owner value) branch) k t
+  branch_last None none k at t some = absurd (none-some t (sym none ∙ some))
+  branch_last (Some owner) of k at t some =
+      let made = new_branch f even local owner value other is of.0 of.2 of.3 of.4 of.5 k at in
+      subst (λ (u : Option Branch). IsBranch (with_one f even (bound_as local (Some owner) value) u) k t) (sym of.1)
+      (subst (IsBranch (with_one f even (bound_as local (Some owner) value) (Some of.0)) k) (same_Some of.0 t (sym of.1 ∙ some)) made)
 
-  state_last : (owner : Option Owner) → IsTurnOf f owner other turn → (state : State) → IsStateOf f other state turn → IsReadAs (with_one f even (bound_as local owner value) turn) state (local_path local)
+  state_last : (owner : Option Owner) → IsBranchOf f owner other branch → (state : State) → IsStateOf f other state branch → IsReadAs (with_one f even (bound_as local owner value) branch) state (local_path local)
   state_last None none state of =
       let here : state ≡ other = subst (IsStateOf f other state) none of in
-      subst (λ (s : State). IsReadAs (with_one f even (bound_as local None value) turn) s (local_path local)) (sym here)
+      subst (λ (s : State). IsReadAs (with_one f even (bound_as local None value) branch) s (local_path local)) (sym here)
       (record {
-        is = is_more f even (bound_as local None value) turn other is.is;
-        same = λ ns. reads_more f even (bound_as local None value) turn other is.is ns ∙ reads_other f even local None value other is ns refl;
+        is = is_more f even (bound_as local None value) branch other is.is;
+        same = λ ns. reads_more f even (bound_as local None value) branch other is.is ns ∙ reads_other f even local None value other is ns refl;
       })
   state_last (Some owner) of state at =
       let here : state ≡ Where (length f.table) = subst (IsStateOf f other state) of.1 at in
       let made = new_state f even local owner value other is of.0 of.2 of.3 of.4 of.5 (length f.table) refl in
-      subst (λ (s : State). IsReadAs (with_one f even (bound_as local (Some owner) value) turn) s (local_path local)) (sym here)
-      (subst (λ (u : Option Turn). IsReadAs (with_one f even (bound_as local (Some owner) value) u) (Where (length f.table)) (local_path local)) (sym of.1) made)
+      subst (λ (s : State). IsReadAs (with_one f even (bound_as local (Some owner) value) branch) s (local_path local)) (sym here)
+      (subst (λ (u : Option Branch). IsReadAs (with_one f even (bound_as local (Some owner) value) u) (Where (length f.table)) (local_path local)) (sym of.1) made)
 
 module _ (f : Known) (states new : ℕ → Option State) (are : AreForms f states) (b : Bound) (state : State) (is : IsBoundIn f b state)
     (put_there : (q : ℕ) → new q ≡ cond (b.local == q) (Some state) (states q)) where
   abbrev one_more : Known
-  one_more = with_one f are.even (replacement_of b) b.turn
+  one_more = with_one f are.even (replacement_of b) b.branch
 
   other_local : (q : ℕ) → (b.local == q) ≡ false → (o : Option State) → IsOfLocal f q o → IsOfLocal one_more q o
   other_local q differs None at = λ ns. at ns ∙ sym (put_not f.table (replacement_of b) (onto (local_path q) ns) differs)
   other_local q differs (Some s) at = record {
-    is = is_more f are.even (replacement_of b) b.turn s at.is;
-    same = λ ns. reads_more f are.even (replacement_of b) b.turn s at.is ns ∙ at.same ns ∙ sym (put_not f.table (replacement_of b) (onto (local_path q) ns) differs);
+    is = is_more f are.even (replacement_of b) b.branch s at.is;
+    same = λ ns. reads_more f are.even (replacement_of b) b.branch s at.is ns ∙ at.same ns ∙ sym (put_not f.table (replacement_of b) (onto (local_path q) ns) differs);
   }
 
   local_more : (q : ℕ) (same : Bool) → (b.local == q) ≡ same → IsOfLocal one_more q (cond same (Some state) (states q))
   local_more q true e =
       let one : b.local ≡ q = grind (arith, nat_tests, e) in
-      subst (λ (l : ℕ). IsReadAs one_more state (local_path l)) one (state_last f are.even b.local b.value is.0 is.1 b.turn b.owner is.2 state is.3)
+      subst (λ (l : ℕ). IsReadAs one_more state (local_path l)) one (state_last f are.even b.local b.value is.0 is.1 b.branch b.owner is.2 state is.3)
   local_more q false e = other_local q e (states q) (are.locals q)
 
   more_forms : AreForms one_more new
   more_forms = record {
-    even = length_push f.turns b.turn ∙ ap (λ (n : ℕ). n + 1) are.even ∙ sym (length_push f.table (replacement_of b));
-    turns = λ k t at. elim (stood_or_last f.turns b.turn k (Some t) at) [
-      | inl there ↦ turn_more f are.even (replacement_of b) b.turn k t (t, there) (are.turns k t there)
-      | inr last ↦ turn_last f are.even b.local b.value is.0 is.1 b.turn b.owner is.2 k (last.0 ∙ are.even) t (sym last.1)
+    even = length_push f.branches b.branch ∙ ap (λ (n : ℕ). n + 1) are.even ∙ sym (length_push f.table (replacement_of b));
+    branches = λ k t at. elim (stood_or_last f.branches b.branch k (Some t) at) [
+      | inl there ↦ branch_more f are.even (replacement_of b) b.branch k t (t, there) (are.branches k t there)
+      | inr last ↦ branch_last f are.even b.local b.value is.0 is.1 b.branch b.owner is.2 k (last.0 ∙ are.even) t (sym last.1)
     ];
     locals = λ q. subst (IsOfLocal one_more q) (sym (put_there q ∙ ap (λ (c : Bool). cond c (Some state) (states q)) refl)) (local_more q (b.local == q) refl);
   }
@@ -249,8 +249,8 @@ pub bound_forms : (bounds more : List Bound) (b : Bound) (paths : List StablePat
 bound_forms bounds more b paths states new state grown are is put_there =
     let same : known more paths ≡ one_more (known bounds paths) states new are b state is put_there =
     ap (λ (bs : List Bound). known bs paths) grown
-    ∙ ap (λ (t : List Replacement). record { table = t; turns = map (λ (x : Bound). x.turn) (bounds ++ b ∷ []); paths = paths }) (map_push replacement_of bounds b)
-    ∙ ap (λ (ts : List (Option Turn)). record { table = map replacement_of bounds ++ replacement_of b ∷ []; turns = ts; paths = paths }) (map_push (λ (x : Bound). x.turn) bounds b) in
+    ∙ ap (λ (t : List Replacement). record { table = t; branches = map (λ (x : Bound). x.branch) (bounds ++ b ∷ []); paths = paths }) (map_push replacement_of bounds b)
+    ∙ ap (λ (ts : List (Option Branch)). record { table = map replacement_of bounds ++ replacement_of b ∷ []; branches = ts; paths = paths }) (map_push (λ (x : Bound). x.branch) bounds b) in
     subst (λ (f : Known). AreForms f new) (sym same) (more_forms (known bounds paths) states new are b state is put_there)
 
 -- ---- a walk
@@ -270,7 +270,7 @@ number_other n m ns other = ne_eqb n m other
 -- ---- a local by itself, a step, and the node at a state
 
 pub more_nodes : (bounds : List Bound) (old new : List StablePath) → IsGrown old new → IsKept (known bounds old) (known bounds new)
-more_nodes bounds old new grown = record { table = refl; turns = refl; paths = grown }
+more_nodes bounds old new grown = record { table = refl; branches = refl; paths = grown }
 
 pub fresh : (f : Known) (states : ℕ → Option State) → AreForms f states → (local n : ℕ) → states local ≡ None → IsNodeOf f.paths (local_path local) n → IsReadAs f (Node n) (local_path local)
 fresh f states are local n none is = record {
@@ -298,12 +298,12 @@ stepped old new nodes state node number m same next is = record {
 pub node_here : (f : Known) (n : ℕ) → n < length f.paths → IsNodeOf f.paths (reads f (Node n) []) n
 node_here f n lt = slice_get-get_or f.paths n nowhere lt ∙ ap Some (sym (onto_nothing (get_or f.paths n nowhere)))
 
-pub turn_here : (bounds : List Bound) (paths : List StablePath) (k : ℕ) (b : Bound) (t : Turn) → k < length bounds → b ≡ get_or bounds k b → b.turn ≡ Some t →
-    slice_get (known bounds paths).turns k ≡ Some (Some t)
-turn_here bounds paths k b t lt is some =
-    slice_get-map (λ (x : Bound). x.turn) bounds k
-    ∙ ap (option_map (λ (x : Bound). x.turn)) (slice_get-get_or bounds k b lt)
-    ∙ ap Some (ap (λ (x : Bound). x.turn) (sym is) ∙ some)
+pub branch_here : (bounds : List Bound) (paths : List StablePath) (k : ℕ) (b : Bound) (t : Branch) → k < length bounds → b ≡ get_or bounds k b → b.branch ≡ Some t →
+    slice_get (known bounds paths).branches k ≡ Some (Some t)
+branch_here bounds paths k b t lt is some =
+    slice_get-map (λ (x : Bound). x.branch) bounds k
+    ∙ ap (option_map (λ (x : Bound). x.branch)) (slice_get-get_or bounds k b lt)
+    ∙ ap Some (ap (λ (x : Bound). x.branch) (sym is) ∙ some)
 
 pub walked : (a b d : Known) (s t u : State) (ms rest : List ℕ) (number : ℕ) → ms ≡ number ∷ rest →
     IsReached b t (number ∷ []) d u → (all : List ℕ) → ((ns : List ℕ) → reads b t (ms ++ ns) ≡ reads a s (all ++ ns)) → (ns : List ℕ) → reads d u (rest ++ ns) ≡ reads a s (all ++ ns)

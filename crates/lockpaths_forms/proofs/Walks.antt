@@ -20,14 +20,14 @@ split fields i none step is h =
     let e : drop i fields ≡ get_or fields i none ∷ drop (i + 1) fields = rw (add-one, drop-cons fields i none) in
     e ∙ ap (λ x. x ∷ drop (i + 1) fields) is
 
-pub final_turn : (fields : List FieldStep) (i : ℕ) (none : FieldStep) (s f : ℕ) (ns ms : List ℕ) → get_or fields i none ≡ Final s f → i < length fields → ms ≡ ns ++ f ∷ [] →
+pub final_branch : (fields : List FieldStep) (i : ℕ) (none : FieldStep) (s f : ℕ) (ns ms : List ℕ) → get_or fields i none ≡ Final s f → i < length fields → ms ≡ ns ++ f ∷ [] →
     behind_all ms (all_final (drop (i + 1) fields)) ≡ behind_all ns (all_final (drop i fields))
-final_turn fields i none s f ns ms is h e =
+final_branch fields i none s f ns ms is h e =
     one_more ns ms f (all_final (drop (i + 1) fields)) e ∙ ap (λ l. behind_all ns (all_final l)) (sym (split fields i none (Final s f) is h))
 
-pub field_turn : (fields : List FieldStep) (i : ℕ) (none : FieldStep) (s f : ℕ) (ns : List ℕ) → get_or fields i none ≡ Field s f → i < length fields →
+pub field_branch : (fields : List FieldStep) (i : ℕ) (none : FieldStep) (s f : ℕ) (ns : List ℕ) → get_or fields i none ≡ Field s f → i < length fields →
     behind_all ns (all_final (drop i fields)) ≡ None
-field_turn fields i none s f ns is h = ap (λ l. behind_all ns (all_final l)) (split fields i none (Field s f) is h)
+field_branch fields i none s f ns is h = ap (λ l. behind_all ns (all_final l)) (split fields i none (Field s f) is h)
 
-pub no_turn : (fields : List FieldStep) (i : ℕ) (ns : List ℕ) → length fields ≤ i → behind_all ns (all_final (drop i fields)) ≡ Some ns
-no_turn fields i ns h = ap (λ l. behind_all ns (all_final l)) (drop_all i fields h) ∙ ap Some (append-nil ns)
+pub no_branch : (fields : List FieldStep) (i : ℕ) (ns : List ℕ) → length fields ≤ i → behind_all ns (all_final (drop i fields)) ≡ Some ns
+no_branch fields i ns h = ap (λ l. behind_all ns (all_final l)) (drop_all i fields h) ∙ ap Some (append-nil ns)

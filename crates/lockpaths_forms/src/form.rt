@@ -29,7 +29,7 @@ pub enum State {
 
 /// What a `where` says of the paths that begin at what is bound.
 #[derive(Clone, Copy)]
-pub struct Turn {
+pub struct Branch {
     /// The final reference, by its number among those of the struct.
     pub number: u32,
     /// Where this final reference leads to.

@@ -7,10 +7,10 @@ ghost use Rattle.locks.specs.LockPaths.{is_fixed, stable, stable_value, owner_of
 ghost use Rattle.lockpaths_forms.specs.declared.form.State.TheVariants.{Where};
 ghost use Rattle.lockpaths_forms.specs.Working.Forms.{stable_path_of, owner_path_of, owner_path, replacement_of, bound_as, replacements_at, of_action, by_itself, IsPushed};
 ghost use Rattle.lockpaths_forms.specs.Working.Nodes.{local_path, nowhere, same_stable, IsNodeOf};
-ghost use Rattle.lockpaths_forms.specs.Working.States.{reads, or_local, IsState, IsTurn, IsTurnOf, IsStateOf, IsBoundIn, IsKept, IsReadAs, IsReached, IsFormOf};
+ghost use Rattle.lockpaths_forms.specs.Working.States.{reads, or_local, IsState, IsBranch, IsBranchOf, IsStateOf, IsBoundIn, IsKept, IsReadAs, IsReached, IsFormOf};
 ghost use Rattle.lockpaths_forms.specs.Working.Walking.{IsNextOf};
 
-use crate::form::{Form, Owner, State, Turn};
+use crate::form::{Branch, Form, Owner, State};
 use crate::nodes::Nodes;
 use core_lang::tree::{Action, Expr, FieldStep, LocalKind, Section};
 use flow::points::PointRef;
@@ -29,7 +29,7 @@ pub struct Bound {
     /// What it is bound to, if that is a stable path.
     pub value: Option<Form>,
     /// How a walk from it goes on, if it has a `where` that names a parameter or a `let`.
-    pub turn: Option<Turn>,
+    pub branch: Option<Branch>,
 }
 
 /// What a section's locals stand for: the state from which a walk along a path that begins at a local goes on. So what a
@@ -235,14 +235,14 @@ impl Forms {
     {
         let mut forms = self;
         let other = forms.other(local, &value)?;
-        let turn = forms.turn(owner, other)?;
-        let state = forms.bound_state(turn, other);
+        let branch = forms.branch_of(owner, other)?;
+        let state = forms.bound_state(branch, other);
         forms.with(
             Bound {
                 local,
                 owner,
                 value,
-                turn,
+                branch,
             },
             state,
         )
@@ -260,16 +260,16 @@ impl Forms {
     }
 
     // How a walk goes on by a `where`.
-    fn turn(&mut self, owner: Option<Owner>, other: State) -> Result<Option<Turn>, NoMemory>
+    fn branch_of(&mut self, owner: Option<Owner>, other: State) -> Result<Option<Branch>, NoMemory>
         requires { IsState self.old other }
         ensures kept { IsKept self.old self.new }
-        ensures turn { IfOk result (IsTurnOf self.new owner other) }
+        ensures branch { IfOk result (IsBranchOf self.new owner other) }
     {
         let Some(owner) = owner else {
             return Ok(None);
         };
         let past = self.state(owner.local)?;
-        Ok(Some(Turn {
+        Ok(Some(Branch {
             number: owner.number,
             past,
             other,
@@ -278,10 +278,10 @@ impl Forms {
     }
 
     // The state of what is bound next.
-    fn bound_state(&self, turn: Option<Turn>, other: State) -> State
-        ensures { IsStateOf self.now other result turn }
+    fn bound_state(&self, branch: Option<Branch>, other: State) -> State
+        ensures { IsStateOf self.now other result branch }
     {
-        match turn {
+        match branch {
             Some(_) => State::Where(self.bounds.len()),
             None => other,
         }
@@ -363,23 +363,23 @@ impl Forms {
             match at {
                 State::Node(node) => return Next::From(node),
                 State::Where(bound) => {
-                    let turn = self.turn_at(bound);
-                    if turn.number == number {
-                        return Next::To(turn.past);
+                    let branch = self.branch_at(bound);
+                    if branch.number == number {
+                        return Next::To(branch.past);
                     }
-                    at = turn.other;
+                    at = branch.other;
                 }
             }
         }
     }
 
     // How a walk goes on from what is bound with a `where`.
-    fn turn_at(&self, bound: usize) -> Turn
+    fn branch_at(&self, bound: usize) -> Branch
         requires { IsState self.now (Where bound) }
-        ensures { IsTurn self.now bound result }
+        ensures { IsBranch self.now bound result }
     {
-        match self.bounds[bound].turn {
-            Some(turn) => turn,
+        match self.bounds[bound].branch {
+            Some(branch) => branch,
             None => unreachable!(),
         }
     }
@@ -391,7 +391,7 @@ impl Forms {
     {
         match state {
             State::Node(node) => node,
-            State::Where(bound) => self.turn_at(bound).node,
+            State::Where(bound) => self.branch_at(bound).node,
         }
     }
 

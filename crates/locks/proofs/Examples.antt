@@ -6,7 +6,7 @@ use Rattle.core_lang.specs.declared.value.Value.TheVariants.{Int}
 use Rattle.core_lang.specs.declared.value.ValueType.{ValueType}
 use Rattle.core_lang.specs.declared.value.ValueType.TheVariants.{Integer, Reference}
 use Rattle.core_lang.specs.declared.tree.Comparison.TheVariants.{Greater}
-use Rattle.core_lang.specs.declared.tree.Operator.TheVariants.{Plus, Divide}
+use Rattle.core_lang.specs.declared.tree.Operator.TheVariants.{Add, Div}
 use Rattle.core_lang.specs.declared.tree.LocalKind.TheVariants.{Parameter, Let, Var}
 use Rattle.core_lang.specs.declared.tree.LocalKind.{LocalKind}
 use Rattle.core_lang.specs.declared.tree.Stmt.{Stmt}
@@ -64,7 +64,7 @@ module _ (alloc : Global) (name : String Global) where
   boxed = record { ptr = null_ptr; alloc = alloc; value = tt }
 
   abbrev pub plus : Expr → Expr → Expr
-  plus a b = Chain' boxed a one (more_of-Operation Plus b end_of-Operation)
+  plus a b = Chain' boxed a one (more_of-Operation Add b end_of-Operation)
 
   abbrev pub a_path : ℕ → ℕ → (fields : List FieldStep) → length fields < 2 ^ 63 → Path
   a_path start local fields small = record { start = start; local = local; fields = vec fields small; in_parentheses = false }
@@ -707,7 +707,7 @@ module _ (alloc : Global) (name : String Global) where
     result = None;
     body = vec (record { start = 10; action = Print (Number (pos 7)) }
         ∷ record { start = 11; action = SetGlobal 0 (Number (pos 8)) }
-        ∷ record { start = 12; action = SetGlobal 0 (Chain' boxed (n_at 14) one (more_of-Operation Divide (lone 18 0) end_of-Operation)) } ∷ []) (omega arith);
+        ∷ record { start = 12; action = SetGlobal 0 (Chain' boxed (n_at 14) one (more_of-Operation Div (lone 18 0) end_of-Operation)) } ∷ []) (omega arith);
   }
 
   abbrev twice : Section

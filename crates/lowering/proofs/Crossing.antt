@@ -5,10 +5,10 @@ use Rattle.std.proofs.Crossing.{crosses}
 use Rattle.core_lang.proofs.Crossing.{typed_whole, typed_part}
 use Rattle.core_lang.specs.contracts.typed.Typed as typed
 use Rattle.lowering.specs.contracts.compiled.Program as program
-use Rattle.code.specs.contracts.section_code.Code as code
+use Rattle.code.specs.contracts.section_code.ProgramCode as code
 use Rattle.code.specs.contracts.section_code.SectionCode as section_code
 use Rattle.code.specs.contracts.instr.Instr as instr
-use Rattle.code.specs.contracts.names.Names as names
+use Rattle.code.specs.contracts.names.ListingNames as names
 use Rattle.layout.specs.contracts.table.Layout as layout
 use Rattle.layout.specs.contracts.room.Room as room
 

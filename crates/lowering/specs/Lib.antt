@@ -5,5 +5,5 @@ pub mod Working
 pub use Rattle.lowering.specs.Lowered.{StructTexts, AreNames, IsLowered, lists_at, IsCodeOf}
 pub use Rattle.lowering.specs.Working.Rooms.{most_cells, IsRoomOf, AreRoomsOf}
 pub use Rattle.lowering.specs.Plans.{Plan, IsCompiled, CodesBehave, CompiledRunAlike}
-pub use Rattle.lowering.specs.Working.Compiled.{IsRoomAt}
+pub use Rattle.lowering.specs.Working.Compiled.{IsRoomAt, written_in, program_of}
 pub use Rattle.lowering.specs.Working.PlanLaws.{NothingIsTaken}

@@ -14,9 +14,9 @@ use Rattle.locks.specs.LockPaths.{lock_path_of, lock_paths}
 use Rattle.locks.specs.Texts.{path_text}
 use Rattle.code.specs.declared.names.GlobalName.{GlobalName}
 use Rattle.code.specs.declared.names.StructNames.{StructNames}
-use Rattle.code.specs.declared.names.Names.{Names}
+use Rattle.code.specs.declared.names.ListingNames.{ListingNames}
 use Rattle.code.specs.declared.section_code.SectionCode.{SectionCode}
-use Rattle.code.specs.declared.section_code.Code.{Code}
+use Rattle.code.specs.declared.section_code.ProgramCode.{ProgramCode}
 use Rattle.code.specs.Lowering.{section_code}
 use Rattle.code_emission.specs.NumberLists.{number_lists}
 
@@ -59,7 +59,7 @@ struct_texts x = record {
 }
 
 -- the names of what a program's instructions refer to by number, in order
-pub record AreNames (program : Typed) (names : Names) : Type 0 where
+pub record AreNames (program : Typed) (names : ListingNames) : Type 0 where
   pub globals : map global_text names.globals.items ≡ map declared_global program.globals.items
   pub arrays : texts names.arrays.items ≡ map (λ (x : Array). string_bytes x.name) program.shape.arrays.items
   pub pools : texts names.pools.items ≡ map (λ (x : Pool). string_bytes x.name) program.shape.pools.items
@@ -83,7 +83,7 @@ abbrev pub lists_at : List (List (List ℕ)) → ℕ → List (List ℕ)
 lists_at lists k = unwrap_or (slice_get lists k) []
 
 -- the code of a program whose sections have these lists
-pub record IsCodeOf (program : Typed) (lists : List (List (List ℕ))) (code : Code) : Type 0 where
+pub record IsCodeOf (program : Typed) (lists : List (List (List ℕ))) (code : ProgramCode) : Type 0 where
   pub names : AreNames program code.names
   pub long : length code.sections.items ≡ length program.sections.items
   pub each : (k : ℕ) (section : Section) (made : SectionCode) → slice_get program.sections.items k ≡ Some section →

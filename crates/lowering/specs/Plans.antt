@@ -12,7 +12,7 @@ use Rattle.lockorder.specs.Edges.{AreRanksOf, RiseIn}
 use Rattle.inserter.specs.Placement.{IsPlacement}
 use Rattle.layout.specs.Layouts.{LayoutOf, IsLayoutOf}
 use Rattle.code.specs.declared.section_code.SectionCode.{SectionCode}
-use Rattle.code.specs.declared.section_code.Code.{Code}
+use Rattle.code.specs.declared.section_code.ProgramCode.{ProgramCode}
 use Rattle.code.specs.Needs.{operand_need}
 use Rattle.code.specs.Alone.{Behaves}
 use Rattle.lowering.specs.Lowered.{IsCodeOf}
@@ -43,7 +43,7 @@ pub record IsCompiled (plan : Plan) : Type 0 where
 -- the code of a well-formed program behaves as its sections
 abbrev pub CodesBehave : Type 0
 CodesBehave =
-    (program : Typed) (lists : List (List (List ℕ))) (code : Code) (k : ℕ) (section : Section) (made : SectionCode) →
+    (program : Typed) (lists : List (List (List ℕ))) (code : ProgramCode) (k : ℕ) (section : Section) (made : SectionCode) →
     IsWellFormed program → IsCodeOf program lists code →
     slice_get program.sections.items k ≡ Some section → slice_get code.sections.items k ≡ Some made →
     Behaves program section made.instructions.items (operand_need section)

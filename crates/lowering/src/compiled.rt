@@ -7,10 +7,11 @@ ghost use Rattle.inserter.specs.Placement.{all_lists};
 ghost use Rattle.lockorder.specs.Edges.{AreRanksOf, RiseIn};
 ghost use Rattle.lockpaths.specs.Paths.{ArePaths};
 ghost use Rattle.locks.specs.Faults.{HasNoFault};
+ghost use Rattle.lowering.specs.Working.Compiled.{program_of, written_in};
 
 use crate::program_code::lower;
 use crate::program_rooms::rooms;
-use code::section_code::Code;
+use code::section_code::ProgramCode;
 use core_lang::typed::Typed;
 use inserter::place;
 use inserter::placed::Placed;
@@ -26,20 +27,43 @@ use std::marker::Model;
 /// A program that is accepted, and the same with its helpers written out.
 #[derive(Drop)]
 pub struct Trees {
+    /// The program, with its helpers.
     pub accepted: Typed,
-    pub written: Typed,
+    /// It with its helpers written out; nothing where it has none, since then it is the same.
+    pub written: Option<Typed>,
+}
+
+/// What runs of such two: the one that is written out, if it is apart.
+#[inline]
+fn running<'a>(accepted: &'a Typed, written: &'a Option<Typed>) -> &'a Typed
+    ensures { result.now ≡ written_in accepted.now written.now }
+{
+    match written {
+        Some(written) => written,
+        None => accepted,
+    }
+}
+
+impl Trees {
+    /// The program with its helpers written out, which is what runs.
+    #[inline]
+    pub fn program(&self) -> &Typed
+        ensures { result.now ≡ program_of self.now }
+    {
+        running(&self.accepted, &self.written)
+    }
 }
 
 /// A program that is accepted, with all that the passes found of it. As a value it is its plan.
 #[derive(Drop)]
 pub struct Program {
     accepted: Typed,
-    typed: Typed,
+    written: Option<Typed>,
     paths: Paths,
     ranks: Ranks,
     placed: Placed,
     layout: Layout,
-    code: Code,
+    code: ProgramCode,
     rooms: Vec<Room>,
 }
 
@@ -49,15 +73,16 @@ impl Model for Program {
     ghost use Rattle.core_lang.specs.contracts.tree.Condition as condition;
     ghost use Rattle.std.specs.Coded.{codes};
     ghost use Rattle.lowering.specs.Plans.{Plan};
-    ghost use Rattle.lowering.specs.Working.Compiled.{plan_of, IsProgram};
+    ghost use Rattle.lowering.specs.Working.Compiled.{plan_of, written_in, IsProgram};
 
     ghost Value = { Plan };
 
     ghost coded = { Prim.hlevel (codes, action.the_row.coded, expr.the_row.coded, condition.the_row.coded) };
 
-    ghost view = { λ p. plan_of p.accepted p.typed p.ranks.items p.placed p.layout };
+    ghost view = { λ p. plan_of p.accepted (written_in p.accepted p.written) p.ranks.items p.placed p.layout };
 
-    ghost invariant = { λ p. IsProgram (plan_of p.accepted p.typed p.ranks.items p.placed p.layout) p.paths p.code p.rooms.items };
+    ghost invariant = { λ p. let plan = plan_of p.accepted (written_in p.accepted p.written) p.ranks.items p.placed p.layout in
+        IsProgram plan p.paths p.code p.rooms.items };
 }
 
 impl Program {
@@ -72,24 +97,25 @@ impl Program {
     /// Want of memory.
     pub fn of(alloc: Global, trees: Trees, paths: Paths, ranks: Ranks) -> Result<Program, NoMemory>
         requires checked { IsChecked trees.accepted }
-        requires expanded { IsExpanded trees.accepted trees.written }
-        requires program { IsWellFormed trees.written }
-        requires paths { ArePaths trees.written paths }
-        requires stable { HasNoFault trees.written }
-        requires ranked { AreRanksOf trees.written ranks.items }
-        requires rise { RiseIn trees.written ranks.items }
+        requires expanded { IsExpanded trees.accepted (program_of trees) }
+        requires program { IsWellFormed (program_of trees) }
+        requires paths { ArePaths (program_of trees) paths }
+        requires stable { HasNoFault (program_of trees) }
+        requires ranked { AreRanksOf (program_of trees) ranks.items }
+        requires rise { RiseIn (program_of trees) ranks.items }
         ensures accepted { IfOk result (λ made. made.accepted ≡ trees.accepted) }
-        ensures program { IfOk result (λ made. made.program ≡ trees.written) }
+        ensures program { IfOk result (λ made. made.program ≡ program_of trees) }
         ensures compiled { IfOk result IsCompiled }
     {
-        let typed = trees.written;
-        let placed = place(alloc, &typed, &paths, &ranks)?;
-        let layout = lay_out(alloc, &typed)?;
-        let code = lower(alloc, &typed, &paths, &placed)?;
-        let rooms = rooms(alloc, &typed, &paths, &layout)?;
+        let program = trees.program();
+        let placed = place(alloc, program, &paths, &ranks)?;
+        let layout = lay_out(alloc, program)?;
+        let code = lower(alloc, program, &paths, &placed)?;
+        let rooms = rooms(alloc, program, &paths, &layout)?;
+        let Trees { accepted, written } = trees;
         Ok(Program {
-            accepted: trees.accepted,
-            typed,
+            accepted,
+            written,
             paths,
             ranks,
             placed,
@@ -114,7 +140,7 @@ impl Program {
         ensures program { result.now ≡ self.now.program }
         ensures compiled { IsCompiled self.now }
     {
-        &self.typed
+        running(&self.accepted, &self.written)
     }
 
     /// How many threads it has.
@@ -122,7 +148,7 @@ impl Program {
     pub fn threads(&self) -> u32
         ensures { result ≡ length self.now.program.threads.items }
     {
-        self.typed.threads.len() as u32
+        self.typed().threads.len() as u32
     }
 
     /// The lock paths of its sections.
@@ -159,7 +185,7 @@ impl Program {
 
     /// The code of its sections.
     #[inline]
-    pub fn code(&self) -> &Code
+    pub fn code(&self) -> &ProgramCode
         ensures { IsCodeOf self.now.program self.now.lists result.now }
     {
         &self.code

@@ -7,7 +7,7 @@ ghost use Rattle.core_lang.specs.declared.typed.Field.{Field as the_field};
 ghost use Rattle.core_lang.specs.declared.typed.FinalField.{FinalField as the_final};
 ghost use Rattle.lowering.specs.Lowered.{AreNames, declared_global, declared_struct, global_text, struct_texts, texts};
 
-use code::names::{GlobalName, Names, StructNames};
+use code::names::{GlobalName, ListingNames, StructNames};
 use core_lang::shape::{Array, Pool};
 use core_lang::typed::{Field, FinalField, GlobalVariable, Struct, Typed};
 use source::memory::NoMemory;
@@ -87,10 +87,10 @@ fn of_structs(alloc: Global, structs: &[Struct]) -> Result<Vec<StructNames>, NoM
 }
 
 /// The names of a program.
-pub fn names_of(alloc: Global, program: &Typed) -> Result<Names, NoMemory>
+pub fn names_of(alloc: Global, program: &Typed) -> Result<ListingNames, NoMemory>
     ensures { IfOk result (AreNames program.now) }
 {
-    Ok(Names {
+    Ok(ListingNames {
         globals: of_globals(alloc, &program.globals)?,
         arrays: of_arrays(alloc, &program.shape.arrays)?,
         pools: of_pools(alloc, &program.shape.pools)?,

@@ -8,7 +8,7 @@ ghost use Rattle.lowering.specs.Lowered.{IsCodeOf, lists_at};
 
 use crate::names::names_of;
 use crate::section_code::Lowering;
-use code::section_code::Code;
+use code::section_code::ProgramCode;
 use core_lang::typed::Typed;
 use inserter::placed::Placed;
 use lockpaths::table::Paths;
@@ -35,7 +35,7 @@ pub fn lower(
     program: &Typed,
     paths: &Paths,
     placed: &Placed,
-) -> Result<Code, NoMemory>
+) -> Result<ProgramCode, NoMemory>
     requires { ArePaths program.now paths.now }
     ensures { IfOk result (IsCodeOf program.now (all_lists placed.now)) }
 {
@@ -47,5 +47,5 @@ pub fn lower(
         let lists = lists_before(placed, k);
         sections.push(lowering.code(alloc, &paths.sections[k].paths, lists)?)?;
     }
-    Ok(Code { names, sections })
+    Ok(ProgramCode { names, sections })
 }

@@ -24,13 +24,13 @@ fn calculate(operator: Operator, a: i64, b: i64) -> Result<Value, Failure>
     ensures { result ≡ arithmetic operator a b }
 {
     match operator {
-        Operator::Plus => fitted(a.checked_add(b)),
-        Operator::Minus => fitted(a.checked_sub(b)),
-        Operator::Times => fitted(a.checked_mul(b)),
-        Operator::Divide if b == 0 => Err(Failure::Trap(Trap::ZeroDivisor)),
-        Operator::Divide => fitted(a.checked_div(b)),
-        Operator::Remainder if b == 0 => Err(Failure::Trap(Trap::ZeroDivisor)),
-        Operator::Remainder => fitted(a.checked_rem(b)),
+        Operator::Add => fitted(a.checked_add(b)),
+        Operator::Sub => fitted(a.checked_sub(b)),
+        Operator::Mul => fitted(a.checked_mul(b)),
+        Operator::Div if b == 0 => Err(Failure::Trap(Trap::ZeroDivisor)),
+        Operator::Div => fitted(a.checked_div(b)),
+        Operator::Rem if b == 0 => Err(Failure::Trap(Trap::ZeroDivisor)),
+        Operator::Rem => fitted(a.checked_rem(b)),
     }
 }
 
@@ -75,11 +75,11 @@ fn compare_numbers(comparison: Comparison, a: i64, b: i64) -> bool
 {
     match comparison {
         Comparison::Equal => a == b,
-        Comparison::Unequal => a != b,
+        Comparison::NotEqual => a != b,
         Comparison::Less => a < b,
-        Comparison::LessEqual => a <= b,
+        Comparison::LessOrEqual => a <= b,
         Comparison::Greater => a > b,
-        Comparison::GreaterEqual => a >= b,
+        Comparison::GreaterOrEqual => a >= b,
     }
 }
 
@@ -93,7 +93,7 @@ fn compare_references(
 {
     match comparison {
         Comparison::Equal => Ok(a == b),
-        Comparison::Unequal => Ok(a != b),
+        Comparison::NotEqual => Ok(a != b),
         _ => Err(Failure::Wrong),
     }
 }

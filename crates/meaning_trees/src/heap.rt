@@ -65,7 +65,7 @@ impl Heap {
 
     /// A heap without cells.
     #[inline]
-    pub fn empty(alloc: Global) -> Heap
+    pub fn new(alloc: Global) -> Heap
         ensures { result ≡ [] }
     {
         Heap {

@@ -25,7 +25,7 @@ impl Model for Cells {
 
 impl Cells {
     /// No cells.
-    pub fn none(alloc: Global) -> Cells
+    pub fn new(alloc: Global) -> Cells
         ensures { result ≡ [] }
     {
         Cells {

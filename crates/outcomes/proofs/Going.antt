@@ -8,8 +8,8 @@ use Rattle.core_lang.specs.Serial.{Invocation, opening_heap}
 use Rattle.core_lang.specs.Typing.{HasCells, IsHeap}
 use Rattle.core_lang.specs.WellFormed.{calls_together}
 use Rattle.outcomes.specs.declared.search.Search.{Search}
-use Rattle.outcomes.specs.declared.search.Stop.{Stop}
-use Rattle.outcomes.specs.declared.search.Stop.TheVariants.{TooMany, Beyond}
+use Rattle.outcomes.specs.declared.search.EarlyEnd.{EarlyEnd}
+use Rattle.outcomes.specs.declared.search.EarlyEnd.TheVariants.{TooMany, Beyond}
 use Rattle.outcomes.specs.declared.search.Work.{Work}
 use Rattle.outcomes.specs.declared.state.State.{State}
 use Rattle.outcomes.specs.Orders.{next_call, one_more, orders_of}
@@ -190,7 +190,7 @@ in_whole : (m a b c g w : ℕ) → m < a + g → a ≡ b + c → c + g ≤ w →
 in_whole m a b c g w many is few = omega arith
 
 -- a stop after some work
-pub stop_further : (search : Search) (old mid new : Work) (before g whole : Growth) (stop : Stop) → GoesOn search old mid before →
+pub stop_further : (search : Search) (old mid new : Work) (before g whole : Growth) (stop : EarlyEnd) → GoesOn search old mid before →
     ((left : ℕ) → before one left + g one left ≤ whole one left) → IsStop search mid new g stop → IsStop search old new whole stop
 stop_further search old mid new before g whole TooMany goes most is =
     λ left all. (let d : mid.depth ≡ old.depth = goes.depth in

@@ -7,4 +7,4 @@ pub mod Full
 pub mod Going
 pub mod Whole
 pub mod Drawn
-pub mod Places
+pub mod Configurations

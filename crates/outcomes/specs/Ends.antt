@@ -86,30 +86,30 @@ pub record StopsAfter (program : Typed) (n : ℕ) (order : List ℕ) (thread : �
 -- ---- states
 
 -- where calls can lead: how many of each thread's are done, and what the cells hold
-pub record Place : Type 0 where
+pub record Configuration : Type 0 where
   pub done : List ℕ
   pub cells : List Value
 
 -- the calls of an order, each the next of its thread, run whole one after another from the opening heap, lead there
-pub record LeadsTo (program : Typed) (place : Place) : Type 0 where
+pub record LeadsTo (program : Typed) (configuration : Configuration) : Type 0 where
   pub order : List ℕ
   pub made : length (calls_in program order) ≡ length order
-  pub done : done_after (none_done program) order ≡ place.done
+  pub done : done_after (none_done program) order ≡ configuration.done
   pub ends : List Ended
-  pub serial : SerialFromOpening program (calls_in program order) ends place.cells
+  pub serial : SerialFromOpening program (calls_in program order) ends configuration.cells
 
--- all such places, each once
-pub record AreAllPlaces (program : Typed) (places : List Place) : Type 0 where
-  pub each : All (LeadsTo program) places
-  pub apart : AllPairs (λ (a b : Place). a ≢ b) places
-  pub all : (place : Place) → LeadsTo program place → Contains places place
+-- all such configurations, each once
+pub record AreAllConfigurations (program : Typed) (configurations : List Configuration) : Type 0 where
+  pub each : All (LeadsTo program) configurations
+  pub apart : AllPairs (λ (a b : Configuration). a ≢ b) configurations
+  pub all : (configuration : Configuration) → LeadsTo program configuration → Contains configurations configuration
 
 -- there are so many of them
-abbrev pub HasPlaces : Typed → ℕ → Type 0
-HasPlaces program count = (places : List Place) × AreAllPlaces program places × (length places ≡ count)
+abbrev pub HasConfigurations : Typed → ℕ → Type 0
+HasConfigurations program count = (configurations : List Configuration) × AreAllConfigurations program configurations × (length configurations ≡ count)
 
--- what is found: the ends of all orders, and how many places there are on the way; or the ends of orders that were drawn; or a call that n turns don't settle
+-- what is found: the ends of all orders, and how many configurations there are on the way; or the ends of orders that were drawn; or a call that n turns don't settle
 abbrev pub Finds : Typed → ℕ → ℕ → Found → Type 0
-Finds program n most (found.All ends places) = AreAllEnds program n (map told_of ends.items) × HasPlaces program places
+Finds program n most (found.All ends configurations) = AreAllEnds program n (map told_of ends.items) × HasConfigurations program configurations
 Finds program n most (found.Drawn ends) = AreDrawnEnds program most (map told_of ends.items)
 Finds program n most (found.Unsettled order thread) = StopsAfter program n order.items thread

@@ -3,5 +3,5 @@ pub mod Ends
 pub mod Working
 -- what the public clauses cite
 pub use Rattle.outcomes.specs.Orders.{next_call, orders, calls_in}
-pub use Rattle.outcomes.specs.Ends.{EndsIn, Told, told_of, AreAllEnds, AreDrawnEnds, Place, LeadsTo, AreAllPlaces, HasPlaces, StopsAfter, Finds}
+pub use Rattle.outcomes.specs.Ends.{EndsIn, Told, told_of, AreAllEnds, AreDrawnEnds, Configuration, LeadsTo, AreAllConfigurations, HasConfigurations, StopsAfter, Finds}
 pub use Rattle.outcomes.specs.Working.Steps.{CanSearch}

@@ -4,7 +4,7 @@
 //! - [`search::Search`]: what is searched; [`search::Search::ends`] finds each end once, with how many orders have it and one
 //!   of them: of all orders, if they are at most as many as are looked at, else of so many that are drawn.
 //! - [`outcome`]: what is found.
-//! - [`layer`], [`state`], [`trail`]: where so many calls are done, each such place once, and an order that leads there.
+//! - [`layer`], [`state`], [`trail`]: where so many calls are done, each such configuration once, and an order that leads there.
 //!
 //! `specs/Orders.antt` says what an order is, and `specs/Ends.antt` what is found. The others only say how the search goes;
 //! nobody has to believe them.

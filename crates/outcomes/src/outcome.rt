@@ -20,8 +20,9 @@ pub enum Found {
     All {
         /// How the cells can end.
         ends: Vec<Outcome>,
-        /// At how many places these orders come by: by how many of each thread's calls are done, and what the cells hold.
-        places: usize,
+        /// How many configurations these orders come by: how many of each thread's calls are done, and what the cells
+        /// hold.
+        configurations: usize,
     },
     /// How they end after orders that were drawn, since there are more than are looked at.
     Drawn(Vec<Outcome>),

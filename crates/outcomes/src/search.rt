@@ -49,7 +49,7 @@ pub(crate) struct Work {
 
 /// Why a search ends early.
 #[derive(Clone, Copy)]
-pub(crate) enum Stop {
+pub(crate) enum EarlyEnd {
     /// There are more orders than are looked at.
     TooMany,
     /// After the order of this number, the turns don't settle the next call of a thread.
@@ -67,7 +67,7 @@ pub(crate) fn set_cells(alloc: Global, heap: &mut Heap, cells: &[Value]) -> Resu
     requires { length heap.old ≡ length cells.now }
     ensures { OnOk result (heap.new ≡ cells.now) }
 {
-    let mut draft = Draft::new(alloc, mem::replace(heap, Heap::empty(alloc)));
+    let mut draft = Draft::new(alloc, mem::replace(heap, Heap::new(alloc)));
     for (cell, value) in cells.iter().enumerate() {
         if !same_value(draft.cells()[cell], *value) {
             draft.write(cell, *value)?;
@@ -172,7 +172,7 @@ impl Search<'_> {
         work: &mut Work,
         from: &State,
         thread: usize,
-    ) -> Result<Option<Stop>, NoMemory>
+    ) -> Result<Option<EarlyEnd>, NoMemory>
         requires search { CanSearch self.now }
         requires work { IsAtWork self.now work.old }
         requires from { IsReached self.now work.old from.now }
@@ -183,20 +183,25 @@ impl Search<'_> {
             return Ok(None);
         };
         if !self.make(alloc, &mut work.heap, call, &from.cells)? {
-            return Ok(Some(Stop::Beyond {
+            return Ok(Some(EarlyEnd::Beyond {
                 first: from.first,
                 thread,
             }));
         }
         if !self.has_room(work.next.orders(), from.orders) {
-            return Ok(Some(Stop::TooMany));
+            return Ok(Some(EarlyEnd::TooMany));
         }
         work.put(alloc, from, thread)?;
         Ok(None)
     }
 
     /// Makes the next call of each thread that has one left.
-    fn expand(&self, alloc: Global, work: &mut Work, from: &State) -> Result<Option<Stop>, NoMemory>
+    fn expand(
+        &self,
+        alloc: Global,
+        work: &mut Work,
+        from: &State,
+    ) -> Result<Option<EarlyEnd>, NoMemory>
         requires search { CanSearch self.now }
         requires work { IsAtWork self.now work.old }
         requires from { IsReached self.now work.old from.now }
@@ -216,7 +221,7 @@ impl Search<'_> {
         alloc: Global,
         work: &mut Work,
         layer: &Layer,
-    ) -> Result<Option<Stop>, NoMemory>
+    ) -> Result<Option<EarlyEnd>, NoMemory>
         requires search { CanSearch self.now }
         requires work { IsAtWork self.now work.old }
         requires layer { AreReached self.now work.old layer.now }
@@ -297,8 +302,8 @@ impl Search<'_> {
             work.depth = depth;
             match self.expand_all(alloc, &mut work, &layer)? {
                 None => {}
-                Some(Stop::TooMany) => return Ok(None),
-                Some(Stop::Beyond { first, thread }) => {
+                Some(EarlyEnd::TooMany) => return Ok(None),
+                Some(EarlyEnd::Beyond { first, thread }) => {
                     let order = work.trail.order(alloc, first)?;
                     return Ok(Some(Found::Unsettled { order, thread }));
                 }
@@ -306,8 +311,11 @@ impl Search<'_> {
             layer = mem::replace(&mut work.next, Layer::new(alloc));
         }
         let ends = told(alloc, &layer, &work.trail)?;
-        let places = work.trail.len();
-        Ok(Some(Found::All { ends, places }))
+        let configurations = work.trail.len();
+        Ok(Some(Found::All {
+            ends,
+            configurations,
+        }))
     }
 
     /// How the cells can end, over all orders, if there are at most as many as are looked at; else over so many that are

@@ -14,23 +14,25 @@ use crate::take::{ended_by, is_same, is_sign_next, named, small, take_open};
 use source::span::Span;
 use source::token::{Keyword, Sign, Token};
 use std::alloc::Global;
-use syntax::tree::{Comparison, Element, Expr, Joined, Level, Link, Name, Op, Path, Place, Prefix};
+use syntax::tree::{
+    Comparison, Element, Expr, Joined, Level, Link, Name, Operator, Path, Place, Prefix,
+};
 
 /// An operator of the level, if one comes next.
 #[tactic(auto, unfolding(crate::specs::Working::Expressions::op_at))]
-fn operator(level: Level, tokens: &[Token]) -> Option<(Op, &[Token])>
+fn operator(level: Level, tokens: &[Token]) -> Option<(Operator, &[Token])>
     ensures { option_map (λ x. (x.0, seen x.1.now)) result ≡ op_at level (seen tokens.now) }
 {
     if let [first, rest @ ..] = tokens {
         if let Token::Mark(_, mark) = first {
             return match (level, *mark) {
-                (Level::Sum, Sign::Plus) => Some((Op::Add, rest)),
-                (Level::Sum, Sign::Minus) => Some((Op::Sub, rest)),
-                (Level::Term, Sign::Star) => Some((Op::Mul, rest)),
-                (Level::Term, Sign::Slash) => Some((Op::Div, rest)),
-                (Level::Term, Sign::Percent) => Some((Op::Rem, rest)),
-                (Level::Conjunction, Sign::And) => Some((Op::And, rest)),
-                (Level::Disjunction, Sign::Or) => Some((Op::Or, rest)),
+                (Level::Sum, Sign::Plus) => Some((Operator::Add, rest)),
+                (Level::Sum, Sign::Minus) => Some((Operator::Sub, rest)),
+                (Level::Term, Sign::Star) => Some((Operator::Mul, rest)),
+                (Level::Term, Sign::Slash) => Some((Operator::Div, rest)),
+                (Level::Term, Sign::Percent) => Some((Operator::Rem, rest)),
+                (Level::Conjunction, Sign::And) => Some((Operator::And, rest)),
+                (Level::Disjunction, Sign::Or) => Some((Operator::Or, rest)),
                 _ => None,
             };
         }

@@ -1,6 +1,7 @@
 pub mod Sets
 pub mod Arms
 pub mod PairLists
+pub mod EndLists
 pub mod Scopings
 pub mod Exact
 pub mod Whole

@@ -1,6 +1,6 @@
 -- The list of pairs of parts one after another.
 use Rattle.std.specs.Prelude.{◌≡◌, ℕ, ◌+◌, ◌<◌, ◌≤◌, List, [], ◌∷◌, ◌++◌, Option, Some}
-use Rattle.std.proofs.Common.{refl, sym, ap, ◌∙◌, arith, length, drop, get_or, append_assoc, append-nil, subst}
+use Rattle.std.proofs.Common.{refl, sym, ap, ◌∙◌, arith, length, drop, get_or, append_assoc, subst}
 use Rattle.flow.specs.declared.skeleton.Part.{Part}
 use Rattle.flow.specs.declared.skeleton.Part.TheOpen.{Part-F, Point, If, While}
 use Rattle.flow.specs.declared.skeleton.Part.TheFolds.{fold_out-Part}
@@ -86,35 +86,3 @@ count_of_front (While a) = omega arith
 -- a part has a point
 pub has_point : (p : Part) → 1 ≤ count (part_in_front p Nil)
 has_point p = subst (λ f. 1 ≤ count (f Nil)) (sym (fold_out-Part (Skeleton → Skeleton) part_step p)) (count_of_front _)
-
--- ---- the pairs of an `if` and of a `while`
-
-pub fork_pairs : (c a b : Skeleton) (n k m : ℕ) (next first second : Option ℕ) (l0 l2 l3 l4 : List (ℕ × ℕ)) → c ≡ Fork a b Nil → k ≡ n + 1 →
-    m ≡ k + count a → first ≡ head a k next → second ≡ head b m next → l2 ≡ (l0 ++ pair_with n first) ++ pair_with n second →
-    l3 ≡ l2 ++ pairs_from a k next → l4 ≡ l3 ++ pairs_from b m next → l4 ≡ l0 ++ pairs_from c n next
-fork_pairs c a b n k m next first second l0 l2 l3 l4 is ek em ef es e2 e3 e4 =
-    let em' : m ≡ n + 1 + count a = omega (arith, ek, em) in
-    let p1 = pair_with n (head a (n + 1) next) in
-    let p2 = pair_with n (head b (n + 1 + count a) next) in
-    let A = pairs_from a (n + 1) next in
-    let B = pairs_from b (n + 1 + count a) next in
-    let f2 : l2 ≡ (l0 ++ p1) ++ p2 =
-    e2 ∙ ap (λ x. (l0 ++ pair_with n x) ++ pair_with n second) (ef ∙ ap (λ x. head a x next) ek)
-    ∙ ap (λ x. (l0 ++ p1) ++ pair_with n x) (es ∙ ap (λ x. head b x next) em') in
-    let f3 : l3 ≡ ((l0 ++ p1) ++ p2) ++ A = e3 ∙ ap (λ x. x ++ pairs_from a k next) f2 ∙ ap (λ x. ((l0 ++ p1) ++ p2) ++ pairs_from a x next) ek in
-    e4 ∙ ap (λ x. x ++ pairs_from b m next) f3 ∙ ap (λ x. (((l0 ++ p1) ++ p2) ++ A) ++ pairs_from b x next) em'
-    ∙ append_assoc ((l0 ++ p1) ++ p2) A B ∙ append_assoc (l0 ++ p1) p2 (A ++ B) ∙ append_assoc l0 p1 (p2 ++ (A ++ B))
-    ∙ ap (λ x. l0 ++ x) (sym (append_assoc p1 p2 (A ++ B)) ∙ sym (append_assoc (p1 ++ p2) A B) ∙ sym (append-nil (p1 ++ p2 ++ A ++ B)))
-    ∙ ap (λ x. l0 ++ pairs_from x n next) (sym is)
-
-pub loop_pairs : (c a : Skeleton) (n k : ℕ) (next first : Option ℕ) (l0 l2 l3 : List (ℕ × ℕ)) → c ≡ Loop a Nil → k ≡ n + 1 →
-    first ≡ head a k (Some n) → l2 ≡ (l0 ++ pair_with n first) ++ pair_with n next → l3 ≡ l2 ++ pairs_from a k (Some n) → l3 ≡ l0 ++ pairs_from c n next
-loop_pairs c a n k next first l0 l2 l3 is ek ef e2 e3 =
-    let p1 = pair_with n (head a (n + 1) (Some n)) in
-    let p2 = pair_with n next in
-    let A = pairs_from a (n + 1) (Some n) in
-    let f2 : l2 ≡ (l0 ++ p1) ++ p2 = e2 ∙ ap (λ x. (l0 ++ pair_with n x) ++ p2) (ef ∙ ap (λ x. head a x (Some n)) ek) in
-    e3 ∙ ap (λ x. x ++ pairs_from a k (Some n)) f2 ∙ ap (λ x. ((l0 ++ p1) ++ p2) ++ pairs_from a x (Some n)) ek
-    ∙ append_assoc (l0 ++ p1) p2 A ∙ append_assoc l0 p1 (p2 ++ A)
-    ∙ ap (λ x. l0 ++ x) (sym (append_assoc p1 p2 A) ∙ sym (append-nil (p1 ++ p2 ++ A)))
-    ∙ ap (λ x. l0 ++ pairs_from x n next) (sym is)

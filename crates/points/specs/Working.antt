@@ -5,3 +5,4 @@ pub mod Passes
 pub mod Scoping
 pub mod Ranks
 pub mod HeldPasses
+pub mod Ends

@@ -37,7 +37,7 @@ impl<'a> Held<'a> {
         ensures len { IfOk result (λ sets. vec_len sets ≡ count (skeleton_of parts.now)) }
     {
         let mut sets = Vec::with_capacity(alloc, self.wanted.len())?;
-        self.push(parts, PathSet::empty(), &mut sets)?;
+        self.push(parts, PathSet::new(), &mut sets)?;
         Ok(sets)
     }
 

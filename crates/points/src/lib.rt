@@ -1,8 +1,8 @@
 //! What is used before the points of a section and later, and what is wanted and surely held at them.
 //!
-//! - [`points`]: the points of a section, which of them is followed by which, and what each lock path is to each point.
-//! - [`table::Points`]: what is answered; with the ranks of the classes, which paths are wanted at each point, and which
-//!   are surely held there.
+//! - [`points`]: the points of a section, and what each lock path is to each point.
+//! - [`table::Points`]: what is answered; which point is followed by which; with the ranks of the classes, which paths
+//!   are wanted at each point, and which are surely held there.
 //!
 //! In the words of dataflow analysis, over the graph of which point is followed by which: used before is a forward may
 //! analysis, used later a backward may analysis, surely held a forward must analysis.
@@ -11,6 +11,8 @@
 //! and surely held (`Wanted`). Its other files only say what the passes of the code have done; nobody has to believe them.
 #![tactic(auto)]
 
+mod counting;
+mod ends;
 mod held;
 mod pairs;
 mod ranking;

@@ -1,46 +1,46 @@
 //! Which point of a section is followed by which.
 
-ghost use Rattle.std.specs.Prelude.{◌≡◌, ◌<◌, ◌+◌, ◌^◌, ◌++◌, IfOk, OnOk};
-ghost use Rattle.flow.specs.Skeletons.{count, Nil};
+ghost use Rattle.std.specs.Prelude.{◌≡◌, ◌++◌, IfOk, OnOk};
+ghost use Rattle.flow.specs.Skeletons.{Nil};
 ghost use Rattle.flow.specs.Flow.{head, pair_with, pairs_from, pairs};
 ghost use Rattle.flow.specs.Working.Parts.{skeleton_of, part_in_front};
+ghost use Rattle.points.specs.Working.Ends.{AreEndsAt};
+ghost use Rattle.points.specs.Working.Points.{ArePairs};
 
+use crate::ends::{Ends, ends_of};
+use crate::table::Points;
 use flow::skeleton::Part;
 use source::memory::NoMemory;
 use std::alloc::Global;
 
-/// How many points parts have.
-#[cycle(points)]
-pub fn points_in(parts: &[Part]) -> usize
-    requires { count (skeleton_of parts.now) < 2 ^ 64 }
-    ensures { result ≡ count (skeleton_of parts.now) }
-{
-    let mut points: usize = 0;
-    for part in parts {
-        points += points_of(part);
-    }
-    points
-}
-
-#[cycle(points)]
-fn points_of(part: &Part) -> usize
-    requires { count (part_in_front part.now Nil) < 2 ^ 64 }
-    ensures { result ≡ count (part_in_front part.now Nil) }
-{
-    match part {
-        Part::Point => 1,
-        Part::If(block, otherwise) => 1 + points_in(block) + points_in(otherwise),
-        Part::While(body) => 1 + points_in(body),
+impl Points {
+    /// The pairs of points of which the first is followed by the second.
+    ///
+    /// # Errors
+    ///
+    /// Want of memory.
+    pub fn pairs(&self, alloc: Global) -> Result<Vec<(usize, usize)>, NoMemory>
+        // In any section whose points these are, a pair is listed exactly if its first point is followed by its second.
+        ensures followed { IfOk result (λ list. ArePairs self.now list.items) }
+        // They are those of the parts, in the order of their first points.
+        ensures of_parts { IfOk result (λ list. list.items ≡ pairs (skeleton_of self.now.parts.items)) }
+    {
+        // The law tells that the pairs listed are those by which control goes.
+        flow::laws::pairs_lead_between_points();
+        let list = pairs_of(alloc, &self.parts)?;
+        Ok(list)
     }
 }
 
-/// The pairs of points of a whole section of which the first is followed by the second.
-pub fn pairs_of(alloc: Global, parts: &[Part]) -> Result<Vec<(usize, usize)>, NoMemory>
-    requires { count (skeleton_of parts.now) < 2 ^ 64 }
+// The pairs of points of parts that are a whole section.
+fn pairs_of(alloc: Global, parts: &[Part]) -> Result<Vec<(usize, usize)>, NoMemory>
     ensures { IfOk result (λ list. list.items ≡ pairs (skeleton_of parts.now)) }
 {
+    // Noted once, so that a block within many others isn't counted for each of them.
+    let ends = ends_of(alloc, parts)?;
     let mut list = Vec::new(alloc);
-    push_pairs(parts, 0, None, &mut list)?;
+    let pass = Pass { ends: &ends };
+    pass.push_pairs(parts, 0, None, &mut list)?;
     Ok(list)
 }
 
@@ -77,52 +77,62 @@ fn push_both(
     push_pair(point, second, list)
 }
 
-// The pairs of these parts, which are numbered from `n` and followed by the point `next`, if any.
-#[cycle(pairs)]
-fn push_pairs(
-    parts: &[Part],
-    n: usize,
-    next: Option<usize>,
-    list: &mut Vec<(usize, usize)>,
-) -> Result<(), NoMemory>
-    requires { n + count (skeleton_of parts.now) < 2 ^ 64 }
-    ensures { OnOk result (list.new.items ≡ list.old.items ++ pairs_from (skeleton_of parts.now) n next) }
-{
-    let mut at = n;
-    for i in 0..parts.len() {
-        let part = &parts[i];
-        let end = at + points_of(part);
-        let follower = first_point(&parts[i + 1..], end, next);
-        push_part(part, at, follower, list)?;
-        at = end;
-    }
-    Ok(())
+// The pass over the parts of a section, of which it is known where their blocks end.
+#[derive(Drop)]
+struct Pass<'a> {
+    ends: &'a [Ends],
 }
 
-#[cycle(pairs)]
-fn push_part(
-    part: &Part,
-    n: usize,
-    next: Option<usize>,
-    list: &mut Vec<(usize, usize)>,
-) -> Result<(), NoMemory>
-    requires { n + count (part_in_front part.now Nil) < 2 ^ 64 }
-    ensures { OnOk result (list.new.items ≡ list.old.items ++ pairs_from (part_in_front part.now Nil) n next) }
-{
-    let inner = n + 1;
-    match part {
-        Part::Point => push_pair(n, next, list),
-        Part::If(block, otherwise) => {
-            let middle = inner + points_in(block);
-            let first = first_point(block, inner, next);
-            let second = first_point(otherwise, middle, next);
-            push_both(n, first, second, list)?;
-            push_pairs(block, inner, next, list)?;
-            push_pairs(otherwise, middle, next, list)
+impl<'a> Pass<'a> {
+    // The pairs of these parts, which are numbered from `n` and followed by the point `next`, if any.
+    #[cycle(pairs)]
+    fn push_pairs(
+        &self,
+        parts: &[Part],
+        n: usize,
+        next: Option<usize>,
+        list: &mut Vec<(usize, usize)>,
+    ) -> Result<(), NoMemory>
+        requires { AreEndsAt self.now.ends.now (skeleton_of parts.now) n }
+        ensures { OnOk result (list.new.items ≡ list.old.items ++ pairs_from (skeleton_of parts.now) n next) }
+    {
+        let mut at = n;
+        for i in 0..parts.len() {
+            let part = &parts[i];
+            let end = self.ends[at].end;
+            let follower = first_point(&parts[i + 1..], end, next);
+            self.push_part(part, at, follower, list)?;
+            at = end;
         }
-        Part::While(body) => {
-            push_both(n, first_point(body, inner, Some(n)), next, list)?;
-            push_pairs(body, inner, Some(n), list)
+        Ok(())
+    }
+
+    #[cycle(pairs)]
+    fn push_part(
+        &self,
+        part: &Part,
+        n: usize,
+        next: Option<usize>,
+        list: &mut Vec<(usize, usize)>,
+    ) -> Result<(), NoMemory>
+        requires { AreEndsAt self.now.ends.now (part_in_front part.now Nil) n }
+        ensures { OnOk result (list.new.items ≡ list.old.items ++ pairs_from (part_in_front part.now Nil) n next) }
+    {
+        let middle = self.ends[n].middle;
+        let inner = n + 1;
+        match part {
+            Part::Point => push_pair(n, next, list),
+            Part::If(block, otherwise) => {
+                let first = first_point(block, inner, next);
+                let second = first_point(otherwise, middle, next);
+                push_both(n, first, second, list)?;
+                self.push_pairs(block, inner, next, list)?;
+                self.push_pairs(otherwise, middle, next, list)
+            }
+            Part::While(body) => {
+                push_both(n, first_point(body, inner, Some(n)), next, list)?;
+                self.push_pairs(body, inner, Some(n), list)
+            }
         }
     }
 }

@@ -21,7 +21,7 @@ impl<'a> Ranking<'a> {
     {
         match self.greatest(used) {
             Some(greatest) => self.up_to(greatest).meet(in_scope).meet(used.union(later)),
-            None => PathSet::empty(),
+            None => PathSet::new(),
         }
     }
 
@@ -51,7 +51,7 @@ impl<'a> Ranking<'a> {
     fn up_to(&self, greatest: u32) -> PathSet
         ensures { AreUpTo self.now.ranks.now greatest result }
     {
-        let mut set = PathSet::empty();
+        let mut set = PathSet::new();
         for i in 0..self.ranks.len() {
             if self.ranks[i] <= greatest {
                 set = set.with(i);

@@ -56,7 +56,7 @@ impl<'a> Roots<'a> {
     fn at(&self, local: usize) -> PathSet
         ensures { AreThose self.now.paths.now (is_at local) result }
     {
-        let mut set = PathSet::empty();
+        let mut set = PathSet::new();
         for i in 0..self.paths.len() {
             if Roots::is_local(self.paths[i].root, local) {
                 set = set.with(i);
@@ -69,7 +69,7 @@ impl<'a> Roots<'a> {
     fn among_parameters(&self, parameters: usize) -> PathSet
         ensures { AreThose self.now.paths.now (is_among (numbers_from 0 parameters)) result }
     {
-        let mut set = PathSet::empty();
+        let mut set = PathSet::new();
         for i in 0..self.paths.len() {
             if Roots::is_among_parameters(self.paths[i].root, parameters) {
                 set = set.with(i);
@@ -88,9 +88,9 @@ impl<'a> Roots<'a> {
                     result: Some(local),
                     ..
                 } => self.at(*local),
-                _ => PathSet::empty(),
+                _ => PathSet::new(),
             },
-            PointRef::Result(_) => PathSet::empty(),
+            PointRef::Result(_) => PathSet::new(),
         }
     }
 

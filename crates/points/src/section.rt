@@ -5,7 +5,6 @@ ghost use Rattle.locks.specs.declared.path.LockPath as written;
 ghost use Rattle.lockpaths.specs.Paths.{ArePaths};
 ghost use Rattle.points.specs.Working.Points.{ArePointsOf};
 
-use crate::pairs::pairs_of;
 use crate::roots::Roots;
 use crate::table::Points;
 use crate::uses::Uses;
@@ -51,9 +50,8 @@ pub fn points(
     requires section { section < length program.now.sections.items }
     ensures { IfOk result (ArePointsOf program.now section) }
 {
-    // The laws tell that each list has an item for each point, and which pairs are listed.
+    // The law tells that each list has an item for each point.
     flow::laws::points_are_counted();
-    flow::laws::pairs_lead_between_points();
     let declared = &program.sections[section];
     let found = &paths.sections[section];
     let parts = parts_of(alloc, declared)?;
@@ -65,13 +63,11 @@ pub fn points(
     let in_scope = roots.in_scope(alloc, declared)?;
     let used_before = uses.used_before(alloc, &parts)?;
     let used_later = uses.used_later(alloc, &parts)?;
-    let pairs = pairs_of(alloc, &parts)?;
     let classes = classes_of(alloc, &found.paths)?;
     let used = copy_of(alloc, &found.used)?;
     Ok(Points {
         parts,
         classes,
-        pairs,
         bound,
         used,
         in_scope,

@@ -15,8 +15,6 @@ pub struct Points {
     pub parts: Vec<Part>,
     /// For each lock path its class, an index into [`core_lang::typed::Typed::classes`].
     pub classes: Vec<usize>,
-    /// The pairs of points of which the first is followed by the second.
-    pub pairs: Vec<(usize, usize)>,
     /// For each point the paths whose root it binds.
     pub bound: Vec<PathSet>,
     /// For each point the paths that it uses.

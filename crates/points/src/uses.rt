@@ -6,7 +6,7 @@ ghost use Rattle.flow.specs.Working.Parts.{skeleton_of, part_in_front};
 ghost use Rattle.locks.specs.Sets.{has};
 ghost use Rattle.points.specs.Working.Passes.{uses, IsGathered, IsBehind, AreBefore, AreLater, AreUsedBefore, AreUsedLater};
 
-use crate::pairs::points_in;
+use crate::counting::points_in;
 use flow::skeleton::Part;
 use locks::path_set::PathSet;
 use source::memory::NoMemory;
@@ -27,7 +27,7 @@ impl<'a> Uses<'a> {
         ensures len { IfOk result (λ sets. vec_len sets ≡ count (skeleton_of parts.now)) }
     {
         let mut sets = Vec::with_capacity(alloc, self.used.len())?;
-        self.before(parts, PathSet::empty(), &mut sets)?;
+        self.before(parts, PathSet::new(), &mut sets)?;
         Ok(sets)
     }
 
@@ -38,7 +38,7 @@ impl<'a> Uses<'a> {
         ensures len { IfOk result (λ sets. vec_len sets ≡ count (skeleton_of parts.now)) }
     {
         let mut sets = Vec::with_capacity(alloc, self.used.len())?;
-        self.later(parts, self.used.len(), PathSet::empty(), &mut sets)?;
+        self.later(parts, self.used.len(), PathSet::new(), &mut sets)?;
         sets.reverse();
         Ok(sets)
     }

@@ -19,7 +19,7 @@ use std::alloc::Global;
 #[derive(Drop)]
 pub(crate) struct Replay<'a> {
     pub alloc: Global,
-    pub typed: &'a Typed,
+    pub program: &'a Typed,
     pub prepared: Prepared<'a>,
     /// What a call's line tells.
     pub format: Format,
@@ -47,10 +47,10 @@ fn seat_at(at: &Progress, thread: usize) -> Option<Seat>
 impl<'a> Replay<'a> {
     /// The call of a thread with this number.
     pub(crate) fn call_in(&self, thread: usize, step: usize) -> Option<&'a Call>
-        ensures { option_copied result ≡ call_in self.now.typed.now thread step }
+        ensures { option_copied result ≡ call_in self.now.program.now thread step }
     {
-        let typed: &'a Typed = self.typed;
-        match typed.threads.get(thread) {
+        let program: &'a Typed = self.program;
+        match program.threads.get(thread) {
             Some(script) => script.calls.get(step),
             None => None,
         }
@@ -59,9 +59,9 @@ impl<'a> Replay<'a> {
     // The only call whose line may read so.
     fn candidate(&self, at: &Progress, line: &[u8]) -> Option<Called<'a>>
         requires ready { IsReady self.now }
-        requires sound { IsSound self.now.typed.now at.now }
+        requires sound { IsSound self.now.program.now at.now }
         requires short { at.now.position < 2 ^ 63 }
-        ensures { IsCandidate self.now.format self.now.typed.now at.now line.now result }
+        ensures { IsCandidate self.now.format self.now.program.now at.now line.now result }
     {
         let Some(told) = told_by(self.format, line) else {
             return None;
@@ -94,16 +94,16 @@ impl<'a> Replay<'a> {
         line: &[u8],
     ) -> Result<Option<Called<'a>>, NoMemory>
         requires ready { IsReady self.now }
-        requires sound { IsSound self.now.typed.now at.now }
+        requires sound { IsSound self.now.program.now at.now }
         requires short { at.now.position < 2 ^ 63 }
-        ensures only { IfOk result (IsCandidate self.now.format self.now.typed.now at.now line.now) }
-        ensures head { IfOk result (IsHeadOf self.now.format self.now.typed.now line.now (string_bytes text.new)) }
+        ensures only { IfOk result (IsCandidate self.now.format self.now.program.now at.now line.now) }
+        ensures head { IfOk result (IsHeadOf self.now.format self.now.program.now line.now (string_bytes text.new)) }
     {
         let Some(call) = self.candidate(at, line) else {
             return Ok(None);
         };
         text.clear();
-        push_call_head(text, self.format, self.typed, &call)?;
+        push_call_head(text, self.format, self.program, &call)?;
         if begins(text.as_str(), line) {
             Ok(Some(call))
         } else {

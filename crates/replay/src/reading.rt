@@ -33,14 +33,14 @@ impl<'a> Replay<'a> {
         text: &mut String,
         line: &[u8],
     ) -> Result<Finding, NoMemory>
-        requires sound { IsSound self.now.typed.now at.old }
+        requires sound { IsSound self.now.program.now at.old }
         requires stage { at.old.stage ≡ Calls }
         requires due { at.old.told < length at.old.prints.items }
-        ensures reads { IfOk result (Reads self.now.turns self.now.format self.now.typed.now line.now at.old at.new) }
-        ensures sound { OnOk result (IsSound self.now.typed.now at.new) }
+        ensures reads { IfOk result (Reads self.now.turns self.now.format self.now.program.now line.now at.old at.new) }
+        ensures sound { OnOk result (IsSound self.now.program.now at.new) }
         ensures position { at.new.position ≡ at.old.position }
         ensures leaves { IfOk result
-            (Leaves self.now.turns self.now.format self.now.typed.now line.now at.old at.new (string_bytes text.new)) }
+            (Leaves self.now.turns self.now.format self.now.program.now line.now at.old at.new (string_bytes text.new)) }
     {
         text.clear();
         push_print(text, at.prints[at.told])?;
@@ -54,14 +54,14 @@ impl<'a> Replay<'a> {
 
     // The line after the last cell.
     fn read_last(&self, at: &mut Progress, number: usize, line: &[u8]) -> Finding
-        requires sound { IsSound self.now.typed.now at.old }
+        requires sound { IsSound self.now.program.now at.old }
         requires stage { at.old.stage ≡ Cells number }
-        requires past { length self.now.typed.now.cells.items ≤ number }
-        ensures reads { Reads self.now.turns self.now.format self.now.typed.now line.now at.old at.new result }
-        ensures sound { IsSound self.now.typed.now at.new }
+        requires past { length self.now.program.now.cells.items ≤ number }
+        ensures reads { Reads self.now.turns self.now.format self.now.program.now line.now at.old at.new result }
+        ensures sound { IsSound self.now.program.now at.new }
         ensures position { at.new.position ≡ at.old.position }
         ensures leaves { (written : List ℕ) →
-            Leaves self.now.turns self.now.format self.now.typed.now line.now at.old at.new written result }
+            Leaves self.now.turns self.now.format self.now.program.now line.now at.old at.new written result }
     {
         if !is(line, "end") {
             return Finding::Other;
@@ -78,22 +78,22 @@ impl<'a> Replay<'a> {
         text: &mut String,
         line: &[u8],
     ) -> Result<Finding, NoMemory>
-        requires sound { IsSound self.now.typed.now at.old }
+        requires sound { IsSound self.now.program.now at.old }
         requires stage { at.old.stage ≡ Cells number }
-        ensures reads { IfOk result (Reads self.now.turns self.now.format self.now.typed.now line.now at.old at.new) }
-        ensures sound { OnOk result (IsSound self.now.typed.now at.new) }
+        ensures reads { IfOk result (Reads self.now.turns self.now.format self.now.program.now line.now at.old at.new) }
+        ensures sound { OnOk result (IsSound self.now.program.now at.new) }
         ensures position { at.new.position ≡ at.old.position }
         ensures leaves { IfOk result
-            (Leaves self.now.turns self.now.format self.now.typed.now line.now at.old at.new (string_bytes text.new)) }
+            (Leaves self.now.turns self.now.format self.now.program.now line.now at.old at.new (string_bytes text.new)) }
     {
-        if number >= self.typed.cells.len() {
+        if number >= self.program.cells.len() {
             return Ok(self.read_last(at, number, line));
         }
         text.clear();
         push_cell(
             text,
-            self.typed,
-            &self.typed.cells[number],
+            self.program,
+            &self.program.cells[number],
             at.heap.cells()[number],
         )?;
         let is_cell = is(line, text.as_str());
@@ -106,9 +106,9 @@ impl<'a> Replay<'a> {
 
     // How many calls a thread makes.
     fn script_len(&self, thread: usize) -> usize
-        ensures { result ≡ length (script_of self.now.typed.now thread) }
+        ensures { result ≡ length (script_of self.now.program.now thread) }
     {
-        match self.typed.threads.get(thread) {
+        match self.program.threads.get(thread) {
             Some(script) => script.calls.len(),
             None => 0,
         }
@@ -116,10 +116,10 @@ impl<'a> Replay<'a> {
 
     /// Whether all calls of all scripts came.
     pub(crate) fn all_called(&self, at: &Progress) -> bool
-        requires { IsSound self.now.typed.now at.now }
-        ensures { Decides result (SeatsAreFull self.now.typed.now at.now.seats.items) }
+        requires { IsSound self.now.program.now at.now }
+        ensures { Decides result (SeatsAreFull self.now.program.now at.now.seats.items) }
     {
-        for thread in 0..self.typed.threads.len() {
+        for thread in 0..self.program.threads.len() {
             if called(at, thread) != self.script_len(thread) {
                 return false;
             }
@@ -129,14 +129,14 @@ impl<'a> Replay<'a> {
 
     // The line `cells`.
     fn read_cells(&self, at: &mut Progress) -> Finding
-        requires sound { IsSound self.now.typed.now at.old }
+        requires sound { IsSound self.now.program.now at.old }
         requires stage { at.old.stage ≡ Calls }
         requires none_due { at.old.told ≡ length at.old.prints.items }
-        ensures reads { Reads self.now.turns self.now.format self.now.typed.now (codes "cells") at.old at.new result }
-        ensures sound { IsSound self.now.typed.now at.new }
+        ensures reads { Reads self.now.turns self.now.format self.now.program.now (codes "cells") at.old at.new result }
+        ensures sound { IsSound self.now.program.now at.new }
         ensures position { at.new.position ≡ at.old.position }
         ensures leaves { (written : List ℕ) →
-            Leaves self.now.turns self.now.format self.now.typed.now (codes "cells") at.old at.new written result }
+            Leaves self.now.turns self.now.format self.now.program.now (codes "cells") at.old at.new written result }
     {
         if !self.all_called(at) {
             return Finding::Other;
@@ -154,17 +154,17 @@ impl<'a> Replay<'a> {
         line: &[u8],
     ) -> Result<Finding, NoMemory>
         requires ready { IsReady self.now }
-        requires sound { IsSound self.now.typed.now at.old }
+        requires sound { IsSound self.now.program.now at.old }
         requires stage { at.old.stage ≡ Calls }
         requires none_due { at.old.told ≡ length at.old.prints.items }
         requires short { at.old.position < 2 ^ 63 }
-        requires only { IsOnlyCall self.now.format self.now.typed.now at.old line.now call }
-        requires head { IsHead self.now.format self.now.typed.now line.now (string_bytes text.old) call }
-        ensures reads { IfOk result (Reads self.now.turns self.now.format self.now.typed.now line.now at.old at.new) }
-        ensures sound { OnOk result (IsSound self.now.typed.now at.new) }
+        requires only { IsOnlyCall self.now.format self.now.program.now at.old line.now call }
+        requires head { IsHead self.now.format self.now.program.now line.now (string_bytes text.old) call }
+        ensures reads { IfOk result (Reads self.now.turns self.now.format self.now.program.now line.now at.old at.new) }
+        ensures sound { OnOk result (IsSound self.now.program.now at.new) }
         ensures position { at.new.position ≤ at.old.position + 1 }
         ensures leaves { IfOk result
-            (Leaves self.now.turns self.now.format self.now.typed.now line.now at.old at.new (string_bytes text.new)) }
+            (Leaves self.now.turns self.now.format self.now.program.now line.now at.old at.new (string_bytes text.new)) }
     {
         let run = self.prepared.run_whole(
             self.alloc,
@@ -177,7 +177,7 @@ impl<'a> Replay<'a> {
             return Ok(Finding::Beyond);
         };
         let End { outcome, prints } = end;
-        push_outcome(text, &self.typed.shape, outcome)?;
+        push_outcome(text, &self.program.shape, outcome)?;
         let is_told = is(line, text.as_str());
         if !is_told {
             return Ok(Finding::EndsOtherwise);
@@ -200,15 +200,15 @@ impl<'a> Replay<'a> {
         line: &[u8],
     ) -> Result<Finding, NoMemory>
         requires ready { IsReady self.now }
-        requires sound { IsSound self.now.typed.now at.old }
+        requires sound { IsSound self.now.program.now at.old }
         requires stage { at.old.stage ≡ Calls }
         requires none_due { at.old.told ≡ length at.old.prints.items }
         requires short { at.old.position < 2 ^ 63 }
-        ensures reads { IfOk result (Reads self.now.turns self.now.format self.now.typed.now line.now at.old at.new) }
-        ensures sound { OnOk result (IsSound self.now.typed.now at.new) }
+        ensures reads { IfOk result (Reads self.now.turns self.now.format self.now.program.now line.now at.old at.new) }
+        ensures sound { OnOk result (IsSound self.now.program.now at.new) }
         ensures position { at.new.position ≤ at.old.position + 1 }
         ensures leaves { IfOk result
-            (Leaves self.now.turns self.now.format self.now.typed.now line.now at.old at.new (string_bytes text.new)) }
+            (Leaves self.now.turns self.now.format self.now.program.now line.now at.old at.new (string_bytes text.new)) }
     {
         if is(line, "cells") {
             return Ok(self.read_cells(at));
@@ -227,13 +227,13 @@ impl<'a> Replay<'a> {
         line: &[u8],
     ) -> Result<Finding, NoMemory>
         requires ready { IsReady self.now }
-        requires sound { IsSound self.now.typed.now at.old }
+        requires sound { IsSound self.now.program.now at.old }
         requires short { at.old.position < 2 ^ 63 }
-        ensures reads { IfOk result (Reads self.now.turns self.now.format self.now.typed.now line.now at.old at.new) }
-        ensures sound { OnOk result (IsSound self.now.typed.now at.new) }
+        ensures reads { IfOk result (Reads self.now.turns self.now.format self.now.program.now line.now at.old at.new) }
+        ensures sound { OnOk result (IsSound self.now.program.now at.new) }
         ensures position { at.new.position ≤ at.old.position + 1 }
         ensures leaves { IfOk result
-            (Leaves self.now.turns self.now.format self.now.typed.now line.now at.old at.new (string_bytes text.new)) }
+            (Leaves self.now.turns self.now.format self.now.program.now line.now at.old at.new (string_bytes text.new)) }
     {
         match at.stage {
             Stage::Calls if at.told < at.prints.len() => self.read_print(at, text, line),

@@ -22,10 +22,10 @@ use source_histories::Recorded;
 use std::alloc::Global;
 
 // The progress at the first line.
-fn start(alloc: Global, typed: &Typed) -> Result<Progress, NoMemory>
-    requires { IsChecked typed.now }
-    ensures at { IfOk result (λ at. IsAt typed.now at (opened typed.now)) }
-    ensures sound { IfOk result (IsSound typed.now) }
+fn start(alloc: Global, program: &Typed) -> Result<Progress, NoMemory>
+    requires { IsChecked program.now }
+    ensures at { IfOk result (λ at. IsAt program.now at (opened program.now)) }
+    ensures sound { IfOk result (IsSound program.now) }
     ensures position { IfOk result (λ at. at.position ≡ 0) }
 {
     let seat = Seat {
@@ -33,8 +33,8 @@ fn start(alloc: Global, typed: &Typed) -> Result<Progress, NoMemory>
         least: 0,
     };
     Ok(Progress {
-        heap: Heap::open(alloc, typed)?,
-        seats: vec![in alloc; seat; typed.threads.len()]?,
+        heap: Heap::open(alloc, program)?,
+        seats: vec![in alloc; seat; program.threads.len()]?,
         position: 0,
         prints: Vec::new(alloc),
         told: 0,
@@ -68,12 +68,12 @@ impl Replay<'_> {
     // The verdict on a recorded history, and what may come where it differs.
     fn judgement(&self, recorded: &Recorded<'_>) -> Result<Judgement, NoMemory>
         requires { IsReady self.now }
-        ensures holds { let format = self.now.format in let program = self.now.typed.now in
+        ensures holds { let format = self.now.format in let program = self.now.program.now in
             IfOk result (λ judgement. Holds self.now.turns format program (recorded_lines recorded.now) judgement.verdict) }
-        ensures why { let format = self.now.format in let program = self.now.typed.now in
+        ensures why { let format = self.now.format in let program = self.now.program.now in
             IfOk result (λ judgement. Explains self.now.turns format program (recorded_lines recorded.now) judgement.verdict judgement.wanted) }
     {
-        let mut at = start(self.alloc, self.typed)?;
+        let mut at = start(self.alloc, self.program)?;
         let mut text = String::new(self.alloc);
         for (i, line) in recorded.lines.iter().enumerate() {
             match self.read(&mut at, &mut text, line)? {
@@ -117,7 +117,7 @@ pub fn replay(
 {
     let replay = Replay {
         alloc,
-        typed: prepared.program(),
+        program: prepared.program(),
         prepared,
         format: recorded.format,
         turns,

@@ -32,11 +32,11 @@ impl<'a> Replay<'a> {
         thread: usize,
         heads: &mut Vec<String>,
     ) -> Result<(), NoMemory>
-        requires sound { IsSound self.now.typed.now at.now }
-        requires thread { thread < length self.now.typed.now.threads.items }
-        ensures { OnOk result ((reader : Reader) → IsAt self.now.typed.now at.now reader →
+        requires sound { IsSound self.now.program.now at.now }
+        requires thread { thread < length self.now.program.now.threads.items }
+        ensures { OnOk result ((reader : Reader) → IsAt self.now.program.now at.now reader →
             map (λ head. string_bytes head) heads.new.items
-            ≡ map (λ head. string_bytes head) heads.old.items ++ next_head self.now.format self.now.typed.now reader.order thread) }
+            ≡ map (λ head. string_bytes head) heads.old.items ++ next_head self.now.format self.now.program.now reader.order thread) }
     {
         let step = called(at, thread);
         let Some(call) = self.call_in(thread, step) else {
@@ -50,20 +50,20 @@ impl<'a> Replay<'a> {
             arguments: &call.arguments,
         };
         let mut head = String::new(self.alloc);
-        push_call_head(&mut head, self.format, self.typed, &next)?;
+        push_call_head(&mut head, self.format, self.program, &next)?;
         heads.push(head)?;
         Ok(())
     }
 
     // The lines of all threads' next calls up to their ends.
     fn next_heads(&self, at: &Progress) -> Result<Vec<String>, NoMemory>
-        requires { IsSound self.now.typed.now at.now }
-        ensures { IfOk result (λ heads. (reader : Reader) → IsAt self.now.typed.now at.now reader →
+        requires { IsSound self.now.program.now at.now }
+        ensures { IfOk result (λ heads. (reader : Reader) → IsAt self.now.program.now at.now reader →
             map (λ head. string_bytes head) heads.items
-            ≡ next_heads self.now.format self.now.typed.now reader.order (length self.now.typed.now.threads.items)) }
+            ≡ next_heads self.now.format self.now.program.now reader.order (length self.now.program.now.threads.items)) }
     {
         let mut heads = Vec::new(self.alloc);
-        for thread in 0..self.typed.threads.len() {
+        for thread in 0..self.program.threads.len() {
             self.push_next_head(at, thread, &mut heads)?;
         }
         Ok(heads)
@@ -71,10 +71,10 @@ impl<'a> Replay<'a> {
 
     // What may come where no print is due, before `cells`.
     fn wanted_call(&self, at: &Progress) -> Result<Wanted, NoMemory>
-        requires sound { IsSound self.now.typed.now at.now }
+        requires sound { IsSound self.now.program.now at.now }
         requires stage { at.now.stage ≡ Calls }
         requires none_due { at.now.told ≡ length at.now.prints.items }
-        ensures { IfOk result (Suggests self.now.turns self.now.format self.now.typed.now at.now) }
+        ensures { IfOk result (Suggests self.now.turns self.now.format self.now.program.now at.now) }
     {
         if self.all_called(at) {
             return Ok(Wanted::Line(String::from_str(self.alloc, "cells")?));
@@ -84,18 +84,18 @@ impl<'a> Replay<'a> {
 
     // What may come after `cells` and so many cells.
     fn wanted_cell(&self, at: &Progress, number: usize) -> Result<Wanted, NoMemory>
-        requires sound { IsSound self.now.typed.now at.now }
+        requires sound { IsSound self.now.program.now at.now }
         requires stage { at.now.stage ≡ Cells number }
-        ensures { IfOk result (Suggests self.now.turns self.now.format self.now.typed.now at.now) }
+        ensures { IfOk result (Suggests self.now.turns self.now.format self.now.program.now at.now) }
     {
-        if number >= self.typed.cells.len() {
+        if number >= self.program.cells.len() {
             return Ok(Wanted::Line(String::from_str(self.alloc, "end")?));
         }
         let mut line = String::new(self.alloc);
         push_cell(
             &mut line,
-            self.typed,
-            &self.typed.cells[number],
+            self.program,
+            &self.program.cells[number],
             at.heap.cells()[number],
         )?;
         Ok(Wanted::Line(line))
@@ -105,7 +105,7 @@ impl<'a> Replay<'a> {
     fn wanted_print(&self, at: &Progress) -> Result<Wanted, NoMemory>
         requires stage { at.now.stage ≡ Calls }
         requires due { at.now.told < length at.now.prints.items }
-        ensures { IfOk result (Suggests self.now.turns self.now.format self.now.typed.now at.now) }
+        ensures { IfOk result (Suggests self.now.turns self.now.format self.now.program.now at.now) }
     {
         let mut line = String::new(self.alloc);
         push_print(&mut line, at.prints[at.told])?;
@@ -114,8 +114,8 @@ impl<'a> Replay<'a> {
 
     /// What may come at the progress.
     pub(crate) fn wanted(&self, at: &Progress) -> Result<Wanted, NoMemory>
-        requires { IsSound self.now.typed.now at.now }
-        ensures { IfOk result (Suggests self.now.turns self.now.format self.now.typed.now at.now) }
+        requires { IsSound self.now.program.now at.now }
+        ensures { IfOk result (Suggests self.now.turns self.now.format self.now.program.now at.now) }
     {
         match at.stage {
             Stage::Calls if at.told < at.prints.len() => self.wanted_print(at),

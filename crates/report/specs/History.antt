@@ -28,18 +28,18 @@ begun_text Two begun = decimal begun ++ codes " "
 
 -- the line of a call up to its end: call T K NAME(ARGUMENTS) , or call T K B NAME(ARGUMENTS) in the second format
 abbrev pub call_head : Format → Typed → Scheduled → ℕ → List ℕ
-call_head format typed s begun =
+call_head format program s begun =
     codes "call " ++ place_text s.thread s.step ++ codes " " ++ begun_text format begun
-    ++ invocation_text typed s.call.section s.call.arguments ++ codes " "
+    ++ invocation_text program s.call.section s.call.arguments ++ codes " "
 
 -- call T K NAME(ARGUMENTS) OUTCOME, or call T K B NAME(ARGUMENTS) OUTCOME
 abbrev pub call_line : Format → Typed → Entry → List ℕ
-call_line format typed entry =
-    call_head format typed (scheduled_in entry) entry.begun ++ outcome_text typed.shape entry.outcome
+call_line format program entry =
+    call_head format program (scheduled_in entry) entry.begun ++ outcome_text program.shape entry.outcome
 
 -- CELL VALUE
 abbrev pub cell_line : Typed → Cell → Value → List ℕ
-cell_line typed cell value = owner_text typed cell.owner ++ codes " " ++ value_text typed.shape value
+cell_line program cell value = owner_text program cell.owner ++ codes " " ++ value_text program.shape value
 
 -- ---- the text
 
@@ -49,35 +49,35 @@ print_texts prints = flat_map (λ number. line (print_line number)) prints
 
 -- a call's line
 abbrev pub call_text : Format → Typed → Entry → List ℕ
-call_text format typed entry = line (call_line format typed entry)
+call_text format program entry = line (call_line format program entry)
 
 -- a call's line, and its prints
 abbrev pub entry_text : Format → Typed → Entry → List ℕ
-entry_text format typed entry = call_text format typed entry ++ print_texts entry.prints
+entry_text format program entry = call_text format program entry ++ print_texts entry.prints
 
 -- the same of each finished section
 abbrev pub commit_texts : Format → Typed → List Commit → List ℕ
-commit_texts format typed commits = flat_map (entry_text format typed) (map entry_of_commit commits)
+commit_texts format program commits = flat_map (entry_text format program) (map entry_of_commit commits)
 
 -- a line for each cell in order
 abbrev pub cell_texts : Typed → List Cell → List Value → List ℕ
-cell_texts typed [] values = []
-cell_texts typed (cell ∷ cells) [] = []
-cell_texts typed (cell ∷ cells) (value ∷ values) = line (cell_line typed cell value) ++ cell_texts typed cells values
+cell_texts program [] values = []
+cell_texts program (cell ∷ cells) [] = []
+cell_texts program (cell ∷ cells) (value ∷ values) = line (cell_line program cell value) ++ cell_texts program cells values
 
 -- the first line and the calls
 abbrev pub calls_of : Format → Typed → List Entry → List ℕ
-calls_of format typed entries = line (header_of format) ++ flat_map (entry_text format typed) entries
+calls_of format program entries = line (header_of format) ++ flat_map (entry_text format program) entries
 
 -- the cells and the last line
 abbrev pub closing_of : Typed → List Value → List ℕ
-closing_of typed values = line (codes "cells") ++ cell_texts typed typed.cells.items values ++ line (codes "end")
+closing_of program values = line (codes "cells") ++ cell_texts program program.cells.items values ++ line (codes "end")
 
 -- the whole text
 abbrev pub history_of : Format → Typed → List Entry → List Value → List ℕ
-history_of format typed entries values = calls_of format typed entries ++ closing_of typed values
+history_of format program entries values = calls_of format program entries ++ closing_of program values
 
 -- the calls before one that is not settled, and the line of that one
 abbrev pub unsettled_of : Typed → List Entry → ℕ → ℕ → List ℕ
-unsettled_of typed entries thread step =
-    calls_of One typed entries ++ line (codes "unsettled " ++ place_text thread step)
+unsettled_of program entries thread step =
+    calls_of One program entries ++ line (codes "unsettled " ++ place_text thread step)

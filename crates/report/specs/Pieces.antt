@@ -24,7 +24,7 @@ index_text index = codes "[" ++ decimal index ++ codes "]"
 
 -- the name of a section
 abbrev pub section_name : Typed → ℕ → List ℕ
-section_name typed section = option_map_or (λ s. string_bytes s.name) (slice_get typed.sections.items section) []
+section_name program section = option_map_or (λ s. string_bytes s.name) (slice_get program.sections.items section) []
 
 -- the pool that an object is a member of
 abbrev pub pool_of : Shape → ℕ → Option Pool
@@ -36,16 +36,16 @@ object_text shape object = option_map_or (λ pool. string_bytes pool.name ++ ind
 
 -- what stands before the name of a lock: of an object's, the object and a dot
 abbrev pub owner_of_lock : Typed → ℕ → Option LockClass → List ℕ
-owner_of_lock typed object (Some (class.Field s l)) = object_text typed.shape object ++ codes "."
-owner_of_lock typed object (Some (class.Global name)) = []
-owner_of_lock typed object None = []
+owner_of_lock program object (Some (class.Field s l)) = object_text program.shape object ++ codes "."
+owner_of_lock program object (Some (class.Global name)) = []
+owner_of_lock program object None = []
 
 abbrev pub lock_owner : Typed → Lock → List ℕ
-lock_owner typed lock = owner_of_lock typed lock.object (slice_get typed.classes.items lock.class)
+lock_owner program lock = owner_of_lock program lock.object (slice_get program.classes.items lock.class)
 
 -- a lock, as G or p[0].l
 abbrev pub lock_text : Typed → Lock → List ℕ
-lock_text typed lock = lock_owner typed lock ++ last_name typed lock.class
+lock_text program lock = lock_owner program lock ++ last_name program lock.class
 
 -- a number, null, or an object
 abbrev pub value_text : Shape → Value → List ℕ
@@ -64,7 +64,7 @@ place_text thread step = decimal thread ++ codes " " ++ decimal step
 
 -- what is called, with its arguments
 abbrev pub invocation_text : Typed → ℕ → List Value → List ℕ
-invocation_text typed section arguments = section_name typed section ++ codes "(" ++ values_text typed.shape arguments ++ codes ")"
+invocation_text program section arguments = section_name program section ++ codes "(" ++ values_text program.shape arguments ++ codes ")"
 
 -- how a call ended
 abbrev pub outcome_text : Shape → Outcome → List ℕ
@@ -74,7 +74,7 @@ outcome_text shape (Traps trap) = codes "traps " ++ decimal (trap_number trap)
 
 -- the name of a global that is no array
 abbrev pub global_name : Typed → ℕ → List ℕ
-global_name typed global = option_map_or (λ g. string_bytes g.name) (slice_get typed.globals.items global) []
+global_name program global = option_map_or (λ g. string_bytes g.name) (slice_get program.globals.items global) []
 
 -- the name of an array
 abbrev pub array_name : Shape → ℕ → List ℕ
@@ -82,13 +82,13 @@ array_name shape array = option_map_or (λ a. string_bytes a.name) (slice_get sh
 
 -- the name of a field of an object
 abbrev pub field_name : Typed → ℕ → ℕ → List ℕ
-field_name typed object field =
+field_name program object field =
     option_map_or (λ f. string_bytes f.name)
     (option_and_then (λ s. slice_get s.fields.items field)
-    (option_and_then (λ pool. slice_get typed.structs.items pool.structure) (pool_of typed.shape object))) []
+    (option_and_then (λ pool. slice_get program.structs.items pool.structure) (pool_of program.shape object))) []
 
 -- a cell as n, a[0] or p[0].x
 abbrev pub owner_text : Typed → Owner → List ℕ
-owner_text typed (Global global) = global_name typed global
-owner_text typed (Element array index) = array_name typed.shape array ++ index_text index
-owner_text typed (Field object field) = object_text typed.shape object ++ codes "." ++ field_name typed object field
+owner_text program (Global global) = global_name program global
+owner_text program (Element array index) = array_name program.shape array ++ index_text index
+owner_text program (Field object field) = object_text program.shape object ++ codes "." ++ field_name program object field

@@ -34,13 +34,13 @@ fn push_prints(out: &mut String, prints: &[i64]) -> Result<(), AllocError>
 fn push_call(
     out: &mut String,
     format: Format,
-    typed: &Typed,
+    program: &Typed,
     call: &Said<'_>,
 ) -> Result<(), AllocError>
-    ensures { OnOk result (AddsText (call_text format typed.now (entry_said call.now)) out.old out.new) }
+    ensures { OnOk result (AddsText (call_text format program.now (entry_said call.now)) out.old out.new) }
 {
-    push_call_head(out, format, typed, &call.call)?;
-    push_outcome(out, &typed.shape, call.outcome)?;
+    push_call_head(out, format, program, &call.call)?;
+    push_outcome(out, &program.shape, call.outcome)?;
     out.push_str("\n")
 }
 
@@ -48,12 +48,12 @@ fn push_call(
 fn push_entry(
     out: &mut String,
     format: Format,
-    typed: &Typed,
+    program: &Typed,
     call: &Said<'_>,
 ) -> Result<(), AllocError>
-    ensures { OnOk result (AddsText (entry_text format typed.now (entry_said call.now)) out.old out.new) }
+    ensures { OnOk result (AddsText (entry_text format program.now (entry_said call.now)) out.old out.new) }
 {
-    push_call(out, format, typed, call)?;
+    push_call(out, format, program, call)?;
     push_prints(out, call.prints)
 }
 
@@ -61,28 +61,28 @@ fn push_entry(
 fn push_records(
     out: &mut String,
     format: Format,
-    typed: &Typed,
+    program: &Typed,
     calls: &[Record],
 ) -> Result<(), AllocError>
-    ensures { OnOk result (AddsText (flat_map (entry_text format typed.now) (map entry_of calls.now)) out.old out.new) }
+    ensures { OnOk result (AddsText (flat_map (entry_text format program.now) (map entry_of calls.now)) out.old out.new) }
 {
     for call in calls {
-        push_entry(out, format, typed, &call.said())?;
+        push_entry(out, format, program, &call.said())?;
     }
     Ok(())
 }
 
-/// The line of each finished section, with its prints.
-pub(crate) fn push_entries(
+/// The line of each finished section, with its prints. The one error is a refused growth.
+pub fn push_entries(
     out: &mut String,
     format: Format,
-    typed: &Typed,
+    program: &Typed,
     history: &History,
 ) -> Result<(), AllocError>
-    ensures { OnOk result (AddsText (commit_texts format typed.now history.now.commits) out.old out.new) }
+    ensures { OnOk result (AddsText (commit_texts format program.now history.now.commits) out.old out.new) }
 {
     for position in 0..history.len() {
-        push_entry(out, format, typed, &said_of(&history.get(position)))?;
+        push_entry(out, format, program, &said_of(&history.get(position)))?;
     }
     Ok(())
 }
@@ -90,17 +90,17 @@ pub(crate) fn push_entries(
 /// A line for each cell.
 fn push_cells(
     out: &mut String,
-    typed: &Typed,
+    program: &Typed,
     cells: &[Cell],
     values: &[Value],
 ) -> Result<(), AllocError>
-    ensures { OnOk result (AddsText (cell_texts typed.now cells.now values.now) out.old out.new) }
+    ensures { OnOk result (AddsText (cell_texts program.now cells.now values.now) out.old out.new) }
 {
     for (i, cell) in cells.iter().enumerate() {
         let Some(value) = values.get(i) else {
             return Ok(());
         };
-        push_cell(out, typed, cell, *value)?;
+        push_cell(out, program, cell, *value)?;
         out.push_str("\n")?;
     }
     Ok(())
@@ -111,11 +111,11 @@ fn push_cells(
 /// # Errors
 ///
 /// Want of memory.
-pub fn push_closing(out: &mut String, typed: &Typed, values: &[Value]) -> Result<(), AllocError>
-    ensures { OnOk result (AddsText (closing_of typed.now values.now) out.old out.new) }
+pub fn push_closing(out: &mut String, program: &Typed, values: &[Value]) -> Result<(), AllocError>
+    ensures { OnOk result (AddsText (closing_of program.now values.now) out.old out.new) }
 {
     out.push_str("cells\n")?;
-    push_cells(out, typed, &typed.cells, values)?;
+    push_cells(out, program, &program.cells, values)?;
     out.push_str("end\n")
 }
 
@@ -132,13 +132,13 @@ fn first_line(alloc: Global, format: Format) -> Result<String, AllocError>
 fn calls_text(
     alloc: Global,
     format: Format,
-    typed: &Typed,
+    program: &Typed,
     calls: &[Record],
 ) -> Result<String, NoMemory>
-    ensures { IfOk result (λ text. string_bytes text ≡ calls_of format typed.now (map entry_of calls.now)) }
+    ensures { IfOk result (λ text. string_bytes text ≡ calls_of format program.now (map entry_of calls.now)) }
 {
     let mut out = first_line(alloc, format)?;
-    push_records(&mut out, format, typed, calls)?;
+    push_records(&mut out, format, program, calls)?;
     Ok(out)
 }
 
@@ -147,15 +147,15 @@ fn calls_text(
 pub fn history_text(
     alloc: Global,
     format: Format,
-    typed: &Typed,
+    program: &Typed,
     calls: &[Record],
     values: &[Value],
 ) -> Result<String, NoMemory>
-    requires { vec_len typed.now.cells ≡ length values.now }
-    ensures { IfOk result (λ text. string_bytes text ≡ history_of format typed.now (map entry_of calls.now) values.now) }
+    requires { vec_len program.now.cells ≡ length values.now }
+    ensures { IfOk result (λ text. string_bytes text ≡ history_of format program.now (map entry_of calls.now) values.now) }
 {
-    let mut out = calls_text(alloc, format, typed, calls)?;
-    push_closing(&mut out, typed, values)?;
+    let mut out = calls_text(alloc, format, program, calls)?;
+    push_closing(&mut out, program, values)?;
     Ok(out)
 }
 
@@ -164,16 +164,16 @@ pub fn history_text(
 pub fn entries_text(
     alloc: Global,
     format: Format,
-    typed: &Typed,
+    program: &Typed,
     history: &History,
     values: &[Value],
 ) -> Result<String, NoMemory>
-    requires { vec_len typed.now.cells ≡ length values.now }
-    ensures { IfOk result (λ text. string_bytes text ≡ history_of format typed.now (map entry_of_commit history.now.commits) values.now) }
+    requires { vec_len program.now.cells ≡ length values.now }
+    ensures { IfOk result (λ text. string_bytes text ≡ history_of format program.now (map entry_of_commit history.now.commits) values.now) }
 {
     let mut out = first_line(alloc, format)?;
-    push_entries(&mut out, format, typed, history)?;
-    push_closing(&mut out, typed, values)?;
+    push_entries(&mut out, format, program, history)?;
+    push_closing(&mut out, program, values)?;
     Ok(out)
 }
 
@@ -182,14 +182,14 @@ pub fn entries_text(
 /// growth.
 pub fn unsettled_text(
     alloc: Global,
-    typed: &Typed,
+    program: &Typed,
     calls: &[Record],
     thread: usize,
     step: usize,
 ) -> Result<String, NoMemory>
-    ensures { IfOk result (λ text. string_bytes text ≡ unsettled_of typed.now (map entry_of calls.now) thread step) }
+    ensures { IfOk result (λ text. string_bytes text ≡ unsettled_of program.now (map entry_of calls.now) thread step) }
 {
-    let mut out = calls_text(alloc, Format::One, typed, calls)?;
+    let mut out = calls_text(alloc, Format::One, program, calls)?;
     write!(&mut out, "unsettled {thread} {step}\n")?;
     Ok(out)
 }

@@ -1,22 +1,20 @@
-//! The exact texts of what was run: histories and simulations.
+//! The exact texts of what was run: histories.
 //!
 //! - [`history_text`]: the calls and the values of all cells, in one of the two formats of [`source_histories::Format`].
 //! - [`entries_text`]: the same of the entries of a history.
 //! - [`unsettled_text`]: the calls before one that is not settled, and that one.
+//! - [`push_entries`]: the lines of the entries of a history.
 //! - [`push_closing`]: the end of a history, the values of all cells.
-//! - [`simulation_text`]: the finished sections of a world, its cells and its threads.
 //! - [`Record`]: a call, how it ended and what it printed.
 //! - [`lines`] and [`pieces`]: single lines of a history, and what they are put together from.
 //!
-//! `specs/History.antt`, `specs/Simulation.antt` and `specs/Pieces.antt` define the texts byte for byte.
+//! `specs/History.antt` and `specs/Pieces.antt` define the texts byte for byte.
 #![tactic(auto)]
 
 mod histories;
 pub mod lines;
 pub mod pieces;
 pub mod record;
-mod simulation;
 
-pub use histories::{entries_text, history_text, push_closing, unsettled_text};
+pub use histories::{entries_text, history_text, push_closing, push_entries, unsettled_text};
 pub use record::Record;
-pub use simulation::simulation_text;

@@ -30,14 +30,14 @@ fn push_begun(out: &mut String, format: Format, begun: usize) -> Result<(), Allo
 pub fn push_call_head(
     out: &mut String,
     format: Format,
-    typed: &Typed,
+    program: &Typed,
     call: &Called<'_>,
 ) -> Result<(), AllocError>
-    ensures { OnOk result (AddsText (call_head format typed.now (scheduled_called call.now) call.now.begun) out.old out.new) }
+    ensures { OnOk result (AddsText (call_head format program.now (scheduled_called call.now) call.now.begun) out.old out.new) }
 {
     write!(out, "call {} {} ", call.thread, call.step)?;
     push_begun(out, format, call.begun)?;
-    push_invocation(out, typed, call.section, call.arguments)?;
+    push_invocation(out, program, call.section, call.arguments)?;
     out.push_str(" ")
 }
 
@@ -59,13 +59,13 @@ pub fn push_print(out: &mut String, number: i64) -> Result<(), AllocError>
 /// Want of memory.
 pub fn push_cell(
     out: &mut String,
-    typed: &Typed,
+    program: &Typed,
     cell: &Cell,
     value: Value,
 ) -> Result<(), AllocError>
-    ensures { OnOk result (AddsText (cell_line typed.now cell.now value) out.old out.new) }
+    ensures { OnOk result (AddsText (cell_line program.now cell.now value) out.old out.new) }
 {
-    push_owner(out, typed, cell.owner)?;
+    push_owner(out, program, cell.owner)?;
     out.push_str(" ")?;
-    push_value(out, &typed.shape, value)
+    push_value(out, &program.shape, value)
 }

@@ -13,10 +13,10 @@ use locks::text::push_last;
 use std::alloc::AllocError;
 
 /// The name of a section.
-fn push_section(out: &mut String, typed: &Typed, section: usize) -> Result<(), AllocError>
-    ensures { OnOk result (AddsText (text.section_name typed.now section) out.old out.new) }
+fn push_section(out: &mut String, program: &Typed, section: usize) -> Result<(), AllocError>
+    ensures { OnOk result (AddsText (text.section_name program.now section) out.old out.new) }
 {
-    match typed.sections.get(section) {
+    match program.sections.get(section) {
         Some(section) => out.push_str(section.name.as_str()),
         None => Ok(()),
     }
@@ -45,8 +45,8 @@ fn push_object(out: &mut String, shape: &Shape, object: usize) -> Result<(), All
     }
 }
 
-/// A number, `null` or an object.
-pub(crate) fn push_value(out: &mut String, shape: &Shape, value: Value) -> Result<(), AllocError>
+/// A number, `null` or an object. The one error is a refused growth.
+pub fn push_value(out: &mut String, shape: &Shape, value: Value) -> Result<(), AllocError>
     ensures { OnOk result (AddsText (text.value_text shape.now value) out.old out.new) }
 {
     match value {
@@ -104,15 +104,15 @@ fn push_values(out: &mut String, shape: &Shape, values: &[Value]) -> Result<(), 
 /// Want of memory.
 pub fn push_invocation(
     out: &mut String,
-    typed: &Typed,
+    program: &Typed,
     section: usize,
     arguments: &[Value],
 ) -> Result<(), AllocError>
-    ensures { OnOk result (AddsText (text.invocation_text typed.now section arguments.now) out.old out.new) }
+    ensures { OnOk result (AddsText (text.invocation_text program.now section arguments.now) out.old out.new) }
 {
-    push_section(out, typed, section)?;
+    push_section(out, program, section)?;
     out.push_str("(")?;
-    push_values(out, &typed.shape, arguments)?;
+    push_values(out, &program.shape, arguments)?;
     out.push_str(")")
 }
 
@@ -138,10 +138,10 @@ pub fn push_outcome(out: &mut String, shape: &Shape, outcome: Outcome) -> Result
 }
 
 /// The name of a global that is no array.
-fn push_global(out: &mut String, typed: &Typed, global: usize) -> Result<(), AllocError>
-    ensures { OnOk result (AddsText (text.global_name typed.now global) out.old out.new) }
+fn push_global(out: &mut String, program: &Typed, global: usize) -> Result<(), AllocError>
+    ensures { OnOk result (AddsText (text.global_name program.now global) out.old out.new) }
 {
-    match typed.globals.get(global) {
+    match program.globals.get(global) {
         Some(global) => out.push_str(global.name.as_str()),
         None => Ok(()),
     }
@@ -160,16 +160,16 @@ fn push_array(out: &mut String, shape: &Shape, array: usize) -> Result<(), Alloc
 /// The name of a field of an object.
 fn push_field(
     out: &mut String,
-    typed: &Typed,
+    program: &Typed,
     object: usize,
     field: usize,
 ) -> Result<(), AllocError>
-    ensures { OnOk result (AddsText (text.field_name typed.now object field) out.old out.new) }
+    ensures { OnOk result (AddsText (text.field_name program.now object field) out.old out.new) }
 {
-    let Some(pool) = pool_of(&typed.shape, object) else {
+    let Some(pool) = pool_of(&program.shape, object) else {
         return Ok(());
     };
-    let Some(structure) = typed.structs.get(pool.structure) else {
+    let Some(structure) = program.structs.get(pool.structure) else {
         return Ok(());
     };
     match structure.fields.get(field) {
@@ -178,20 +178,20 @@ fn push_field(
     }
 }
 
-/// A cell as `n`, `a[0]` or `p[0].x`.
-pub(crate) fn push_owner(out: &mut String, typed: &Typed, owner: Owner) -> Result<(), AllocError>
-    ensures { OnOk result (AddsText (text.owner_text typed.now owner) out.old out.new) }
+/// A cell as `n`, `a[0]` or `p[0].x`. The one error is a refused growth.
+pub fn push_owner(out: &mut String, program: &Typed, owner: Owner) -> Result<(), AllocError>
+    ensures { OnOk result (AddsText (text.owner_text program.now owner) out.old out.new) }
 {
     match owner {
-        Owner::Global(global) => push_global(out, typed, global),
+        Owner::Global(global) => push_global(out, program, global),
         Owner::Element { array, index } => {
-            push_array(out, &typed.shape, array)?;
+            push_array(out, &program.shape, array)?;
             write!(out, "[{index}]")
         }
         Owner::Field { object, field } => {
-            push_object(out, &typed.shape, object)?;
+            push_object(out, &program.shape, object)?;
             out.push_str(".")?;
-            push_field(out, typed, object, field)
+            push_field(out, program, object, field)
         }
     }
 }

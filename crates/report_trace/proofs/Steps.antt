@@ -1,13 +1,13 @@
 -- The lines of steps, one after another.
 use Rattle.std.proofs.Common.{◌≡◌, ◌∙◌, ◌<◌, ◌+◌, ℕ, List, [], ◌∷◌, ◌++◌, length, take, get_or, replicate, refl, sym, ap, append_assoc, append-nil, subst, Bool, String, string_bytes}
 use Rattle.std.proofs.lemmas.List.{take_more, replicate_more}
-use Rattle.code.specs.declared.section_code.Code.{Code}
+use Rattle.code.specs.declared.section_code.ProgramCode.{ProgramCode}
 use Rattle.lowering.specs.Lowered.{IsCodeOf}
 use Rattle.lowering.specs.Plans.{Plan}
 use Rattle.worlds.specs.Worlds.{World, happens, world_after, opening_world}
 use Rattle.interleavings.specs.Coming.{coming_to}
 use Rattle.interleavings.specs.Threads.{ThreadsOf, threads_of, with_steps, at_opening, after_steps}
-use Rattle.report.specs.Simulation.{simulation_of}
+use Rattle.report_simulation.specs.Simulation.{simulation_of}
 use Rattle.source_steps.specs.declared.turn.Turn.{Turn}
 use Rattle.source_steps.specs.Turns.{steps_of}
 use Rattle.report_trace.specs.declared.teller.Teller.{Teller}
@@ -18,7 +18,7 @@ world_more : (plan : Plan) (w : World) (xs ys : List ℕ) → world_after plan w
 world_more plan w [] ys = refl
 world_more plan w (t ∷ xs) ys = world_more plan (happens plan w t).1 xs ys
 
-lines_more : (text : List ℕ) (plan : Plan) (code : Code) (moves : Bool) (w : World) (xs ys : List ℕ) →
+lines_more : (text : List ℕ) (plan : Plan) (code : ProgramCode) (moves : Bool) (w : World) (xs ys : List ℕ) →
     steps_text text plan code moves w (xs ++ ys) ≡ steps_text text plan code moves w xs ++ steps_text text plan code moves (world_after plan w xs) ys
 lines_more text plan code moves w [] ys = refl
 lines_more text plan code moves w (t ∷ xs) ys =

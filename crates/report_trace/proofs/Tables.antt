@@ -4,7 +4,7 @@ use Rattle.std.specs.Prelude.{slice_get}
 use Rattle.std.specs.Option.{option_map_or}
 use Rattle.core_lang.specs.declared.tree.Section.{Section}
 use Rattle.code.specs.declared.section_code.SectionCode.{SectionCode}
-use Rattle.code.specs.declared.section_code.Code.{Code}
+use Rattle.code.specs.declared.section_code.ProgramCode.{ProgramCode}
 use Rattle.code.specs.Listing.{instr_text}
 use Rattle.lowering.specs.Plans.{Plan}
 use Rattle.report_trace.specs.declared.places.SectionPlaces.{SectionPlaces}
@@ -40,7 +40,7 @@ tables_at text (s ∷ ss) [] (suc k) = none (slice_get ss k)
 tables_at text (s ∷ ss) (c ∷ cs) zero = refl
 tables_at text (s ∷ ss) (c ∷ cs) (suc k) = tables_at text ss cs k
 
-module _ (text : List ℕ) (plan : Plan) (code : Code) (place : ℕ) where
+module _ (text : List ℕ) (plan : Plan) (code : ProgramCode) (place : ℕ) where
   -- what the code says of the place
   abbrev of_code : SectionCode → List ℕ
   of_code made = option_map_or (instr_text code.names made place) (slice_get made.instructions.items place) []

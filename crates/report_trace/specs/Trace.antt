@@ -6,7 +6,7 @@ use Rattle.core_lang.specs.declared.tree.Section.{Section}
 use Rattle.core_lang.specs.Serial.{Invocation}
 use Rattle.locks.specs.declared.lock.Lock.{Lock}
 use Rattle.code.specs.declared.section_code.SectionCode.{SectionCode}
-use Rattle.code.specs.declared.section_code.Code.{Code}
+use Rattle.code.specs.declared.section_code.ProgramCode.{ProgramCode}
 use Rattle.code.specs.Listing.{line, instr_text}
 use Rattle.code_emission.specs.NumberLists.{number_lists}
 use Rattle.lowering.specs.Lowered.{IsCodeOf}
@@ -18,11 +18,11 @@ use Rattle.interleavings.specs.declared.coming.Coming.{Coming}
 use Rattle.interleavings.specs.declared.coming.Coming.TheVariants as coming
 use Rattle.interleavings.specs.Coming.{coming_to}
 use Rattle.report.specs.Pieces.{invocation_text, lock_text}
-use Rattle.report.specs.Simulation.{simulation_of}
+use Rattle.report_simulation.specs.Simulation.{simulation_of}
 use Rattle.report_trace.specs.Places.{place_text}
 
 -- over a program's text, its plan and its code
-module _ (text : List ℕ) (plan : Plan) (code : Code) where
+module _ (text : List ℕ) (plan : Plan) (code : ProgramCode) where
   -- NAME(ARGS) of a call
   abbrev pub call_text : Option Invocation → List ℕ
   call_text None = []
@@ -74,6 +74,6 @@ module _ (text : List ℕ) (plan : Plan) (code : Code) where
 
 -- the text of these steps of a program's threads, with instructions or without
 pub record IsTrace (text : List ℕ) (plan : Plan) (moves : Bool) (steps : List ℕ) (told : List ℕ) : Type 0 where
-  pub code : Code
+  pub code : ProgramCode
   pub made : IsCodeOf plan.program plan.lists code
   pub written : told ≡ trace_text text plan code moves steps

@@ -10,7 +10,7 @@ ghost use Rattle.locks.specs.Texts.{AddsText};
 ghost use Rattle.code.specs.Working.Naming.{IsIndexOf, IsMnemonic, operand_text};
 
 use code::instr::Instr;
-use code::names::{GlobalName, Names};
+use code::names::{GlobalName, ListingNames};
 use code::section_code::SectionCode;
 use core_lang::tree::{Comparison, Operator};
 use indexmap::IndexMap;
@@ -61,11 +61,11 @@ fn operator_word(operator: Operator) -> &'static str
     ensures { result.now ≡ operator_text operator }
 {
     match operator {
-        Operator::Plus => "add",
-        Operator::Minus => "sub",
-        Operator::Times => "mul",
-        Operator::Divide => "div",
-        Operator::Remainder => "rem",
+        Operator::Add => "add",
+        Operator::Sub => "sub",
+        Operator::Mul => "mul",
+        Operator::Div => "div",
+        Operator::Rem => "rem",
     }
 }
 
@@ -75,11 +75,11 @@ fn comparison_word(comparison: Comparison) -> &'static str
 {
     match comparison {
         Comparison::Equal => "eq",
-        Comparison::Unequal => "ne",
+        Comparison::NotEqual => "ne",
         Comparison::Less => "lt",
-        Comparison::LessEqual => "le",
+        Comparison::LessOrEqual => "le",
         Comparison::Greater => "gt",
-        Comparison::GreaterEqual => "ge",
+        Comparison::GreaterOrEqual => "ge",
     }
 }
 
@@ -157,7 +157,7 @@ fn index_by_cell<'a>(
 #[derive(Drop)]
 pub struct Lister<'a> {
     /// The names of the program.
-    names: &'a Names,
+    names: &'a ListingNames,
     /// For each cell the first global that has it. A line may name any global, so the globals are not gone through.
     globals: IndexMap<u32, &'a GlobalName>,
     ghost indexed: { IsIndexOf names.now.globals.items globals } by { Prim.hlevel props },
@@ -167,7 +167,7 @@ impl<'a> Lister<'a> {
     ghost use Rattle.report_trace.specs.Working.Listers.{names_shown};
 
     /// Of code with these names.
-    pub fn new(alloc: Global, names: &'a Names) -> Result<Lister<'a>, AllocError>
+    pub fn new(alloc: Global, names: &'a ListingNames) -> Result<Lister<'a>, AllocError>
         ensures { IfOk result (λ lister. names_shown lister ≡ names.now) }
     {
         let globals = index_by_cell(alloc, &names.globals)?;

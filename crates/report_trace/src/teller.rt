@@ -9,7 +9,7 @@ ghost use Rattle.report_trace.specs.Working.Told.{AreTables};
 
 use crate::instructions::Lister;
 use crate::places::SectionPlaces;
-use code::section_code::Code;
+use code::section_code::ProgramCode;
 use core_lang::typed::Typed;
 use interleavings::coming::Coming;
 use interleavings::world::World;
@@ -25,14 +25,14 @@ use worlds::event::Event;
 fn all_places(
     alloc: Global,
     text: &[u8],
-    typed: &Typed,
-    code: &Code,
+    program: &Typed,
+    code: &ProgramCode,
 ) -> Result<Vec<SectionPlaces>, NoMemory>
-    ensures { IfOk result (λ places. AreTables text.now typed.now code.now places.items) }
+    ensures { IfOk result (λ places. AreTables text.now program.now code.now places.items) }
 {
     let mut cursor = Cursor::new(text);
-    let mut places = Vec::with_capacity(alloc, typed.sections.len())?;
-    for (k, section) in typed.sections.iter().enumerate() {
+    let mut places = Vec::with_capacity(alloc, program.sections.len())?;
+    for (k, section) in program.sections.iter().enumerate() {
         let Some(made) = code.sections.get(k) else {
             return Ok(places);
         };
@@ -46,7 +46,7 @@ fn all_places(
 pub struct Teller<'a> {
     text: &'a [u8],
     program: &'a Program,
-    code: &'a Code,
+    code: &'a ProgramCode,
     lister: Lister<'a>,
     // By section.
     places: Vec<SectionPlaces>,
@@ -84,12 +84,12 @@ impl<'a> Teller<'a> {
     fn push_call(&self, out: &mut String, thread: u32, step: usize) -> Result<(), AllocError>
         ensures { OnOk result (AddsText (call_told self.now thread step) out.old out.new) }
     {
-        let typed = self.program.typed();
-        let Some(script) = typed.threads.get(thread as usize) else {
+        let program = self.program.typed();
+        let Some(script) = program.threads.get(thread as usize) else {
             return Ok(());
         };
         match script.calls.get(step) {
-            Some(call) => push_invocation(out, typed, call.section, &call.arguments),
+            Some(call) => push_invocation(out, program, call.section, &call.arguments),
             None => Ok(()),
         }
     }

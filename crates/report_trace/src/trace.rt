@@ -7,7 +7,7 @@ ghost use Rattle.report_trace.specs.Trace.{IsTrace};
 use crate::teller::Teller;
 use interleavings::world::World;
 use lowering::compiled::Program;
-use report::simulation_text;
+use report_simulation::simulation_text;
 use source::memory::NoMemory;
 use source_steps::turn::Turn;
 use std::alloc::Global;

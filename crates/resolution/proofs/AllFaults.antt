@@ -6,7 +6,7 @@ use Rattle.source.specs.Texts.{NUMBER_LIMIT}
 use Rattle.source.specs.declared.fault.Code.{Code}
 use Rattle.source.specs.declared.fault.Code.TheVariants.{NumberTooLarge, DeclaredTwice, UnknownName, WrongType, WrongArgumentCount, NotAssignable, NeitherFinalNorProtected, ProtectedByNoLock, ProtectedByPassesNonFinal, LimitExceeded, FinalWithoutOpeningValue, InitOutOfRangeOrRepeated, LockAsValue}
 use Rattle.source.specs.declared.token.Number.{Number}
-use Rattle.syntax.specs.declared.tree.Op.{Op}
+use Rattle.syntax.specs.declared.tree.Operator.{Operator}
 use Rattle.syntax.specs.declared.tree.Level.{Level}
 use Rattle.syntax.specs.declared.tree.Level.TheVariants.{Term, Sum, Conjunction, Disjunction}
 use Rattle.syntax.specs.declared.tree.Comparison as written
@@ -355,7 +355,7 @@ no_pool_is decls p k (atomic s) n h e = refl
 no_pool_is decls p k (helper s) n h e = refl
 no_pool_is decls p k (thread t) n h e = refl
 
-operators_are : (level : Level) (p : ℕ) (o : Op) → IsOfNumbers level → operator_of o ≡ None → operator_faults level p o ≡ one WrongType p
+operators_are : (level : Level) (p : ℕ) (o : Operator) → IsOfNumbers level → operator_of o ≡ None → operator_faults level p o ≡ one WrongType p
 operators_are Term p o h e = ap (λ (x : Option _). one_if (not (is_some x)) WrongType p) e
 operators_are Sum p o h e = ap (λ (x : Option _). one_if (not (is_some x)) WrongType p) e
 operators_are Conjunction p o h e = absurd h

@@ -4,7 +4,7 @@ use Rattle.std.specs.Prelude.{ℤ, pos, nat_lt, not, is_some}
 use Rattle.source.specs.Texts.{NUMBER_LIMIT}
 use Rattle.source.specs.declared.fault.Code.TheVariants.{NumberTooLarge, WrongType}
 use Rattle.source.specs.declared.token.Number.{Number}
-use Rattle.syntax.specs.declared.tree.Op.{Op}
+use Rattle.syntax.specs.declared.tree.Operator as syntax_operator
 use Rattle.syntax.specs.declared.tree.Level.{Level}
 use Rattle.syntax.specs.declared.tree.Level.TheVariants.{Term, Sum, Conjunction, Disjunction}
 use Rattle.syntax.specs.declared.tree.Prefix.TheVariants.{Negate, Not}
@@ -15,7 +15,7 @@ use Rattle.core_lang.specs.declared.value.ValueType as core_type
 use Rattle.core_lang.specs.declared.value.ValueType.TheVariants.{Integer}
 use Rattle.core_lang.specs.declared.tree.Operator.{Operator}
 use Rattle.core_lang.specs.declared.tree.Comparison.{Comparison}
-use Rattle.core_lang.specs.declared.tree.Comparison.TheVariants.{Equal, Unequal, Less, LessEqual, Greater, GreaterEqual}
+use Rattle.core_lang.specs.declared.tree.Comparison.TheVariants.{Equal, NotEqual, Less, LessOrEqual, Greater, GreaterOrEqual}
 use Rattle.resolution.specs.declared.wanted.Sort.TheVariants as sort
 use Rattle.resolution.specs.declared.wanted.Want.{Want}
 use Rattle.resolution.specs.declared.wanted.Want.TheVariants.{Condition, Value}
@@ -111,11 +111,11 @@ test_of p o s none = wanted_test o s.0 s.1 (fit_is Condition p o s.0 s.1 none)
 
 compare_resolved : (c : written.Comparison) (p q : ℕ) (o r : Option ResolvedExpr) → HasResolvedExpr o → HasResolvedExpr r → NoneIn (misfit (side_want c) p o) → NoneIn (misfit (side_want c) q r) → NoneIn (side_faults c p q o r) → HasResolvedExpr (compared c o r)
 compare_resolved sign.Equal p q o r s t a b none = equated_resolved Equal p q o r s t none
-compare_resolved sign.NotEqual p q o r s t a b none = equated_resolved Unequal p q o r s t none
+compare_resolved sign.NotEqual p q o r s t a b none = equated_resolved NotEqual p q o r s t none
 compare_resolved sign.Less p q o r s t a b none = let x = number_of p o s a in let y = number_of q r t b in ordered_resolved Less (number_resolved o) x.0 (number_resolved r) y.0 x.1 y.1
-compare_resolved sign.LessOrEqual p q o r s t a b none = let x = number_of p o s a in let y = number_of q r t b in ordered_resolved LessEqual (number_resolved o) x.0 (number_resolved r) y.0 x.1 y.1
+compare_resolved sign.LessOrEqual p q o r s t a b none = let x = number_of p o s a in let y = number_of q r t b in ordered_resolved LessOrEqual (number_resolved o) x.0 (number_resolved r) y.0 x.1 y.1
 compare_resolved sign.Greater p q o r s t a b none = let x = number_of p o s a in let y = number_of q r t b in ordered_resolved Greater (number_resolved o) x.0 (number_resolved r) y.0 x.1 y.1
-compare_resolved sign.GreaterOrEqual p q o r s t a b none = let x = number_of p o s a in let y = number_of q r t b in ordered_resolved GreaterEqual (number_resolved o) x.0 (number_resolved r) y.0 x.1 y.1
+compare_resolved sign.GreaterOrEqual p q o r s t a b none = let x = number_of p o s a in let y = number_of q r t b in ordered_resolved GreaterOrEqual (number_resolved o) x.0 (number_resolved r) y.0 x.1 y.1
 
 -- a chain of numbers
 numbers_are : (sc : Scope) (level : Level) (e : Expr) (links : Links) → operand_want level ≡ Value Integer → NoneIn ((expr_faults sc e ++ misfit (operand_want level) (start_of e) (typed sc e)) ++ link_faults sc level links) →
@@ -180,7 +180,7 @@ mutual
       (resolved_expr_is sc c x (none_left ax mx n2)) (resolved_expr_is sc c y (none_right (ax ++ mx) ay n3))
       (none_right ax mx n2) (none_right ((ax ++ mx) ++ ay) my n4) (none_right (((ax ++ mx) ++ ay) ++ my) sides none)
 
-  links_are : (sc : Scope) → Context sc → (level : Level) (links : Links) → ((p : ℕ × Op) → operator_faults level p.0 p.1 ≡ one_if (not (is_some (operator_of p.1))) WrongType p.0) → operand_want level ≡ Value Integer → NoneIn (link_faults sc level links) → Links_are (typed_links sc links)
+  links_are : (sc : Scope) → Context sc → (level : Level) (links : Links) → ((p : ℕ × syntax_operator.Operator) → operator_faults level p.0 p.1 ≡ one_if (not (is_some (operator_of p.1))) WrongType p.0) → operand_want level ≡ Value Integer → NoneIn (link_faults sc level links) → Links_are (typed_links sc links)
   links_are sc c level no_links of w none = (core.no_operations, refl)
   links_are sc c level (link o e rest) of w none =
       let q = operator_faults level (start_of e) o in

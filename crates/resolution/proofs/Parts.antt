@@ -3,7 +3,7 @@ use Rattle.std.proofs.Common.{◌≡◌, ℕ, zero, suc, ◌+◌, List, [], ◌�
 use Rattle.std.specs.Prelude.{nat_le, ◌==◌, slice_get}
 use Rattle.std.proofs.lemmas.Bool.Decides.{nat_tests}
 use Rattle.source.specs.declared.fault.Code.TheVariants.{WrongArgumentCount, LimitExceeded}
-use Rattle.syntax.specs.declared.tree.Op.{Op}
+use Rattle.syntax.specs.declared.tree.Operator.{Operator}
 use Rattle.syntax.specs.declared.tree.Level.{Level}
 use Rattle.syntax.specs.Trees as tree
 use Rattle.syntax.specs.Trees.{Ident, ValueType, ref_type, Const, element, Expr, place, paren, prefix, chain, compare, Links, no_links, link, Owner, HelperCall, CalledLocal, Stmt, let_local, let_owned, let_call, var_local, assign, if_then, while, print, return_value, Stmts, no_stmts, stmt, else_do, Member, lock_member, final_member, field_member, Field, Final, Param, Section, Call, call, repeat, Items, no_items, item, Decl, struct, global, array, pool, init, atomic, helper, thread}
@@ -43,14 +43,14 @@ of_anything : (sc : Scope) (e : Expr) (f : Mistake) → IsAmong f (wanted_faults
 of_anything sc e f i =
     m.both f (expr_faults sc e) (misfit Anything (start_of e) (typed sc e)) (λ j. j) (λ j. absurd (subst (IsAmong f) (anything sc e (typed sc e)) j)) i
 
-in_link : (sc : Scope) (level : Level) (links : Links) (o : Op) (e : Expr) → HasLink links o e → (f : Mistake) →
+in_link : (sc : Scope) (level : Level) (links : Links) (o : Operator) (e : Expr) → HasLink links o e → (f : Mistake) →
     IsAmong f ((operator_faults level (start_of e) o ++ expr_faults sc e) ++ misfit (operand_want level) (start_of e) (typed sc e)) → IsAmong f (link_faults sc level links)
 in_link sc level no_links o e h f i = elim h [ ]
 in_link sc level (link o e rest) o' e' this_link f i = m.in_left f _ (link_faults sc level rest) i
 in_link sc level (link o e rest) o' e' (later_link h) f i =
     m.in_right f ((operator_faults level (start_of e) o ++ expr_faults sc e) ++ misfit (operand_want level) (start_of e) (typed sc e)) _ (in_link sc level rest o' e' h f i)
 
-pub chain_link : (sc : Scope) (level : Level) (a : Expr) (links : Links) (o : Op) (e : Expr) → HasLink links o e → (f : Mistake) →
+pub chain_link : (sc : Scope) (level : Level) (a : Expr) (links : Links) (o : Operator) (e : Expr) → HasLink links o e → (f : Mistake) →
     IsAmong f ((operator_faults level (start_of e) o ++ expr_faults sc e) ++ misfit (operand_want level) (start_of e) (typed sc e)) → IsAmong f (expr_faults sc (chain level a links))
 chain_link sc level a links o e h f i = m.in_right f (expr_faults sc a ++ misfit (operand_want level) (start_of a) (typed sc a)) _ (in_link sc level links o e h f i)
 

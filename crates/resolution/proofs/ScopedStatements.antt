@@ -14,7 +14,7 @@ use Rattle.core_lang.specs.declared.tree.LocalKind.{LocalKind}
 use Rattle.core_lang.specs.declared.tree.LocalKind.TheVariants as kind
 use Rattle.core_lang.specs.declared.tree.Operator.{Operator}
 use Rattle.core_lang.specs.declared.tree.Comparison.{Comparison}
-use Rattle.core_lang.specs.declared.tree.Comparison.TheVariants.{Equal, Unequal, Less, LessEqual, Greater, GreaterEqual}
+use Rattle.core_lang.specs.declared.tree.Comparison.TheVariants.{Equal, NotEqual, Less, LessOrEqual, Greater, GreaterOrEqual}
 use Rattle.core_lang.specs.Scopes.{numbers_from}
 use Rattle.resolution.specs.declared.wanted.Sort.{Sort}
 use Rattle.resolution.specs.declared.wanted.Want.{Want}
@@ -191,11 +191,11 @@ module _ (sc : Scope) (scope : List ℕ) (covers : Covers sc.locals scope) where
 
   of_compare : (c : written.Comparison) (o r : Option ResolvedExpr) → IfResolvedExpr o → IfResolvedExpr r → IfResolvedExpr (compared c o r)
   of_compare sign.Equal o r h g = of_equal Equal o r h g
-  of_compare sign.NotEqual o r h g = of_equal Unequal o r h g
+  of_compare sign.NotEqual o r h g = of_equal NotEqual o r h g
   of_compare sign.Less o r h g = of_order Less (number_resolved o) (number_resolved r) (fit_value (Value Integer) o h) (fit_value (Value Integer) r g)
-  of_compare sign.LessOrEqual o r h g = of_order LessEqual (number_resolved o) (number_resolved r) (fit_value (Value Integer) o h) (fit_value (Value Integer) r g)
+  of_compare sign.LessOrEqual o r h g = of_order LessOrEqual (number_resolved o) (number_resolved r) (fit_value (Value Integer) o h) (fit_value (Value Integer) r g)
   of_compare sign.Greater o r h g = of_order Greater (number_resolved o) (number_resolved r) (fit_value (Value Integer) o h) (fit_value (Value Integer) r g)
-  of_compare sign.GreaterOrEqual o r h g = of_order GreaterEqual (number_resolved o) (number_resolved r) (fit_value (Value Integer) o h) (fit_value (Value Integer) r g)
+  of_compare sign.GreaterOrEqual o r h g = of_order GreaterOrEqual (number_resolved o) (number_resolved r) (fit_value (Value Integer) o h) (fit_value (Value Integer) r g)
 
   of_literal : (o : Option ℤ) → IfResolvedExpr (literal o)
   of_literal None = tt

@@ -4,7 +4,7 @@ use Rattle.std.specs.Prelude.{nat_le, nat_lt, not, is_some, ◌&&◌, slice_get}
 use Rattle.source.specs.Texts.{NUMBER_LIMIT}
 use Rattle.source.specs.declared.fault.Code.TheVariants.{NumberTooLarge, UnknownName, WrongType, InitOutOfRangeOrRepeated, LockAsValue}
 use Rattle.source.specs.declared.token.Number.{Number}
-use Rattle.syntax.specs.declared.tree.Op.{Op}
+use Rattle.syntax.specs.declared.tree.Operator.{Operator}
 use Rattle.syntax.specs.declared.tree.Level.{Level}
 use Rattle.syntax.specs.declared.tree.Level.TheVariants.{Term, Sum, Conjunction, Disjunction}
 use Rattle.syntax.specs.declared.tree.Comparison as written
@@ -208,7 +208,7 @@ pub none_is : {A : Type 0} (o : Option A) → not (is_some o) ≡ true → o ≡
 none_is None e = refl
 none_is (Some x) e = cc
 
-true_operator : (sc : Scope) (w : Want) (level : Level) (e g : Expr) (links : Links) (o : Op) → HasExpr sc.decls sc w (chain level e links) → HasLink links o g → (f : Mistake) → IsAmong f (operator_faults level (start_of g) o) → IsTrue_of sc.decls f
+true_operator : (sc : Scope) (w : Want) (level : Level) (e g : Expr) (links : Links) (o : Operator) → HasExpr sc.decls sc w (chain level e links) → HasLink links o g → (f : Mistake) → IsAmong f (operator_faults level (start_of g) o) → IsTrue_of sc.decls f
 true_operator sc w Term e g links o h l f i = of_if sc.decls (not (is_some (operator_of o))) WrongType (start_of g) f (λ t. wrong_type (fault.misplaced_operator h tt l (none_is (operator_of o) t))) i
 true_operator sc w Sum e g links o h l f i = of_if sc.decls (not (is_some (operator_of o))) WrongType (start_of g) f (λ t. wrong_type (fault.misplaced_operator h tt l (none_is (operator_of o) t))) i
 true_operator sc w Conjunction e g links o h l f i = absurd i
@@ -251,8 +251,8 @@ mutual
       (true_misfit sc (Value Integer) e (up (Value Integer) e (in_index itself)) (typed sc e) refl f) i
   true_place sc w (path x fs) up f i = true_path sc x fs (is_read (up w (place (path x fs)) itself)) (meaning sc x.text) refl f i
 
-  true_links : (sc : Scope) (w : Want) (level : Level) (e : Expr) (all links : Links) → HasExpr sc.decls sc w (chain level e all) → ((o : Op) (g : Expr) → HasLink links o g → HasLink all o g) →
-      ((v : Want) (x : Expr) (o : Op) (g : Expr) → HasLink all o g → Within (operand_want level) g v x → HasExpr sc.decls sc v x) → (f : Mistake) → IsAmong f (link_faults sc level links) → IsTrue_of sc.decls f
+  true_links : (sc : Scope) (w : Want) (level : Level) (e : Expr) (all links : Links) → HasExpr sc.decls sc w (chain level e all) → ((o : Operator) (g : Expr) → HasLink links o g → HasLink all o g) →
+      ((v : Want) (x : Expr) (o : Operator) (g : Expr) → HasLink all o g → Within (operand_want level) g v x → HasExpr sc.decls sc v x) → (f : Mistake) → IsAmong f (link_faults sc level links) → IsTrue_of sc.decls f
   true_links sc w level e all no_links h in_all up f i = absurd i
   true_links sc w level e all (link o g rest) h in_all up f i =
       both f ((operator_faults level (start_of g) o ++ expr_faults sc g) ++ misfit (operand_want level) (start_of g) (typed sc g)) (link_faults sc level rest)

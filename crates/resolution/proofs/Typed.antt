@@ -4,7 +4,7 @@ use Rattle.std.specs.Prelude.{map, option_map, slice_get, take, ⊤}
 use Rattle.core_lang.specs.declared.value.ValueType.{ValueType}
 use Rattle.core_lang.specs.declared.value.ValueType.TheVariants.{Integer, Reference}
 use Rattle.core_lang.specs.declared.tree.Comparison.{Comparison}
-use Rattle.core_lang.specs.declared.tree.Comparison.TheVariants.{Equal, Unequal, Less, LessEqual, Greater, GreaterEqual}
+use Rattle.core_lang.specs.declared.tree.Comparison.TheVariants.{Equal, NotEqual, Less, LessOrEqual, Greater, GreaterOrEqual}
 use Rattle.core_lang.specs.declared.tree.FieldStep.{FieldStep}
 use Rattle.core_lang.specs.declared.tree.FieldStep.TheVariants as step
 use Rattle.core_lang.specs.declared.tree.Expr as e
@@ -161,11 +161,11 @@ module _ (p : core.Program) (locals : List ValueType) where
 
   abbrev pub Compares : Comparison → core.Expr → core.Expr → Type 0
   Compares Equal a b = (t : ValueType) × Is a t × Is b t
-  Compares Unequal a b = (t : ValueType) × Is a t × Is b t
+  Compares NotEqual a b = (t : ValueType) × Is a t × Is b t
   Compares Less a b = Is a Integer × Is b Integer
-  Compares LessEqual a b = Is a Integer × Is b Integer
+  Compares LessOrEqual a b = Is a Integer × Is b Integer
   Compares Greater a b = Is a Integer × Is b Integer
-  Compares GreaterEqual a b = Is a Integer × Is b Integer
+  Compares GreaterOrEqual a b = Is a Integer × Is b Integer
 
   abbrev mutual
     pub Tests : core.Condition → Type 0
@@ -266,11 +266,11 @@ module _ (program : Typed) (locals : List ValueType) where
 
   compare_is : (o : Comparison) (x y : e.Expr) → Compares (core_of program) locals o (core_expr x) (core_expr y) → CanCompare program locals o x y
   compare_is Equal x y h = (h.0, expr_is x h.0 h.1, expr_is y h.0 h.2)
-  compare_is Unequal x y h = (h.0, expr_is x h.0 h.1, expr_is y h.0 h.2)
+  compare_is NotEqual x y h = (h.0, expr_is x h.0 h.1, expr_is y h.0 h.2)
   compare_is Less x y h = (expr_is x Integer h.0, expr_is y Integer h.1)
-  compare_is LessEqual x y h = (expr_is x Integer h.0, expr_is y Integer h.1)
+  compare_is LessOrEqual x y h = (expr_is x Integer h.0, expr_is y Integer h.1)
   compare_is Greater x y h = (expr_is x Integer h.0, expr_is y Integer h.1)
-  compare_is GreaterEqual x y h = (expr_is x Integer h.0, expr_is y Integer h.1)
+  compare_is GreaterOrEqual x y h = (expr_is x Integer h.0, expr_is y Integer h.1)
 
   mutual
     test_is : (x : c.Condition) → Tests (core_of program) locals (core_condition x) → IsTest program locals x

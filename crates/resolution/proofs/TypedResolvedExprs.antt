@@ -11,7 +11,7 @@ use Rattle.core_lang.specs.declared.value.ValueType.{ValueType}
 use Rattle.core_lang.specs.declared.value.ValueType.TheVariants.{Integer, Reference}
 use Rattle.core_lang.specs.declared.tree.Operator.{Operator}
 use Rattle.core_lang.specs.declared.tree.Comparison.{Comparison}
-use Rattle.core_lang.specs.declared.tree.Comparison.TheVariants.{Equal, Unequal, Less, LessEqual, Greater, GreaterEqual}
+use Rattle.core_lang.specs.declared.tree.Comparison.TheVariants.{Equal, NotEqual, Less, LessOrEqual, Greater, GreaterOrEqual}
 use Rattle.core_lang.specs.declared.tree.FieldStep.{FieldStep}
 use Rattle.core_lang.specs.declared.tree.FieldStep.TheVariants as step
 use Rattle.resolution.specs.declared.wanted.Sort.{Sort}
@@ -303,11 +303,11 @@ module _ (sc : Scope) (p : core.Program) (types : List ValueType) (sound : Sound
 
   compare_good : (c : written.Comparison) (o r : Option ResolvedExpr) → Good o → Good r → Good (compared c o r)
   compare_good sign.Equal o r h g = equated_good Equal (λ t a b x y. (t, x, y)) o r h g
-  compare_good sign.NotEqual o r h g = equated_good Unequal (λ t a b x y. (t, x, y)) o r h g
+  compare_good sign.NotEqual o r h g = equated_good NotEqual (λ t a b x y. (t, x, y)) o r h g
   compare_good sign.Less o r h g = ordered_good Less (λ a b x y. (x, y)) (number_resolved o) (number_resolved r) (good_value Integer o h) (good_value Integer r g)
-  compare_good sign.LessOrEqual o r h g = ordered_good LessEqual (λ a b x y. (x, y)) (number_resolved o) (number_resolved r) (good_value Integer o h) (good_value Integer r g)
+  compare_good sign.LessOrEqual o r h g = ordered_good LessOrEqual (λ a b x y. (x, y)) (number_resolved o) (number_resolved r) (good_value Integer o h) (good_value Integer r g)
   compare_good sign.Greater o r h g = ordered_good Greater (λ a b x y. (x, y)) (number_resolved o) (number_resolved r) (good_value Integer o h) (good_value Integer r g)
-  compare_good sign.GreaterOrEqual o r h g = ordered_good GreaterEqual (λ a b x y. (x, y)) (number_resolved o) (number_resolved r) (good_value Integer o h) (good_value Integer r g)
+  compare_good sign.GreaterOrEqual o r h g = ordered_good GreaterOrEqual (λ a b x y. (x, y)) (number_resolved o) (number_resolved r) (good_value Integer o h) (good_value Integer r g)
 
   literal_good : (o : Option ℤ) → Good (literal o)
   literal_good None = tt

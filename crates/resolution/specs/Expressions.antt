@@ -2,8 +2,8 @@
 use Rattle.std.specs.Prelude.{ℕ, ℤ, pos, nat_le, min, Bool, true, false, List, [], ◌∷◌, ◌++◌, ◌==◌, Option, Some, None, if◌then◌else◌}
 use Rattle.source.specs.Texts.{NUMBER_LIMIT}
 use Rattle.source.specs.declared.token.Number.{Number}
-use Rattle.syntax.specs.declared.tree.Op.{Op}
-use Rattle.syntax.specs.declared.tree.Op.TheVariants as op
+use Rattle.syntax.specs.declared.tree.Operator as syntax_operator
+use Rattle.syntax.specs.declared.tree.Operator.TheVariants as op
 use Rattle.syntax.specs.declared.tree.Level.TheVariants.{Term, Sum, Conjunction, Disjunction}
 use Rattle.syntax.specs.declared.tree.Prefix.TheVariants.{Negate, Not}
 use Rattle.syntax.specs.declared.tree.Comparison as written
@@ -12,9 +12,9 @@ use Rattle.syntax.specs.Trees.{Ident, ref_type, Place, lone, element, path, Expr
 use Rattle.core_lang.specs.declared.value.ValueType as core_type
 use Rattle.core_lang.specs.declared.value.ValueType.TheVariants.{Integer, Reference}
 use Rattle.core_lang.specs.declared.tree.Operator.{Operator}
-use Rattle.core_lang.specs.declared.tree.Operator.TheVariants.{Plus, Minus, Times, Divide, Remainder}
+use Rattle.core_lang.specs.declared.tree.Operator.TheVariants.{Add, Sub, Mul, Div, Rem}
 use Rattle.core_lang.specs.declared.tree.Comparison.{Comparison}
-use Rattle.core_lang.specs.declared.tree.Comparison.TheVariants.{Equal, Unequal, Less, LessEqual, Greater, GreaterEqual}
+use Rattle.core_lang.specs.declared.tree.Comparison.TheVariants.{Equal, NotEqual, Less, LessOrEqual, Greater, GreaterOrEqual}
 use Rattle.core_lang.specs.declared.tree.FieldStep.{FieldStep}
 use Rattle.core_lang.specs.declared.tree.FieldStep.TheVariants as step
 use Rattle.resolution.specs.declared.wanted.Sort.{Sort}
@@ -201,12 +201,12 @@ not_so (Some c) = Some (truth (core.negation c))
 not_so None = None
 
 -- the operator between two numbers
-abbrev pub operator_of : Op → Option Operator
-operator_of op.Add = Some Plus
-operator_of op.Sub = Some Minus
-operator_of op.Mul = Some Times
-operator_of op.Div = Some Divide
-operator_of op.Rem = Some Remainder
+abbrev pub operator_of : syntax_operator.Operator → Option Operator
+operator_of op.Add = Some Add
+operator_of op.Sub = Some Sub
+operator_of op.Mul = Some Mul
+operator_of op.Div = Some Div
+operator_of op.Rem = Some Rem
 operator_of op.And = None
 operator_of op.Or = None
 
@@ -265,11 +265,11 @@ test_resolved s = as_truth (fitting Condition s)
 
 abbrev pub compared : written.Comparison → Option ResolvedExpr → Option ResolvedExpr → Option ResolvedExpr
 compared sign.Equal a b = equated Equal a b
-compared sign.NotEqual a b = equated Unequal a b
+compared sign.NotEqual a b = equated NotEqual a b
 compared sign.Less a b = ordered Less (number_resolved a) (number_resolved b)
-compared sign.LessOrEqual a b = ordered LessEqual (number_resolved a) (number_resolved b)
+compared sign.LessOrEqual a b = ordered LessOrEqual (number_resolved a) (number_resolved b)
 compared sign.Greater a b = ordered Greater (number_resolved a) (number_resolved b)
-compared sign.GreaterOrEqual a b = ordered GreaterEqual (number_resolved a) (number_resolved b)
+compared sign.GreaterOrEqual a b = ordered GreaterOrEqual (number_resolved a) (number_resolved b)
 
 -- ---- expressions
 

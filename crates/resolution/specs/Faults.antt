@@ -8,7 +8,7 @@ use Rattle.source.specs.declared.fault.Code.TheVariants.{NumberTooLarge, Declare
 use Rattle.source.specs.declared.fault.Refusal.{Refusal}
 use Rattle.source.specs.declared.fault.Refusal.TheVariants as refusal
 use Rattle.source.specs.declared.token.Number.{Number}
-use Rattle.syntax.specs.declared.tree.Op.{Op}
+use Rattle.syntax.specs.declared.tree.Operator.{Operator}
 use Rattle.syntax.specs.declared.tree.Level.{Level}
 use Rattle.syntax.specs.declared.tree.Level.TheVariants.{Term, Sum}
 use Rattle.syntax.specs.declared.tree.Comparison as written
@@ -258,7 +258,7 @@ pub data IsWrongType (decls : List Decl) : ℕ → Type 0 where
       meaning sc o.local.text ≡ a_local i b → b.value_type ≡ Some t → fits_type f.value_type (sort.Of t) ≡ false →
       IsWrongType decls o.local.span.start
   -- an operator of conditions in a chain of numbers; no tree of tokens has one
-  misplaced_operator : {sc : Scope} {w : Want} {level : Level} {e f : Expr} {links : Links} {o : Op} →
+  misplaced_operator : {sc : Scope} {w : Want} {level : Level} {e f : Expr} {links : Links} {o : Operator} →
       HasExpr decls sc w (chain level e links) → IsOfNumbers level → HasLink links o f → operator_of o ≡ None →
       IsWrongType decls (start_of f)
 

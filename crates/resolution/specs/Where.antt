@@ -2,7 +2,7 @@
 use Rattle.std.specs.Prelude.{◌≡◌, ℕ, List, ◌∷◌, ◌++◌, length, slice_get, Option, Some, None}
 use Rattle.source.specs.declared.span.Span.{Span}
 use Rattle.source.specs.declared.token.Number.{Number}
-use Rattle.syntax.specs.declared.tree.Op.{Op}
+use Rattle.syntax.specs.declared.tree.Operator.{Operator}
 use Rattle.syntax.specs.declared.tree.Level.{Level}
 use Rattle.syntax.specs.declared.tree.Level.TheVariants.{Term, Sum, Conjunction, Disjunction}
 use Rattle.syntax.specs.declared.tree.Prefix.{Prefix}
@@ -50,9 +50,9 @@ side_want sign.Greater = Value Integer
 side_want sign.GreaterOrEqual = Value Integer
 
 -- an operator, with the operand behind it, is one of the chain's
-pub data HasLink : Links → Op → Expr → Type 0 where
-  this_link : {o : Op} {e : Expr} {rest : Links} → HasLink (link o e rest) o e
-  later_link : {o p : Op} {e f : Expr} {rest : Links} → HasLink rest p f → HasLink (link o e rest) p f
+pub data HasLink : Links → Operator → Expr → Type 0 where
+  this_link : {o : Operator} {e : Expr} {rest : Links} → HasLink (link o e rest) o e
+  later_link : {o p : Operator} {e f : Expr} {rest : Links} → HasLink rest p f → HasLink (link o e rest) p f
 
 -- in an expression of which something is wanted, another stands, of which something is wanted
 pub data Within : Want → Expr → Want → Expr → Type 0 where
@@ -62,7 +62,7 @@ pub data Within : Want → Expr → Want → Expr → Type 0 where
       Within (prefix_want o) e v x → Within w (prefix o at e) v x
   in_first : {w v : Want} {level : Level} {e x : Expr} {links : Links} →
       Within (operand_want level) e v x → Within w (chain level e links) v x
-  in_operand : {w v : Want} {level : Level} {e f x : Expr} {links : Links} {o : Op} →
+  in_operand : {w v : Want} {level : Level} {e f x : Expr} {links : Links} {o : Operator} →
       HasLink links o f → Within (operand_want level) f v x → Within w (chain level e links) v x
   in_left : {w v : Want} {a b x : Expr} {c : written.Comparison} →
       Within (side_want c) a v x → Within w (compare a c b) v x

@@ -18,8 +18,8 @@ use Rattle.worlds.specs.Worlds.{locals_at}
 use Rattle.worlds.specs.Working.InOrder.{SectionsStayInOrder}
 use Rattle.runner_machine.specs.Working.Machines.{RunOf}
 use Rattle.runner.specs.Working.Opens.{OpenOf, ReadyOf, IsOpen, Began}
-use Rattle.runner.specs.declared.open.Prepared.{Prepared}
-use Rattle.runner.specs.Working.Ties.{open_as, begun_as, cells_together, its_call, IsPrepared, IsKeptOpen}
+use Rattle.runner.specs.declared.open.Beginning.{Beginning}
+use Rattle.runner.specs.Working.Ties.{open_as, begun_as, cells_together, its_call, IsBeginning, IsKeptOpen}
 
 -- a call that fits has its section
 pub called : (program : Typed) (number : ℕ) (arguments : List Value) → CanCall program number arguments →
@@ -44,13 +44,13 @@ first_locals plan call x can is =
     ∙ sym (ap (λ (s : Option Section). option_map_or (λ (s : Section). (opening s call.arguments []).locals) s []) section.1)
 
 -- the section as it begins
-pub as_begun : (x : Prepared) (ticket : TicketOf) (step : ℕ) → IsPrepared x → ticket.session ≡ fresh ticket.session.begun x.room →
+pub as_begun : (x : Beginning) (ticket : TicketOf) (step : ℕ) → IsBeginning x → ticket.session ≡ fresh ticket.session.begun x.room →
     open_as x.program.now ticket step (its_call x) x.machine.value x.pending.items false
     ≡ begun_as x.program.now ticket.thread step x.room ticket.session.begun (its_call x)
 as_begun x ticket step p is =
     λ i. open_as x.program.now (record { thread = ticket.thread; session = is i }) step (its_call x) (p.run_is i) (p.none_pending i) false
 
-pub kept_at_first : (x : Prepared) (ticket : TicketOf) (step : ℕ) → SectionsStayInOrder → IsPrepared x →
+pub kept_at_first : (x : Beginning) (ticket : TicketOf) (step : ℕ) → SectionsStayInOrder → IsBeginning x →
     ticket.session ≡ fresh ticket.session.begun x.room →
     IsKeptOpen (open_as x.program.now ticket step (its_call x) x.machine.value x.pending.items false) ticket x.machine.value x.held.items
     (vec_capacity x.held) (vec_capacity x.pending)

@@ -7,7 +7,7 @@ use Rattle.core_lang.specs.declared.tree.Section.{Section}
 use Rattle.locks.specs.declared.lock.Lock.{Lock}
 use Rattle.code.specs.declared.instr.Instr.{Instr}
 use Rattle.code.specs.declared.section_code.SectionCode.{SectionCode}
-use Rattle.code.specs.declared.section_code.Code.{Code}
+use Rattle.code.specs.declared.section_code.ProgramCode.{ProgramCode}
 use Rattle.code.specs.Lowering.{section_code}
 use Rattle.code.specs.Machine.{Machine, Effect, Moves, Asks, Finishes, Undefined, act, passed}
 use Rattle.code.specs.Memory.{HeldCells, value_at, load_held, store_held}
@@ -29,12 +29,12 @@ pub record RunsInOrder (o : OpenOf) : Type 0 where
   pub outcome : o.activation.outcome ≡ None
 
 -- the code of its section
-pub record HasCode (o : OpenOf) (code : Code) : Type 0 where
+pub record HasCode (o : OpenOf) (code : ProgramCode) : Type 0 where
   pub made : SectionCode
   pub at : slice_get code.sections.items o.activation.call.section ≡ Some made
   pub is : code_at o.plan o.activation.call.section ≡ made.instructions.items
 
-pub has_code : (o : OpenOf) (code : Code) → IsOpen o → IsCodeOf o.plan.program o.plan.lists code → HasCode o code
+pub has_code : (o : OpenOf) (code : ProgramCode) → IsOpen o → IsCodeOf o.plan.program o.plan.lists code → HasCode o code
 has_code o code is_open of =
     let k = o.activation.call.section in
     let well = is_open.in_order.well in
@@ -64,7 +64,7 @@ next_there o laws r =
     (laws.next o.plan o.activation r.is_open.compiled r.is_open.in_order r.pending r.outcome).defined refl
 
 -- its place in the code's list is one
-pub place_there : (o : OpenOf) (code : Code) (h : HasCode o code) → SectionsStayInOrder → RunsInOrder o →
+pub place_there : (o : OpenOf) (code : ProgramCode) (h : HasCode o code) → SectionsStayInOrder → RunsInOrder o →
     o.activation.machine.place < length h.made.instructions.items
 place_there o code h laws r = omega (arith, next_there o laws r, ap (λ (is : List Instr). length is) h.is)
 
@@ -106,7 +106,7 @@ open_after o e laws r is =
 -- ---- its room
 
 -- where it moves to there is room
-effect_fits : (o : OpenOf) (code : Code) (e : Effect HeldCells) → SectionsStayInOrder → IsCodeOf o.plan.program o.plan.lists code →
+effect_fits : (o : OpenOf) (code : ProgramCode) (e : Effect HeldCells) → SectionsStayInOrder → IsCodeOf o.plan.program o.plan.lists code →
     RunsInOrder o → next_effect o.plan o.activation ≡ e → FitsRoom o.room.operands e
 effect_fits o code (Moves m) laws of r is =
     let o' : OpenOf = further o (record o.activation { machine = m }) in
@@ -119,7 +119,7 @@ effect_fits o code (Asks point) laws of r is = tt
 effect_fits o code (Finishes outcome) laws of r is = tt
 effect_fits o code Undefined laws of r is = tt
 
-pub next_fits : (o : OpenOf) (code : Code) → SectionsStayInOrder → IsCodeOf o.plan.program o.plan.lists code →
+pub next_fits : (o : OpenOf) (code : ProgramCode) → SectionsStayInOrder → IsCodeOf o.plan.program o.plan.lists code →
     RunsInOrder o → FitsRoom o.room.operands (next_effect o.plan o.activation)
 next_fits o code laws of r = effect_fits o code (next_effect o.plan o.activation) laws of r refl
 
@@ -160,7 +160,7 @@ cells_small o is_open cell large =
 -- ---- how the code keeps it
 
 -- the section code that the code reads is its section's
-pub code_read : (o : OpenOf) (code : Code) (h : HasCode o code) (x : SectionCode) →
+pub code_read : (o : OpenOf) (code : ProgramCode) (h : HasCode o code) (x : SectionCode) →
     x ≡ get_or code.sections.items o.activation.call.section x → x ≡ h.made
 code_read o code h x is = is ∙ get_or_from_slice_get code.sections.items o.activation.call.section h.made x h.at
 

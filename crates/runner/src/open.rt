@@ -12,8 +12,8 @@ use crate::spare::Kept;
 use code::instr::Instr;
 use core_lang::value::{Outcome, Value};
 use layout::room::Room;
-use lock_manager::answer::Answer as Request;
 use lock_manager::manager::Manager;
+use lock_manager::response::Response;
 use lock_manager::ticket::Ticket;
 use locks::lock::Lock;
 use lowering::compiled::Program;
@@ -130,14 +130,14 @@ impl<'p> Open<'p> {
         manager.keeps_its_rules();
         let lock = self.pending[0];
         match manager.request(&mut self.ticket, lock) {
-            Request::Granted(grant) => {
+            Response::Granted(grant) => {
                 self.machine.grant(grant);
                 put_last(&mut self.held, lock);
                 take_first(&mut self.pending);
                 self.asked = false;
                 None
             }
-            Request::Held(holder) => {
+            Response::Held(holder) => {
                 self.asked = true;
                 Some(holder)
             }
@@ -219,7 +219,7 @@ pub(crate) fn let_go(mut grants: Vec<Grant>) {
 }
 
 // A section that is about to begin, with all the memory that it can need.
-pub(crate) struct Prepared<'p> {
+pub(crate) struct Beginning<'p> {
     pub(crate) program: &'p Program,
     pub(crate) section: usize,
     pub(crate) arguments: Vec<Value>,
@@ -230,13 +230,13 @@ pub(crate) struct Prepared<'p> {
     pub(crate) memory: Box<Kept>,
 }
 
-impl<'p> Prepared<'p> {
+impl<'p> Beginning<'p> {
     ghost use Rattle.lock_manager.specs.Working.Sessions.{fresh};
-    ghost use Rattle.runner.specs.Working.Ties.{IsPrepared, its_call, begun_as};
+    ghost use Rattle.runner.specs.Working.Ties.{IsBeginning, its_call, begun_as};
 
     // Lets it go: it doesn't begin.
     pub(crate) fn let_go(self) {
-        let Prepared {
+        let Beginning {
             program: _,
             section: _,
             arguments: _,
@@ -251,12 +251,12 @@ impl<'p> Prepared<'p> {
 
     // It begins, as this call of its thread.
     pub(crate) fn open(self, ticket: Ticket, step: usize) -> Open<'p>
-        requires prepared { IsPrepared self }
+        requires prepared { IsBeginning self }
         requires ticket { ticket.session ≡ fresh ticket.session.begun self.room }
         ensures { result ≡ begun_as self.entry.program.now ticket.thread step self.entry.room ticket.session.begun (its_call self.entry) }
     {
         worlds::laws::sections_stay_in_order();
-        let Prepared {
+        let Beginning {
             program,
             section,
             arguments,

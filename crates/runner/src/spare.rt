@@ -2,9 +2,9 @@
 
 ghost use Rattle.std.specs.Prelude.{◌≡◌, ◌≤◌, [], IfOk, vec_capacity};
 ghost use Rattle.core_lang.specs.WellFormed.{CanCall};
-ghost use Rattle.runner.specs.Working.Ties.{IsPrepared, its_call};
+ghost use Rattle.runner.specs.Working.Ties.{IsBeginning, its_call};
 
-use crate::open::{Prepared, let_go};
+use crate::open::{Beginning, let_go};
 use crate::opening::{copied, opening_locals};
 use core_lang::value::{Outcome, Value};
 use history::entry::Entry;
@@ -50,10 +50,10 @@ fn no_entry(alloc: Global) -> Entry {
 }
 
 impl Kept {
-    fn none(alloc: Global) -> Result<Kept, NoMemory> {
+    fn new(alloc: Global) -> Result<Kept, NoMemory> {
         Ok(Kept {
             alloc,
-            operands: Operands::none(0, Vec::new(alloc))?,
+            operands: Operands::new(0, Vec::new(alloc))?,
             locals: Vec::new(alloc),
             entry: no_entry(alloc),
             held: Vec::new(alloc),
@@ -96,15 +96,15 @@ pub(crate) fn prepared_in<'p>(
     program: &'p Program,
     section: usize,
     arguments: &[Value],
-) -> Result<Prepared<'p>, NoMemory>
+) -> Result<Beginning<'p>, NoMemory>
     requires { CanCall program.now.program section arguments.now }
     ensures program { IfOk result (λ p. p.program.now ≡ program.now) }
     ensures call { IfOk result (λ p. its_call p ≡ record { section = section; arguments = arguments.now }) }
-    ensures prepared { IfOk result IsPrepared }
+    ensures prepared { IfOk result IsBeginning }
 {
     let block = match memory {
         Some(block) => block,
-        None => Box::new(alloc, Kept::none(alloc)?)?,
+        None => Box::new(alloc, Kept::new(alloc)?)?,
     };
     Spare::of(alloc, block)?.prepare(alloc, program, section, arguments)
 }
@@ -123,7 +123,7 @@ struct Spare {
 impl Spare {
     // What the block has.
     fn of(alloc: Global, mut block: Box<Kept>) -> Result<Spare, NoMemory> {
-        let none = Kept::none(alloc)?;
+        let none = Kept::new(alloc)?;
         let Kept {
             alloc: _,
             operands,
@@ -173,11 +173,11 @@ impl Spare {
         program: &'p Program,
         section: usize,
         arguments: &[Value],
-    ) -> Result<Prepared<'p>, NoMemory>
+    ) -> Result<Beginning<'p>, NoMemory>
         requires { CanCall program.now.program section arguments.now }
         ensures program { IfOk result (λ p. p.program.now ≡ program.now) }
         ensures call { IfOk result (λ p. its_call p ≡ record { section = section; arguments = arguments.now }) }
-        ensures prepared { IfOk result IsPrepared }
+        ensures prepared { IfOk result IsBeginning }
     {
         let called = &program.typed().sections[section];
         let room = program.room(section);
@@ -195,7 +195,7 @@ impl Spare {
         let locals = opening_locals(called, arguments, locals)?;
         let machine = machine.machine(locals, program.layout(), room)?;
         let boxed = boxed(alloc, machine)?;
-        Ok(Prepared {
+        Ok(Beginning {
             program,
             section,
             arguments: given,

@@ -8,7 +8,7 @@ ghost use Rattle.runner.specs.Working.Opens.{moved, IsOpen};
 ghost use Rattle.runner.specs.Working.Ties.{over_by};
 ghost use Rattle.runner.specs.Working.Answers as answers;
 
-use crate::open::{Open, Prepared};
+use crate::open::{Beginning, Open};
 use crate::spare::{Kept, prepared_in, with_receipt};
 use core_lang::typed::Call;
 use core_lang::value::{Outcome, Value};
@@ -261,7 +261,7 @@ fn without_memory(thread: u32, step: usize) -> Ready
 /// A thread whose next call has all the memory that it can need, but for what the manager keeps.
 pub struct Poised<'p> {
     ready: Ready,
-    prepared: Prepared<'p>,
+    prepared: Beginning<'p>,
 }
 
 impl<'p> Model for Poised<'p> {
@@ -270,7 +270,7 @@ impl<'p> Model for Poised<'p> {
     ghost use Rattle.core_lang.specs.contracts.tree.Condition as condition;
     ghost use Rattle.std.specs.Coded.{codes};
     ghost use Rattle.runner.specs.Working.Opens.{PoisedOf};
-    ghost use Rattle.runner.specs.Working.Ties.{IsPrepared, its_call};
+    ghost use Rattle.runner.specs.Working.Ties.{IsBeginning, its_call};
 
     ghost Value = { PoisedOf };
 
@@ -284,7 +284,7 @@ impl<'p> Model for Poised<'p> {
       call = its_call p.prepared;
     } };
 
-    ghost invariant = { λ p. IsPrepared p.prepared };
+    ghost invariant = { λ p. IsBeginning p.prepared };
 }
 
 impl<'p> Poised<'p> {
@@ -319,7 +319,7 @@ impl<'p> Poised<'p> {
         } = ready;
         let spare = match ticket {
             Some(spare) => spare,
-            None => Spare::none(),
+            None => Spare::new(),
         };
         let room = prepared.room;
         match manager.begin(alloc, thread, room, spare) {

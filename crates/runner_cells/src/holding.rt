@@ -52,7 +52,7 @@ impl<'p> Holding<'p> {
     /// # Errors
     ///
     /// Want of memory.
-    pub fn none(layout: &'p Layout, room: Room, spare: Spare) -> Result<Holding<'p>, NoMemory>
+    pub fn new(layout: &'p Layout, room: Room, spare: Spare) -> Result<Holding<'p>, NoMemory>
         ensures { IfOk result (λ h. h ≡ no_grants layout.now room.locks room.cells) }
     {
         let Spare {

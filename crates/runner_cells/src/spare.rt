@@ -21,7 +21,7 @@ pub struct Spare {
 
 impl Spare {
     /// None yet.
-    pub fn none(alloc: Global) -> Spare {
+    pub fn new(alloc: Global) -> Spare {
         Spare {
             read_marks: Vec::new(alloc),
             write_marks: Vec::new(alloc),

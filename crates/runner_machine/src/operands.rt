@@ -33,7 +33,7 @@ impl Operands {
     /// # Errors
     ///
     /// Want of memory.
-    pub fn none(room: usize, mut values: Vec<Value>) -> Result<Operands, NoMemory>
+    pub fn new(room: usize, mut values: Vec<Value>) -> Result<Operands, NoMemory>
         ensures { IfOk result (λ operands. operands ≡ record { stack = []; room = room }) }
     {
         values.resize(room, Value::Int(0))?;

@@ -32,7 +32,7 @@ impl Prints {
     /// # Errors
     ///
     /// Want of memory.
-    pub fn none(mut numbers: Vec<i64>) -> Result<Prints, NoMemory>
+    pub fn new(mut numbers: Vec<i64>) -> Result<Prints, NoMemory>
         ensures { IfOk result (λ prints. prints ≡ []) }
     {
         numbers.clear();

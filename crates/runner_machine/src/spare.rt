@@ -27,11 +27,11 @@ pub struct Spare {
 
 impl Spare {
     /// None yet.
-    pub fn none(alloc: Global) -> Spare {
+    pub fn new(alloc: Global) -> Spare {
         Spare {
             operands: Vec::new(alloc),
             prints: Vec::new(alloc),
-            held: HeldSpare::none(alloc),
+            held: HeldSpare::new(alloc),
         }
     }
 
@@ -53,9 +53,9 @@ impl Spare {
             prints,
             held,
         } = self;
-        let operands = Operands::none(room.operands, operands)?;
-        let prints = Prints::none(prints)?;
-        let held = Holding::none(layout, room, held)?;
+        let operands = Operands::new(room.operands, operands)?;
+        let prints = Prints::new(prints)?;
+        let held = Holding::new(layout, room, held)?;
         Ok(Machine {
             place: 0,
             operands,

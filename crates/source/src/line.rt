@@ -48,7 +48,7 @@ fn placed(
 
 /// A place in a text.
 #[derive(Drop)]
-pub struct Place<'a> {
+pub struct TextPlace<'a> {
     /// The name of the text's file.
     pub file: &'a str,
     /// The text.
@@ -57,7 +57,7 @@ pub struct Place<'a> {
     pub start: usize,
 }
 
-impl Place<'_> {
+impl TextPlace<'_> {
     /// What stands there, under a name and in words: `FILE:LINE:COL: NAME WORDS`. Lines and columns count from 1, columns
     /// in bytes.
     ///
@@ -80,7 +80,7 @@ impl Place<'_> {
 pub fn fault_line(alloc: Global, file: &str, text: &[u8], fault: &Fault) -> Result<String, NoMemory>
     ensures { IfOk result (λ line. string_bytes line ≡ fault_text file.now text.now fault.now) }
 {
-    let place = Place {
+    let place = TextPlace {
         file,
         text,
         start: fault.start,

@@ -4,7 +4,7 @@ ghost use Rattle.std.specs.Prelude.{◌≡◌, IfOk, string_bytes};
 ghost use Rattle.source_steps.specs.Steps.{steps_fault_text};
 
 use crate::refusal::StepsFault;
-use source::line::Place;
+use source::line::TextPlace;
 use source::memory::NoMemory;
 use std::alloc::Global;
 
@@ -22,7 +22,7 @@ pub fn steps_fault_line(
 ) -> Result<String, NoMemory>
     ensures { IfOk result (λ line. string_bytes line ≡ steps_fault_text file.now text.now fault) }
 {
-    let place = Place {
+    let place = TextPlace {
         file,
         text,
         start: fault.start,

@@ -5,7 +5,7 @@ use Rattle.source.specs.declared.token.Keyword.TheVariants as keyword
 use Rattle.source.specs.declared.token.Sign.TheVariants.{CloseParen, CloseBracket, Dot}
 use Rattle.source.specs.Tokens.{Tok}
 use Rattle.source.specs.Texts.{sign_text}
-use Rattle.syntax.specs.declared.tree.Op.{Op}
+use Rattle.syntax.specs.declared.tree.Operator.{Operator}
 use Rattle.syntax.specs.declared.tree.Level.{Level}
 use Rattle.syntax.specs.declared.tree.Prefix.{Prefix}
 use Rattle.syntax.specs.declared.tree.Prefix.TheVariants.{Negate, Not}
@@ -103,7 +103,7 @@ links_apart no_links tail a = a
 links_apart (link op e more) tail a = refl
 
 -- a chain read again has at least one operator
-chained : {n : ℕ} {k : Level} {ts mid us : List Tok} (first e : Expr) (op : Op) (x : Expr) (more l : Links) → rank k ≤ n → IsExpr (below k) e ts mid → IsLinks k l mid us → bare_expr e ≡ bare_expr first → bare_links l ≡ bare_links (link op x more) → (c : Expr) × IsExpr n c ts us × (bare_expr c ≡ bare_expr (chain k first (link op x more)))
+chained : {n : ℕ} {k : Level} {ts mid us : List Tok} (first e : Expr) (op : Operator) (x : Expr) (more l : Links) → rank k ≤ n → IsExpr (below k) e ts mid → IsLinks k l mid us → bare_expr e ≡ bare_expr first → bare_links l ≡ bare_links (link op x more) → (c : Expr) × IsExpr n c ts us × (bare_expr c ≡ bare_expr (chain k first (link op x more)))
 chained {k = k} first e op x more no_links r f l p q = absurd cc
 chained {k = k} first e op x more (link o y others) r f l p q = (chain k e (link o y others), is_chain r f l, rw (p, q) refl)
 

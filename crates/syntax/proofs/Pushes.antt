@@ -2,7 +2,7 @@
 use Rattle.std.proofs.Common.{◌≡◌, ℕ, ◌<◌, ◌≤◌, ◌-◌, zero, suc, List, [], ◌∷◌, ◌++◌, Vec, Global, length, get_or, take, drop, map, refl, sym, ap, ◌∙◌, append_assoc, arith}
 use Rattle.std.specs.Prelude.{Box, codes}
 use Rattle.std.proofs.lemmas.List.{append-nil, take_all}
-use Rattle.syntax.specs.declared.tree.Op.{Op}
+use Rattle.syntax.specs.declared.tree.Operator.{Operator}
 use Rattle.syntax.specs.declared.tree.Level.{Level}
 use Rattle.syntax.specs.declared.tree.Expr as the_expr
 use Rattle.syntax.specs.declared.tree.Joined as the_joined
@@ -44,7 +44,7 @@ some_listed text view (y ∷ ys) x some is =
 
 -- ---- where a `Vec` stands in a recursive type
 
-pub pair_is : (op : Op) (left right : Expr) → expr_text left ++ (op_text op ++ expr_text right) ≡ expr_text (pair_of op left right)
+pub pair_is : (op : Operator) (left right : Expr) → expr_text left ++ (op_text op ++ expr_text right) ≡ expr_text (pair_of op left right)
 pair_is op left right = ap (λ (s : List ℕ). expr_text left ++ s) (sym (append-nil (op_text op ++ expr_text right)))
 
 pub chain_is : (j : the_joined.Joined) (k : Level) (first : the_expr.Expr) (links : Vec the_link.Link Global) → j ≡ Chain k first links → expr_text (expr_of first) ++ links_text (links_of links.items) ≡ expr_text (joined_of j)

@@ -8,8 +8,8 @@ use Rattle.source.specs.declared.token.Sign.TheVariants as sign
 use Rattle.source.specs.declared.token.Sign.TheVariants.{OpenBrace, CloseBrace, OpenParen, CloseParen, OpenBracket, CloseBracket, Semicolon, Comma, Colon, Dot, Equals, DoubleEquals, NotEquals, LessEquals, GreaterEquals, Plus, Minus, Star, Slash, Percent}
 use Rattle.source.specs.Tokens.{Lexeme, name, word, mark, end, Tok}
 use Rattle.source.specs.Tokens as lexeme
-use Rattle.syntax.specs.declared.tree.Op.{Op}
-use Rattle.syntax.specs.declared.tree.Op.TheVariants.{Add, Sub, Mul, Div, Rem, And, Or}
+use Rattle.syntax.specs.declared.tree.Operator.{Operator}
+use Rattle.syntax.specs.declared.tree.Operator.TheVariants.{Add, Sub, Mul, Div, Rem, And, Or}
 use Rattle.syntax.specs.declared.tree.Level.{Level}
 use Rattle.syntax.specs.declared.tree.Level.TheVariants.{Term, Sum, Conjunction, Disjunction}
 use Rattle.syntax.specs.declared.tree.Prefix.{Prefix}
@@ -68,7 +68,7 @@ pub data IsConst : Const → List Tok → List Tok → Type 0 where
 
 -- ---- expressions
 
-abbrev pub sign_of : Op → Sign
+abbrev pub sign_of : Operator → Sign
 sign_of Add = Plus
 sign_of Sub = Minus
 sign_of Mul = Star
@@ -77,7 +77,7 @@ sign_of Rem = Percent
 sign_of And = sign.And
 sign_of Or = sign.Or
 
-abbrev pub level_of : Op → Level
+abbrev pub level_of : Operator → Level
 level_of Add = Sum
 level_of Sub = Sum
 level_of Mul = Term
@@ -141,7 +141,7 @@ mutual
     is_prefix : {n : ℕ} {op : Prefix} {e : Expr} {at : Span} {ts rest : List Tok}
         → UNARY ≤ n → IsExpr PRIM e ts rest
         → IsExpr n (prefix op at e) (tok (mark (prefix_sign op)) at ∷ ts) rest
-    is_chain : {n : ℕ} {k : Level} {first x : Expr} {op : Op} {more : Links} {ts mid rest : List Tok}
+    is_chain : {n : ℕ} {k : Level} {first x : Expr} {op : Operator} {more : Links} {ts mid rest : List Tok}
         → rank k ≤ n → IsExpr (below k) first ts mid → IsLinks k (link op x more) mid rest
         → IsExpr n (chain k first (link op x more)) ts rest
     is_compare : {n : ℕ} {c : Comparison} {left right : Expr} {at : Span} {ts mid rest : List Tok}
@@ -161,7 +161,7 @@ mutual
   -- operators of a level, each with its operand
   pub data IsLinks : Level → Links → List Tok → List Tok → Type 0 where
     are_no_links : {k : Level} {ts : List Tok} → IsLinks k no_links ts ts
-    is_link : {op : Op} {x : Expr} {more : Links} {at : Span} {ts mid rest : List Tok}
+    is_link : {op : Operator} {x : Expr} {more : Links} {at : Span} {ts mid rest : List Tok}
         → IsExpr (below (level_of op)) x ts mid → IsLinks (level_of op) more mid rest
         → IsLinks (level_of op) (link op x more) (tok (mark (sign_of op)) at ∷ ts) rest
 

@@ -1,7 +1,7 @@
 -- Trees of programs, without where they lie in memory.
 use Rattle.std.specs.Prelude.{ℕ, List, Option}
 use Rattle.source.specs.declared.span.Span.{Span}
-use Rattle.syntax.specs.declared.tree.Op.{Op}
+use Rattle.syntax.specs.declared.tree.Operator.{Operator}
 use Rattle.syntax.specs.declared.tree.Level.{Level}
 use Rattle.syntax.specs.declared.tree.Prefix.{Prefix}
 use Rattle.syntax.specs.declared.tree.Comparison.{Comparison}
@@ -40,7 +40,7 @@ mutual
 
   pub data Links : Type 0 where
     no_links : Links
-    link : Op → Expr → Links → Links
+    link : Operator → Expr → Links → Links
 
 -- a local's statement
 pub record Local : Type 0 where

@@ -13,7 +13,7 @@ use Rattle.syntax.specs.declared.tree.Expr as the_expr
 use Rattle.syntax.specs.declared.tree.Joined as the_joined
 use Rattle.syntax.specs.declared.tree.Element as the_element
 use Rattle.syntax.specs.declared.tree.Joined.{Row_of-Link, end_of-Link, more_of-Link}
-use Rattle.syntax.specs.declared.tree.Op.{Op}
+use Rattle.syntax.specs.declared.tree.Operator.{Operator}
 use Rattle.syntax.specs.declared.tree.Link as the_link
 use Rattle.syntax.specs.declared.tree.Local as the_local
 use Rattle.syntax.specs.declared.tree.Owner as the_owner
@@ -63,7 +63,7 @@ abbrev pub path_of : the_path.Path → Place
 path_of p = path (ident p.first) (map ident p.fields.items)
 
 -- a chain of two operands
-abbrev pub pair_of : Op → Expr → Expr → Expr
+abbrev pub pair_of : Operator → Expr → Expr → Expr
 pair_of op left right = chain (level_of op) left (link op right no_links)
 
 abbrev mutual
@@ -100,7 +100,7 @@ links_of [] = no_links
 links_of (l ∷ ls) = link l.op (expr_of l.operand) (links_of ls)
 
 -- an operator and its operand
-abbrev pub link_of : the_link.Link → Op × Expr
+abbrev pub link_of : the_link.Link → Operator × Expr
 link_of l = (l.op, expr_of l.operand)
 
 abbrev pub local_of : the_local.Local → Local

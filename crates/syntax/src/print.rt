@@ -7,7 +7,7 @@ ghost use Rattle.syntax.specs.Working.Printing.{many_text, index_text, type_text
 
 use crate::printer::Printer;
 use crate::tree::{
-    Comparison, Const, Element, Expr, Joined, Link, Name, Op, Path, Place, Prefix, ValueType,
+    Comparison, Const, Element, Expr, Joined, Link, Name, Operator, Path, Place, Prefix, ValueType,
 };
 use source::token::Number;
 
@@ -62,17 +62,17 @@ fn push_path(out: &mut Printer, path: &Path)
     push_fields(out, &path.fields);
 }
 
-fn op_words(op: Op) -> &'static str
+fn op_words(op: Operator) -> &'static str
     ensures { result.now ≡ op_text op }
 {
     match op {
-        Op::Add => " + ",
-        Op::Sub => " - ",
-        Op::Mul => " * ",
-        Op::Div => " / ",
-        Op::Rem => " % ",
-        Op::And => " && ",
-        Op::Or => " || ",
+        Operator::Add => " + ",
+        Operator::Sub => " - ",
+        Operator::Mul => " * ",
+        Operator::Div => " / ",
+        Operator::Rem => " % ",
+        Operator::And => " && ",
+        Operator::Or => " || ",
     }
 }
 
@@ -163,7 +163,7 @@ fn push_links(out: &mut Printer, links: &[Link])
 
 /// An operator of a chain, and the operand behind it.
 #[cycle(print_expr)]
-fn push_link(out: &mut Printer, op: Op, operand: &Expr)
+fn push_link(out: &mut Printer, op: Operator, operand: &Expr)
     ensures { Adds out.old out.new (op_text op ++ expr_text (expr_of operand.now)) }
 {
     out.push_str(op_words(op));

@@ -42,7 +42,7 @@ pub enum Const {
 
 /// An operator of a chain.
 #[derive(Clone, Copy, PartialEq, Eq)]
-pub enum Op {
+pub enum Operator {
     /// `+`
     Add,
     /// `-`
@@ -72,7 +72,7 @@ pub enum Level {
     Disjunction,
 }
 
-impl Op {
+impl Operator {
     ghost use Rattle.std.specs.Prelude.{◌≡◌};
     ghost use Rattle.syntax.specs.Grammar.{level_of};
 
@@ -81,10 +81,10 @@ impl Op {
         ensures { result ≡ level_of self }
     {
         match self {
-            Op::Mul | Op::Div | Op::Rem => Level::Term,
-            Op::Add | Op::Sub => Level::Sum,
-            Op::And => Level::Conjunction,
-            Op::Or => Level::Disjunction,
+            Operator::Mul | Operator::Div | Operator::Rem => Level::Term,
+            Operator::Add | Operator::Sub => Level::Sum,
+            Operator::And => Level::Conjunction,
+            Operator::Or => Level::Disjunction,
         }
     }
 }
@@ -171,7 +171,7 @@ pub struct Element {
 #[cycle(expr)]
 pub enum Joined {
     /// `a + b`: a chain of two operands. Most chains are, and a list of one would take a block of memory of its own.
-    Pair(Op, Expr, Expr),
+    Pair(Operator, Expr, Expr),
     /// `a + b - c`: an operand, and operators of one level with an operand each.
     Chain(Level, Expr, Vec<Link>),
     /// `a == b`
@@ -182,7 +182,7 @@ pub enum Joined {
 #[derive(Drop)]
 #[cycle(expr)]
 pub struct Link {
-    pub op: Op,
+    pub op: Operator,
     pub operand: Expr,
 }
 

@@ -122,13 +122,21 @@ impl Analysed<'_> {
     }
 
     /// The section's name, and which of its points is followed by which.
-    fn push_pairs(&self, out: &mut Told, section: &Section, points: &Points) {
+    fn push_pairs(
+        &self,
+        alloc: Global,
+        out: &mut Told,
+        section: &Section,
+        points: &Points,
+    ) -> Result<(), NoMemory> {
         out.push_str(section.name.as_str());
         out.push_str(":");
-        for (from, to) in &points.pairs {
+        let pairs = points.pairs(alloc)?;
+        for (from, to) in &pairs {
             let grown = write!(&mut out.text, " {from}-{to}");
             out.note(grown);
         }
+        Ok(())
     }
 
     /// What is said of its points, section after section: which is followed by which, and what lock paths are to each.
@@ -142,7 +150,7 @@ impl Analysed<'_> {
             }
             let section = &self.program.sections[number];
             let points = points(alloc, self.program, number, paths)?;
-            self.push_pairs(&mut out, section, &points);
+            self.push_pairs(alloc, &mut out, section, &points)?;
             if let Some(found) = paths.sections.get(number) {
                 self.push_points(alloc, &mut out, section, found, &points)?;
             }

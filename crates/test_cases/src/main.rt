@@ -53,10 +53,10 @@ mod judging;
 use crate::judging::judge_text;
 use std::process::ExitCode;
 use std::{env, fs};
-use test_files::ending::{Ending, Stop};
+use test_files::ending::{CutShort, Ending};
 
 /// Judges the cases of the file of this name, and prints what came of them.
-fn judge_file(rt: &HostRuntime, name: &str) -> Result<Ending, Stop> {
+fn judge_file(rt: &HostRuntime, name: &str) -> Result<Ending, CutShort> {
     let text = fs::read_to_string(rt, name)?;
     let tally = judge_text(rt.alloc(), name, text.as_str())?;
     print!(rt; "{}", tally.report)?;
@@ -65,7 +65,7 @@ fn judge_file(rt: &HostRuntime, name: &str) -> Result<Ending, Stop> {
 
 /// Judges each file that the process's words name, the first of them being the program's own name. After a file that
 /// could not be judged, none is.
-fn judge_files(rt: &HostRuntime) -> Result<Ending, Stop> {
+fn judge_files(rt: &HostRuntime) -> Result<Ending, CutShort> {
     let mut ending = Ending::AllAsWanted;
     for name in env::args(rt)?.skip(1) {
         match judge_file(rt, name.as_str()) {

@@ -1,8 +1,8 @@
 -- What is told of the cases of a file, and of why a file could not be judged.
 use Rattle.std.specs.Prelude.{◌≡◌, ℕ, List, ◌++◌, codes, string_bytes}
 use Rattle.std.specs.Fmt.{decimal}
-use Rattle.test_files.specs.declared.ending.Stop.{Stop}
-use Rattle.test_files.specs.declared.ending.Stop.TheVariants.{Failed, OutOfMemory}
+use Rattle.test_files.specs.declared.ending.CutShort.{CutShort}
+use Rattle.test_files.specs.declared.ending.CutShort.TheVariants.{Failed, OutOfMemory}
 use Rattle.test_files.specs.declared.tally.Tally.{Tally}
 
 -- Of a case that is not as wanted: its file's name, its text, what is said of it and what is wanted.
@@ -17,6 +17,6 @@ totals_text file cases wrong = file ++ codes ": " ++ decimal cases ++ codes " ca
 abbrev pub IsTold : Tally → Tally → List ℕ → Type 0
 IsTold before after text = string_bytes after.report ≡ string_bytes before.report ++ text
 
-unfoldable pub stop_text : Stop → List ℕ
+unfoldable pub stop_text : CutShort → List ℕ
 stop_text Failed = codes "cannot read it, or write what came of it"
 stop_text OutOfMemory = codes "no memory"

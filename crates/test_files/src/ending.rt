@@ -48,22 +48,22 @@ impl Ending {
 
 /// Why the program stopped before it had judged everything.
 #[derive(Clone, Copy)]
-pub enum Stop {
+pub enum CutShort {
     /// A file could not be read, or the report not be written.
     Failed,
     /// A growth was refused.
     OutOfMemory,
 }
 
-impl Stop {
+impl CutShort {
     /// How the program ends for it.
     pub fn ending(self) -> Ending
-        ensures failed { (result ≡ Ending.Failed) ↔ (self ≡ Stop.Failed) }
-        ensures memory { (result ≡ Ending.OutOfMemory) ↔ (self ≡ Stop.OutOfMemory) }
+        ensures failed { (result ≡ Ending.Failed) ↔ (self ≡ CutShort.Failed) }
+        ensures memory { (result ≡ Ending.OutOfMemory) ↔ (self ≡ CutShort.OutOfMemory) }
     {
         match self {
-            Stop::Failed => Ending::Failed,
-            Stop::OutOfMemory => Ending::OutOfMemory,
+            CutShort::Failed => Ending::Failed,
+            CutShort::OutOfMemory => Ending::OutOfMemory,
         }
     }
 
@@ -73,13 +73,13 @@ impl Stop {
         ensures { result.now ≡ stop_text self }
     {
         match self {
-            Stop::Failed => "cannot read it, or write what came of it",
-            Stop::OutOfMemory => "no memory",
+            CutShort::Failed => "cannot read it, or write what came of it",
+            CutShort::OutOfMemory => "no memory",
         }
     }
 }
 
-impl fmt::Display for Stop {
+impl fmt::Display for CutShort {
     ghost use Rattle.std.specs.Prelude.{Some};
 
     ghost output = { λ stop. Some (stop_text stop) };
@@ -89,21 +89,21 @@ impl fmt::Display for Stop {
     }
 }
 
-impl From<NoMemory> for Stop {
-    ghost use Rattle.test_files.specs.declared.ending.Stop.TheVariants.{OutOfMemory};
+impl From<NoMemory> for CutShort {
+    ghost use Rattle.test_files.specs.declared.ending.CutShort.TheVariants.{OutOfMemory};
 
     ghost from_gives = { λ _ stop. stop ≡ OutOfMemory };
 
-    fn from(_e: NoMemory) -> Stop {
-        Stop::OutOfMemory
+    fn from(_e: NoMemory) -> CutShort {
+        CutShort::OutOfMemory
     }
 }
 
-impl From<io::Error> for Stop {
-    fn from(e: io::Error) -> Stop {
+impl From<io::Error> for CutShort {
+    fn from(e: io::Error) -> CutShort {
         match e.kind() {
-            io::ErrorKind::OutOfMemory => Stop::OutOfMemory,
-            _ => Stop::Failed,
+            io::ErrorKind::OutOfMemory => CutShort::OutOfMemory,
+            _ => CutShort::Failed,
         }
     }
 }

@@ -31,7 +31,7 @@ pub fn helpers(alloc: Global) -> Result<Vec<Section>, Fail> {
 fn add(alloc: Global) -> Result<Section, Fail> {
     let mut body = Vec::new(alloc);
     body.push(stmt(Action::Print(local(alloc, 0))))?;
-    body.push(set_total(joined(alloc, total(), Operator::Plus, local(alloc, 0))?))?;
+    body.push(set_total(joined(alloc, total(), Operator::Add, local(alloc, 0))?))?;
     section(alloc, 1, 1, body, Some(total()))
 }
 
@@ -59,7 +59,7 @@ fn split(alloc: Global) -> Result<Section, Fail> {
     body.push(stmt(Action::Print(Expr::Number(8))))?;
     body.push(bind(
         1,
-        joined(alloc, Expr::Number(6), Operator::Divide, local(alloc, 0))?,
+        joined(alloc, Expr::Number(6), Operator::Div, local(alloc, 0))?,
     ))?;
     body.push(stmt(Action::Print(local(alloc, 1))))?;
     section(alloc, 1, 2, body, None)

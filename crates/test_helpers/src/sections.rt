@@ -73,7 +73,7 @@ fn turn(alloc: Global) -> Result<Vec<Stmt>, Fail> {
 
 // i + 1
 fn one_more(alloc: Global) -> Result<Expr, Fail> {
-    joined(alloc, local(alloc, 0), Operator::Plus, Expr::Number(1))
+    joined(alloc, local(alloc, 0), Operator::Add, Expr::Number(1))
 }
 
 // trying(k) { print 7; call late(k); print k; total = 5; }

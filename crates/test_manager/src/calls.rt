@@ -5,8 +5,8 @@ ghost use Rattle.std.specs.Prelude.{◌<◌, length, IfOk};
 use core_lang::value::{Outcome, Value};
 use history::entry::{CellValue, Entry};
 use layout::room::Room;
-use lock_manager::answer::Answer;
 use lock_manager::manager::Manager;
+use lock_manager::response::Response;
 use lock_manager::ticket::{Spare, Ticket};
 use locks::lock::Lock;
 use moved_cells::grant::Grant;
@@ -100,7 +100,7 @@ impl<'p> Calls<'p> {
         }
         self.sessions.reserve(1)?;
         let grants = Vec::with_capacity(self.alloc, ROOM.locks)?;
-        let spare = Spare::none();
+        let spare = Spare::new();
         match self.manager.begin(self.alloc, thread, ROOM, spare) {
             Ok(ticket) => {
                 self.sessions.push(Session { ticket, grants }).unwrap();
@@ -124,11 +124,11 @@ impl<'p> Calls<'p> {
         }
         session.grants.reserve(1)?;
         match self.manager.request(&mut session.ticket, lock) {
-            Answer::Granted(grant) => {
+            Response::Granted(grant) => {
                 session.grants.push(grant).unwrap();
                 write!(&mut self.said, "{thread} is granted the lock\n")?;
             }
-            Answer::Held(holder) => {
+            Response::Held(holder) => {
                 write!(&mut self.said, "{thread} waits for {holder}\n")?;
             }
         }

@@ -60,7 +60,7 @@ impl<'a> Judge<'a> {
         let members = &table.item().members;
         self.builder.note_members(place, table, members, least)?;
         if grown.is_right {
-            grown.is_right = self.builder.add_struct(place, table, &mut grown.typed)?;
+            grown.is_right = self.builder.add_struct(place, table, &mut grown.program)?;
         }
         Ok(())
     }
@@ -82,7 +82,7 @@ impl<'a> Judge<'a> {
         let wanted = want(type_outside(symbols, &v.value_type));
         note_opening(symbols, wanted, &v.value, least);
         if grown.is_right {
-            grown.is_right = self.builder.add_global(v, &mut grown.typed)?;
+            grown.is_right = self.builder.add_global(v, &mut grown.program)?;
         }
         Ok(())
     }
@@ -102,7 +102,7 @@ impl<'a> Judge<'a> {
         note_type(symbols, &a.value_type, least);
         note_lock(symbols, &a.name, &a.protection, least);
         if grown.is_right {
-            grown.is_right = self.builder.add_array(a, &mut grown.typed)?;
+            grown.is_right = self.builder.add_array(a, &mut grown.program)?;
         }
         Ok(())
     }
@@ -122,7 +122,7 @@ impl<'a> Judge<'a> {
         note_target(self.builder.symbols, &p.target, least);
         note_missing(self.builder.symbols, place, p, least);
         if grown.is_right {
-            grown.is_right = self.builder.add_pool(place, p, &mut grown.typed)?;
+            grown.is_right = self.builder.add_pool(place, p, &mut grown.program)?;
         }
         Ok(())
     }
@@ -139,7 +139,7 @@ impl<'a> Judge<'a> {
     {
         let section = judge_section(self.builder.alloc, self.builder.symbols, s, least)?;
         if grown.is_right {
-            grown.is_right = add_section(section, &mut grown.typed)?;
+            grown.is_right = add_section(section, &mut grown.program)?;
         }
         Ok(())
     }
@@ -156,7 +156,7 @@ impl<'a> Judge<'a> {
     {
         let helper = judge_helper(self.builder.alloc, self.builder.symbols, s, least)?;
         if grown.is_right {
-            grown.is_right = add_helper(helper, &mut grown.typed)?;
+            grown.is_right = add_helper(helper, &mut grown.program)?;
         }
         Ok(())
     }
@@ -174,7 +174,7 @@ impl<'a> Judge<'a> {
         note_items(self.builder.symbols, &t.items, least);
         if grown.is_right {
             let calls = typed_calls(self.builder.alloc, self.builder.symbols, &t.items)?;
-            grown.is_right = self.builder.add_thread(&t.name, calls, &mut grown.typed)?;
+            grown.is_right = self.builder.add_thread(&t.name, calls, &mut grown.program)?;
         }
         Ok(())
     }
@@ -195,7 +195,7 @@ impl<'a> Judge<'a> {
         let symbols = self.builder.symbols;
         match d {
             Decl::Lock(name) => {
-                add_lock(self.builder.alloc, name, &mut grown.typed)?;
+                add_lock(self.builder.alloc, name, &mut grown.program)?;
                 Ok(())
             }
             Decl::Struct(_) => {
@@ -298,7 +298,7 @@ pub fn check(alloc: Global, tree: &Tree) -> Result<Typed, Refusal>
     let symbols = SymbolTable::new(alloc, &tree.decls, &mut least)?;
     // Behind a fault nothing is built.
     let mut grown = Grown {
-        typed: nothing(alloc),
+        program: nothing(alloc),
         is_right: least.is_none(),
     };
     judge_all(alloc, &symbols, &mut grown, &mut least)?;
@@ -310,5 +310,5 @@ pub fn check(alloc: Global, tree: &Tree) -> Result<Typed, Refusal>
     if !grown.is_right {
         unreachable!()
     }
-    Ok(grown.typed)
+    Ok(grown.program)
 }

@@ -35,16 +35,16 @@ pub struct Builder<'a> {
 /// What is built so far, and whether all of it is right: behind what isn't, nothing more is built.
 #[derive(Drop)]
 pub struct Grown {
-    pub typed: Typed,
+    pub program: Typed,
     pub is_right: bool,
 }
 
 /// Adds a global lock.
-pub fn add_lock(alloc: Global, name: &Name, typed: &mut Typed) -> Result<(), AllocError>
-    ensures { OnOk result (core_of typed.new ≡ with_class (core_of typed.old) (global_lock (ident name.now).text)) }
+pub fn add_lock(alloc: Global, name: &Name, program: &mut Typed) -> Result<(), AllocError>
+    ensures { OnOk result (core_of program.new ≡ with_class (core_of program.old) (global_lock (ident name.now).text)) }
 {
     let name = String::from_str(alloc, name.text.as_str())?;
-    typed.classes.push(LockClass::Global(name))?;
+    program.classes.push(LockClass::Global(name))?;
     Ok(())
 }
 
@@ -53,11 +53,11 @@ pub fn add_cell(
     owner: Owner,
     value_type: ValueType,
     opening: Value,
-    typed: &mut Typed,
+    program: &mut Typed,
 ) -> Result<(), AllocError>
-    ensures { OnOk result (core_of typed.new ≡ with_cell (core_of typed.old) owner value_type opening) }
+    ensures { OnOk result (core_of program.new ≡ with_cell (core_of program.old) owner value_type opening) }
 {
-    typed.cells.push(Cell {
+    program.cells.push(Cell {
         owner,
         value_type,
         opening,
@@ -66,38 +66,43 @@ pub fn add_cell(
 }
 
 /// Adds so many elements of an array.
-fn add_elements(array: usize, t: ValueType, count: u32, typed: &mut Typed) -> Result<(), AllocError>
-    ensures { OnOk result (core_of typed.new ≡ with_elements (core_of typed.old) array t count) }
+fn add_elements(
+    array: usize,
+    t: ValueType,
+    count: u32,
+    program: &mut Typed,
+) -> Result<(), AllocError>
+    ensures { OnOk result (core_of program.new ≡ with_elements (core_of program.old) array t count) }
 {
     for index in 0..count {
         let owner = Owner::Element {
             array,
             index: index as usize,
         };
-        add_cell(owner, t, default_of(t), typed)?;
+        add_cell(owner, t, default_of(t), program)?;
     }
     Ok(())
 }
 
 /// Adds a section, if it is right.
-pub fn add_section(section: Option<Section>, typed: &mut Typed) -> Result<bool, AllocError>
-    ensures { IfOk result (λ right. if_right right typed.new ≡ with_section (core_of typed.old) (option_map core_section section)) }
+pub fn add_section(section: Option<Section>, program: &mut Typed) -> Result<bool, AllocError>
+    ensures { IfOk result (λ right. if_right right program.new ≡ with_section (core_of program.old) (option_map core_section section)) }
 {
     let Some(section) = section else {
         return Ok(false);
     };
-    typed.sections.push(section)?;
+    program.sections.push(section)?;
     Ok(true)
 }
 
 /// Adds a helper, if it is right.
-pub fn add_helper(helper: Option<Section>, typed: &mut Typed) -> Result<bool, AllocError>
-    ensures { IfOk result (λ right. if_right right typed.new ≡ with_helper (core_of typed.old) (option_map core_section helper)) }
+pub fn add_helper(helper: Option<Section>, program: &mut Typed) -> Result<bool, AllocError>
+    ensures { IfOk result (λ right. if_right right program.new ≡ with_helper (core_of program.old) (option_map core_section helper)) }
 {
     let Some(helper) = helper else {
         return Ok(false);
     };
-    typed.shape.helpers.push(helper)?;
+    program.shape.helpers.push(helper)?;
     Ok(true)
 }
 
@@ -119,32 +124,32 @@ impl<'a> Builder<'a> {
         &self,
         place: usize,
         table: &'a Structure<'a>,
-        typed: &mut Typed,
+        program: &mut Typed,
     ) -> Result<bool, AllocError>
-        ensures { IfOk result (λ right. if_right right typed.new ≡ extended_of self.now place typed.old (struct (struct_of table.now))) }
+        ensures { IfOk result (λ right. if_right right program.new ≡ extended_of self.now place program.old (struct (struct_of table.now))) }
     {
         let here = StructPlace {
-            number: typed.structs.len(),
+            number: program.structs.len(),
             place,
             table,
         };
         let mut builder = StructBuilder {
             structure: empty_struct(self.alloc, &table.item().name)?,
-            classes: mem::replace(&mut typed.classes, Vec::new(self.alloc)),
+            classes: mem::replace(&mut program.classes, Vec::new(self.alloc)),
         };
         if !self.add_members(&here, &table.item().members, &mut builder)? {
             drop(builder);
             return Ok(false);
         }
         let StructBuilder { structure, classes } = builder;
-        typed.classes = classes;
-        typed.structs.push(structure)?;
+        program.classes = classes;
+        program.structs.push(structure)?;
         Ok(true)
     }
 
     /// Adds a global, if it is right.
-    pub fn add_global(&self, v: &Variable, typed: &mut Typed) -> Result<bool, AllocError>
-        ensures { IfOk result (λ right. if_right right typed.new ≡ global_with (known self.now) (core_of typed.old) (variable_of v.now)) }
+    pub fn add_global(&self, v: &Variable, program: &mut Typed) -> Result<bool, AllocError>
+        ensures { IfOk result (λ right. if_right right program.new ≡ global_with (known self.now) (core_of program.old) (variable_of v.now)) }
     {
         let Some(class) = class_of(self.symbols, &v.protection) else {
             return Ok(false);
@@ -155,22 +160,22 @@ impl<'a> Builder<'a> {
         let Some(value) = opened(self.symbols, t, v.value.as_ref()) else {
             return Ok(false);
         };
-        let Some(cell) = cell_at(typed.cells.len()) else {
+        let Some(cell) = cell_at(program.cells.len()) else {
             return Ok(false);
         };
-        let number = typed.globals.len();
-        typed.globals.push(GlobalVariable {
+        let number = program.globals.len();
+        program.globals.push(GlobalVariable {
             name: String::from_str(self.alloc, v.name.text.as_str())?,
             cell,
             class,
         })?;
-        add_cell(Owner::Global(number), t, value, typed)?;
+        add_cell(Owner::Global(number), t, value, program)?;
         Ok(true)
     }
 
     /// Adds an array, if it is right.
-    pub fn add_array(&self, a: &Array, typed: &mut Typed) -> Result<bool, AllocError>
-        ensures { IfOk result (λ right. if_right right typed.new ≡ array_with (known self.now) (core_of typed.old) (array_of a.now)) }
+    pub fn add_array(&self, a: &Array, program: &mut Typed) -> Result<bool, AllocError>
+        ensures { IfOk result (λ right. if_right right program.new ≡ array_with (known self.now) (core_of program.old) (array_of a.now)) }
     {
         let Some(class) = class_of(self.symbols, &a.protection) else {
             return Ok(false);
@@ -178,21 +183,21 @@ impl<'a> Builder<'a> {
         let Some(element) = type_outside(self.symbols, &a.value_type) else {
             return Ok(false);
         };
-        let Some(first) = cell_at(typed.cells.len()) else {
+        let Some(first) = cell_at(program.cells.len()) else {
             return Ok(false);
         };
         let Some(length) = cell_at(a.length.value as usize) else {
             return Ok(false);
         };
-        let number = typed.shape.arrays.len();
-        typed.shape.arrays.push(shape::Array {
+        let number = program.shape.arrays.len();
+        program.shape.arrays.push(shape::Array {
             name: String::from_str(self.alloc, a.name.text.as_str())?,
             first,
             length,
             element,
             class,
         })?;
-        add_elements(number, element, length, typed)?;
+        add_elements(number, element, length, program)?;
         Ok(true)
     }
 
@@ -201,15 +206,15 @@ impl<'a> Builder<'a> {
         &self,
         name: &Name,
         calls: Option<Vec<Call>>,
-        typed: &mut Typed,
+        program: &mut Typed,
     ) -> Result<bool, AllocError>
-        ensures { IfOk result (λ right. if_right right typed.new ≡ with_thread (core_of typed.old) (ident name.now).text (calls_in calls)) }
+        ensures { IfOk result (λ right. if_right right program.new ≡ with_thread (core_of program.old) (ident name.now).text (calls_in calls)) }
     {
         let Some(calls) = calls else {
             return Ok(false);
         };
         let name = String::from_str(self.alloc, name.text.as_str())?;
-        typed.threads.push(Thread { name, calls })?;
+        program.threads.push(Thread { name, calls })?;
         Ok(true)
     }
 }

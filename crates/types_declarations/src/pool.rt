@@ -116,13 +116,13 @@ fn referred(symbols: &SymbolTable, target: Option<usize>, c: Option<&Const>) -> 
 }
 
 /// Adds a final reference, if it is given an object.
-fn add_final(object: Option<u32>, typed: &mut Typed) -> Result<bool, AllocError>
-    ensures { IfOk result (λ right. if_right right typed.new ≡ final_cell (core_of typed.old) object) }
+fn add_final(object: Option<u32>, program: &mut Typed) -> Result<bool, AllocError>
+    ensures { IfOk result (λ right. if_right right program.new ≡ final_cell (core_of program.old) object) }
 {
     let Some(object) = object else {
         return Ok(false);
     };
-    typed.shape.finals.push(object)?;
+    program.shape.finals.push(object)?;
     Ok(true)
 }
 
@@ -131,14 +131,14 @@ fn add_field(
     owner: Owner,
     t: Option<ValueType>,
     opening: Option<Value>,
-    typed: &mut Typed,
+    program: &mut Typed,
 ) -> Result<bool, AllocError>
-    ensures { IfOk result (λ right. if_right right typed.new ≡ field_cell (core_of typed.old) owner t opening) }
+    ensures { IfOk result (λ right. if_right right program.new ≡ field_cell (core_of program.old) owner t opening) }
 {
     let (Some(t), Some(opening)) = (t, opening) else {
         return Ok(false);
     };
-    add_cell(owner, t, opening, typed)?;
+    add_cell(owner, t, opening, program)?;
     Ok(true)
 }
 
@@ -169,9 +169,9 @@ impl<'a> Builder<'a> {
         slot: Slot,
         at: MemberPlace,
         m: &Member,
-        typed: &mut Typed,
+        program: &mut Typed,
     ) -> Result<bool, AllocError>
-        ensures { IfOk result (λ right. if_right right typed.new ≡ with_member_of self.now slot at typed.old m.now) }
+        ensures { IfOk result (λ right. if_right right program.new ≡ with_member_of self.now slot at program.old m.now) }
     {
         let symbols = self.symbols;
         match m {
@@ -180,7 +180,7 @@ impl<'a> Builder<'a> {
                 let target = struct_named(symbols, &f.target);
                 add_final(
                     referred(symbols, target, slot_given(symbols, slot, at.place)),
-                    typed,
+                    program,
                 )
             }
             Member::Field(f) => {
@@ -190,7 +190,7 @@ impl<'a> Builder<'a> {
                     field: at.fields,
                 };
                 let opening = opening_of(symbols, t, slot_given(symbols, slot, at.place));
-                add_field(owner, t, opening, typed)
+                add_field(owner, t, opening, program)
             }
         }
     }
@@ -200,13 +200,13 @@ impl<'a> Builder<'a> {
         &self,
         slot: Slot,
         members: &[Member],
-        typed: &mut Typed,
+        program: &mut Typed,
     ) -> Result<bool, AllocError>
-        ensures { IfOk result (λ right. if_right right typed.new ≡ with_members_of self.now slot typed.old members.now) }
+        ensures { IfOk result (λ right. if_right right program.new ≡ with_members_of self.now slot program.old members.now) }
     {
         let mut fields = 0;
         for (place, m) in members.iter().enumerate() {
-            if !self.add_part(slot, MemberPlace { place, fields }, m, typed)? {
+            if !self.add_part(slot, MemberPlace { place, fields }, m, program)? {
                 return Ok(false);
             }
             fields = fields + field_count(m);
@@ -219,27 +219,27 @@ impl<'a> Builder<'a> {
         &self,
         pool: &PoolPlace<'a>,
         index: usize,
-        typed: &mut Typed,
+        program: &mut Typed,
     ) -> Result<bool, AllocError>
-        ensures { IfOk result (λ right. if_right right typed.new ≡ with_object_of self.now pool.now typed.old index) }
+        ensures { IfOk result (λ right. if_right right program.new ≡ with_object_of self.now pool.now program.old index) }
     {
-        let Some(cells) = cell_at(typed.cells.len()) else {
+        let Some(cells) = cell_at(program.cells.len()) else {
             return Ok(false);
         };
-        let Some(finals) = final_at(typed.shape.finals.len()) else {
+        let Some(finals) = final_at(program.shape.finals.len()) else {
             return Ok(false);
         };
         let slot = Slot {
             pool: pool.place,
             index,
-            object: typed.shape.objects.len(),
+            object: program.shape.objects.len(),
         };
-        typed.shape.objects.push(Object {
+        program.shape.objects.push(Object {
             pool: pool.number,
             cells,
             finals,
         })?;
-        self.add_parts(slot, pool.members, typed)
+        self.add_parts(slot, pool.members, program)
     }
 
     // Adds so many members of a pool, if they are right.
@@ -247,12 +247,12 @@ impl<'a> Builder<'a> {
         &self,
         pool: &PoolPlace<'a>,
         count: u32,
-        typed: &mut Typed,
+        program: &mut Typed,
     ) -> Result<bool, AllocError>
-        ensures { IfOk result (λ right. if_right right typed.new ≡ with_objects_of self.now pool.now typed.old count) }
+        ensures { IfOk result (λ right. if_right right program.new ≡ with_objects_of self.now pool.now program.old count) }
     {
         for index in 0..count {
-            if !self.add_object(pool, index as usize, typed)? {
+            if !self.add_object(pool, index as usize, program)? {
                 return Ok(false);
             }
         }
@@ -260,8 +260,8 @@ impl<'a> Builder<'a> {
     }
 
     /// Adds a pool, which has this place, if it is right.
-    pub fn add_pool(&self, place: usize, p: &Pool, typed: &mut Typed) -> Result<bool, AllocError>
-        ensures { IfOk result (λ right. if_right right typed.new ≡ extended_of self.now place typed.old (pool (pool_of p.now))) }
+    pub fn add_pool(&self, place: usize, p: &Pool, program: &mut Typed) -> Result<bool, AllocError>
+        ensures { IfOk result (λ right. if_right right program.new ≡ extended_of self.now place program.old (pool (pool_of p.now))) }
     {
         let symbols = self.symbols;
         let Some(structure) = struct_named(symbols, &p.target) else {
@@ -270,7 +270,7 @@ impl<'a> Builder<'a> {
         let Some((_, table)) = symbols.struct_of(&p.target) else {
             return Ok(false);
         };
-        let Some(first) = object_at(typed.shape.objects.len()) else {
+        let Some(first) = object_at(program.shape.objects.len()) else {
             return Ok(false);
         };
         let Some(length) = object_at(p.length.value as usize) else {
@@ -278,16 +278,16 @@ impl<'a> Builder<'a> {
         };
         let pool = PoolPlace {
             place,
-            number: typed.shape.pools.len(),
+            number: program.shape.pools.len(),
             members: &table.item().members,
         };
-        typed.shape.pools.push(shape::Pool {
+        program.shape.pools.push(shape::Pool {
             name: String::from_str(self.alloc, p.name.text.as_str())?,
             first,
             length,
             structure,
         })?;
-        self.add_objects(&pool, length, typed)
+        self.add_objects(&pool, length, program)
     }
 }
 

@@ -1,7 +1,7 @@
 -- Chains and their links, one after another.
 use Rattle.std.proofs.Common.{◌≡◌, ℕ, ◌+◌, ◌<◌, List, [], ◌∷◌, ◌++◌, Option, Some, None, Vec, Global, length, drop, get_or, refl, sym, ap, ◌∙◌, append_assoc, inl, inr}
 use Rattle.std.specs.Prelude.{option_map, ◌⊎◌}
-use Rattle.syntax.specs.declared.tree.Op.{Op}
+use Rattle.syntax.specs.declared.tree.Operator as syntax_operator
 use Rattle.source.specs.declared.mistake.Mistake.{Mistake}
 use Rattle.syntax.specs.declared.tree.Level.{Level}
 use Rattle.syntax.specs.declared.tree.Level.TheVariants.{Term, Sum, Conjunction, Disjunction}
@@ -92,7 +92,7 @@ put_push : (xs : List rc.Condition) (x : rc.Condition) (ts : Option Tests) → p
 put_push xs x None = refl
 put_push xs x (Some ts) = ap (λ (cs : core.Conditions). Some (record { before = cs; last = ts.last })) (before_push xs x ts.before)
 
-pub tests_more : (sc : Scope) (before : Option SoFar) (p : Op) (e : Expr) (x : Option rc.Condition) (rest : Links) → option_map core_condition x ≡ test_resolved (typed sc e) → tests_joined sc (tests_with before x) rest ≡ tests_joined sc before (link p e rest)
+pub tests_more : (sc : Scope) (before : Option SoFar) (p : syntax_operator.Operator) (e : Expr) (x : Option rc.Condition) (rest : Links) → option_map core_condition x ≡ test_resolved (typed sc e) → tests_joined sc (tests_with before x) rest ≡ tests_joined sc before (link p e rest)
 tests_more sc None p e x rest is = refl
 tests_more sc (Some t) p e None rest is =
     sym (ap (λ (c : Option core.Condition). put_before t.before (tested (Some (core_condition t.last)) (typed_tests sc c rest))) (sym is) ∙ ap (λ (ts : Option Tests). put_before t.before (tested (Some (core_condition t.last)) ts)) (tests_none sc rest))
@@ -216,7 +216,7 @@ module _ (sc : Scope) (c : written.Comparison) (b : Expr) where
 
 -- ---- a chain of two operands
 
-pub pair_seen : (e : joined.Joined) (op : Op) (left right : tree.Expr) (k : Level) → e ≡ Pair op left right → k ≡ level_of op
+pub pair_seen : (e : joined.Joined) (op : syntax_operator.Operator) (left right : tree.Expr) (k : Level) → e ≡ Pair op left right → k ≡ level_of op
     → chain k (expr_of left) (link op (expr_of right) no_links) ≡ joined_of e
 pair_seen e op left right k is level = ap (λ x. chain x (expr_of left) (link op (expr_of right) no_links)) level ∙ sym (ap joined_of is)
 
@@ -225,7 +225,7 @@ behind_nothing None = refl
 behind_nothing (Some o) = refl
 
 -- its one operation
-pub one_operation : (sc : Scope) (op : Op) (right : Expr) (none : List o.Operation) (p : Option Operator) (x : Option r.Expr) (made : Option (Vec o.Operation Global))
+pub one_operation : (sc : Scope) (op : syntax_operator.Operator) (right : Expr) (none : List o.Operation) (p : Option Operator) (x : Option r.Expr) (made : Option (Vec o.Operation Global))
     → none ≡ [] → p ≡ operator_of op → option_map core_expr x ≡ number_resolved (typed sc right)
     → option_map (λ os. os.items) made ≡ pushed (Some none) (operation_with p x)
     → option_map (λ os. core_operations os.items) made ≡ typed_links sc (link op right no_links)
@@ -238,7 +238,7 @@ one_operation sc op right none p x made empty hp hx is =
     ∙ ap (λ (q : Option Operator). linked q (number_resolved (typed sc right)) (Some core.no_operations)) hp
 
 -- its two tests
-pub two_tests : (sc : Scope) (op : Op) (right : Expr) (first x : Option rc.Condition) (one made : Option the_tests.Tests)
+pub two_tests : (sc : Scope) (op : syntax_operator.Operator) (right : Expr) (first x : Option rc.Condition) (one made : Option the_tests.Tests)
     → option_map so_far one ≡ first_test first → option_map core_condition x ≡ test_resolved (typed sc right)
     → option_map so_far made ≡ tests_with (option_map so_far one) x
     → option_map tests_of made ≡ typed_tests sc (option_map core_condition first) (link op right no_links)
@@ -248,13 +248,13 @@ two_tests sc op right first x one made alone hx is =
     ∙ tests_more sc (first_test first) op right x no_links hx
     ∙ tests_first sc first (link op right no_links)
 
-pub one_link_faults : (sc : Scope) (op : Op) (e : Expr) (start : ℕ) (f g h : Option Mistake) → start ≡ start_of e → g ≡ least_of f (operator_faults Sum start op)
+pub one_link_faults : (sc : Scope) (op : syntax_operator.Operator) (e : Expr) (start : ℕ) (f g h : Option Mistake) → start ≡ start_of e → g ≡ least_of f (operator_faults Sum start op)
     → h ≡ least_of g (wanted_faults sc (Value Integer) e) → h ≡ least_of f (link_faults sc Sum (link op e no_links))
 one_link_faults sc op e start f g h hstart hg hh =
     noted_three f g (least_of g (expr_faults sc e)) h (operator_faults Sum (start_of e) op) (expr_faults sc e) (misfit (Value Integer) (start_of e) (typed sc e)) []
     (hg ∙ ap (λ (n : ℕ). least_of f (operator_faults Sum n op)) hstart) refl (hh ∙ least_append g (expr_faults sc e) (misfit (Value Integer) (start_of e) (typed sc e)))
 
-pub second_test_faults : (sc : Scope) (op : Op) (e : Expr) (f g : Option Mistake) → g ≡ least_of f (wanted_faults sc Condition e)
+pub second_test_faults : (sc : Scope) (op : syntax_operator.Operator) (e : Expr) (f g : Option Mistake) → g ≡ least_of f (wanted_faults sc Condition e)
     → g ≡ least_of f (link_faults sc Conjunction (link op e no_links))
 second_test_faults sc op e f g hg =
     noted_two f (least_of f (expr_faults sc e)) g (expr_faults sc e) (misfit Condition (start_of e) (typed sc e)) []

@@ -27,7 +27,7 @@ use core_lang::value::ValueType;
 use resolution::wanted::{Sort, Want};
 use std::alloc::AllocError;
 use syntax::tree;
-use syntax::tree::{Element, Joined, Level, Link, Op, Path, Prefix};
+use syntax::tree::{Element, Joined, Level, Link, Operator, Path, Prefix};
 
 /// Where an expression starts.
 fn start_of(e: &tree::Expr) -> usize
@@ -120,7 +120,7 @@ impl<'a> Checker<'a> {
     fn two_numbers(
         &self,
         first: Option<Expr>,
-        op: Op,
+        op: Operator,
         right: &tree::Expr,
         least: &mut Least,
     ) -> Judged<ResolvedExpr>
@@ -139,7 +139,7 @@ impl<'a> Checker<'a> {
     fn two_tests(
         &self,
         first: Option<Condition>,
-        op: Op,
+        op: Operator,
         right: &tree::Expr,
         least: &mut Least,
     ) -> Judged<ResolvedExpr>
@@ -217,7 +217,12 @@ impl<'a> Checker<'a> {
 
     // The further operand of a chain of two numbers.
     #[cycle(exprs)]
-    fn operation(&self, op: Op, operand: &tree::Expr, least: &mut Least) -> Judged<Vec<Operation>>
+    fn operation(
+        &self,
+        op: Operator,
+        operand: &tree::Expr,
+        least: &mut Least,
+    ) -> Judged<Vec<Operation>>
         ensures value { IfOk result (λ r. operations_of r ≡ typed_links (scope self.now) (one_link op (expr_of operand.now))) }
         ensures faults { OnOk result (least.new ≡ least_of least.old (second_faults (scope self.now) Sum op (expr_of operand.now))) }
     {

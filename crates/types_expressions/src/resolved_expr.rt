@@ -20,7 +20,7 @@ use source::mistake::note;
 use source::token::Number;
 use std::alloc::{AllocError, Global};
 use syntax::tree;
-use syntax::tree::{Level, Op};
+use syntax::tree::Level;
 
 /// What an expression is, with its resolved form.
 #[derive(Drop)]
@@ -198,17 +198,17 @@ pub fn not_so(alloc: Global, c: Option<Condition>) -> Judged<ResolvedExpr>
 }
 
 /// The operator between two numbers, the second of which starts there.
-pub fn operator(op: Op, start: usize, least: &mut Least) -> Option<Operator>
+pub fn operator(op: tree::Operator, start: usize, least: &mut Least) -> Option<Operator>
     ensures value { result ≡ operator_of op }
     ensures faults { least.new ≡ least_of least.old (operator_faults Sum start op) }
 {
     match op {
-        Op::Add => Some(Operator::Plus),
-        Op::Sub => Some(Operator::Minus),
-        Op::Mul => Some(Operator::Times),
-        Op::Div => Some(Operator::Divide),
-        Op::Rem => Some(Operator::Remainder),
-        Op::And | Op::Or => faulty(Code::WrongType, start, least),
+        tree::Operator::Add => Some(Operator::Add),
+        tree::Operator::Sub => Some(Operator::Sub),
+        tree::Operator::Mul => Some(Operator::Mul),
+        tree::Operator::Div => Some(Operator::Div),
+        tree::Operator::Rem => Some(Operator::Rem),
+        tree::Operator::And | tree::Operator::Or => faulty(Code::WrongType, start, least),
     }
 }
 
@@ -398,10 +398,10 @@ pub fn compared(
 {
     match c {
         tree::Comparison::Equal => equated(Comparison::Equal, left, right, least),
-        tree::Comparison::NotEqual => equated(Comparison::Unequal, left, right, least),
+        tree::Comparison::NotEqual => equated(Comparison::NotEqual, left, right, least),
         tree::Comparison::Less => ordered(Comparison::Less, left, right),
-        tree::Comparison::LessOrEqual => ordered(Comparison::LessEqual, left, right),
+        tree::Comparison::LessOrEqual => ordered(Comparison::LessOrEqual, left, right),
         tree::Comparison::Greater => ordered(Comparison::Greater, left, right),
-        tree::Comparison::GreaterOrEqual => ordered(Comparison::GreaterEqual, left, right),
+        tree::Comparison::GreaterOrEqual => ordered(Comparison::GreaterOrEqual, left, right),
     }
 }

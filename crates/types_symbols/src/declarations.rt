@@ -107,7 +107,7 @@ fn count_one(counter: &mut usize)
 
 impl Counts {
     /// None of any kind.
-    fn none() -> Counts
+    fn new() -> Counts
         ensures { result ≡ no_counts }
     {
         Counts {
@@ -216,7 +216,7 @@ fn judge_names(
 {
     let mut names = Names::new(alloc);
     let mut ahead = Vec::new(alloc);
-    let mut counts = Counts::none();
+    let mut counts = Counts::new();
     for (place, d) in decls.iter().enumerate() {
         let name = name_in(d);
         note_twice(&names, name, least);

@@ -81,7 +81,7 @@ pub(crate) fn name_of(m: &Member) -> &Name
 
 impl MemberCounts {
     /// None of any kind.
-    fn none() -> MemberCounts
+    fn new() -> MemberCounts
         ensures { result ≡ no_members }
     {
         MemberCounts {
@@ -148,7 +148,7 @@ fn judge_members(
 {
     let mut names = Names::new(alloc);
     let mut ahead = Vec::new(alloc);
-    let mut counts = MemberCounts::none();
+    let mut counts = MemberCounts::new();
     let mut width = 0;
     for (place, m) in members.iter().enumerate() {
         let name = name_of(m);

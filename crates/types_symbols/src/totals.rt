@@ -134,7 +134,7 @@ fn cells_of_pool(decls: &Declarations, p: &Pool) -> usize
 
 impl Totals {
     /// Nothing.
-    fn none() -> Totals
+    fn new() -> Totals
         ensures { result ≡ no_totals }
     {
         Totals {
@@ -149,7 +149,7 @@ impl Totals {
     fn of(decls: &Declarations, d: &Decl) -> Totals
         ensures { result ≡ added_by (decls_of decls.now) (decl_of d.now) }
     {
-        let mut totals = Totals::none();
+        let mut totals = Totals::new();
         match d {
             Decl::Lock(_) => totals.classes = 1,
             Decl::Struct(structure) => totals.classes = locks_in(structure),
@@ -276,7 +276,7 @@ pub(crate) fn judge_totals(
     ensures faults { OnOk result (least.new ≡ least_of least.old (total_faults (decls_of decls.now) [] (decls_of decls.now))) }
 {
     let mut ahead = Vec::new(alloc);
-    let mut totals = Totals::none();
+    let mut totals = Totals::new();
     let items = decls.items();
     for (place, d) in items.iter().enumerate() {
         let own = Totals::of(decls, d);

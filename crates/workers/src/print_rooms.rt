@@ -1,7 +1,7 @@
 //! For how many prints calls make room.
 
 use code::instr::Instr;
-use code::section_code::Code;
+use code::section_code::ProgramCode;
 use source::memory::NoMemory;
 use std::alloc::Global;
 
@@ -21,7 +21,7 @@ impl PrintRooms {
     /// # Errors
     ///
     /// Want of memory.
-    pub fn of(alloc: Global, code: &Code) -> Result<PrintRooms, NoMemory> {
+    pub fn of(alloc: Global, code: &ProgramCode) -> Result<PrintRooms, NoMemory> {
         let mut rooms = Vec::with_capacity(alloc, code.sections.len())?;
         for section in &code.sections {
             rooms.push(most_prints(&section.instructions))?;

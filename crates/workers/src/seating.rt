@@ -66,7 +66,7 @@ impl<'r, 'p, J: Naming> Seating<'r, 'p, J> {
         requires { thread < 64 }
         ensures { IfOk result (λ s. s ≡ new_seat self.now.row.now thread) }
     {
-        let seen = Seen::none(self.alloc, self.row, self.program)?;
+        let seen = Seen::new(self.alloc, self.row, self.program)?;
         Ok(Seat::new(thread, parking, seen))
     }
 }

@@ -80,22 +80,22 @@ fn run_named<'p, J: Naming + Send + Sync, R: Threads + Wait + Sync, G: Gate>(
 
 /// A seat, and whether its thread's script has run: its answers are to just the calls of that, in order.
 #[derive(Drop)]
-pub(crate) struct Place<'r, J: Naming> {
+pub(crate) struct ScriptSeat<'r, J: Naming> {
     seat: Seat<'r, J>,
     ran: bool,
     ghost calls: { ran ≡ true → Some (map call_in seat.answers) ≡ script_at J.plan seat.thread },
 }
 
 // A seat before its thread's script has run.
-fn place_of<'r, J: Naming>(seat: Seat<'r, J>) -> Place<'r, J> {
-    Place { seat, ran: false }
+fn place_of<'r, J: Naming>(seat: Seat<'r, J>) -> ScriptSeat<'r, J> {
+    ScriptSeat { seat, ran: false }
 }
 
 // The seats before any script has run.
 fn places_of<'r, J: Naming>(
     alloc: Global,
     seats: Vec<Seat<'r, J>>,
-) -> Result<Vec<Place<'r, J>>, NoMemory> {
+) -> Result<Vec<ScriptSeat<'r, J>>, NoMemory> {
     let mut places = Vec::with_capacity(alloc, seats.len())?;
     for seat in seats {
         places.push(place_of(seat))?;
@@ -108,9 +108,9 @@ fn run_all<'r, J: Naming + Send + Sync, R: Threads + Wait + Sync, G: Gate>(
     rt: &R,
     alloc: Global,
     shared: &Shared<'_, J>,
-    places: Vec<Place<'r, J>>,
+    places: Vec<ScriptSeat<'r, J>>,
     gate: &G,
-) -> Result<Vec<Place<'r, J>>, CallRefusal> {
+) -> Result<Vec<ScriptSeat<'r, J>>, CallRefusal> {
     lowering::laws::programs_are_shared();
     let mut places = places;
     let lent = &mut places;
@@ -192,7 +192,7 @@ fn calls_of(program: &Program, thread: u32) -> Option<usize>
 fn run_place<J: Naming, R: Wait, G: Gate>(
     rt: &R,
     shared: &Shared<'_, J>,
-    place: &mut Place<'_, J>,
+    place: &mut ScriptSeat<'_, J>,
     gate: &G,
 ) -> Result<(), CallRefusal> {
     place.ran = false;
@@ -230,14 +230,14 @@ fn run_script<J: Naming, R: Wait, G: Gate>(
 // The seats, where all scripts have run and they are those of all threads, in order.
 fn in_order<'r, J: Naming>(
     alloc: Global,
-    places: Vec<Place<'r, J>>,
+    places: Vec<ScriptSeat<'r, J>>,
     count: u32,
 ) -> Result<Option<Vec<Seat<'r, J>>>, NoMemory>
     ensures { IfOk result (λ r. IfSome r (λ seats. AreInOrder J.plan count seats.items)) }
 {
     let mut seats = Vec::new(alloc);
     for place in places {
-        let Place { seat, ran } = place;
+        let ScriptSeat { seat, ran } = place;
         if !ran {
             return Ok(None);
         }

@@ -42,7 +42,7 @@ impl<'r, J: Naming> Known<'r, J> {
     /// # Errors
     ///
     /// Want of memory.
-    pub fn none(alloc: Global, row: &'r Row<J>) -> Result<Known<'r, J>, NoMemory>
+    pub fn new(alloc: Global, row: &'r Row<J>) -> Result<Known<'r, J>, NoMemory>
         ensures { IfOk result (λ known. known ≡ record { row = row.entry.now; chunks = [] }) }
     {
         let tokens = Vec::with_capacity(alloc, CHUNKS)?;

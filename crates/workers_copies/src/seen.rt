@@ -49,11 +49,11 @@ impl<'r, J: Naming> Seen<'r, J> {
     /// # Errors
     ///
     /// Want of memory.
-    pub fn none(alloc: Global, row: &'r Row<J>, program: &Program) -> Result<Seen<'r, J>, NoMemory>
+    pub fn new(alloc: Global, row: &'r Row<J>, program: &Program) -> Result<Seen<'r, J>, NoMemory>
         requires { program.now ≡ J.plan }
         ensures { IfOk result (λ s. s ≡ record { known = record { row = row.entry.now; chunks = [] }; log = [] }) }
     {
-        let known = Known::none(alloc, row)?;
+        let known = Known::new(alloc, row)?;
         let tokens = Vec::with_capacity(alloc, MANY)?;
         let values = opening_values(alloc, program)?;
         Ok(Seen {

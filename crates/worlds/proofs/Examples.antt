@@ -10,7 +10,7 @@ use Rattle.core_lang.specs.declared.value.ValueType.TheVariants.{Integer, Refere
 use Rattle.core_lang.specs.declared.value.Outcome.TheVariants as outcome
 use Rattle.core_lang.specs.declared.tree.Comparison.TheVariants.{Equal}
 use Rattle.core_lang.specs.declared.tree.Operator.{Operator}
-use Rattle.core_lang.specs.declared.tree.Operator.TheVariants.{Plus, Minus}
+use Rattle.core_lang.specs.declared.tree.Operator.TheVariants.{Add, Sub}
 use Rattle.core_lang.specs.declared.tree.LocalKind.TheVariants.{Parameter}
 use Rattle.core_lang.specs.declared.tree.Path.{Path}
 use Rattle.core_lang.specs.declared.tree.FieldStep.{FieldStep}
@@ -98,7 +98,7 @@ module _ (alloc : Global) (name : String Global) where
     locals = none;
     result_type = None;
     result = None;
-    body = vec (record { start = 0; action = SetGlobal 0 (joined Plus (GlobalExpr 0 0) (Number (pos 1))) } ∷ []) (omega arith);
+    body = vec (record { start = 0; action = SetGlobal 0 (joined Add (GlobalExpr 0 0) (Number (pos 1))) } ∷ []) (omega arith);
   }
 
   abbrev pub inc_program : Typed
@@ -247,8 +247,8 @@ module _ (alloc : Global) (name : String Global) where
     locals = vec (parameter (Reference 0) ∷ parameter (Reference 0) ∷ parameter Integer ∷ []) (omega arith);
     result_type = Some Integer;
     result = Some (record { start = 0; value = balance 1 });
-    body = vec (record { start = 0; action = SetField (a_path 0 [] (omega arith)) 0 0 (joined Minus (balance 0) (at_local 2)) }
-        ∷ record { start = 0; action = SetField (a_path 1 [] (omega arith)) 0 0 (joined Plus (balance 1) (at_local 2)) } ∷ []) (omega arith);
+    body = vec (record { start = 0; action = SetField (a_path 0 [] (omega arith)) 0 0 (joined Sub (balance 0) (at_local 2)) }
+        ∷ record { start = 0; action = SetField (a_path 1 [] (omega arith)) 0 0 (joined Add (balance 1) (at_local 2)) } ∷ []) (omega arith);
   }
 
   abbrev transfers_program : (threads : List Thread) → length threads < 2 ^ 63 → Typed

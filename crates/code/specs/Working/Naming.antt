@@ -8,7 +8,7 @@ use Rattle.indexmap.specs.IndexMap.{IndexMap, get}
 use Rattle.code.specs.declared.instr.Instr.{Instr}
 use Rattle.code.specs.declared.instr.Instr.TheVariants.{PushNumber, GetLocal, PutLocal, LoadGlobal, PutGlobal, LoadElement, Bound, PutElement, GetMember, LoadFinal, LoadField, PutField, Where, Jump, JumpBack, JumpIfFalse, JumpIfTrue, Acquire}
 use Rattle.code.specs.declared.names.GlobalName.{GlobalName}
-use Rattle.code.specs.declared.names.Names.{Names}
+use Rattle.code.specs.declared.names.ListingNames.{ListingNames}
 use Rattle.code.specs.declared.section_code.SectionCode.{SectionCode}
 use Rattle.code.specs.Listing.{named, global_text, final_text, where_text, field_text, acquired_text, instr_text}
 
@@ -18,7 +18,7 @@ IsIndexOf globals index =
     (cell : ℕ) → option_copied (get nat_eq index cell) ≡ find (λ (g : GlobalName). g.cell == cell) globals
 
 -- an instruction's operand, as it is written behind the word
-abbrev pub operand_text : Names → SectionCode → ℕ → Instr → List ℕ
+abbrev pub operand_text : ListingNames → SectionCode → ℕ → Instr → List ℕ
 operand_text names section place (PushNumber n) = signed_decimal n
 operand_text names section place (GetLocal k) = decimal k
 operand_text names section place (PutLocal k) = decimal k
@@ -42,5 +42,5 @@ operand_text names section place _ = []
 -- the word of an instruction: all that is written of it ahead of its operand
 abbrev pub IsMnemonic : Instr → List ℕ → Type 0
 IsMnemonic instr word =
-    (names : Names) (section : SectionCode) (place : ℕ)
+    (names : ListingNames) (section : SectionCode) (place : ℕ)
     → instr_text names section place instr ≡ word ++ operand_text names section place instr

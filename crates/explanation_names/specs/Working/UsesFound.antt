@@ -4,10 +4,10 @@ use Rattle.std.specs.Prelude.{List, [], ◌∷◌, ◌++◌, map, Option, Some, 
 use Rattle.syntax.specs.Trees.{Ident, ValueType, int_type, ref_type, Const, int_const, negative, null_const, member_const, Expr, int, null, place, paren, prefix, chain, compare, Place, lone, element, path, Links, no_links, link, HelperCall, Local, Stmt, let_local, let_owned, let_call, var_local, assign, if_then, while, print, return_value, Stmts, no_stmts, stmt, Otherwise, no_else, else_do, Protection, Member, lock_member, final_member, field_member, Param, Section, Call, Item, call, repeat, Items, no_items, item, Decl, lock, struct, global, array, pool, init, atomic, helper, thread}
 use Rattle.syntax.specs.Trees as tree
 use Rattle.explanation_names.specs.declared.sought.Sought.TheVariants as kind
-use Rattle.explanation_names.specs.Locals.{Typed, declared_by, typed_param}
+use Rattle.explanation_names.specs.Locals.{LocalInScope, declared_by, param_in_scope}
 use Rattle.explanation_names.specs.Sought.{Use, of_kind, by_dots, by_init, by_annotation, by_owner}
 
-module _ (xs : List Typed) where
+module _ (xs : List LocalInScope) where
   abbrev mutual
     pub uses_in : Expr → List Use
     uses_in (int n) = []
@@ -51,7 +51,7 @@ module _ (xs : List Typed) where
   uses_by (tree.call start c) = uses_of_call c
 
 abbrev mutual
-  pub uses_in_blocks : List Typed → Stmt → List Use
+  pub uses_in_blocks : List LocalInScope → Stmt → List Use
   uses_in_blocks xs (let_local l) = []
   uses_in_blocks xs (let_owned l o) = []
   uses_in_blocks xs (let_call l) = []
@@ -63,25 +63,25 @@ abbrev mutual
   uses_in_blocks xs (return_value start e) = []
   uses_in_blocks xs (tree.call start c) = []
 
-  pub uses_in_else : List Typed → Otherwise → List Use
+  pub uses_in_else : List LocalInScope → Otherwise → List Use
   uses_in_else xs no_else = []
   uses_in_else xs (else_do body close) = uses_in_stmts xs body
 
   -- in statements ahead of which these locals are in scope
-  pub uses_in_stmts : List Typed → Stmts → List Use
+  pub uses_in_stmts : List LocalInScope → Stmts → List Use
   uses_in_stmts xs no_stmts = []
   uses_in_stmts xs (stmt s rest) = (uses_by xs s ++ uses_in_blocks xs s) ++ uses_in_stmts (xs ++ declared_by s) rest
 
 -- behind statements
-abbrev pub all_declared : Stmts → List Typed
+abbrev pub all_declared : Stmts → List LocalInScope
 all_declared no_stmts = []
 all_declared (stmt s rest) = declared_by s ++ all_declared rest
 
 -- the uses in the body of a section
 abbrev pub uses_of_body : Section → List Use
-uses_of_body s = uses_in_stmts (map typed_param s.params) s.body.stmts
+uses_of_body s = uses_in_stmts (map param_in_scope s.params) s.body.stmts
 
-module _ (xs : List Typed) where
+module _ (xs : List LocalInScope) where
   abbrev pub uses_of_const : Const → List Use
   uses_of_const (int_const n) = []
   uses_of_const (negative sign n) = []

@@ -19,10 +19,10 @@ use Rattle.syntax.specs.declared.tree.Path as written_path
 use Rattle.explanation_names.specs.declared.found.Found.{Found}
 use Rattle.explanation_names.specs.declared.nearest.Near.{Near}
 use Rattle.explanation_names.specs.declared.search.Search.{Search}
-use Rattle.explanation_names.specs.declared.search.Typed as written_typed
+use Rattle.explanation_names.specs.declared.search.LocalInScope as written_local
 use Rattle.explanation_names.specs.declared.members.Role.{Role}
 use Rattle.explanation_names.specs.Working.Found.{Candidate, along, along_one, meant_by, next}
-use Rattle.explanation_names.specs.Locals.{Typed}
+use Rattle.explanation_names.specs.Locals.{LocalInScope}
 use Rattle.explanation_names.specs.NearNames.{AreFew, IsNear, GoesFirst, IsNearestOf}
 use Rattle.explanation_names.specs.Sought.{Use, by_dots}
 use Rattle.explanation_names.specs.Working.UsesFound.{uses_of_member}
@@ -44,21 +44,21 @@ pub record Adds (before after : Found) (more : List Ident) : Type 0 where
 
 -- ---- locals and members
 
-abbrev pub typed_of : written_typed.Typed → Typed
+abbrev pub typed_of : written_local.LocalInScope → LocalInScope
 typed_of x = record { name = ident x.name.now; value_type = type_of x.value_type.now }
 
-abbrev pub typed_seen : List written_typed.Typed → List Typed
+abbrev pub typed_seen : List written_local.LocalInScope → List LocalInScope
 typed_seen xs = map typed_of xs
 
 -- where no growth was refused up to the end, the locals are those that there were, and these
-abbrev pub Grows : Found → Vec written_typed.Typed Global → Vec written_typed.Typed Global → List Typed → Type 0
+abbrev pub Grows : Found → Vec written_local.LocalInScope Global → Vec written_local.LocalInScope Global → List LocalInScope → Type 0
 Grows end before after more = end.is_refused ≡ false → typed_seen after.items ≡ typed_seen before.items ++ more
 
-abbrev pub Keeps : Found → Vec written_typed.Typed Global → Vec written_typed.Typed Global → Type 0
+abbrev pub Keeps : Found → Vec written_local.LocalInScope Global → Vec written_local.LocalInScope Global → Type 0
 Keeps end before after = end.is_refused ≡ false → typed_seen after.items ≡ typed_seen before.items
 
 -- these locals are in scope besides, and no name is found
-pub record Binds (before after : Vec written_typed.Typed Global) (start end : Found) (more : List Typed) : Type 0 where
+pub record Binds (before after : Vec written_local.LocalInScope Global) (start end : Found) (more : List LocalInScope) : Type 0 where
   pub adds : Adds start end []
   pub scope : Grows end before after more
 
@@ -73,7 +73,7 @@ members_in_pool symbols x = pool_members (decls_in symbols) (the_decl (decls_in 
 abbrev pub decls_at : Search → List Decl
 decls_at s = decls_in s.symbols.now
 
-abbrev pub locals_at : Search → List Typed
+abbrev pub locals_at : Search → List LocalInScope
 locals_at s = typed_seen s.locals.now
 
 abbrev pub meant_for : Search → List Use → List Ident
@@ -96,7 +96,7 @@ along_from s r o names = along r (decls_at s) s.at (option_map members_at o) (ma
 abbrev pub next_from : SymbolTable → Option (Bor Structure) → Name → Option (List Member)
 next_from symbols o name = next (decls_in symbols) (option_map members_at o) (ident name)
 
-abbrev pub behind_one : Search → written_path.Path → written_typed.Typed → List Ident
+abbrev pub behind_one : Search → written_path.Path → written_local.LocalInScope → List Ident
 behind_one s p l = along_one (decls_at s) s.at (ident p.first) (map ident p.fields.items) (typed_of l)
 
 -- ---- the choice

@@ -14,8 +14,8 @@ use Rattle.source.specs.Texts.{is_letter, is_digit, is_name_byte, is_white, keyw
 use Rattle.std.specs.Rc.{rc_str_bytes}
 use Rattle.lexer.specs.declared.unit.Kind.{Kind}
 use Rattle.lexer.specs.declared.unit.Kind.TheVariants as kind
-use Rattle.lexer.specs.declared.stop.Stop.{Stop}
-use Rattle.lexer.specs.declared.stop.Stop.TheVariants.{Bad, NoMemory}
+use Rattle.lexer.specs.declared.token_error.TokenError.{TokenError}
+use Rattle.lexer.specs.declared.token_error.TokenError.TheVariants.{Bad, NoMemory}
 
 -- ---- stretches
 
@@ -147,16 +147,16 @@ unit_at [] = Err BadCharacter
 unit_at (b ∷ bs) = if is_letter b then word_at (b ∷ bs) else if is_digit b then number_at (b ∷ bs) else sign_at b bs
 
 -- what a function returned, seen by view, is what reading gives, unless memory ran out
-abbrev pub Fails : {Y : Type 0} → Stop → Result Y Code → Type 0
+abbrev pub Fails : {Y : Type 0} → TokenError → Result Y Code → Type 0
 Fails NoMemory read = Unit {0}
 Fails (Bad c) read = read ≡ Err c
 
-abbrev pub Gives : {X Y : Type 0} → (X → Y) → Result X Stop → Result Y Code → Type 0
+abbrev pub Gives : {X Y : Type 0} → (X → Y) → Result X TokenError → Result Y Code → Type 0
 Gives view (Ok x) read = read ≡ Ok (view x)
 Gives view (Err e) read = Fails e read
 
 -- the refusal for a token that begins here
-abbrev pub Refuses : Stop → ℕ → Refusal → Type 0
+abbrev pub Refuses : TokenError → ℕ → Refusal → Type 0
 Refuses (Bad c) start (refusal.Fault f) = IsBare c start f
 Refuses (Bad c) start refusal.NoMemory = ⊥
 Refuses NoMemory start e = e ≡ refusal.NoMemory

@@ -1,7 +1,9 @@
 -- Edges of one section by the sets of paths at its points. Nobody has to believe these: what makes an edge, says `Edges`.
 use Rattle.std.specs.Prelude.{◌≡◌, ◌⊎◌, ◌||◌, ◌<◌, ◌≤◌, ◌+◌, ℕ, Bool, true, false, List, [], ◌∷◌, slice_get, slice_index_or, Some, None, Option, MatchOption}
 use Rattle.std.specs.List.{All, Contains}
-use Rattle.flow.specs.Flow.{Plus}
+use Rattle.flow.specs.Flow.{Plus, Before}
+use Rattle.flow.specs.Flow as control
+use Rattle.flow.specs.Working.Parts.{skeleton_of}
 use Rattle.locks.specs.declared.path_set.PathSet.{PathSet}
 use Rattle.locks.specs.Sets.{has}
 use Rattle.points.specs.declared.table.Points.{Points}
@@ -47,13 +49,9 @@ UsesAt x p c = HasClass x (set_at x.used.items p) c
 abbrev pub MakesSomewhere : Points → ℕ → ℕ → Type 0
 MakesSomewhere x c d = (p : ℕ) × UsesSoFar x p c × BindsAt x p d
 
--- control goes from one point to the other, over one or more pairs
-abbrev pub ComesBefore : List (ℕ × ℕ) → ℕ → ℕ → Type 0
-ComesBefore pairs p q = Plus (λ a b. Contains pairs (a, b)) p q
-
 -- the class is used at the point, which is the binding one or comes before it
 abbrev pub UsesFor : Points → ℕ → ℕ → ℕ → Type 0
-UsesFor x c bound used = UsesAt x used c × ((used ≡ bound) ⊎ ComesBefore x.pairs.items used bound)
+UsesFor x c bound used = UsesAt x used c × ((used ≡ bound) ⊎ Before (skeleton_of x.parts.items) used bound)
 
 -- the same of two points
 abbrev pub MakesAt : Points → ℕ → ℕ → ℕ → ℕ → Type 0
@@ -72,6 +70,14 @@ KeepsLower (Some kept) new made =
     ((made.used < kept.used) × (new ≡ Some made)) ⊎ ((kept.used ≤ made.used) × (new ≡ Some kept))
 
 -- ---- points that come before a target
+
+-- the pairs are those of the section
+abbrev pub AreFlowPairs : Points → List (ℕ × ℕ) → Type 0
+AreFlowPairs x pairs = pairs ≡ control.pairs (skeleton_of x.parts.items)
+
+-- control goes from one point to the other, over one or more pairs
+abbrev pub ComesBefore : List (ℕ × ℕ) → ℕ → ℕ → Type 0
+ComesBefore pairs p q = Plus (λ a b. Contains pairs (a, b)) p q
 
 abbrev pub is_found : List Bool → ℕ → Bool
 is_found found p = slice_index_or found p false
@@ -99,7 +105,7 @@ LeadBetween points pairs = All (λ pair. (pair.0 < points) × (pair.1 < points))
 
 -- the point uses one of the paths, and is the binding one or comes before it
 abbrev pub IsUseFor : Points → PathSet → ℕ → ℕ → Type 0
-IsUseFor x users bound u = Share (set_at x.used.items u) users × ((u ≡ bound) ⊎ ComesBefore x.pairs.items u bound)
+IsUseFor x users bound u = Share (set_at x.used.items u) users × ((u ≡ bound) ⊎ Before (skeleton_of x.parts.items) u bound)
 
 -- the lowest such point
 abbrev pub IsFirstUseFor : Points → PathSet → ℕ → ℕ → Type 0

@@ -10,7 +10,7 @@ use Rattle.locks.specs.Theory.Lists.{in_operand}
 use Rattle.locks.specs.LockPaths.{LockPath, all_final}
 use Rattle.lockpaths.specs.declared.finder.Base.{Base}
 use Rattle.lockpaths.specs.declared.finder.Finder.{Finder}
-use Rattle.lockpaths.specs.declared.found.Place.{Place}
+use Rattle.lockpaths.specs.declared.found.Destination.{Destination}
 use Rattle.lockpaths.specs.Working.Gathering.{path_by, gathered, gathered_at, with_accesses_of, with_owner, with_owners}
 use Rattle.lockpaths.specs.Working.Places.{IsPlace, path_at}
 use Rattle.lockpaths.specs.Working.Told.{Seen, Told}
@@ -38,7 +38,7 @@ abbrev pub IsTold : Base → Type 0
 IsTold base = base.is_behind ≡ true → all_final base.fields.now ≡ None
 
 -- the place of the lock of a field of a base
-abbrev pub IsLockOf : Finder → Told → ℕ → ℕ → Base → Seen → Option Place → Type 0
+abbrev pub IsLockOf : Finder → Told → ℕ → ℕ → Base → Seen → Option Destination → Type 0
 IsLockOf f t structure number base new place =
     IfSome place (IsPlace new.known.paths)
     × (IsTold base → option_map (path_at new.known.paths) place ≡ target_of f t (field base.local base.fields.now structure number))

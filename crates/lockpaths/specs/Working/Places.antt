@@ -6,7 +6,7 @@ use Rattle.locks.specs.declared.path.Root.{Root}
 use Rattle.locks.specs.declared.path.Root.TheVariants.{GlobalLock, Local}
 use Rattle.locks.specs.LockPaths.{StablePath, LockPath, same_root, same_numbers}
 use Rattle.lockpaths_forms.specs.Working.Nodes.{nowhere}
-use Rattle.lockpaths.specs.declared.found.Place.{Place}
+use Rattle.lockpaths.specs.declared.found.Destination.{Destination}
 use Rattle.lockpaths.specs.Working.Gathering.{Gathered}
 
 module _ (paths : List StablePath) where
@@ -19,7 +19,7 @@ module _ (paths : List StablePath) where
   finals_at (Some n) = (get_or paths n nowhere).finals
 
   -- the lock path that leads to a place
-  abbrev pub path_at : Place → LockPath
+  abbrev pub path_at : Destination → LockPath
   path_at p = record { root = root_at p.node; finals = finals_at p.node; class = p.class }
 
   -- but for the class
@@ -30,13 +30,13 @@ module _ (paths : List StablePath) where
   is_numbered None = ⊤
   is_numbered (Some n) = n < length paths
 
-  abbrev pub IsPlace : Place → Type 0
+  abbrev pub IsPlace : Destination → Type 0
   IsPlace p = is_numbered p.node
 
   -- what is found
-  pub record AreFound (places : List Place) : Type 0 where
+  pub record AreFound (places : List Destination) : Type 0 where
     pub few : length places ≤ 65
     pub within : All IsPlace places
 
-  abbrev pub gathered_of : List Place → List ℕ → List ℕ → Option Mistake → Gathered
+  abbrev pub gathered_of : List Destination → List ℕ → List ℕ → Option Mistake → Gathered
   gathered_of places numbers ends least = record { paths = map path_at places; numbers = numbers; ends = ends; least = least }

@@ -8,7 +8,7 @@ use Rattle.lockpaths_forms.specs.declared.form.Form.{Form}
 use Rattle.lockpaths_forms.specs.declared.form.Owner.{Owner}
 use Rattle.lockpaths_forms.specs.declared.form.State.{State}
 use Rattle.lockpaths_forms.specs.declared.form.State.TheVariants.{Node, Where}
-use Rattle.lockpaths_forms.specs.declared.form.Turn.{Turn}
+use Rattle.lockpaths_forms.specs.declared.form.Branch.{Branch}
 use Rattle.lockpaths_forms.specs.declared.forms.Bound.{Bound}
 use Rattle.lockpaths_forms.specs.Working.Forms.{Replacement, stable_path_of, replacement_of, all_replaced_by, form_by}
 use Rattle.lockpaths_forms.specs.Working.Nodes.{local_path, nowhere, onto, IsGrown, IsNodeOf}
@@ -16,11 +16,11 @@ use Rattle.lockpaths_forms.specs.Working.Nodes.{local_path, nowhere, onto, IsGro
 -- what stands for the locals that are bound so far, how walks from them go on, and the paths that are numbered
 pub record Known : Type 0 where
   pub table : List Replacement
-  pub turns : List (Option Turn)
+  pub branches : List (Option Branch)
   pub paths : List StablePath
 
 abbrev pub known : List Bound → List StablePath → Known
-known bounds paths = record { table = map replacement_of bounds; turns = map (λ (b : Bound). b.turn) bounds; paths = paths }
+known bounds paths = record { table = map replacement_of bounds; branches = map (λ (b : Bound). b.branch) bounds; paths = paths }
 
 abbrev pub nothing_bound : Replacement
 nothing_bound = record { local = 0; owner = None; value = None }
@@ -32,7 +32,7 @@ reads f (Where k) ns = all_replaced_by (take (k + 1) f.table) (record { root = (
 
 abbrev pub IsState : Known → State → Type 0
 IsState f (Node n) = n < length f.paths
-IsState f (Where k) = (t : Turn) × (slice_get f.turns k ≡ Some (Some t))
+IsState f (Where k) = (t : Branch) × (slice_get f.branches k ≡ Some (Some t))
 
 abbrev pub IsBefore : ℕ → State → Type 0
 IsBefore k (Node n) = ⊤
@@ -44,7 +44,7 @@ begins n [] = false
 begins n (m ∷ ms) = n == m
 
 -- how a walk goes on from what is bound: by the number of the `where`, and by any other
-pub record IsTurn (f : Known) (k : ℕ) (t : Turn) : Type 0 where
+pub record IsBranch (f : Known) (k : ℕ) (t : Branch) : Type 0 where
   pub past : IsState f t.past
   pub other : IsState f t.other
   pub earlier : IsBefore k t.other
@@ -63,14 +63,14 @@ IsOfLocal f local None = (ns : List ℕ) → onto (local_path local) ns ≡ all_
 IsOfLocal f local (Some s) = IsReadAs f s (local_path local)
 
 pub record AreForms (f : Known) (states : ℕ → Option State) : Type 0 where
-  pub even : length f.turns ≡ length f.table
-  pub turns : (k : ℕ) (t : Turn) → slice_get f.turns k ≡ Some (Some t) → IsTurn f k t
+  pub even : length f.branches ≡ length f.table
+  pub branches : (k : ℕ) (t : Branch) → slice_get f.branches k ≡ Some (Some t) → IsBranch f k t
   pub locals : (local : ℕ) → IsOfLocal f local (states local)
 
 -- nothing more is bound
 pub record IsKept (old new : Known) : Type 0 where
   pub table : new.table ≡ old.table
-  pub turns : new.turns ≡ old.turns
+  pub branches : new.branches ≡ old.branches
   pub paths : IsGrown old.paths new.paths
 
 -- numbers lead from one state to another
@@ -84,18 +84,18 @@ or_local local None = local_path local
 or_local local (Some form) = stable_path_of form
 
 -- how a walk goes on by a `where`, if there is one, and otherwise from this state
-abbrev pub IsTurnOf : Known → Option Owner → State → Option Turn → Type 0
-IsTurnOf f None other turn = turn ≡ None
-IsTurnOf f (Some owner) other turn =
-    (t : Turn) × (turn ≡ Some t) × (t.number ≡ owner.number) × (t.other ≡ other) × IsNodeOf f.paths (reads f other []) t.node × IsReadAs f t.past (local_path owner.local)
+abbrev pub IsBranchOf : Known → Option Owner → State → Option Branch → Type 0
+IsBranchOf f None other branch = branch ≡ None
+IsBranchOf f (Some owner) other branch =
+    (t : Branch) × (branch ≡ Some t) × (t.number ≡ owner.number) × (t.other ≡ other) × IsNodeOf f.paths (reads f other []) t.node × IsReadAs f t.past (local_path owner.local)
 
--- the state of what is bound: from which its turn goes on, if it has one
-abbrev pub IsStateOf : Known → State → State → Option Turn → Type 0
+-- the state of what is bound: from which its branch goes on, if it has one
+abbrev pub IsStateOf : Known → State → State → Option Branch → Type 0
 IsStateOf f other state None = state ≡ other
 IsStateOf f other state (Some t) = state ≡ Where (length f.table)
 
 abbrev pub IsBoundIn : Known → Bound → State → Type 0
-IsBoundIn f b state = (other : State) × IsReadAs f other (or_local b.local b.value) × IsTurnOf f b.owner other b.turn × IsStateOf f other state b.turn
+IsBoundIn f b state = (other : State) × IsReadAs f other (or_local b.local b.value) × IsBranchOf f b.owner other b.branch × IsStateOf f other state b.branch
 
 -- the normal form of a local followed by fields and by final references is numbered so, if it is a stable path
 abbrev pub IsFormOf : Section → Known → ℕ → List FieldStep → List ℕ → Option ℕ → Type 0

@@ -1,5 +1,5 @@
 -- What a compiled program holds.
-use Rattle.std.specs.Prelude.{◌≡◌, ℕ, List, slice_get, Some}
+use Rattle.std.specs.Prelude.{◌≡◌, ℕ, List, slice_get, Option, Some, None}
 use Rattle.core_lang.specs.declared.tree.Section.{Section}
 use Rattle.core_lang.specs.declared.typed.Typed.{Typed}
 use Rattle.lockpaths.specs.declared.table.Paths.{Paths}
@@ -8,10 +8,19 @@ use Rattle.inserter.specs.declared.placed.Placed.{Placed}
 use Rattle.inserter.specs.Placement.{all_lists}
 use Rattle.layout.specs.declared.room.Room.{Room}
 use Rattle.layout.specs.Layouts.{LayoutOf}
-use Rattle.code.specs.declared.section_code.Code.{Code}
+use Rattle.code.specs.declared.section_code.ProgramCode.{ProgramCode}
+use Rattle.lowering.specs.declared.compiled.Trees.{Trees}
 use Rattle.lowering.specs.Lowered.{IsCodeOf}
 use Rattle.lowering.specs.Working.Rooms.{IsRoomOf, AreRoomsOf}
 use Rattle.lowering.specs.Plans.{Plan, IsCompiled}
+
+-- what runs of a program that is accepted, and of the same with its helpers written out, if that is apart
+abbrev pub written_in : Typed → Option Typed → Typed
+written_in accepted None = accepted
+written_in accepted (Some written) = written
+
+abbrev pub program_of : Trees → Typed
+program_of trees = written_in trees.accepted trees.written
 
 -- its plan
 abbrev pub plan_of : Typed → Typed → List ℕ → Placed → LayoutOf → Plan
@@ -24,7 +33,7 @@ plan_of accepted program ranks placed layout = record {
 }
 
 -- it is compiled; and its lock paths, its code and the room for its sections are what the plan says
-pub record IsProgram (plan : Plan) (found : Paths) (code : Code) (rooms : List Room) : Type 0 where
+pub record IsProgram (plan : Plan) (found : Paths) (code : ProgramCode) (rooms : List Room) : Type 0 where
   pub compiled : IsCompiled plan
   pub are_paths : ArePaths plan.program found
   pub is_code : IsCodeOf plan.program plan.lists code

@@ -9,8 +9,8 @@ use Rattle.core_lang.specs.Expansion.{IsExpansion}
 use Rattle.core_lang.specs.Typing.{IsHeap, HasCells}
 use Rattle.core_lang.specs.WellFormed.{CanCall, IsChecked, calls_together}
 use Rattle.outcomes.specs.declared.search.Search.{Search}
-use Rattle.outcomes.specs.declared.search.Stop.{Stop}
-use Rattle.outcomes.specs.declared.search.Stop.TheVariants.{TooMany, Beyond}
+use Rattle.outcomes.specs.declared.search.EarlyEnd.{EarlyEnd}
+use Rattle.outcomes.specs.declared.search.EarlyEnd.TheVariants.{TooMany, Beyond}
 use Rattle.outcomes.specs.declared.search.Work.{Work}
 use Rattle.outcomes.specs.declared.state.State.{State}
 use Rattle.outcomes.specs.declared.outcome.Found.{Found}
@@ -118,13 +118,13 @@ HasTooMany search old growth =
     (left : ℕ) → suc old.depth + left ≡ calls_together search.program.now.threads.items →
     search.most < total search.program.now search.turns one left old.next + growth one left
 
-abbrev pub IsStop : Search → Work → Work → Growth → Stop → Type 0
+abbrev pub IsStop : Search → Work → Work → Growth → EarlyEnd → Type 0
 IsStop search old new growth TooMany = HasTooMany search old growth
 IsStop search old new growth (Beyond first thread) =
     (first < length new.trail) × IsBeyond search.program.now search.turns (order_at new.trail first) thread
 
 -- it went on or stopped
-abbrev pub Steps : Search → Work → Work → Growth → Option Stop → Type 0
+abbrev pub Steps : Search → Work → Work → Growth → Option EarlyEnd → Type 0
 Steps search old new growth None = GoesOn search old new growth
 Steps search old new growth (Some stop) = IsStop search old new growth stop
 

@@ -4,7 +4,7 @@ use Rattle.std.specs.Option.{is_some}
 use Rattle.std.specs.Prelude.{IfSome, option_map}
 use Rattle.std.proofs.lemmas.Option.{IfSome_then}
 use Rattle.source.specs.Tokens.{Tok}
-use Rattle.syntax.specs.declared.tree.Op.{Op}
+use Rattle.syntax.specs.declared.tree.Operator.{Operator}
 use Rattle.syntax.specs.declared.tree.Level.{Level}
 use Rattle.syntax.specs.declared.tree.Link as l
 use Rattle.syntax.specs.Grammar.{level_of}
@@ -17,7 +17,7 @@ use Rattle.parser.specs.Theory.Readers.{OnValue, on_then, fails_on, Shortens}
 use Rattle.parser.specs.Theory.Many.{NextShortens, many_at-turn, with_front, goes_on, ends, stops}
 use Rattle.parser.specs.Theory.Productions.{op_meant}
 
-op_found : (o : Option Op) (t : Tok) (ts : List Tok) → IfSome (before_rest o ts) (λ f. length f.1 < length (t ∷ ts))
+op_found : (o : Option Operator) (t : Tok) (ts : List Tok) → IfSome (before_rest o ts) (λ f. length f.1 < length (t ∷ ts))
 op_found None t ts = tt
 op_found (Some op) t ts = omega arith
 
@@ -26,7 +26,7 @@ unfolding op_at
 op_shortens k [] = tt
 op_shortens k (t ∷ ts) = op_found (op_of k t.kind) t ts
 
-link_shortens : (operand : Reader Expr) → Shortens operand → (o : Option (Op × List Tok)) (ts : List Tok) → IfSome o (λ f. length f.1 < length ts) → IfSome (link_from operand o) (λ r. OnValue r (λ x. length x.1 < length ts))
+link_shortens : (operand : Reader Expr) → Shortens operand → (o : Option (Operator × List Tok)) (ts : List Tok) → IfSome o (λ f. length f.1 < length ts) → IfSome (link_from operand o) (λ r. OnValue r (λ x. length x.1 < length ts))
 link_shortens operand shorter None ts h = tt
 link_shortens operand shorter (Some o) ts h = on_then (operand o.1) _ (λ x. length x.1 < length o.1) _ (shorter o.1) (λ x less. omega arith)
 
@@ -58,21 +58,21 @@ module _ (operand : Reader Expr) (shorter : Shortens operand) (k : Level) where
   link_ends ls ts total found so_far =
       ends no_links add_link (next_link operand k) (next_link_shortens operand shorter k) (links_before ls) ts total (rw found refl) so_far ∙ ap (λ (x : Links). Ok (x, ts)) (links_before-nothing ls)
 
-  pub link_stops : (e : Stop) (front : Links → Links) (ts after : List Tok) (op : Op) (total : Result (Links × List Tok) Stop) → op_at k ts ≡ Some (op, after) → Fails e (operand after) → with_front front (links_at operand k ts) ≡ total → Fails e total
+  pub link_stops : (e : Stop) (front : Links → Links) (ts after : List Tok) (op : Operator) (total : Result (Links × List Tok) Stop) → op_at k ts ≡ Some (op, after) → Fails e (operand after) → with_front front (links_at operand k ts) ≡ total → Fails e total
   link_stops e front ts after op total found fails =
       stops no_links add_link (next_link operand k) (next_link_shortens operand shorter k) e front ts (operand after >>= λ x. Ok ((op, x.0), x.1)) total (rw found refl) (fails_on e (operand after) (λ x. Ok ((op, x.0), x.1)) fails)
 
 -- ---- the first operand, and the first link
 
-level_named : (k : Level) (ts after : List Tok) (op : Op) (o : Option Op) → IfSome o (λ p. level_of p ≡ k)
+level_named : (k : Level) (ts after : List Tok) (op : Operator) (o : Option Operator) → IfSome o (λ p. level_of p ≡ k)
     → before_rest o ts ≡ Some (op, after) → level_of op ≡ k
 level_named k ts after op None h e = absurd cc
 level_named k ts after op (Some p) h e =
     let q : (p, ts) ≡ (op, after) = cc e in
-    sym (ap (λ (x : Op × List Tok). level_of x.0) q) ∙ h
+    sym (ap (λ (x : Operator × List Tok). level_of x.0) q) ∙ h
 
 -- an operator that is found on a level is of that level
-pub level_found : (k : Level) (ts after : List Tok) (op : Op) → op_at k ts ≡ Some (op, after) → level_of op ≡ k
+pub level_found : (k : Level) (ts after : List Tok) (op : Operator) → op_at k ts ≡ Some (op, after) → level_of op ≡ k
 unfolding op_at
 level_found k [] after op e = absurd cc
 level_found k (t ∷ ts) after op e =
@@ -85,7 +85,7 @@ chained_from k x links = links >>= λ l. Ok (chained k x l.0, l.1)
 abbrev chain_from : Level → Expr → Result (Links × List Tok) Stop → Result (Expr × List Tok) Stop
 chain_from k x links = links >>= λ l. Ok (chain k x l.0, l.1)
 
-some_links : (k : Level) (x y : Expr) (op : Op) (r : Result (Links × List Tok) Stop)
+some_links : (k : Level) (x y : Expr) (op : Operator) (r : Result (Links × List Tok) Stop)
     → chained_from k x (with_front (link op y) r) ≡ chain_from k x (with_front (link op y) r)
 some_links k x y op (Ok l) = refl
 some_links k x y op (Err e) = refl
@@ -104,11 +104,11 @@ module _ (operand : Reader Expr) (shorter : Shortens operand) (k : Level) (ts mi
   pub operand_alone : op_at k mid ≡ None → chain_at operand k ts ≡ Ok (x, mid)
   operand_alone none = by_links ∙ rw (no_link mid none) refl
 
-  module _ (op : Op) (after : List Tok) (found : op_at k mid ≡ Some (op, after)) where
+  module _ (op : Operator) (after : List Tok) (found : op_at k mid ≡ Some (op, after)) where
     pub operand_stops : (e : Stop) → Fails e (operand after) → Fails e (chain_at operand k ts)
     operand_stops e fails =
-        let one : Result ((Op × Expr) × List Tok) Stop = operand after >>= λ y. Ok ((op, y.0), y.1) in
-        let more : (Op × Expr) × List Tok → Result (Links × List Tok) Stop = λ y. links_at operand k y.1 >>= λ l. Ok (add_link y.0 l.0, l.1) in
+        let one : Result ((Operator × Expr) × List Tok) Stop = operand after >>= λ y. Ok ((op, y.0), y.1) in
+        let more : (Operator × Expr) × List Tok → Result (Links × List Tok) Stop = λ y. links_at operand k y.1 >>= λ l. Ok (add_link y.0 l.0, l.1) in
         let all : links_at operand k mid ≡ (one >>= more) = by_turn mid ∙ rw found refl in
         subst (Fails e) (sym (by_links ∙ ap (chained_from k x) all))
         (fails_on e (one >>= more) (λ l. Ok (chained k x l.0, l.1)) (fails_on e one more (fails_on e (operand after) (λ y. Ok ((op, y.0), y.1)) fails)))

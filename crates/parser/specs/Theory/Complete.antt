@@ -4,8 +4,8 @@ use Rattle.source.specs.declared.span.Span.{Span}
 use Rattle.source.specs.declared.token.Keyword.TheVariants as keyword
 use Rattle.source.specs.declared.token.Sign.TheVariants.{OpenParen, CloseParen, OpenBracket, CloseBracket, Semicolon, Comma, Dot, Equals}
 use Rattle.source.specs.Tokens.{word, mark, Tok}
-use Rattle.syntax.specs.declared.tree.Op.{Op}
-use Rattle.syntax.specs.declared.tree.Op.TheVariants.{Add, Sub, Mul, Div, Rem, And, Or}
+use Rattle.syntax.specs.declared.tree.Operator.{Operator}
+use Rattle.syntax.specs.declared.tree.Operator.TheVariants.{Add, Sub, Mul, Div, Rem, And, Or}
 use Rattle.syntax.specs.declared.tree.Level.{Level}
 use Rattle.syntax.specs.declared.tree.Level.TheVariants.{Term, Sum, Conjunction, Disjunction}
 use Rattle.syntax.specs.declared.tree.Prefix.{Prefix}
@@ -76,7 +76,7 @@ pub record NoOps (n : ℕ) (ts : List Tok) : Type 0 where
 no_ops_less : (m n : ℕ) (ts : List Tok) → m ≤ n → NoOps n ts → NoOps m ts
 no_ops_less m n ts le h = record { none = λ k low. h.none k (le_trans low le); no_comparison = λ low. h.no_comparison (le_trans low le); no_place = h.no_place }
 
-op_found : (op : Op) (at : Span) (ts : List Tok) → op_at (level_of op) (tok (mark (sign_of op)) at ∷ ts) ≡ Some (op, ts)
+op_found : (op : Operator) (at : Span) (ts : List Tok) → op_at (level_of op) (tok (mark (sign_of op)) at ∷ ts) ≡ Some (op, ts)
 unfolding op_at
 op_found Add at ts = refl
 op_found Sub at ts = refl
@@ -86,7 +86,7 @@ op_found Rem at ts = refl
 op_found And at ts = refl
 op_found Or at ts = refl
 
-tighter : (op : Op) (at : Span) (ts : List Tok) (k : Level) → rank k ≤ below (level_of op) → op_at k (tok (mark (sign_of op)) at ∷ ts) ≡ None
+tighter : (op : Operator) (at : Span) (ts : List Tok) (k : Level) → rank k ≤ below (level_of op) → op_at k (tok (mark (sign_of op)) at ∷ ts) ≡ None
 unfolding op_at
 tighter Add at ts Term le = refl
 tighter Add at ts Sum le = absurd (omega arith)
@@ -117,7 +117,7 @@ tighter Or at ts Sum le = refl
 tighter Or at ts Conjunction le = refl
 tighter Or at ts Disjunction le = absurd (omega arith)
 
-op_no_comparison : (op : Op) (at : Span) (ts : List Tok) → comparison_at (tok (mark (sign_of op)) at ∷ ts) ≡ None
+op_no_comparison : (op : Operator) (at : Span) (ts : List Tok) → comparison_at (tok (mark (sign_of op)) at ∷ ts) ≡ None
 unfolding comparison_at
 op_no_comparison Add at ts = refl
 op_no_comparison Sub at ts = refl
@@ -127,7 +127,7 @@ op_no_comparison Rem at ts = refl
 op_no_comparison And at ts = refl
 op_no_comparison Or at ts = refl
 
-op_no_place : (op : Op) (at : Span) (ts : List Tok) → NoPlace (tok (mark (sign_of op)) at ∷ ts)
+op_no_place : (op : Operator) (at : Span) (ts : List Tok) → NoPlace (tok (mark (sign_of op)) at ∷ ts)
 unfolding skip_at
 op_no_place Add at ts = record { no_bracket = refl; no_dot = refl; no_field = refl }
 op_no_place Sub at ts = record { no_bracket = refl; no_dot = refl; no_field = refl }
@@ -137,7 +137,7 @@ op_no_place Rem at ts = record { no_bracket = refl; no_dot = refl; no_field = re
 op_no_place And at ts = record { no_bracket = refl; no_dot = refl; no_field = refl }
 op_no_place Or at ts = record { no_bracket = refl; no_dot = refl; no_field = refl }
 
-op_not_below : (op : Op) (at : Span) (ts : List Tok) → NoOps (below (level_of op)) (tok (mark (sign_of op)) at ∷ ts)
+op_not_below : (op : Operator) (at : Span) (ts : List Tok) → NoOps (below (level_of op)) (tok (mark (sign_of op)) at ∷ ts)
 op_not_below op at ts = record { none = tighter op at ts; no_comparison = λ low. op_no_comparison op at ts; no_place = op_no_place op at ts }
 
 -- before a comparison
@@ -195,7 +195,7 @@ links_stop : {k : Level} {l : Links} {ts rest : List Tok} → IsLinks k l ts res
 links_stop {k = k} {ts = ts} are_no_links h = no_ops_less (below k) (rank k) ts (below_less k) h
 links_stop (is_link {op = op} {at = at} {ts = ts} e more) h = op_not_below op at ts
 
-more_stop : {k : Level} {op : Op} {x : Expr} {l : Links} {ts rest : List Tok} → IsLinks k (link op x l) ts rest → NoOps (below k) ts
+more_stop : {k : Level} {op : Operator} {x : Expr} {l : Links} {ts rest : List Tok} → IsLinks k (link op x l) ts rest → NoOps (below k) ts
 more_stop (is_link {op = op} {at = at} {ts = ts} e more) = op_not_below op at ts
 
 module _ (operand : Reader Expr) (shorter : Shortens operand) (k : Level) where
@@ -205,9 +205,9 @@ module _ (operand : Reader Expr) (shorter : Shortens operand) (k : Level) where
   no_link_found : (ts : List Tok) → op_at k ts ≡ None → Finds (links_at operand k ts) (no_links, ts)
   no_link_found ts e = found (by_turn ts ∙ rw e refl)
 
-  link_found : (op : Op) (x : Expr) (l : Links) (ts after mid rest : List Tok) → op_at k ts ≡ Some (op, after) → Finds (operand after) (x, mid) → Finds (links_at operand k mid) (l, rest) → Finds (links_at operand k ts) (link op x l, rest)
+  link_found : (op : Operator) (x : Expr) (l : Links) (ts after mid rest : List Tok) → op_at k ts ≡ Some (op, after) → Finds (operand after) (x, mid) → Finds (links_at operand k mid) (l, rest) → Finds (links_at operand k ts) (link op x l, rest)
   link_found op x l ts after mid rest e first more =
-      let item = finds_then {B = (Op × Expr) × List Tok} (operand after) (λ y. Ok ((op, y.0), y.1)) (x, mid) ((op, x), mid) first (found refl) in
+      let item = finds_then {B = (Operator × Expr) × List Tok} (operand after) (λ y. Ok ((op, y.0), y.1)) (x, mid) ((op, x), mid) first (found refl) in
       same_finds (links_at operand k ts) ((operand after >>= λ y. Ok ((op, y.0), y.1)) >>= λ y. links_at operand k y.1 >>= λ l. Ok (add_link y.0 l.0, l.1)) (link op x l, rest) (by_turn ts ∙ rw e refl) (finds_then (operand after >>= λ y. Ok ((op, y.0), y.1)) (λ y. links_at operand k y.1 >>= λ l. Ok (add_link y.0 l.0, l.1)) ((op, x), mid) (link op x l, rest) item (finds_then (links_at operand k mid) (λ l. Ok (link op x l.0, l.1)) (l, rest) (link op x l, rest) more (found refl)))
 
   chain_found : (x : Expr) (l : Links) (ts mid rest : List Tok) → Finds (operand ts) (x, mid) → Finds (links_at operand k mid) (l, rest) → Finds (chain_at operand k ts) (chained k x l, rest)

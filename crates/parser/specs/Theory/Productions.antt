@@ -8,8 +8,8 @@ use Rattle.source.specs.declared.token.Sign.TheVariants as sign
 use Rattle.source.specs.declared.token.Sign.TheVariants.{OpenParen, CloseParen, OpenBracket, CloseBracket, Semicolon, Dot, DoubleEquals, NotEquals, LessEquals, GreaterEquals, Plus, Minus, Star, Slash, Percent}
 use Rattle.source.specs.Tokens.{Lexeme, name, word, mark, end, Tok}
 use Rattle.source.specs.Tokens as lexeme
-use Rattle.syntax.specs.declared.tree.Op.{Op}
-use Rattle.syntax.specs.declared.tree.Op.TheVariants.{Add, Sub, Mul, Div, Rem, And, Or}
+use Rattle.syntax.specs.declared.tree.Operator.{Operator}
+use Rattle.syntax.specs.declared.tree.Operator.TheVariants.{Add, Sub, Mul, Div, Rem, And, Or}
 use Rattle.syntax.specs.declared.tree.Level.{Level}
 use Rattle.syntax.specs.declared.tree.Level.TheVariants.{Term, Sum, Conjunction, Disjunction}
 use Rattle.syntax.specs.declared.tree.Prefix.{Prefix}
@@ -83,7 +83,7 @@ op_meant Conjunction (mark sign.And) = (refl, refl)
 op_meant Disjunction (mark sign.Or) = (refl, refl)
 op_meant _ _ = tt
 
-op_level : (op : Op) (d : ℕ) → open_after d (mark (sign_of op)) ≡ d
+op_level : (op : Operator) (d : ℕ) → open_after d (mark (sign_of op)) ≡ d
 op_level Add d = refl
 op_level Sub d = refl
 op_level Mul d = refl
@@ -92,7 +92,7 @@ op_level Rem d = refl
 op_level And d = refl
 op_level Or d = refl
 
-op_no_opening : (op : Op) → IsOpening (mark (sign_of op)) → ⊥
+op_no_opening : (op : Operator) → IsOpening (mark (sign_of op)) → ⊥
 op_no_opening Add h = h
 op_no_opening Sub h = h
 op_no_opening Mul h = h
@@ -102,23 +102,23 @@ op_no_opening And h = h
 op_no_opening Or h = h
 
 -- an operator and its operand
-pub record IsLink (k : Level) (o : Op × Expr) (ts rest : List Tok) : Type 0 where
+pub record IsLink (k : Level) (o : Operator × Expr) (ts rest : List Tok) : Type 0 where
   pub at : Span
   pub operand : List Tok
   pub level : level_of o.0 ≡ k
   pub first : ts ≡ tok (mark (sign_of o.0)) at ∷ operand
   pub is : IsExpr (below k) o.1 operand rest
 
-link_is : (k : Level) (o : Op × Expr) (l : Links) (ts mid rest : List Tok) → IsLink k o ts mid → IsLinks k l mid rest → IsLinks k (link o.0 o.1 l) ts rest
+link_is : (k : Level) (o : Operator × Expr) (l : Links) (ts mid rest : List Tok) → IsLink k o ts mid → IsLinks k l mid rest → IsLinks k (link o.0 o.1 l) ts rest
 link_is k o l ts mid rest a b =
     subst (λ (us : List Tok). IsLinks k (link o.0 o.1 l) us rest) (sym a.first) (subst (λ (j : Level). IsLinks j (link o.0 o.1 l) (tok (mark (sign_of o.0)) a.at ∷ a.operand) rest) a.level (is_link (subst (λ (j : Level). IsExpr (below j) o.1 a.operand mid) (sym a.level) a.is) (subst (λ (j : Level). IsLinks j l mid rest) (sym a.level) b)))
 
 module _ (limit : ℕ) where
   module _ (operand : Reader Expr) (k : Level) (d : ℕ) (law : Law limit (IsExpr (below k)) operand 1 d d) where
-    abbrev linked : Op → Reader (Op × Expr)
+    abbrev linked : Operator → Reader (Operator × Expr)
     linked op ts = operand ts >>= λ x. Ok ((op, x.0), x.1)
 
-    found_link : (t : Tok) (ts : List Tok) (o : Option Op) → op_of k t.kind ≡ o → IfSome o (λ op. (t.kind ≡ mark (sign_of op)) × (level_of op ≡ k)) → NextAt limit (IsLink k) (next_link operand k) d (t ∷ ts) (link_from operand (before_rest o ts))
+    found_link : (t : Tok) (ts : List Tok) (o : Option Operator) → op_of k t.kind ≡ o → IfSome o (λ op. (t.kind ≡ mark (sign_of op)) × (level_of op ≡ k)) → NextAt limit (IsLink k) (next_link operand k) d (t ∷ ts) (link_from operand (before_rest o ts))
     unfolding op_at
     found_link t ts None e h = λ other same. ap (λ (us : List Tok). next_link operand k us) same.1 ∙ ap (λ o. link_from operand (before_rest o same.0)) e
     found_link t ts (Some op) e h =
@@ -127,7 +127,7 @@ module _ (limit : ℕ) where
         last_law limit (IsExpr (below k)) (at_rest (IsLink k) t) operand (λ x. (op, x)) 1 d d law (λ x rest ts1 is1. record { at = t.span; operand = ts1; level = h.1; first = ap (λ (j : Lexeme). tok j t.span ∷ ts1) h.0; is = is1 }) in
         prefixed limit (IsLink k) (Says (linked op)) (SaysNext (next_link operand k)) 1 d d t (λ us q s. ap (λ o. link_from operand (before_rest o us)) e ∙ ap Some s) ts (λ bad. op_is_no_end op (sym h.0 ∙ bad)) (λ o. absurd (op_no_opening op (subst IsOpening h.0 o))) (linked op ts) (subst (λ n. LawAt limit (at_rest (IsLink k) t) (Says (linked op)) 1 n d ts (linked op ts)) (sym stays) (inner ts))
       where
-        op_is_no_end : (op : Op) → mark (sign_of op) ≡ end → ⊥
+        op_is_no_end : (op : Operator) → mark (sign_of op) ≡ end → ⊥
         op_is_no_end op e = cc
 
     next_link_law : NextLaw limit (IsLink k) (next_link operand k) d

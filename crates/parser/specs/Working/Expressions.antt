@@ -5,9 +5,9 @@ use Rattle.source.specs.declared.token.Keyword.TheVariants.{Null}
 use Rattle.source.specs.declared.token.Sign.TheVariants.{OpenParen, CloseParen, OpenBracket, CloseBracket, Semicolon, Dot, DoubleEquals, NotEquals, Less, LessEquals, Greater, GreaterEquals, Plus, Minus, Star, Slash, Percent, And, Or, Not}
 use Rattle.source.specs.Tokens.{Lexeme, name, word, mark, Tok}
 use Rattle.source.specs.Tokens as lexeme
-use Rattle.syntax.specs.declared.tree.Op.{Op}
-use Rattle.syntax.specs.declared.tree.Op.TheVariants as op
-use Rattle.syntax.specs.declared.tree.Op.TheVariants.{Add, Sub, Mul, Div, Rem}
+use Rattle.syntax.specs.declared.tree.Operator.{Operator}
+use Rattle.syntax.specs.declared.tree.Operator.TheVariants as op
+use Rattle.syntax.specs.declared.tree.Operator.TheVariants.{Add, Sub, Mul, Div, Rem}
 use Rattle.syntax.specs.declared.tree.Level.{Level}
 use Rattle.syntax.specs.declared.tree.Level.TheVariants.{Term, Sum, Conjunction, Disjunction}
 use Rattle.syntax.specs.declared.tree.Prefix.{Prefix}
@@ -18,7 +18,7 @@ use Rattle.syntax.specs.Trees.{Ident, Place, lone, element, path, Expr, int, nul
 use Rattle.parser.specs.declared.stop.Stop.{Stop}
 use Rattle.parser.specs.Working.Reading.{◌>>=◌, Reader, Next, many_at, same_sign, first_at, refused, too_deep, sign_at, open_at, name_at, after_each, choose}
 
-abbrev pub op_of : Level → Lexeme → Option Op
+abbrev pub op_of : Level → Lexeme → Option Operator
 op_of Sum (mark Plus) = Some Add
 op_of Sum (mark Minus) = Some Sub
 op_of Term (mark Star) = Some Mul
@@ -32,19 +32,19 @@ abbrev pub before_rest : {A : Type 0} → Option A → List Tok → Option (A ×
 before_rest None ts = None
 before_rest (Some x) ts = Some (x, ts)
 
-unfoldable pub op_at : Level → List Tok → Option (Op × List Tok)
+unfoldable pub op_at : Level → List Tok → Option (Operator × List Tok)
 op_at k [] = None
 op_at k (t ∷ ts) = before_rest (op_of k t.kind) ts
 
 -- an operator and its operand, if an operator comes next
-abbrev pub link_from : Reader Expr → Option (Op × List Tok) → Option (Result ((Op × Expr) × List Tok) Stop)
+abbrev pub link_from : Reader Expr → Option (Operator × List Tok) → Option (Result ((Operator × Expr) × List Tok) Stop)
 link_from operand None = None
 link_from operand (Some o) = Some (operand o.1 >>= λ x. Ok ((o.0, x.0), x.1))
 
-abbrev pub next_link : Reader Expr → Level → Next (Op × Expr)
+abbrev pub next_link : Reader Expr → Level → Next (Operator × Expr)
 next_link operand k ts = link_from operand (op_at k ts)
 
-abbrev pub add_link : Op × Expr → Links → Links
+abbrev pub add_link : Operator × Expr → Links → Links
 add_link o more = link o.0 o.1 more
 
 abbrev pub links_at : Reader Expr → Level → Reader Links
@@ -55,7 +55,7 @@ chained k e no_links = e
 chained k e (link op x more) = chain k e (link op x more)
 
 -- the links of a chain, behind the first
-abbrev pub links_behind : Reader Expr → Level → Op × Expr → Reader Links
+abbrev pub links_behind : Reader Expr → Level → Operator × Expr → Reader Links
 links_behind operand k o ts = do
   l ← links_at operand k ts
   Ok (add_link o l.0, l.1)
@@ -192,7 +192,7 @@ abbrev pub operand_at : Level → ℕ → Reader Expr
 operand_at k room = operand_with k (prim_at room)
 
 -- the links of a level's chain, behind the first
-abbrev pub level_links : Level → ℕ → Op × Expr → Reader Links
+abbrev pub level_links : Level → ℕ → Operator × Expr → Reader Links
 level_links k room = links_behind (operand_at k room) k
 
 abbrev pub level_at : Level → ℕ → Reader Expr

@@ -1,5 +1,5 @@
 -- What is told of a section's points.
-use Rattle.std.specs.Prelude.{◌≡◌, ◌↔◌, ℕ, map, slice_get, Some}
+use Rattle.std.specs.Prelude.{◌≡◌, ◌↔◌, ℕ, List, map, slice_get, Some}
 use Rattle.std.specs.List.{Contains}
 use Rattle.core_lang.specs.declared.tree.Section.{Section}
 use Rattle.core_lang.specs.declared.typed.Typed.{Typed}
@@ -11,13 +11,11 @@ use Rattle.locks.specs.Sets.{AreSets}
 use Rattle.points.specs.declared.table.Points.{Points}
 use Rattle.points.specs.Used.{IsUsedBefore, IsUsedLater}
 
--- which points there are and in which blocks they stand; the classes of the lock paths; which point is followed by which; and for
--- each point the paths whose root it binds, that it uses, that are in scope before it, that a point before it uses, and that a
--- point which it comes before uses
+-- which points there are and in which blocks they stand; the classes of the lock paths; and for each point the paths whose root it
+-- binds, that it uses, that are in scope before it, that a point before it uses, and that a point which it comes before uses
 pub record ArePoints (program : Typed) (section : Section) (x : Points) : Type 0 where
   pub parts : skeleton_of x.parts.items ≡ skeleton section
   pub classes : x.classes.items ≡ map (λ (path : LockPath). path.class) (lock_paths program section)
-  pub pairs : (p q : ℕ) → Contains x.pairs.items (p, q) ↔ Follows (skeleton section) p q
   pub bound : AreSets program section (BindsRoot section) x.bound.items
   pub used : AreSets program section (Uses program section) x.used.items
   pub in_scope : AreSets program section (IsInScope section) x.in_scope.items
@@ -27,3 +25,8 @@ pub record ArePoints (program : Typed) (section : Section) (x : Points) : Type 0
 -- the same of the program's section of a number
 abbrev pub ArePointsOf : Typed → ℕ → Points → Type 0
 ArePointsOf program k x = (section : Section) → slice_get program.sections.items k ≡ Some section → ArePoints program section x
+
+-- in any section whose points these are, a pair is listed exactly if its first point is followed by its second
+abbrev pub ArePairs : Points → List (ℕ × ℕ) → Type 0
+ArePairs x list =
+    (program : Typed) (section : Section) → ArePoints program section x → (p q : ℕ) → Contains list (p, q) ↔ Follows (skeleton section) p q

@@ -108,9 +108,9 @@ Suggests turns format program at wanted = (reader : Reader) (lines : List (List 
 
 -- a program that is prepared for its calls
 pub record IsReady (replay : Replay) : Type 0 where
-  pub well_formed : IsChecked replay.typed.now
-  pub prepared : replay.prepared.program.now ≡ replay.typed.now
-  pub expansion : IsExpansion replay.typed.now replay.prepared.written.now
+  pub well_formed : IsChecked replay.program.now
+  pub prepared : replay.prepared.program.now ≡ replay.program.now
+  pub expansion : IsExpansion replay.program.now replay.prepared.written.now
 
 -- a thread's next call may tell this begin
 abbrev pub begins_at : Format → ℕ → ℕ → ℕ → Bool

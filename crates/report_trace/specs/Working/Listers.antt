@@ -1,6 +1,6 @@
 -- The names that a lister shows.
-use Rattle.code.specs.declared.names.Names.{Names}
+use Rattle.code.specs.declared.names.ListingNames.{ListingNames}
 use Rattle.report_trace.specs.declared.instructions.Lister.{Lister}
 
-abbrev pub names_shown : Lister → Names
+abbrev pub names_shown : Lister → ListingNames
 names_shown lister = lister.names.now

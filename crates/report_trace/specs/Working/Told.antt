@@ -4,7 +4,7 @@ use Rattle.std.specs.Option.{option_map_or}
 use Rattle.core_lang.specs.declared.tree.Section.{Section}
 use Rattle.core_lang.specs.declared.typed.Typed.{Typed}
 use Rattle.code.specs.declared.section_code.SectionCode.{SectionCode}
-use Rattle.code.specs.declared.section_code.Code.{Code}
+use Rattle.code.specs.declared.section_code.ProgramCode.{ProgramCode}
 use Rattle.code_emission.specs.NumberLists.{number_lists}
 use Rattle.report_check.specs.Check.{position_text}
 use Rattle.report_trace.specs.declared.places.Position.{Position}
@@ -48,5 +48,5 @@ tables_for text (s ∷ ss) [] = []
 tables_for text (s ∷ ss) (c ∷ cs) = table_for text s c ∷ tables_for text ss cs
 
 -- these are the places of a program's sections
-abbrev pub AreTables : List ℕ → Typed → Code → List SectionPlaces → Type 0
+abbrev pub AreTables : List ℕ → Typed → ProgramCode → List SectionPlaces → Type 0
 AreTables text program code places = map table_of places ≡ tables_for text program.sections.items code.sections.items

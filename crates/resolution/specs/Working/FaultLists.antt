@@ -4,7 +4,7 @@ use Rattle.source.specs.declared.fault.Code.{Code}
 use Rattle.source.specs.declared.fault.Code.TheVariants.{NumberTooLarge, DeclaredTwice, UnknownName, WrongType, WrongArgumentCount, NotAssignable, NeitherFinalNorProtected, ProtectedByNoLock, ProtectedByPassesNonFinal, LimitExceeded, FinalWithoutOpeningValue, InitOutOfRangeOrRepeated, LockAsValue}
 use Rattle.source.specs.Texts.{NUMBER_LIMIT}
 use Rattle.source.specs.declared.token.Number.{Number}
-use Rattle.syntax.specs.declared.tree.Op.{Op}
+use Rattle.syntax.specs.declared.tree.Operator.{Operator}
 use Rattle.syntax.specs.declared.tree.Level.{Level}
 use Rattle.syntax.specs.declared.tree.Level.TheVariants.{Term, Sum, Conjunction, Disjunction}
 use Rattle.syntax.specs.declared.tree.Comparison as written
@@ -167,7 +167,7 @@ side_faults sign.NotEqual a b s t = unlike a b s t
 side_faults _ a b s t = []
 
 -- an operator that can't stand in the chain
-abbrev pub operator_faults : Level → ℕ → Op → List Mistake
+abbrev pub operator_faults : Level → ℕ → Operator → List Mistake
 operator_faults Term start o = one_if (not (is_some (operator_of o))) WrongType start
 operator_faults Sum start o = one_if (not (is_some (operator_of o))) WrongType start
 operator_faults Conjunction start o = []

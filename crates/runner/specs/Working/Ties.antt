@@ -20,7 +20,7 @@ use Rattle.lock_manager.specs.Working.Managers.{Managed}
 use Rattle.moved_cells.specs.Working.Grants.{GrantOf}
 use Rattle.history.specs.Commits.{Commit}
 use Rattle.runner_cells.specs.Working.Held.{cells_granted}
-use Rattle.runner.specs.declared.open.Prepared.{Prepared}
+use Rattle.runner.specs.declared.open.Beginning.{Beginning}
 use Rattle.runner.specs.Working.Opens.{OpenOf, IsOpen, AreItsGrants, entry_of, Gets, Waits, ticket_of, further, moved}
 
 -- a call
@@ -79,11 +79,11 @@ HasMoved old (Some outcome) new = (new ≡ old) × (moved old ≡ over_by old ou
 -- ---- a section that is about to begin
 
 -- its call
-abbrev pub its_call : Prepared → Invocation
+abbrev pub its_call : Beginning → Invocation
 its_call p = call_of p.section p.arguments.items
 
 -- its call fits, and there is all memory that it can need
-pub record IsPrepared (p : Prepared) : Type 0 where
+pub record IsBeginning (p : Beginning) : Type 0 where
   pub compiled : IsCompiled p.program.now
   pub fits : CanCall p.program.now.program p.section p.arguments.items
   pub room_is : IsRoomAt p.program.now p.section p.room

@@ -2,7 +2,7 @@
 use Rattle.std.specs.Prelude.{ℕ, zero, suc, List, [], ◌∷◌, ◌++◌, Option, Some, None, codes, nat_lt, ◌+◌, if◌then◌else◌}
 use Rattle.std.specs.Fmt.{decimal}
 use Rattle.source.specs.Texts.{sign_text}
-use Rattle.syntax.specs.declared.tree.Op.{Op}
+use Rattle.syntax.specs.declared.tree.Operator.{Operator}
 use Rattle.syntax.specs.declared.tree.Comparison.{Comparison}
 use Rattle.syntax.specs.declared.tree.Prefix.{Prefix}
 use Rattle.source.specs.declared.token.Number.{Number}
@@ -50,7 +50,7 @@ field_text x = codes "." ++ x.text
 
 -- ---- expressions
 
-abbrev pub op_text : Op → List ℕ
+abbrev pub op_text : Operator → List ℕ
 op_text op = 32 ∷ sign_text (sign_of op) ++ codes " "
 
 abbrev pub comparison_text : Comparison → List ℕ

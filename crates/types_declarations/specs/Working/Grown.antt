@@ -14,7 +14,7 @@ if_right true t = Some (core_of t)
 if_right false t = None
 
 abbrev pub built : the_grown.Grown → Option core.Program
-built g = if_right g.is_right g.typed
+built g = if_right g.is_right g.program
 
 -- the same of a struct
 abbrev pub shaped : Bool → s.StructBuilder → Option resolution.StructBuilder

@@ -34,23 +34,23 @@ known b = decls_of b.symbols.now
 
 -- with one more declaration, which has this place
 abbrev pub extended_of : Builder → ℕ → Typed → Decl → Option core.Program
-extended_of b place typed d = extended (known b) place (core_of typed) d
+extended_of b place program d = extended (known b) place (core_of program) d
 
 -- with one more member of an object
 abbrev pub with_member_of : Builder → Slot → MemberPlace → Typed → Member → Option core.Program
-with_member_of b slot at typed m = member_with (known b) (slot_of slot) at.place at.fields (Some (core_of typed)) (member_of m)
+with_member_of b slot at program m = member_with (known b) (slot_of slot) at.place at.fields (Some (core_of program)) (member_of m)
 
 -- with all members of an object
 abbrev pub with_members_of : Builder → Slot → Typed → List Member → Option core.Program
-with_members_of b slot typed ms = with_members (known b) (slot_of slot) 0 0 (Some (core_of typed)) (map member_of ms)
+with_members_of b slot program ms = with_members (known b) (slot_of slot) 0 0 (Some (core_of program)) (map member_of ms)
 
 -- with the object of this index in a pool
 abbrev pub with_object_of : Builder → PoolPlace → Typed → ℕ → Option core.Program
-with_object_of b p typed index = with_object (known b) p.place p.number (map member_of p.members.now) index (core_of typed)
+with_object_of b p program index = with_object (known b) p.place p.number (map member_of p.members.now) index (core_of program)
 
 -- with so many objects of a pool
 abbrev pub with_objects_of : Builder → PoolPlace → Typed → ℕ → Option core.Program
-with_objects_of b p typed n = with_objects (known b) p.place p.number (map member_of p.members.now) (Some (core_of typed)) n
+with_objects_of b p program n = with_objects (known b) p.place p.number (map member_of p.members.now) (Some (core_of program)) n
 
 -- ---- the struct so far
 

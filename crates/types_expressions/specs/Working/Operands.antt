@@ -1,6 +1,6 @@
 -- Operands with operators between them, by the first and what follows it.
 use Rattle.std.specs.Prelude.{List, ◌++◌, Option, option_map}
-use Rattle.syntax.specs.declared.tree.Op.{Op}
+use Rattle.syntax.specs.declared.tree.Operator.{Operator}
 use Rattle.syntax.specs.declared.tree.Level.{Level}
 use Rattle.syntax.specs.declared.tree.Comparison.{Comparison}
 use Rattle.syntax.specs.Trees.{Expr, Links, no_links, link}
@@ -18,7 +18,7 @@ use Rattle.types_expressions.specs.Working.ResolvedExprs.{seen, holds}
 use Rattle.types_expressions.specs.declared.resolved_expr.Side as the_side
 
 -- one operator, and the operand behind it
-abbrev pub one_link : Op → Expr → Links
+abbrev pub one_link : Operator → Expr → Links
 one_link op e = link op e no_links
 
 -- a number and what follows it
@@ -30,11 +30,11 @@ abbrev pub tests_from : Scope → Option the_condition.Condition → Links → O
 tests_from sc first links = typed_tests sc (option_map core_condition first) links
 
 -- two conditions
-abbrev pub both_tests : Scope → Option the_condition.Condition → Op → Expr → Option ResolvedExpr
+abbrev pub both_tests : Scope → Option the_condition.Condition → Operator → Expr → Option ResolvedExpr
 both_tests sc first op e = holds (level_of op) (tests_from sc first (one_link op e))
 
 -- the faults of a second operand
-abbrev pub second_faults : Scope → Level → Op → Expr → List Mistake
+abbrev pub second_faults : Scope → Level → Operator → Expr → List Mistake
 second_faults sc level op e = link_faults sc level (one_link op e)
 
 -- the faults of the right side of a comparison, and of both sides together

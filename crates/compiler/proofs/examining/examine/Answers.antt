@@ -1,5 +1,5 @@
 use Rattle.std.proofs.lemmas.Result.{err_from_is_err_and}
-use Rattle.compiler.specs.Programs.{Accepts, in_order}
+use Rattle.compiler.specs.Programs.{in_order}
 use Rattle.compiler.proofs.RefusalLemmas.{no_memory_refused, tokens_refused, tree_refused, paths_refused}
 use Rattle.compiler.proofs.FaultlessLemmas.{faultless, tokens_faultless}
 use Rattle.compiler.proofs.examining.examine.Goals as goal

@@ -4,4 +4,4 @@ use Rattle.driver.proofs.OrderLemmas.{IsAlong}
 use Rattle.driver.proofs.order_calls.order_calls.Given as goal
 
 abbrev pub invariant-loop-thread : goal.invariant-loop-thread
-invariant-loop-thread l = IsAlong l.typed l.order (map scheduled_of l.calls.items) l.done.items (drop l.thread-index l.order)
+invariant-loop-thread l = IsAlong l.program l.order (map scheduled_of l.calls.items) l.done.items (drop l.thread-index l.order)

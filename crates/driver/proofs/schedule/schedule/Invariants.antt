@@ -6,4 +6,4 @@ use Rattle.driver.proofs.schedule.schedule.Given as goal
 -- what is there and the scripts that are left are all of them
 abbrev pub invariant-loop-thread : goal.invariant-loop-thread
 invariant-loop-thread l =
-    map scheduled_of l.all.items ++ scripts_from l.thread (drop l.thread l.typed.threads.items) ≡ all_calls l.typed
+    map scheduled_of l.all.items ++ scripts_from l.thread (drop l.thread l.program.threads.items) ≡ all_calls l.program

@@ -24,7 +24,7 @@ add_to-requires c =
     let k = c.loop-section.section in
     let s = item_at program.sections.items k (omega (arith, c.loop-section-test.true, c.len-section-end.ensures, program.sections.ok.0)) in
     subst (λ n. All (λ x. x < n) c.in_ok-points.points.classes.items) (sym c.loop-section.invariant.classes)
-    (classes_within program c.requires.program c.each_path_once.ensures.listed c.paths_have_classes.ensures c.pairs_lead_between_points.ensures.within k s.0 s.1 c.in_ok-points.points
+    (classes_within program c.requires.program c.each_path_once.ensures.listed c.paths_have_classes.ensures k s.0 s.1 c.in_ok-points.points
     (c.in_ok-points.ensures s.0 s.1))
 
 pub loop-section-preserved : goal.loop-section-preserved
@@ -39,8 +39,8 @@ loop-section-preserved c =
       edges = λ b d.
           joined_by (λ j. MakesIn program j b d) k ⊥ (MakesSomewhere x b d) (has_edge c.loop-section.table.before.items b d) (has_edge c.add_to.new.table.before.items b d)
           (c.loop-section.invariant.edges b d) (c.add_to.ensures.edges b d)
-          (somewhere_makes program c.requires.program c.each_path_once.ensures.listed c.paths_have_classes.ensures c.pairs_lead_between_points.ensures.within k s.0 s.1 x are b d)
-          (λ m. makes_somewhere program c.requires.program c.each_path_once.ensures.listed c.paths_have_classes.ensures c.pairs_lead_between_points.ensures.within k s.0 s.1 x are m.0 m.1 b d m.2);
+          (somewhere_makes program c.requires.program c.each_path_once.ensures.listed c.paths_have_classes.ensures k s.0 s.1 x are b d)
+          (λ m. makes_somewhere program c.requires.program c.each_path_once.ensures.listed c.paths_have_classes.ensures k s.0 s.1 x are m.0 m.1 b d m.2);
     }
 
 pub returns-clause-edges : goal.returns-clause-edges

@@ -3,7 +3,7 @@ use Rattle.lockorder.specs.Working.Tellings.{IsToldMore, AreBetween, AreClosed, 
 use Rattle.lockorder.proofs.Lists.{item_at}
 use Rattle.std.specs.List.{All}
 use Rattle.std.proofs.lemmas.Option.{slice_get_within}
-use Rattle.lockorder.proofs.Bridge.{classes_within, edges_between, pairs_within, made_somewhere, at_makes, makes_at_points, makes_somewhere}
+use Rattle.lockorder.proofs.Bridge.{classes_within, edges_between, made_somewhere, at_makes, makes_at_points, makes_somewhere}
 use Rattle.lockorder.proofs.Tells.{none_are_told, are_told_more, all_told, closed_pairs}
 use Rattle.lockorder.proofs.class_order.told.Goals as goal
 
@@ -13,20 +13,12 @@ loop-section-init c = record {
   told = none_are_told c.args.program.now c.args.pairs.now c.in_ok-telling.telling.told.items c.in_ok-telling.ensures.long c.in_ok-telling.ensures.none;
 }
 
-pub tell-requires-clause-pairs : goal.tell-requires-clause-pairs
-tell-requires-clause-pairs c =
-    let program = c.args.program.now in
-    let k = c.loop-section.section in
-    let s = item_at program.sections.items k (omega (arith, c.loop-section-test.true, c.len-section-end.ensures, program.sections.ok.0)) in
-    pairs_within program c.requires.program c.each_path_once.ensures.listed c.paths_have_classes.ensures c.pairs_lead_between_points.ensures.within k s.0 s.1 c.in_ok-points.points
-    (c.in_ok-points.ensures s.0 s.1)
-
 pub tell-requires-clause-made : goal.tell-requires-clause-made
 tell-requires-clause-made c =
     let program = c.args.program.now in
     let k = c.loop-section.section in
     let s = item_at program.sections.items k (omega (arith, c.loop-section-test.true, c.len-section-end.ensures, program.sections.ok.0)) in
-    made_somewhere program c.requires.program c.each_path_once.ensures.listed c.paths_have_classes.ensures c.pairs_lead_between_points.ensures.within k s.0 s.1 c.in_ok-points.points
+    made_somewhere program c.requires.program c.each_path_once.ensures.listed c.paths_have_classes.ensures k s.0 s.1 c.in_ok-points.points
     (c.in_ok-points.ensures s.0 s.1)
 
 pub loop-section-preserved : goal.loop-section-preserved
@@ -41,9 +33,9 @@ loop-section-preserved c =
       pairs = c.in_ok-tell.ensures.pairs ∙ i.pairs;
       told =
           are_told_more program k x
-          (at_makes program c.requires.program c.each_path_once.ensures.listed c.paths_have_classes.ensures c.pairs_lead_between_points.ensures.within k s.0 s.1 x are)
-          (λ b d u v m. makes_at_points program c.requires.program c.each_path_once.ensures.listed c.paths_have_classes.ensures c.pairs_lead_between_points.ensures.within k s.0 s.1 x are u v b d m)
-          (λ b d u v m. makes_somewhere program c.requires.program c.each_path_once.ensures.listed c.paths_have_classes.ensures c.pairs_lead_between_points.ensures.within k s.0 s.1 x are u v b d m)
+          (at_makes program c.requires.program c.each_path_once.ensures.listed c.paths_have_classes.ensures k s.0 s.1 x are)
+          (λ b d u v m. makes_at_points program c.requires.program c.each_path_once.ensures.listed c.paths_have_classes.ensures k s.0 s.1 x are u v b d m)
+          (λ b d u v m. makes_somewhere program c.requires.program c.each_path_once.ensures.listed c.paths_have_classes.ensures k s.0 s.1 x are u v b d m)
           c.args.pairs.now c.loop-section.telling.told.items c.tell.new.self.told.items i.told c.in_ok-tell.ensures.long
           (subst
           (λ (l : List (ℕ × ℕ)). (j : ℕ) → j < length l → IsToldMore x k (pair_at l j).0 (pair_at l j).1 (told_at c.loop-section.telling.told.items j) (told_at c.tell.new.self.told.items j))
@@ -59,7 +51,7 @@ table-requires-clause-within c =
     let k = c.loop-section.section in
     let s = item_at program.sections.items k (omega (arith, c.loop-section-test.true, c.len-section-end.ensures, program.sections.ok.0)) in
     subst (λ n. All (λ x. x < n) c.in_ok-points.points.classes.items) (sym (c.len.ensures ∙ program.classes.ok.0))
-    (classes_within program c.requires.program c.each_path_once.ensures.listed c.paths_have_classes.ensures c.pairs_lead_between_points.ensures.within k s.0 s.1 c.in_ok-points.points
+    (classes_within program c.requires.program c.each_path_once.ensures.listed c.paths_have_classes.ensures k s.0 s.1 c.in_ok-points.points
     (c.in_ok-points.ensures s.0 s.1))
 
 pub tell-requires-clause-between : goal.tell-requires-clause-between

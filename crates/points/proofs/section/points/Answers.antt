@@ -1,13 +1,11 @@
-use Rattle.std.proofs.Common.{◌≡◌, ◌≤◌, ◌<◌, ◌∙◌, ℕ, List, length, map, get_or, Some, refl, sym, ap, subst, arith, vec_len}
-use Rattle.std.specs.Prelude.{◌↔◌, slice_get}
-use Rattle.std.specs.List.{Contains}
+use Rattle.std.proofs.Common.{◌≡◌, ◌≤◌, ◌<◌, ◌∙◌, ℕ, List, length, map, get_or, Some, refl, sym, ap, subst, arith}
+use Rattle.std.specs.Prelude.{slice_get}
 use Rattle.std.proofs.lemmas.List.{length-map}
 use Rattle.std.proofs.lemmas.Option.{same_Some, slice_get_read}
 use Rattle.core_lang.specs.declared.tree.Section.{Section}
 use Rattle.core_lang.specs.declared.typed.Typed.{Typed}
 use Rattle.flow.specs.Skeletons.{count, skeleton}
 use Rattle.flow.specs.Points.{points, scopes}
-use Rattle.flow.specs.Flow.{Follows, pairs}
 use Rattle.flow.specs.Working.Parts.{skeleton_of}
 use Rattle.locks.specs.declared.path_set.PathSet.{PathSet}
 use Rattle.flow.specs.Working.PointList.{point_at}
@@ -91,11 +89,11 @@ invariant_of-result c =
     let all : length (points section) ≡ count (skeleton_of c.in_ok-parts.parts.items) = sym (counted section) ∙ ap count (sym c.in_ok-parts.ensures) in
     let limit : length found.paths.items ≤ 64 = are.limit in
     let classes : length c.in_ok-classes.classes.items ≡ length found.paths.items =
-    ap length c.in_ok-classes.ensures ∙ length-map c.deref-7.result.now (λ (w : written.LockPath). w.class) ∙ ap length c.deref-7.ensures.value in
+    ap length c.in_ok-classes.ensures ∙ length-map c.deref-6.result.now (λ (w : written.LockPath). w.class) ∙ ap length c.deref-6.ensures.value in
     record {
       few = omega (arith, c.in_ok-classes.classes.ok.0, classes, limit);
       of_bound = c.in_ok-bound.bound.ok.0 ∙ bound.0 ∙ all;
-      of_used = c.in_ok-used.used.ok.0 ∙ ap length (c.in_ok-used.ensures ∙ c.deref-8.ensures.value) ∙ are.used.0 ∙ all;
+      of_used = c.in_ok-used.used.ok.0 ∙ ap length (c.in_ok-used.ensures ∙ c.deref-7.ensures.value) ∙ are.used.0 ∙ all;
       of_in_scope = c.in_ok-in_scope.in_scope.ok.0 ∙ scope.0 ∙ all;
       of_used_before = c.in_ok-used_before.ensures.len ∙ ap (λ ps. count (skeleton_of ps)) c.deref-4.ensures.value;
       of_used_later = c.in_ok-used_later.ensures.len ∙ ap (λ ps. count (skeleton_of ps)) c.deref-5.ensures.value;
@@ -112,13 +110,11 @@ returns c = λ s at.
     let are = known program c.args.paths.now c.args.section section found c.requires.paths there c.requires.section c.index-found.ensures in
     let same : section ≡ s = same_Some section s (sym there ∙ at) in
     let used : AreSets program section (Uses program section) c.deref-2.result.now = subst (AreSets program section (Uses program section)) (sym c.deref-2.ensures.value) are.used in
-    let listed : c.in_ok-pairs.pairs.items ≡ pairs (skeleton section) = c.in_ok-pairs.ensures ∙ ap pairs (ap skeleton_of c.deref-6.ensures.value ∙ c.in_ok-parts.ensures) in
     points_of_same program section s _ same (record {
       parts = c.in_ok-parts.ensures;
-      classes = classes_of program section found counted are c.deref.result.now c.deref.ensures.value c.deref-7.result.now c.in_ok-classes.classes.items c.deref-7.ensures.value c.in_ok-classes.ensures;
-      pairs = λ p q. subst (λ l. Contains l (p, q) ↔ Follows (skeleton section) p q) (sym listed) (c.pairs_lead_between_points.ensures.listed (skeleton section) p q);
+      classes = classes_of program section found counted are c.deref.result.now c.deref.ensures.value c.deref-6.result.now c.in_ok-classes.classes.items c.deref-6.ensures.value c.in_ok-classes.ensures;
       bound = bound_are program section found counted are c.deref.result.now c.deref.ensures.value c.in_ok-bound.bound.items _ _ c.deref-3.ensures.value c.in_ok-points_of.ensures c.in_ok-bound.ensures;
-      used = subst (AreSets program section (Uses program section)) (sym (c.in_ok-used.ensures ∙ c.deref-8.ensures.value)) are.used;
+      used = subst (AreSets program section (Uses program section)) (sym (c.in_ok-used.ensures ∙ c.deref-7.ensures.value)) are.used;
       in_scope = scope_are program section found counted are c.deref.result.now c.deref.ensures.value c.in_ok-in_scope.in_scope.items c.points_are_counted.ensures.scopes c.in_ok-in_scope.ensures;
       used_before =
           before_sets program section counted (record { used = c.deref-2.result }) used (skeleton_of c.deref-4.result.now) c.in_ok-used_before.used_before.items
@@ -127,14 +123,3 @@ returns c = λ s at.
           later_sets program section counted (record { used = c.deref-2.result }) used (skeleton_of c.deref-5.result.now) c.in_ok-used_later.used_later.items
           (ap skeleton_of c.deref-5.ensures.value ∙ c.in_ok-parts.ensures) (sym c.in_ok-used_later.used_later.ok.0 ∙ c.in_ok-used_later.ensures.len) c.in_ok-used_later.ensures.sets;
     })
-
--- a list has fewer items than there are numbers
-fits : (n m capacity : ℕ) → n ≡ m → n ≤ capacity → capacity < 9223372036854775808 → m < 18446744073709551616
-fits n m capacity e le lt = omega (arith, e, le, lt)
-
-pub pairs_of-requires : goal.pairs_of-requires
-pairs_of-requires c =
-    let sets = c.in_ok-used_before.used_before in
-    let e : vec_len sets ≡ count (skeleton_of c.deref-6.result.now) =
-    c.in_ok-used_before.ensures.len ∙ ap (λ ps. count (skeleton_of ps)) (c.deref-4.ensures.value ∙ sym c.deref-6.ensures.value) in
-    fits _ (count (skeleton_of c.deref-6.result.now)) sets.cap e sets.ok.1 sets.small

@@ -5,5 +5,5 @@ use Rattle.report.proofs.histories.push_cells.Given as goal
 -- what is written and the text of what is left are the whole text
 abbrev pub invariant-loop-i : goal.invariant-loop-i
 invariant-loop-i l =
-    string_bytes l.out ++ cell_texts l.typed (drop l.i l.cells) (drop l.i l.values)
-    ≡ string_bytes l.initial.out ++ cell_texts l.typed l.cells l.values
+    string_bytes l.out ++ cell_texts l.program (drop l.i l.cells) (drop l.i l.values)
+    ≡ string_bytes l.initial.out ++ cell_texts l.program l.cells l.values

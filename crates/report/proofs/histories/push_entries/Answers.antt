@@ -9,7 +9,7 @@ use Rattle.report.proofs.histories.push_entries.Goals as goal
 
 pub loop-position-preserved : goal.loop-position-preserved
 loop-position-preserved c =
-    let text = entry_text c.args.format c.args.typed.now in
+    let text = entry_text c.args.format c.args.program.now in
     let commits = c.args.history.now.commits in
     let i = c.loop-position.position in
     let e = c.get.result in

@@ -6,4 +6,4 @@ use Rattle.report.proofs.histories.push_records.Given as goal
 
 abbrev pub invariant-loop-call : goal.invariant-loop-call
 invariant-loop-call l =
-    string_bytes l.out ≡ string_bytes l.initial.out ++ flat_map (entry_text l.format l.typed) (map entry_of (take l.call-index l.calls))
+    string_bytes l.out ≡ string_bytes l.initial.out ++ flat_map (entry_text l.format l.program) (map entry_of (take l.call-index l.calls))

@@ -22,7 +22,7 @@ module _ (structs : List Struct) (field : ℕ) where
 
 pub returns-in-Some-get-2 : goal.returns-in-Some-get-2
 returns-in-Some-get-2 c =
-    let structs = c.args.typed.now.structs.items in
+    let structs = c.args.program.now.structs.items in
     let k = c.args.field in
     let p = c.in-Some.pool.now in
     let s = c.in-Some-get.structure.now in
@@ -37,7 +37,7 @@ returns-in-Some-get-2 c =
 
 pub returns-in-None : goal.returns-in-None
 returns-in-None c =
-    let structs = c.args.typed.now.structs.items in
+    let structs = c.args.program.now.structs.items in
     let k = c.args.field in
     let p = c.in-Some.pool.now in
     let s = c.in-Some-get.structure.now in
@@ -49,7 +49,7 @@ returns-in-None c =
 
 pub returns-in_default-get : goal.returns-in_default-get
 returns-in_default-get c =
-    let structs = c.args.typed.now.structs.items in
+    let structs = c.args.program.now.structs.items in
     let k = c.args.field in
     let old = string_bytes c.args.out.now in
     let pool = sym c.pool_of.ensures ∙ ap option_copied c.in-Some.is in

@@ -7,6 +7,6 @@ abbrev pub invariant-loop-k : goal.invariant-loop-k
 invariant-loop-k l =
     record {
       same : l.cursor.text.now ≡ l.text;
-      whole : map table_of l.places.items ++ tables_for l.text (drop l.k l.typed.sections.items) (drop l.k l.code.sections.items)
-          ≡ tables_for l.text l.typed.sections.items l.code.sections.items;
+      whole : map table_of l.places.items ++ tables_for l.text (drop l.k l.program.sections.items) (drop l.k l.code.sections.items)
+          ≡ tables_for l.text l.program.sections.items l.code.sections.items;
     }

@@ -29,7 +29,7 @@ unreachable-requires c =
     let whole = whole_least ds (decls_of c.in_ok-symbols.symbols) c.new.new.least c.judge_all.new.least same (c.in_ok-symbols.ensures.faults ∙ ap (least_after None) items) c.in_ok-judge_all.ensures.faults in
     let none = was_none c.new.new.least (judged_faults (decls_of c.in_ok-symbols.symbols)) (sym c.in_ok-judge_all.ensures.faults ∙ c.in_default.is) in
     let all = whole_built ds (decls_of c.in_ok-symbols.symbols) _ (built c.judge_all.new.grown) same (begun c.new.new.least c.is_none.result c.nothing.result none c.is_none.ensures c.nothing.ensures) c.in_ok-judge_all.ensures.value in
-    none_built ds (built c.judge_all.new.grown) all (ap (λ b. if_right b c.judge_all.new.grown.typed) c.if-not-grown.true) (c.faultless_are_resolved.ensures ds c.requires (sym whole ∙ c.in_default.is))
+    none_built ds (built c.judge_all.new.grown) all (ap (λ b. if_right b c.judge_all.new.grown.program) c.if-not-grown.true) (c.faultless_are_resolved.ensures ds c.requires (sym whole ∙ c.in_default.is))
 
 pub returns-clause-resolves : goal.returns-clause-resolves
 returns-clause-resolves c =
@@ -37,7 +37,7 @@ returns-clause-resolves c =
     let items = ap (map decl_of) c.deref.ensures.value in
     let same = ap (map decl_of) c.in_ok-symbols.ensures.items ∙ items in
     let none = was_none c.new.new.least (judged_faults (decls_of c.in_ok-symbols.symbols)) (sym c.in_ok-judge_all.ensures.faults ∙ c.in_default.is) in
-    sym (whole_built ds (decls_of c.in_ok-symbols.symbols) _ (built c.judge_all.new.grown) same (begun c.new.new.least c.is_none.result c.nothing.result none c.is_none.ensures c.nothing.ensures) c.in_ok-judge_all.ensures.value) ∙ ap (λ b. if_right b c.judge_all.new.grown.typed) c.if-not-grown.false
+    sym (whole_built ds (decls_of c.in_ok-symbols.symbols) _ (built c.judge_all.new.grown) same (begun c.new.new.least c.is_none.result c.nothing.result none c.is_none.ensures c.nothing.ensures) c.in_ok-judge_all.ensures.value) ∙ ap (λ b. if_right b c.judge_all.new.grown.program) c.if-not-grown.false
 
 pub returns-clause-checked : goal.returns-clause-checked
 returns-clause-checked c =
@@ -47,7 +47,7 @@ returns-clause-checked c =
     let whole = whole_least ds (decls_of c.in_ok-symbols.symbols) c.new.new.least c.judge_all.new.least same (c.in_ok-symbols.ensures.faults ∙ ap (least_after None) items) c.in_ok-judge_all.ensures.faults in
     let none = was_none c.new.new.least (judged_faults (decls_of c.in_ok-symbols.symbols)) (sym c.in_ok-judge_all.ensures.faults ∙ c.in_default.is) in
     let all = whole_built ds (decls_of c.in_ok-symbols.symbols) _ (built c.judge_all.new.grown) same (begun c.new.new.least c.is_none.result c.nothing.result none c.is_none.ensures c.nothing.ensures) c.in_ok-judge_all.ensures.value in
-    c.resolved_are_checked.ensures ds c.judge_all.new.grown.typed (sym whole ∙ c.in_default.is) (sym all ∙ ap (λ b. if_right b c.judge_all.new.grown.typed) c.if-not-grown.false)
+    c.resolved_are_checked.ensures ds c.judge_all.new.grown.program (sym whole ∙ c.in_default.is) (sym all ∙ ap (λ b. if_right b c.judge_all.new.grown.program) c.if-not-grown.false)
 
 pub returns-clause-well_formed : goal.returns-clause-well_formed
 returns-clause-well_formed c =
@@ -57,7 +57,7 @@ returns-clause-well_formed c =
     let whole = whole_least ds (decls_of c.in_ok-symbols.symbols) c.new.new.least c.judge_all.new.least same (c.in_ok-symbols.ensures.faults ∙ ap (least_after None) items) c.in_ok-judge_all.ensures.faults in
     let none = was_none c.new.new.least (judged_faults (decls_of c.in_ok-symbols.symbols)) (sym c.in_ok-judge_all.ensures.faults ∙ c.in_default.is) in
     let all = whole_built ds (decls_of c.in_ok-symbols.symbols) _ (built c.judge_all.new.grown) same (begun c.new.new.least c.is_none.result c.nothing.result none c.is_none.ensures c.nothing.ensures) c.in_ok-judge_all.ensures.value in
-    c.without_helpers.ensures ds c.judge_all.new.grown.typed (sym whole ∙ c.in_default.is) (sym all ∙ ap (λ b. if_right b c.judge_all.new.grown.typed) c.if-not-grown.false)
+    c.without_helpers.ensures ds c.judge_all.new.grown.program (sym whole ∙ c.in_default.is) (sym all ∙ ap (λ b. if_right b c.judge_all.new.grown.program) c.if-not-grown.false)
 
 pub returns-clause-faultless : goal.returns-clause-faultless
 returns-clause-faultless c =

@@ -5,5 +5,5 @@ use Rattle.types_declarations.proofs.grown.add_elements.Given as goal
 
 abbrev pub invariant-loop-index : goal.invariant-loop-index
 invariant-loop-index l = record {
-  value : core_of l.typed ≡ with_elements (core_of l.fn.typed) l.array l.t l.index;
+  value : core_of l.program ≡ with_elements (core_of l.fn.program) l.array l.t l.index;
 }

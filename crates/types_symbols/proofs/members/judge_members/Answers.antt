@@ -75,8 +75,8 @@ loop-place-preserved c =
 pub loop-place-init : goal.loop-place-init
 loop-place-init c = record {
   table = c.new-names.ensures;
-  counts = ahead_none (member_counts_from no_members) c.new-ahead.result.items c.none-counts.result c.new-ahead.ensures.items c.none-counts.ensures;
-  so_far = c.none-counts.ensures;
+  counts = ahead_none (member_counts_from no_members) c.new-ahead.result.items c.new-counts.result c.new-ahead.ensures.items c.new-counts.ensures;
+  so_far = c.new-counts.ensures;
   len = ap length c.new-ahead.ensures.items;
   width = omega arith;
   few = omega arith;

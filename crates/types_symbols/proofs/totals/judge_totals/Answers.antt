@@ -53,8 +53,8 @@ pub loop-place-init : goal.loop-place-init
 loop-place-init c =
     let all = decls_of c.args.decls.now in
     record {
-      counts = ahead_none (totals_of all) c.new-ahead.result.items c.none-totals.result c.new-ahead.ensures.items c.none-totals.ensures;
-      so_far = c.none-totals.ensures;
+      counts = ahead_none (totals_of all) c.new-ahead.result.items c.new-totals.result c.new-ahead.ensures.items c.new-totals.ensures;
+      so_far = c.new-totals.ensures;
       len = ap length c.new-ahead.ensures.items;
       faults = ap (λ (xs : List rust.Decl). least_of c.args.least.now (total_faults all [] (decls_of xs))) c.items-items.ensures;
     }

@@ -39,8 +39,8 @@ loop-point-preserved c =
             (b == d) (c.loop-point.invariant.edges b d) (ap (λ (t : Table). has_edge t.before.items b d) w.table-is)
             (λ h.
             let i = same_set x (set_at x.bound.items p) c.index.result.now d (sym read) h.1 in
-            both_ways (has c.empty.result i.0) (c.empty.ensures i.0)
-            (same_bits c.index.result.now c.empty.result i.0 (eqb-true c.index.result.now.bits c.empty.result.bits (not-false (c.index.result.now.bits == c.empty.result.bits) (sym c.ne.ensures ∙ w.if-ne.false))) i.1));
+            both_ways (has c.new.result i.0) (c.new.ensures i.0)
+            (same_bits c.index.result.now c.new.result i.0 (eqb-true c.index.result.now.bits c.new.result.bits (not-false (c.index.result.now.bits == c.new.result.bits) (sym c.ne.ensures ∙ w.if-ne.false))) i.1));
       }
     ]
 

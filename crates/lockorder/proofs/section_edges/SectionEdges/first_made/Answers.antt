@@ -43,6 +43,3 @@ returns c =
     let x = c.args.self.now.points.now in
     made_first x c.args.from c.args.to c.loop-bound.bound c.in-Some-least.made (omega (arith, c.loop-bound-test.false, c.len-bound-end.ensures, x.bound.ok.0))
     (subst (IsFirstOrNone x c.args.from c.args.to c.loop-bound.bound) c.in-Some-least.is c.loop-bound.invariant)
-
-pub first_use-requires : goal.first_use-requires
-first_use-requires c = c.requires.pairs

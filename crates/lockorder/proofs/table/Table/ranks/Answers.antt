@@ -4,7 +4,7 @@ use Rattle.lockorder.proofs.table.Table.ranks.Goals as goal
 
 pub loop-rank-init : goal.loop-rank-init
 loop-rank-init c =
-    none_ranked c.args.self.now.before.items c.empty-listed.result c.loop-class.ranks.items c.empty-listed.ensures
+    none_ranked c.args.self.now.before.items c.new-listed.result c.loop-class.ranks.items c.new-listed.ensures
     (omega (arith, c.loop-class.invariant, c.loop-class-test.false, c.loop-class.auto._class-end, c.len-classes.ensures, c.args.self.now.before.ok.0))
 
 pub returns-in_default : goal.returns-in_default

@@ -2,7 +2,7 @@ use Rattle.std.proofs.Common.{◌≡◌, ◌∙◌, ◌++◌, ◌∷◌, List, [
 use Rattle.std.proofs.lemmas.List.Elements.{All-push}
 use Rattle.locks.specs.LockPaths.{StablePath}
 use Rattle.lockpaths.specs.declared.found.Found.TheInside.{Inside}
-use Rattle.lockpaths.specs.declared.found.Place.{Place}
+use Rattle.lockpaths.specs.declared.found.Destination.{Destination}
 use Rattle.lockpaths.specs.Working.Gathering.{with_new}
 use Rattle.lockpaths.specs.Working.Places.{path_at, IsPlace, AreFound}
 use Rattle.lockpaths.specs.Working.Told.{Seen}
@@ -55,7 +55,7 @@ invariant_of-self-in_err-push-2 c =
       | then-number-eq-PATH_LIMIT w ↦ subst (λ (x : Inside). AreFound x.forms.paths x.places.items) (sym w.self-inside-is) c.self.invariant
       | else-number-eq-PATH_LIMIT w ↦ subst (λ (x : Inside). AreFound x.forms.paths x.places.items) (sym w.self-inside-is) c.self.invariant
     ] in
-    subst (λ (ps : List Place). AreFound y.forms.paths ps) (sym c.in_err-push-2.ensures.items) are
+    subst (λ (ps : List Destination). AreFound y.forms.paths ps) (sym c.in_err-push-2.ensures.items) are
 
 pub invariant_of-self-2 : goal.invariant_of-self-2
 invariant_of-self-2 c =
@@ -70,7 +70,7 @@ invariant_of-self-2 c =
       | else-number-eq-PATH_LIMIT w ↦ ap (λ (z : Inside). z.forms.paths) w.self-inside-is
     ] in
     let here : IsPlace x.forms.paths c.args.place = subst (λ (s : Seen). IsPlace s.known.paths c.args.place) (sym c.self.view_is) c.requires in
-    let all = subst (λ (ps : List Place). AreFound x.forms.paths ps) (sym (c.in_ok-push-2.ensures.items ∙ ap (λ (ps : List Place). ps ++ c.args.place ∷ []) places))
+    let all = subst (λ (ps : List Destination). AreFound x.forms.paths ps) (sym (c.in_ok-push-2.ensures.items ∙ ap (λ (ps : List Destination). ps ++ c.args.place ∷ []) places))
     (record {
       few = one_more_few c.len-number.result _ x.places.items x.places.items (x.places.items ++ c.args.place ∷ []) c.args.place
           c.if-number-gt-PATH_LIMIT.false c.len-number.ensures x.places.ok.0 refl refl;

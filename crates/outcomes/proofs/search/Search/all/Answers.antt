@@ -4,7 +4,7 @@ use Rattle.outcomes.specs.declared.search.Work.{Work}
 use Rattle.outcomes.specs.Orders.{none_done}
 use Rattle.outcomes.specs.Working.Searching.{AreGood, order_at, total, weight}
 use Rattle.outcomes.proofs.Whole.{good_at_first, sums_at_first, sums_of_more, good_of_more, stops_after, too_many, are_all_ends}
-use Rattle.outcomes.proofs.Places.{place_of, no_places, places_more, has_places, before_more}
+use Rattle.outcomes.proofs.Configurations.{configuration_of, no_places, places_more, has_places, before_more}
 use Rattle.outcomes.proofs.search.Search.all.Goals as goal
 
 pub loop-depth-init : goal.loop-depth-init
@@ -51,7 +51,7 @@ loop-depth-preserved c =
           (sums_of_more c.args.self.now old c.expand_all.new.work c.loop-depth.layer c.loop-depth.depth goes c.loop-depth.invariant.empty
           c.loop-depth.invariant.sums f left);
       before = rw c.replace-layer.ensures.value (
-        c.loop-depth.invariant.before.0 ++ map place_of c.loop-depth.layer,
+        c.loop-depth.invariant.before.0 ++ map configuration_of c.loop-depth.layer,
         places_more c.settled_are_serial.ensures c.at_most_one_serial.ensures c.args.self.now.program.now c.args.self.now.turns c.loop-depth.depth
             c.loop-depth.work.trail c.loop-depth.layer c.loop-depth.invariant.before.0 c.loop-depth.invariant.layer
             (λ f. c.loop-depth.invariant.sums f 0 ∙ ap (λ (k : ℕ). weight c.args.self.now.program.now c.args.self.now.turns f k (none_done c.args.self.now.program.now) (opening_heap c.args.self.now.program.now)) (omega arith))
@@ -73,8 +73,8 @@ returns c =
           (λ f. c.loop-depth.invariant.sums f 0 ∙ ap (λ (k : ℕ). weight program n f k (none_done program) (opening_heap program)) here)
           c.in_ok-ends.ensures,
       has_places c.whole_within_some_turns.ensures.over c.settled_are_serial.ensures c.at_most_one_serial.ensures program n c.loop-depth.depth
-          c.len-places.result c.loop-depth.work.trail c.loop-depth.layer c.loop-depth.invariant.before.0 (at_end ∙ c.calls-calls.ensures)
+          c.len-configurations.result c.loop-depth.work.trail c.loop-depth.layer c.loop-depth.invariant.before.0 (at_end ∙ c.calls-calls.ensures)
           c.loop-depth.invariant.layer
           (λ f. c.loop-depth.invariant.sums f 0 ∙ ap (λ (k : ℕ). weight program n f k (none_done program) (opening_heap program)) (omega arith))
-          c.loop-depth.invariant.before.1 (c.loop-depth.invariant.before.2 ∙ sym c.len-places.ensures),
+          c.loop-depth.invariant.before.1 (c.loop-depth.invariant.before.2 ∙ sym c.len-configurations.ensures),
     )

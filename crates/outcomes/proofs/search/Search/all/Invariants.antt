@@ -3,8 +3,8 @@ use Rattle.core_lang.specs.Typing.{HasCells}
 use Rattle.core_lang.specs.Serial.{opening_heap}
 use Rattle.outcomes.specs.Orders.{none_done}
 use Rattle.outcomes.specs.Working.Searching.{AreGood, weight, total, Summand}
-use Rattle.outcomes.specs.Ends.{Place}
-use Rattle.outcomes.proofs.Places.{ArePlacesBelow}
+use Rattle.outcomes.specs.Ends.{Configuration}
+use Rattle.outcomes.proofs.Configurations.{AreConfigurationsBelow}
 use Rattle.outcomes.proofs.search.Search.all.Given as goal
 
 -- sums over what is left from the layer's states are those over all orders
@@ -16,6 +16,6 @@ invariant-loop-depth l = record {
   sums : (f : Summand) (left : ℕ) →
       total l.self.program.now l.self.turns f left l.layer
       ≡ weight l.self.program.now l.self.turns f (l.depth + left) (none_done l.self.program.now) (opening_heap l.self.program.now);
-  before : (places : List Place) × ArePlacesBelow l.self.program.now l.self.turns l.depth places
-      × (length places + length l.layer ≡ length l.work.trail);
+  before : (configurations : List Configuration) × AreConfigurationsBelow l.self.program.now l.self.turns l.depth configurations
+      × (length configurations + length l.layer ≡ length l.work.trail);
 }

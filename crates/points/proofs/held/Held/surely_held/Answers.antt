@@ -4,5 +4,5 @@ use Rattle.points.proofs.held.Held.surely_held.Goals as goal
 
 pub returns-clause-sets : goal.returns-clause-sets
 returns-clause-sets c =
-    held_whole c.args.self.now (skeleton_of c.args.parts.now) c.empty.result c.empty.ensures c.in_ok-sets.sets c.push.new.sets c.in_ok-sets.ensures.items
+    held_whole c.args.self.now (skeleton_of c.args.parts.now) c.new.result c.new.ensures c.in_ok-sets.sets c.push.new.sets c.in_ok-sets.ensures.items
     c.in_ok-sets.ensures.len c.in_ok-push.ensures.sets

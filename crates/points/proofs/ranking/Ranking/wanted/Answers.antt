@@ -7,4 +7,4 @@ returns-in-Some c =
     c.in-Some.ensures c.up_to.ensures c.meet.ensures c.union.ensures c.meet-in-Some.ensures
 
 pub returns-in-None : goal.returns-in-None
-returns-in-None c = wanted_none c.args.self.now.ranks.now c.args.used c.args.later c.args.in_scope c.empty.result c.in-None.ensures c.empty.ensures
+returns-in-None c = wanted_none c.args.self.now.ranks.now c.args.used c.args.later c.args.in_scope c.new.result c.in-None.ensures c.new.ensures

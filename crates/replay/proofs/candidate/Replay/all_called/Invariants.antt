@@ -5,4 +5,4 @@ use Rattle.replay.proofs.candidate.Replay.all_called.Given as goal
 
 -- the seats of the threads so far are full
 abbrev pub invariant-loop-thread : goal.invariant-loop-thread
-invariant-loop-thread l = (t : ℕ) → t < l.thread → called_at l.at.seats.items t ≡ length (script_of l.self.typed.now t)
+invariant-loop-thread l = (t : ℕ) → t < l.thread → called_at l.at.seats.items t ≡ length (script_of l.self.program.now t)

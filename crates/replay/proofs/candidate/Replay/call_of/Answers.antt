@@ -8,7 +8,7 @@ use Rattle.replay.proofs.candidate.Replay.call_of.Goals as goal
 pub returns-else-begins-clause-only : goal.returns-else-begins-clause-only
 returns-else-begins-clause-only c =
     let format = c.args.self.now.format in
-    let program = c.args.self.now.typed.now in
+    let program = c.args.self.now.program.now in
     let head = call_head format program (scheduled_called c.in-Some.call) c.in-Some.call.begun in
     let written : string_bytes c.push_call_head.new.out ≡ head =
     c.in_ok-push_call_head.ensures ∙ ap (λ (b : List ℕ). b ++ head) c.clear.ensures.bytes in

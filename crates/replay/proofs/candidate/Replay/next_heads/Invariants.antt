@@ -7,5 +7,5 @@ use Rattle.replay.proofs.candidate.Replay.next_heads.Given as goal
 
 -- the heads of the threads so far
 abbrev pub invariant-loop-thread : goal.invariant-loop-thread
-invariant-loop-thread l = (reader : Reader) → IsAt l.self.typed.now l.at reader →
-    map (λ head. string_bytes head) l.heads.items ≡ next_heads l.self.format l.self.typed.now reader.order l.thread
+invariant-loop-thread l = (reader : Reader) → IsAt l.self.program.now l.at reader →
+    map (λ head. string_bytes head) l.heads.items ≡ next_heads l.self.format l.self.program.now reader.order l.thread

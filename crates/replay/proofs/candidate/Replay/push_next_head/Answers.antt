@@ -10,7 +10,7 @@ use Rattle.replay.proofs.candidate.Replay.push_next_head.Goals as goal
 
 pub returns-in_default : goal.returns-in_default
 returns-in_default c reader is =
-    let program = c.args.self.now.typed.now in
+    let program = c.args.self.now.program.now in
     let gone : call_in program c.args.thread (called_at c.args.at.now.seats.items c.args.thread) ≡ None =
     ap (call_in program c.args.thread) (sym c.called-step.ensures) ∙ sym c.call_in.ensures ∙ ap option_copied c.in_default.is in
     sym (append-nil (map (λ head. string_bytes head) c.args.heads.now.items))
@@ -20,7 +20,7 @@ returns-in_default c reader is =
 pub returns : goal.returns
 returns c reader is =
     let format = c.args.self.now.format in
-    let program = c.args.self.now.typed.now in
+    let program = c.args.self.now.program.now in
     let at = c.args.at.now in
     let t = c.args.thread in
     let call = c.in-Some.call.now in

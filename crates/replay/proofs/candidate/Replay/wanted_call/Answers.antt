@@ -9,7 +9,7 @@ pub returns-then-all_called : goal.returns-then-all_called
 returns-then-all_called c reader lines is none =
     let turns = c.args.self.now.turns in
     let format = c.args.self.now.format in
-    let program = c.args.self.now.typed.now in
+    let program = c.args.self.now.program.now in
     let came = cells_came turns format program c.args.at.now reader is c.requires.stage c.requires.none_due (c.all_called.ensures.0 c.if-all_called.true) in (
       subst (λ (text : List ℕ). MayCome turns format program reader text) (sym c.in_ok-from_str.ensures.ok) (came.0, came.1),
       λ call begun names. absurd (none call begun names),
@@ -18,8 +18,8 @@ returns-then-all_called c reader lines is none =
 pub returns : goal.returns
 returns c reader lines is none = (
   record {
-    none_due = none_due c.args.self.now.typed.now c.args.at.now reader is c.requires.stage c.requires.none_due;
-    still_open = closed_at c.args.self.now.typed.now c.args.at.now reader is Calls c.requires.stage;
+    none_due = none_due c.args.self.now.program.now c.args.at.now reader is c.requires.stage c.requires.none_due;
+    still_open = closed_at c.args.self.now.program.now c.args.at.now reader is Calls c.requires.stage;
   },
   λ all. false≢true (sym c.if-all_called.false ∙ c.all_called.ensures.1 (λ t. is.seats.called t ∙ all t)),
   none,

@@ -10,7 +10,7 @@ pub returns-then-number-len : goal.returns-then-number-len
 returns-then-number-len c reader lines is none =
     let turns = c.args.self.now.turns in
     let format = c.args.self.now.format in
-    let program = c.args.self.now.typed.now in
+    let program = c.args.self.now.program.now in
     let long = program.cells.ok.0 in
     let many = c.len.ensures in
     let test = c.if-number-len.true in
@@ -24,7 +24,7 @@ pub returns : goal.returns
 returns c reader lines is none =
     let turns = c.args.self.now.turns in
     let format = c.args.self.now.format in
-    let program = c.args.self.now.typed.now in
+    let program = c.args.self.now.program.now in
     let long = program.cells.ok.0 in
     let many = c.len.ensures in
     let test = c.if-number-len.false in

@@ -13,10 +13,10 @@ returns c reader lines is none =
     let word : string_bytes c.push_print.new.out ≡ print_line number =
     c.in_ok-push_print.ensures ∙ ap (λ (b : List ℕ). b ++ print_line (to_z w64 (of_z w64 number))) c.new-line.ensures.bytes ∙ ap print_line same in
     let more = print_lines (drop (c.args.at.now.told + 1) c.args.at.now.prints.items) in
-    let due = print_due c.args.self.now.typed.now c.args.at.now reader is number c.requires.stage c.requires.due c.index.ensures in (
+    let due = print_due c.args.self.now.program.now c.args.at.now reader is number c.requires.stage c.requires.due c.index.ensures in (
       (
         _,
-        due_comes c.args.self.now.turns c.args.self.now.format c.args.self.now.typed.now reader (string_bytes c.push_print.new.out) more
+        due_comes c.args.self.now.turns c.args.self.now.format c.args.self.now.program.now reader (string_bytes c.push_print.new.out) more
             (due ∙ ap (λ (text : List ℕ). text ∷ more) (sym word)),
       ),
       λ call begun names. absurd (none call begun names),

@@ -2,7 +2,7 @@ use Rattle.std.proofs.Common.{◌≡◌, ◌∙◌, ◌++◌, List, [], Some, No
 use Rattle.std.specs.Option.{option_map_or}
 use Rattle.std.proofs.lemmas.Result.{on_ok_weaker}
 use Rattle.locks.specs.Theory.Written.{item_here, item_past}
-use Rattle.code.specs.declared.names.Names.{Names}
+use Rattle.code.specs.declared.names.ListingNames.{ListingNames}
 use Rattle.code.specs.Listing.{instr_text}
 use Rattle.report_trace.specs.Working.Told.{table_of, table_text}
 use Rattle.report_trace.proofs.Tables.{told_by, untold_without_places, untold_without_code, both_put, none_put, one_put}
@@ -34,7 +34,7 @@ returns-in-Some-get-2 c =
     on_ok_weaker c.push_instr.result
     (λ e. both_put (string_bytes c.args.out.now) (string_bytes c.push.new.out) (string_bytes c.push_instr.new.out) (table_text (table_of p) c.args.place)
     (instr_text x.code.now.names m c.args.place c.in-Some-get-2.instr.now) _ c.in_ok-push.ensures
-    (e ∙ ap (λ (n : Names). string_bytes c.push.new.out ++ instr_text n m c.args.place c.in-Some-get-2.instr.now) x.names)
+    (e ∙ ap (λ (n : ListingNames). string_bytes c.push.new.out ++ instr_text n m c.args.place c.in-Some-get-2.instr.now) x.names)
     (told ∙ ap (λ o. table_text (table_of p) c.args.place ++ option_map_or (instr_text x.code.now.names m c.args.place) o []) instr))
     c.push_instr.ensures
 

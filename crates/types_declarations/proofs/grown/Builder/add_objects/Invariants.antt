@@ -8,5 +8,5 @@ use Rattle.types_declarations.proofs.grown.Builder.add_objects.Given as goal
 
 abbrev pub invariant-loop-index : goal.invariant-loop-index
 invariant-loop-index l = record {
-  value : Some (core_of l.typed) ≡ with_objects (decls_of l.self.symbols.now) l.pool.place l.pool.number (map member_of l.pool.members.now) (Some (core_of l.fn.typed)) l.index;
+  value : Some (core_of l.program) ≡ with_objects (decls_of l.self.symbols.now) l.pool.place l.pool.number (map member_of l.pool.members.now) (Some (core_of l.fn.program)) l.index;
 }

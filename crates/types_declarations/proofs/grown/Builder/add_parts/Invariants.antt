@@ -9,6 +9,6 @@ use Rattle.types_declarations.proofs.grown.Builder.add_parts.Given as goal
 
 abbrev pub invariant-loop-place : goal.invariant-loop-place
 invariant-loop-place l = record {
-  value : with_members (decls_of l.self.symbols.now) (slot_of l.slot) l.place l.fields (Some (core_of l.typed)) (map member_of (drop l.place l.members)) ≡ with_members (decls_of l.self.symbols.now) (slot_of l.slot) 0 0 (Some (core_of l.fn.typed)) (map member_of l.members);
+  value : with_members (decls_of l.self.symbols.now) (slot_of l.slot) l.place l.fields (Some (core_of l.program)) (map member_of (drop l.place l.members)) ≡ with_members (decls_of l.self.symbols.now) (slot_of l.slot) 0 0 (Some (core_of l.fn.program)) (map member_of l.members);
   few : l.fields ≤ l.place;
 }

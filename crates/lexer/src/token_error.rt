@@ -1,0 +1,37 @@
+//! Why no token can be read.
+
+ghost use Rattle.std.specs.Prelude.{◌≡◌};
+ghost use Rattle.lexer.specs.declared.token_error.TokenError.TheVariants.{NoMemory};
+ghost use Rattle.lexer.specs.Working.Reading.{Refuses};
+
+use source::fault::{Code, Fault, Refusal};
+use std::alloc::{AllocError, Global};
+
+/// Why no token can be read. A fault is where the token begins, which the caller knows.
+#[derive(Debug, Drop)]
+pub enum TokenError {
+    /// No token, or one past a limit.
+    Bad(Code),
+    /// A growth was refused.
+    NoMemory,
+}
+
+impl From<AllocError> for TokenError {
+    ghost from_gives = { λ _ e. e ≡ NoMemory };
+
+    fn from(_e: AllocError) -> TokenError {
+        TokenError::NoMemory
+    }
+}
+
+impl TokenError {
+    /// The refusal for a token that begins at `start`.
+    pub fn at(self, alloc: Global, start: usize) -> Refusal
+        ensures { Refuses self start result }
+    {
+        match self {
+            TokenError::Bad(code) => Refusal::Fault(Fault::at(alloc, code, start)),
+            TokenError::NoMemory => Refusal::NoMemory,
+        }
+    }
+}

@@ -1,8 +1,0 @@
-use Rattle.std.proofs.Common.{◌≡◌, length, replicate, None}
-use Rattle.lock_manager.proofs.sections.Sections.none.Given as goal
-
-abbrev pub invariant-loop : goal.invariant-loop
-invariant-loop l = record {
-  slots : l.slots.items ≡ replicate l.counter None;
-  spare : length l.spare.items ≡ l.counter;
-}

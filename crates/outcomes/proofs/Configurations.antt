@@ -1,0 +1,279 @@
+-- Where the orders' calls lead.
+use Rattle.std.proofs.Common.{◌≡◌, ◌∙◌, ◌≢◌, ℕ, ◌+◌, ◌-◌, ◌*◌, ◌<◌, ◌≤◌, zero, suc, Bool, true, false, cond, List, [], ◌∷◌, ◌++◌, length, map, get_or, Option, Some, None, sum_by, nat_eq, ap, sym, subst, refl, arith, ◌⊎◌, inl, inr, length-append}
+use Rattle.std.specs.List.{All, AllPairs, Contains}
+use Rattle.std.proofs.lemmas.Bool.{cases_eq}
+use Rattle.std.proofs.lemmas.Bool.Decides.{Decides-eqb}
+use Rattle.std.proofs.lemmas.List.{length-map, get_or_default}
+use Rattle.std.proofs.lemmas.List.Elements.{All-append, Contains-append_left, Contains-append_right}
+use Rattle.std.proofs.lemmas.List.Sums.{sum_by-cons, get_or-le-sum_by}
+use Rattle.std.proofs.lemmas.List.{get_or-map}
+use Rattle.std.proofs.Math.ListN.{get_or-append}
+use Rattle.std.proofs.Math.Seq.{get_or-append_right}
+use Rattle.core_lang.specs.declared.value.Value.{Value}
+use Rattle.core_lang.specs.declared.typed.Typed.{Typed}
+use Rattle.core_lang.specs.Laws.{OverIsWhole, SettledAreSerial, HaveAtMostOneSerial}
+use Rattle.core_lang.specs.Serial.{Ended, SerialFromOpening, opening_heap}
+use Rattle.core_lang.specs.WellFormed.{calls_together}
+use Rattle.outcomes.specs.declared.search.Search.{Search}
+use Rattle.outcomes.specs.declared.search.Work.{Work}
+use Rattle.outcomes.specs.Working.Steps.{GoesOn, made_from_all}
+use Rattle.outcomes.specs.Orders.{none_done, orders_of, calls_in}
+use Rattle.outcomes.specs.Ends.{done_after, end_in, Configuration, LeadsTo, AreAllConfigurations, HasConfigurations}
+use Rattle.outcomes.specs.Working.States.{Reached, at, nowhere}
+use Rattle.outcomes.specs.Working.Searching.{Leads, Summand, order_at, IsGood, AreGood, weight, total}
+use Rattle.outcomes.proofs.Leading.{leads_serially, leads_made}
+use Rattle.outcomes.proofs.Full.{sums, fits, fits_made, made_few, made_in_order, leads_done}
+use Rattle.outcomes.proofs.Whole.{counted, unsettled_end, ends_as, no_end, settled_heap, some_term, passed, both_true, same_cells, cells_are, cells_same}
+
+-- ---- a layer has all configurations of its depth
+
+same_counts : List ℕ → List ℕ → Bool
+same_counts [] [] = true
+same_counts [] (y ∷ ys) = false
+same_counts (x ∷ xs) [] = false
+same_counts (x ∷ xs) (y ∷ ys) = cond (nat_eq x y) (same_counts xs ys) false
+
+counts_are : (xs ys : List ℕ) → same_counts xs ys ≡ true → xs ≡ ys
+unfolding same_counts
+counts_are [] [] same = refl
+counts_are [] (y ∷ ys) same = cc
+counts_are (x ∷ xs) [] same = cc
+counts_are (x ∷ xs) (y ∷ ys) same =
+    let both = both_true (nat_eq x y) (same_counts xs ys) same in
+    ap (λ z. z ∷ xs) ((Decides-eqb x y).0 both.0) ∙ ap (λ zs. y ∷ zs) (counts_are xs ys both.1)
+
+counts_same : (xs : List ℕ) → same_counts xs xs ≡ true
+unfolding same_counts
+counts_same [] = refl
+counts_same (x ∷ xs) = ap (λ b. cond b (same_counts xs xs) false) ((Decides-eqb x x).1 refl) ∙ counts_same xs
+
+-- the sum over a layer's states of those that pass a test
+passing : (List ℕ → Option (List Value) → Bool) → Reached → ℕ
+passing test s = cond (test s.done (Some s.cells)) s.orders 0
+
+tested : (List ℕ → Option (List Value) → Bool) → Summand
+tested test d o = cond (test d o) 1 0
+
+total_here : (program : Typed) (n : ℕ) (test : List ℕ → Option (List Value) → Bool) (layer : List Reached) →
+    total program n (tested test) 0 layer ≡ sum_by (passing test) layer
+unfolding passing tested
+total_here program n test [] = refl
+total_here program n test (s ∷ layer) =
+    let g : Reached → ℕ = λ s. s.orders * weight program n (tested test) 0 s.done s.cells in
+    sum_by-cons g s layer ∙ ap (λ x. x + sum_by g layer) (counted (test s.done (Some s.cells)) s.orders)
+    ∙ ap (λ x. passing test s + x) (total_here program n test layer) ∙ sym (sum_by-cons (passing test) s layer)
+
+none_pass : (test : List ℕ → Option (List Value) → Bool) (layer : List Reached) → ((d : List ℕ) (heap : List Value) → test d (Some heap) ≡ false) →
+    sum_by (passing test) layer ≡ 0
+unfolding passing
+none_pass test [] none = refl
+none_pass test (s ∷ layer) none =
+    sum_by-cons (passing test) s layer ∙ ap (λ b. cond b s.orders 0 + sum_by (passing test) layer) (none s.done s.cells)
+    ∙ ap (λ x. 0 + x) (none_pass test layer none)
+
+-- an order is in the sum where its end passes
+order_passes : (program : Typed) (n depth : ℕ) (test : List ℕ → Option (List Value) → Bool) (order : List ℕ) → Contains (orders_of program depth (none_done program)) order →
+    test (done_after (none_done program) order) (end_in program n order) ≡ true →
+    0 < weight program n (tested test) depth (none_done program) (opening_heap program)
+unfolding tested
+order_passes program n depth test order there passes =
+    let p : List ℕ → ℕ = λ o. cond (test (done_after (none_done program) o) (end_in program n o)) 1 0 in
+    let most = get_or-le-sum_by p (orders_of program depth (none_done program)) there.0 order there.1 in
+    let one : p (get_or (orders_of program depth (none_done program)) there.0 order) ≡ 1 = ap p there.2 ∙ ap (λ (b : Bool). cond b 1 0) passes in
+    omega (arith, most, one)
+
+unsettled : List ℕ → Option (List Value) → Bool
+unsettled d o = unsettled_end o
+
+ends_at : List ℕ → List Value → List ℕ → Option (List Value) → Bool
+ends_at done heap d o = cond (same_counts d done) (ends_as heap o) false
+
+pub layer_has : SettledAreSerial → HaveAtMostOneSerial → (program : Typed) (n depth : ℕ) (layer : List Reached) →
+    ((f : Summand) → total program n f 0 layer ≡ weight program n f depth (none_done program) (opening_heap program)) →
+    (order : List ℕ) (ends : List Ended) (heap : List Value) → length order ≡ depth → length (calls_in program order) ≡ length order →
+    SerialFromOpening program (calls_in program order) ends heap →
+    (k : ℕ) × (k < length layer) × ((at layer k).done ≡ done_after (none_done program) order) × ((at layer k).cells ≡ heap)
+unfolding unsettled ends_at unsettled_end ends_as passing
+layer_has settled once program n depth layer sums order ends heap long made serial =
+    let there : Contains (orders_of program depth (none_done program)) order =
+    subst (λ (k : ℕ). Contains (orders_of program k (none_done program)) order) long (made_in_order program (none_done program) order made) in
+    let none : weight program n (tested unsettled) depth (none_done program) (opening_heap program) ≡ 0 =
+    sym (sums (tested unsettled)) ∙ total_here program n unsettled layer ∙ none_pass unsettled layer (λ d h. refl) in
+    let ended = no_end (end_in program n order) (λ is. (let some = order_passes program n depth unsettled order there is in omega (arith, some, none))) in
+    let cells : ended.0 ≡ heap = settled_heap settled once program n (opening_heap program) heap ended.0 (calls_in program order) ends serial ended.1 in
+    let done = done_after (none_done program) order in
+    let passes : ends_at done heap done (end_in program n order) ≡ true =
+    ap (λ (b : Bool). cond b (ends_as heap (end_in program n order)) false) (counts_same done)
+    ∙ ap (ends_as heap) ended.1 ∙ ap (λ (c : List Value). same_cells c heap) cells ∙ cells_same heap in
+    let some = order_passes program n depth (ends_at done heap) order there passes in
+    let sum : total program n (tested (ends_at done heap)) 0 layer ≡ weight program n (tested (ends_at done heap)) depth (none_done program) (opening_heap program) =
+    sums (tested (ends_at done heap)) in
+    let here = total_here program n (ends_at done heap) layer in
+    let term = some_term (passing (ends_at done heap)) layer (omega (arith, some, sum, here)) in
+    let s = term.1 in
+    let both = both_true (same_counts s.done done) (same_cells s.cells heap) (passed (ends_at done heap s.done (Some s.cells)) s.orders term.4) in
+    let is : at layer term.0 ≡ s = get_or_default layer term.0 nowhere s term.2 ∙ term.3 in
+    (term.0, term.2, ap (λ (r : Reached). r.done) is ∙ counts_are s.done done both.0, ap (λ (r : Reached). r.cells) is ∙ cells_are s.cells heap both.1)
+
+-- ---- the configurations so far
+
+abbrev pub configuration_of : Reached → Configuration
+configuration_of s = record { done = s.done; cells = s.cells }
+
+-- an order of fewer than so many calls leads there
+unfoldable pub IsLedBelow : Typed → ℕ → ℕ → Configuration → Type 0
+IsLedBelow program n depth configuration =
+    (order : List ℕ) × (length order < depth) × Leads program n (none_done program) (opening_heap program) order configuration.done configuration.cells
+
+-- the configurations that orders of fewer than so many calls lead to, each once
+pub record AreConfigurationsBelow (program : Typed) (n depth : ℕ) (configurations : List Configuration) : Type 0 where
+  pub each : All (IsLedBelow program n depth) configurations
+  pub apart : AllPairs (λ (a b : Configuration). a ≢ b) configurations
+  pub all : (order : List ℕ) (ends : List Ended) (heap : List Value) → length order < depth → length (calls_in program order) ≡ length order →
+      SerialFromOpening program (calls_in program order) ends heap → Contains configurations (record { done = done_after (none_done program) order; cells = heap })
+
+pub no_places : (program : Typed) (n : ℕ) → AreConfigurationsBelow program n 0 []
+no_places program n =
+    record {
+      each = λ k d within. absurd (omega arith);
+      apart = λ j k d below within. absurd (omega arith);
+      all = λ order ends heap short. absurd (omega arith);
+    }
+
+less_or_not : (a b : ℕ) → (a < b) ⊎ (b ≤ a)
+less_or_not zero zero = inr (omega arith)
+less_or_not zero (suc b) = inl (omega arith)
+less_or_not (suc a) zero = inr (omega arith)
+less_or_not (suc a) (suc b) = elim (less_or_not a b) [ inl less ↦ inl (omega arith) | inr not ↦ inr (omega arith) ]
+
+-- what stands in two lists, one after the other, stands in one of them
+stands_in : (xs ys : List Configuration) (k : ℕ) (d : Configuration) → k < length (xs ++ ys) →
+    ((k < length xs) × (get_or (xs ++ ys) k d ≡ get_or xs k d)) ⊎ ((length xs ≤ k) × (k - length xs < length ys) × (get_or (xs ++ ys) k d ≡ get_or ys (k - length xs) d))
+stands_in xs ys k d within =
+    let long : length (xs ++ ys) ≡ length xs + length ys = length-append xs ys in
+    elim (less_or_not k (length xs)) [
+      | inl less ↦ inl (less, get_or-append xs ys d k less)
+      | inr not ↦ inr (not, omega (arith, within, long, not), get_or-append_right xs ys k d not)
+    ]
+
+-- the configurations of a layer
+layer_place : (layer : List Reached) (k : ℕ) (d : Configuration) → k < length (map configuration_of layer) → get_or (map configuration_of layer) k d ≡ configuration_of (at layer k)
+layer_place layer k d within = get_or-map configuration_of layer k nowhere d (rw length-map at within)
+
+led_further : (program : Typed) (n depth : ℕ) (configurations : List Configuration) → All (IsLedBelow program n depth) configurations → All (IsLedBelow program n (depth + 1)) configurations
+unfolding IsLedBelow
+led_further program n depth configurations each k d within =
+    let led = each k d within in (led.0, (let short = led.1 in omega arith), led.2)
+
+layer_led : (program : Typed) (n depth : ℕ) (trail : List (List ℕ)) (layer : List Reached) → AreGood program n depth trail layer →
+    All (IsLedBelow program n (depth + 1)) (map configuration_of layer)
+unfolding IsLedBelow
+layer_led program n depth trail layer good k d within =
+    let inside : k < length layer = rw length-map at within in
+    let one = good.each k inside in
+    subst (IsLedBelow program n (depth + 1)) (sym (layer_place layer k d within))
+    (order_at trail (at layer k).first, (let long = one.long in omega arith), one.leads)
+
+-- of fewer calls, or of other cells
+earlier_apart : (program : Typed) (n depth : ℕ) (trail : List (List ℕ)) (s : Reached) (configuration : Configuration) → IsLedBelow program n depth configuration → IsGood program n depth trail s →
+    configuration ≢ configuration_of s
+unfolding IsLedBelow
+earlier_apart program n depth trail s configuration led good same =
+    let few = (fits program n (opening_heap program) led.0 configuration.done configuration.cells led.2).2 in
+    let many = (fits program n (opening_heap program) (order_at trail s.first) s.done s.cells good.leads).2 in
+    let short = led.1 in
+    let long = good.long in
+    let sum : sums configuration.done ≡ sums s.done = ap (λ (p : Configuration). sums p.done) same in
+    omega arith
+
+layer_apart : (program : Typed) (n depth : ℕ) (trail : List (List ℕ)) (layer : List Reached) → AreGood program n depth trail layer →
+    AllPairs (λ (a b : Configuration). a ≢ b) (map configuration_of layer)
+layer_apart program n depth trail layer good j k d below within same =
+    let inside : k < length layer = rw length-map at within in
+    let early : j < length (map configuration_of layer) = omega arith in
+    let is : configuration_of (at layer j) ≡ configuration_of (at layer k) = sym (layer_place layer j d early) ∙ same ∙ layer_place layer k d within in
+    good.apart j k below inside (ap (λ (p : Configuration). p.done) is, ap (λ (p : Configuration). p.cells) is)
+
+both_apart : (program : Typed) (n depth : ℕ) (trail : List (List ℕ)) (layer : List Reached) (configurations : List Configuration) → AreGood program n depth trail layer →
+    AreConfigurationsBelow program n depth configurations → AllPairs (λ (a b : Configuration). a ≢ b) (configurations ++ map configuration_of layer)
+both_apart program n depth trail layer configurations good before j k d below within same =
+    let ys = map configuration_of layer in
+    let early : j < length (configurations ++ ys) = omega arith in
+    elim (stands_in configurations ys k d within) [
+      | inl herek ↦ (elim (stands_in configurations ys j d early) [
+        | inl herej ↦ before.apart j k d below herek.0 (sym herej.1 ∙ same ∙ herek.1)
+        | inr therej ↦ absurd (let least = therej.0 in let less = herek.0 in omega arith)
+      ])
+      | inr therek ↦ (elim (stands_in configurations ys j d early) [
+        | inl herej ↦ (let inside : k - length configurations < length layer = rw length-map at therek.1 in
+            earlier_apart program n depth trail (at layer (k - length configurations)) (get_or configurations j d) (before.each j d herej.0) (good.each (k - length configurations) inside)
+            (sym herej.1 ∙ same ∙ therek.2 ∙ layer_place layer (k - length configurations) d therek.1))
+        | inr therej ↦ layer_apart program n depth trail layer good (j - length configurations) (k - length configurations) d
+            (let a = therej.0 in let b = therek.0 in omega arith) therek.1 (sym therej.2 ∙ same ∙ therek.2)
+      ])
+    ]
+
+abbrev configuration_at : List ℕ → List Value → Configuration
+configuration_at done cells = record { done = done; cells = cells }
+
+place_is : (a b : List ℕ) (c d : List Value) → a ≡ b → c ≡ d → configuration_at a c ≡ configuration_at b d
+place_is a b c d first second = ap (λ (x : List ℕ). configuration_at x c) first ∙ ap (configuration_at b) second
+
+pub places_more : SettledAreSerial → HaveAtMostOneSerial → (program : Typed) (n depth : ℕ) (trail : List (List ℕ)) (layer : List Reached) (configurations : List Configuration) →
+    AreGood program n depth trail layer →
+    ((f : Summand) → total program n f 0 layer ≡ weight program n f depth (none_done program) (opening_heap program)) →
+    AreConfigurationsBelow program n depth configurations → AreConfigurationsBelow program n (depth + 1) (configurations ++ map configuration_of layer)
+places_more settled once program n depth trail layer configurations good sums before =
+    record {
+      each = All-append (IsLedBelow program n (depth + 1)) configurations (map configuration_of layer) (led_further program n depth configurations before.each)
+          (layer_led program n depth trail layer good);
+      apart = both_apart program n depth trail layer configurations good before;
+      all = λ order ends heap short made serial. elim (less_or_not (length order) depth) [
+        | inl less ↦ Contains-append_left configurations (map configuration_of layer) _ (before.all order ends heap less made serial)
+        | inr not ↦ (let there = layer_has settled once program n depth layer sums order ends heap (omega arith) made serial in
+            let configuration : Configuration = record { done = done_after (none_done program) order; cells = heap } in
+            let inside : there.0 < length (map configuration_of layer) = (let w = there.1 in rw length-map w) in
+            Contains-append_right configurations (map configuration_of layer) configuration
+            (there.0, inside, layer_place layer there.0 configuration inside ∙ place_is _ _ _ _ there.2 there.3))
+      ];
+    }
+
+pub all_places : OverIsWhole → (program : Typed) (n depth : ℕ) (configurations : List Configuration) → depth ≡ calls_together program.threads.items →
+    AreConfigurationsBelow program n (depth + 1) configurations → AreAllConfigurations program configurations
+unfolding IsLedBelow
+all_places law program n depth configurations all below =
+    record {
+      each = λ k d within. (let led = below.each k d within in
+          let configuration = get_or configurations k d in
+          let serial = leads_serially law program n (none_done program) (opening_heap program) led.0 configuration.done configuration.cells led.2 in
+          record {
+            order = led.0;
+            made = leads_made program n (none_done program) (opening_heap program) led.0 configuration.done configuration.cells led.2;
+            done = leads_done program n (none_done program) (opening_heap program) led.0 configuration.done configuration.cells led.2;
+            ends = serial.0;
+            serial = serial.1;
+          });
+      apart = below.apart;
+      all = λ configuration there. (let few = made_few program there.order there.made in
+          subst (Contains configurations) (place_is _ _ _ _ there.done refl)
+          (below.all there.order there.ends configuration.cells (omega arith) there.made there.serial));
+    }
+
+pub has_places : OverIsWhole → SettledAreSerial → HaveAtMostOneSerial → (program : Typed) (n depth count : ℕ) (trail : List (List ℕ)) (layer : List Reached) (configurations : List Configuration) →
+    depth ≡ calls_together program.threads.items → AreGood program n depth trail layer →
+    ((f : Summand) → total program n f 0 layer ≡ weight program n f depth (none_done program) (opening_heap program)) →
+    AreConfigurationsBelow program n depth configurations → length configurations + length layer ≡ count → HasConfigurations program count
+has_places law settled once program n depth count trail layer configurations all good sums before sum =
+    let ys = map configuration_of layer in
+    let long : length (configurations ++ ys) ≡ length configurations + length ys = length-append configurations ys in
+    let same : length ys ≡ length layer = length-map layer configuration_of in
+    (configurations ++ ys, all_places law program n depth (configurations ++ ys) all (places_more settled once program n depth trail layer configurations good sums before), omega arith)
+
+pub before_more : (search : Search) (old new : Work) (configurations : List Configuration) (layer : List Reached) → GoesOn search old new (made_from_all search layer) → old.next ≡ [] →
+    length configurations + length layer ≡ length old.trail → length (configurations ++ map configuration_of layer) + length new.next ≡ length new.trail
+before_more search old new configurations layer goes empty before =
+    let grown = goes.grown in
+    let none : length old.next ≡ 0 = ap length empty in
+    let long : length (configurations ++ map configuration_of layer) ≡ length configurations + length (map configuration_of layer) = length-append configurations (map configuration_of layer) in
+    let same : length (map configuration_of layer) ≡ length layer = length-map layer configuration_of in
+    omega arith
