@@ -5,4 +5,3 @@ pub mod AlikeLaws
 pub mod points
 pub mod runs
 pub mod Indexes
-pub mod Written

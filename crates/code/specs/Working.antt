@@ -7,3 +7,4 @@ pub mod Ahead
 pub mod PointLaws
 pub mod RunLaws
 pub mod Naming
+pub mod Listers

@@ -5,7 +5,7 @@
 //! - [`run_laws`]: a section's code behaves as the section.
 //! - [`instr::Instr`]: one instruction.
 //! - [`section_code::ProgramCode`]: the code of a program.
-//! - [`listing`]: its listing, a line for each instruction.
+//! - [`listing`]: its listing, a line for each instruction. [`Lister`]: single instructions, as it has them.
 //!
 //! `specs/` says what an instruction does over any memory (`Machine`), which memories there are (`Memory`) and what is
 //! seen of them (`Seen`), which instructions a section is (`Lowering`), where those of its points begin (`Spots`),
@@ -22,4 +22,4 @@ pub mod point_laws;
 pub mod run_laws;
 pub mod section_code;
 
-pub use lines::listing;
+pub use lines::{Lister, listing, push_named};

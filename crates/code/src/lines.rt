@@ -1,17 +1,19 @@
 //! The listing of a program's code, put together piece by piece. The one error is a refused growth.
 
-ghost use Rattle.std.specs.Prelude.{◌≡◌, ◌+◌, ◌++◌, codes, OnOk, IfOk, string_bytes};
+ghost use Rattle.std.specs.Prelude.{◌≡◌, ◌+◌, ◌++◌, codes, map, OnOk, IfOk, string_bytes};
 ghost use Rattle.std.specs.Fmt.{decimal};
 ghost use Rattle.std.proofs.Props.{props};
-ghost use Rattle.code.specs.Listing.{named, global_text, final_text, where_text, field_text, operator_text, comparison_text, paths_text, acquired_text, instr_text, code_text, section_text, listing_text};
+ghost use Rattle.code.specs.Listing.{named, global_text, final_text, where_text, field_text, operator_text, comparison_text, paths_text, acquired_text, code_text, section_text, listing_text};
 ghost use Rattle.locks.specs.Texts.{AddsText};
-ghost use Rattle.code.specs.Working.Naming.{IsIndexOf, IsMnemonic, operand_text};
+ghost use Rattle.rope.specs.Working.Ropes.{rope_text, Grows, AddsTo};
+ghost use Rattle.code.specs.Working.Naming.{IsIndexOf, IsMnemonic, HasNames, AddsBare, operand_text, asked_text, line_text};
 
 use crate::instr::Instr;
 use crate::names::{GlobalName, ListingNames};
 use crate::section_code::{ProgramCode, SectionCode};
 use core_lang::tree::{Comparison, Operator};
 use indexmap::IndexMap;
+use rope::Rope;
 use source::memory::NoMemory;
 use std::alloc::{AllocError, Global};
 
@@ -22,8 +24,8 @@ fn push_number(out: &mut String, number: usize) -> Result<(), AllocError>
     write!(out, "{number}")
 }
 
-/// A name by its number.
-fn push_named(out: &mut String, names: &[String], number: usize) -> Result<(), AllocError>
+/// A name by its number, if there is one. The one error is a refused growth.
+pub fn push_named(out: &mut String, names: &[String], number: usize) -> Result<(), AllocError>
     ensures { OnOk result (AddsText (named names.now number) out.old out.new) }
 {
     match names.get(number) {
@@ -117,24 +119,37 @@ fn mnemonic(instr: Instr) -> &'static str
 }
 
 impl SectionCode {
-    // Lock paths, a space before each.
-    fn push_paths(&self, out: &mut String, list: &[u8]) -> Result<(), AllocError>
-        ensures { OnOk result (AddsText (paths_text self.now list.now) out.old out.new) }
+    // Lock paths, a space before each, from the group of parts of this number.
+    fn push_paths(&self, out: &mut Rope, group: usize, list: &[u8]) -> Result<(), AllocError>
+        requires { HasNames self.now group out.old }
+        ensures { OnOk result (AddsTo (paths_text self.now list.now) out.old out.new) }
     {
         for number in list {
             out.push_str(" ")?;
-            push_named(out, &self.paths, *number as usize)?;
+            out.push_part(group, *number as usize)?;
         }
         Ok(())
     }
 
     // The lock paths before a point.
-    fn push_acquired(&self, out: &mut String, point: usize) -> Result<(), AllocError>
-        ensures { OnOk result (AddsText (acquired_text self.now point) out.old out.new) }
+    fn push_acquired(&self, out: &mut Rope, group: usize, point: usize) -> Result<(), AllocError>
+        requires { HasNames self.now group out.old }
+        ensures { OnOk result (AddsTo (acquired_text self.now point) out.old out.new) }
     {
         match self.lists.get(point) {
-            Some(list) => self.push_paths(out, list),
+            Some(list) => self.push_paths(out, group, list),
             None => Ok(()),
+        }
+    }
+
+    // The lock paths that an instruction asks for.
+    fn push_asked(&self, out: &mut Rope, group: usize, instr: Instr) -> Result<(), AllocError>
+        requires { HasNames self.now group out.old }
+        ensures { OnOk result (AddsTo (asked_text self.now instr) out.old out.new) }
+    {
+        match instr {
+            Instr::Acquire(point) => self.push_acquired(out, group, point),
+            _ => Ok(()),
         }
     }
 }
@@ -154,9 +169,9 @@ fn index_by_cell<'a>(
     Ok(index)
 }
 
-/// What the lines are made from beside the sections.
+/// What the texts of instructions are made from beside the sections.
 #[derive(Drop)]
-struct Lister<'a> {
+pub struct Lister<'a> {
     /// The names of the program.
     names: &'a ListingNames,
     /// For each cell the first global that has it. A line may name any global, so the globals are not gone through.
@@ -165,9 +180,11 @@ struct Lister<'a> {
 }
 
 impl<'a> Lister<'a> {
-    // A lister of code with these names.
-    fn new(alloc: Global, names: &'a ListingNames) -> Result<Lister<'a>, AllocError>
-        ensures { IfOk result (λ lister. lister.names.now ≡ names.now) }
+    ghost use Rattle.code.specs.Working.Listers.{names_of};
+
+    /// Of code with these names. The one error is a refused growth.
+    pub fn new(alloc: Global, names: &'a ListingNames) -> Result<Lister<'a>, AllocError>
+        ensures { IfOk result (λ lister. names_of lister ≡ names.now) }
     {
         let globals = index_by_cell(alloc, &names.globals)?;
         Ok(Lister { names, globals })
@@ -218,15 +235,9 @@ impl<'a> Lister<'a> {
         }
     }
 
-    // What stands behind the word of an instruction at this place of a section.
-    fn push_operand(
-        &self,
-        out: &mut String,
-        section: &SectionCode,
-        place: usize,
-        instr: Instr,
-    ) -> Result<(), AllocError>
-        ensures { OnOk result (AddsText (operand_text self.now.names.now section.now place instr) out.old out.new) }
+    // What stands behind the word of an instruction at this place of a section, but for lock paths.
+    fn push_operand(&self, out: &mut String, place: usize, instr: Instr) -> Result<(), AllocError>
+        ensures { OnOk result (AddsText (operand_text self.now.names.now place instr) out.old out.new) }
     {
         match instr {
             Instr::PushNumber(number) => write!(out, "{number}"),
@@ -249,58 +260,90 @@ impl<'a> Lister<'a> {
                 push_target(out, place, over)
             }
             Instr::JumpBack(back) => push_number(out, place.saturating_sub(back)),
-            Instr::Acquire(point) => section.push_acquired(out, point),
-            // the others are words alone
+            // the others are words alone, but for the lock paths of an `acquire`
             _ => Ok(()),
         }
     }
 
-    // An instruction, which stands at this place of a section.
-    fn push_instr(
+    /// An instruction, which stands at this place of a section, but for the lock paths that it asks for.
+    pub fn push_instr(&self, out: &mut String, place: usize, instr: Instr) -> Result<(), AllocError>
+        ensures { OnOk result (AddsBare (names_of self.now) place instr out.old out.new) }
+    {
+        out.push_str(mnemonic(instr))?;
+        self.push_operand(out, place, instr)
+    }
+
+    // The line of an instruction. What stands in `line` doesn't matter.
+    fn push_line(
         &self,
-        out: &mut String,
+        out: &mut Rope,
+        line: &mut String,
         section: &SectionCode,
+        group: usize,
         place: usize,
         instr: Instr,
     ) -> Result<(), AllocError>
-        ensures { OnOk result (AddsText (instr_text self.now.names.now section.now place instr) out.old out.new) }
+        requires { HasNames section.now group out.old }
+        ensures { OnOk result (AddsTo (line_text self.now.names.now section.now place instr) out.old out.new) }
     {
-        out.push_str(mnemonic(instr))?;
-        self.push_operand(out, section, place, instr)
+        line.clear();
+        self.push_instr(line, place, instr)?;
+        out.push_number(place)?;
+        out.push_str(" ")?;
+        out.push_str(line)?;
+        section.push_asked(out, group, instr)?;
+        out.push_str("\n")
     }
 
     // The lines of a section's instructions.
-    fn push_instrs(&self, out: &mut String, section: &SectionCode) -> Result<(), AllocError>
-        ensures { OnOk result (AddsText (code_text self.now.names.now section.now) out.old out.new) }
+    fn push_instrs(
+        &self,
+        alloc: Global,
+        out: &mut Rope,
+        section: &SectionCode,
+        group: usize,
+    ) -> Result<(), AllocError>
+        requires { HasNames section.now group out.old }
+        ensures { OnOk result (AddsTo (code_text self.now.names.now section.now) out.old out.new) }
     {
+        let mut line = String::new(alloc);
         for (place, instr) in section.instructions.iter().enumerate() {
-            push_number(out, place)?;
-            out.push_str(" ")?;
-            self.push_instr(out, section, place, *instr)?;
-            out.push_str("\n")?;
+            self.push_line(out, &mut line, section, group, place, *instr)?;
         }
         Ok(())
     }
 
     // The lines of a section.
-    fn push(&self, out: &mut String, section: &SectionCode) -> Result<(), AllocError>
-        ensures { OnOk result (AddsText (section_text self.now.names.now section.now) out.old out.new) }
+    fn push(&self, alloc: Global, out: &mut Rope, section: &SectionCode) -> Result<(), AllocError>
+        ensures { OnOk result (Grows (section_text self.now.names.now section.now) out.old out.new) }
     {
+        let group = out.keep(copies(alloc, &section.paths)?)?;
         out.push_str("section ")?;
         out.push_str(section.name.as_str())?;
         out.push_str("\n")?;
-        self.push_instrs(out, section)
+        self.push_instrs(alloc, out, section, group)
     }
 }
 
+// Copies of texts.
+fn copies(alloc: Global, texts: &[String]) -> Result<Vec<String>, AllocError>
+    ensures { IfOk result (λ copies. map string_bytes copies.items ≡ map string_bytes texts.now) }
+{
+    let mut copies = Vec::with_capacity(alloc, texts.len())?;
+    for text in texts {
+        copies.push(String::from_str(alloc, text.as_str())?)?;
+    }
+    Ok(copies)
+}
+
 /// The instructions of each section, a line for each with its place. The only error is a refused growth.
-pub fn listing(alloc: Global, code: &ProgramCode) -> Result<String, NoMemory>
-    ensures { IfOk result (λ listed. string_bytes listed ≡ listing_text code.now) }
+pub fn listing(alloc: Global, code: &ProgramCode) -> Result<Rope, NoMemory>
+    ensures { IfOk result (λ listed. rope_text listed ≡ listing_text code.now) }
 {
     let lister = Lister::new(alloc, &code.names)?;
-    let mut out = String::new(alloc);
+    let mut out = Rope::new(alloc);
     for section in &code.sections {
-        lister.push(&mut out, section)?;
+        lister.push(alloc, &mut out, section)?;
     }
     Ok(out)
 }

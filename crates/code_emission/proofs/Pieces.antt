@@ -21,6 +21,7 @@ use Rattle.code_emission.specs.declared.emitter.Emitter.{Emitter}
 use Rattle.code_emission.specs.Working.Assembly.{Adds, field_code, jump_of, decided, blank, places, pointed, closed}
 use Rattle.code_emission.specs.Working.CodeLists.{operations_code}
 use Rattle.code_emission.specs.Working.Emission.{lists_of, Emits, Opens, condition_code}
+use Rattle.core_lang.specs.Theory.Items.{drop_past, next_of}
 
 -- ---- what is put behind what there is
 
@@ -71,17 +72,8 @@ module _ (a b : Emitter) (x : Emits a b 1 (λ ls p. acquire_code ls p)) where
 
 -- ---- one turn of a loop over what is left
 
-next_of : {A : Type 0} (xs : List A) (i : ℕ) (x : A) → i < length xs → x ≡ get_or xs i x → drop i xs ≡ x ∷ drop (i + 1) xs
-next_of {A = A} xs i x lt is = drop-cons xs i x lt ∙ ap (λ (y : A). y ∷ drop (suc i) xs) (sym is) ∙ ap (λ (k : ℕ). x ∷ drop k xs) (sym (add-one i))
-
 next_or : {A : Type 0} (xs : List A) (i : ℕ) (d : A) → i < length xs → drop i xs ≡ get_or xs i d ∷ drop (i + 1) xs
 next_or xs i d lt = drop-cons xs i d lt ∙ ap (λ (k : ℕ). get_or xs i d ∷ drop k xs) (sym (add-one i))
-
-drop_past : {A : Type 0} (xs : List A) (i : ℕ) → length xs ≤ i → drop i xs ≡ []
-drop_past [] zero h = refl
-drop_past [] (suc i) h = refl
-drop_past (x ∷ xs) zero h = absurd (omega arith)
-drop_past (x ∷ xs) (suc i) h = drop_past xs i (omega arith)
 
 -- nothing is left
 pub none_left : {A B : Type 0} (all : List A → List B) (xs : List A) (i : ℕ) (done whole : List B) → length xs ≤ i → all [] ≡ [] → done ++ all (drop i xs) ≡ whole → done ≡ whole

@@ -31,6 +31,7 @@ use Rattle.locks.specs.Accesses.{Access, Target, global as at_global, element as
 use Rattle.locks.specs.Locks.{protection_of}
 use Rattle.locks.specs.LockPaths.{StablePath, OwnerPath, is_fixed, all_final, stable, stable_value, owner_of, owned_path, Binding, binding_at, bindings, or_behind, replaced, all_replaced, normal_form, extended, normal_base, LockPath, global_path, under, class_if_global, target_path, lock_path, paths_of, each_once}
 use Rattle.locks.specs.Faults.{HasSection, IsFault, Named, where_at, IsUnstable, IsUnstableOwner, IsOverLimit, unstable, unstable_owner, one_too_many, unstable_base, unstable_owner_base, over_limit}
+use Rattle.core_lang.specs.Theory.Items.{get_mapped}
 
 -- ---- lists and lookups seen by a view
 
@@ -41,18 +42,12 @@ mapped_append : {A B : Type 0} (f : A → B) (xs ys : List A) → map f (xs ++ y
 mapped_append f [] ys = refl
 mapped_append f (x ∷ xs) ys = ap (λ zs. f x ∷ zs) (mapped_append f xs ys)
 
--- what the view of a list has at a place
-pub mapped_at : {A B : Type 0} (f : A → B) (xs : List A) (k : ℕ) → slice_get (map f xs) k ≡ option_map f (slice_get xs k)
-mapped_at f [] k = refl
-mapped_at f (x ∷ xs) zero = refl
-mapped_at f (x ∷ xs) (suc k) = mapped_at f xs k
-
 looked : {A B C : Type 0} (f : A → B) (o : Option A) (g : B → Option C) → lookup (option_map f o) g ≡ lookup o (λ x. g (f x))
 looked f (Some x) g = refl
 looked f None g = refl
 
 pub looked_at : {A B C : Type 0} (f : A → B) (xs : List A) (k : ℕ) (g : B → Option C) → lookup (slice_get (map f xs) k) g ≡ lookup (slice_get xs k) (λ x. g (f x))
-looked_at f xs k g = ap (λ o. lookup o g) (mapped_at f xs k) ∙ looked f (slice_get xs k) g
+looked_at f xs k g = ap (λ o. lookup o g) (get_mapped f xs k) ∙ looked f (slice_get xs k) g
 
 viewed : {A B C : Type 0} (f : B → C) (o : Option A) (g : A → Option B) → option_map f (lookup o g) ≡ lookup o (λ x. option_map f (g x))
 viewed f (Some x) g = refl
@@ -465,8 +460,8 @@ module _ (program other : Typed) (same : core_of program ≡ core_of other) wher
       → (y : the_section.Section) × (slice_get other.sections.items k ≡ Some y) × (core_section x ≡ core_section y)
   section_at k x at =
       let seen : slice_get (map core_section other.sections.items) k ≡ Some (core_section x) =
-      ap (λ (p : Program). slice_get p.sections k) (sym same) ∙ mapped_at core_section program.sections.items k ∙ ap (option_map core_section) at in
-      let found = viewed_as core_section (slice_get other.sections.items k) (core_section x) (sym (mapped_at core_section other.sections.items k) ∙ seen) in
+      ap (λ (p : Program). slice_get p.sections k) (sym same) ∙ get_mapped core_section program.sections.items k ∙ ap (option_map core_section) at in
+      let found = viewed_as core_section (slice_get other.sections.items k) (core_section x) (sym (get_mapped core_section other.sections.items k) ∙ seen) in
       (found.0, found.1, sym found.2)
 
   section_alike : (x : the_section.Section) → HasSection program x → (y : the_section.Section) × HasSection other y × (core_section x ≡ core_section y)

@@ -13,7 +13,7 @@ use Rattle.core_lang.specs.Meaning.{deepest}
 use Rattle.core_lang.specs.WrittenLocals.{LocalData, local_data, parameter_data, own_local, hidden_local, Brought, locals_by, locals_in, locals_in_all, brought_by, brought, written_locals, AreWrittenLocals}
 use Rattle.resolution.specs.Core.{Action, bind, call, if_true, if_else, while_true, Stmts, no_stmts, stmt, Local, Section}
 use Rattle.resolution.specs.CoreViews.{core_action, core_stmts_row, core_stmts, core_local, core_section}
-use Rattle.compiler.proofs.Alike.{mapped_at}
+use Rattle.core_lang.specs.Theory.Items.{get_mapped}
 
 -- ---- over resolved programs
 
@@ -85,7 +85,7 @@ own_is (Some l) = refl
 own_is None = refl
 
 own_at : (own : List the_local.Local) (k : ℕ) → map local_of (own_local (slice_get own k)) ≡ own_out (slice_get (map core_local own) k)
-own_at own k = own_is (slice_get own k) ∙ ap own_out (sym (mapped_at core_local own k))
+own_at own k = own_is (slice_get own k) ∙ ap own_out (sym (get_mapped core_local own k))
 
 hidden_is : (t : Option ValueType) → map local_of (hidden_local t) ≡ hidden_out t
 hidden_is (Some t) = refl
@@ -153,7 +153,7 @@ brings_are shape (suc depth) k =
     ∙ ap (λ o. brings_if o (λ h. record {
       locals = map as_let (take h.parameters h.locals) ++ all_locals_out (brings_out helpers depth) h.locals h.body;
       result_type = h.result_type;
-    })) (sym (mapped_at core_section shape.helpers.items k))
+    })) (sym (get_mapped core_section shape.helpers.items k))
 
 section_locals_are : (shape : Shape) (x : the_section.Section) → map local_of (written_locals shape x) ≡ section_locals (map core_section shape.helpers.items) (core_section x)
 section_locals_are shape x =

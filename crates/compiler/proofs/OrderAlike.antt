@@ -25,7 +25,8 @@ use Rattle.locks.specs.Texts.{or_nothing, lock_name, struct_name, class_text, cl
 use Rattle.lockorder.specs.Ranks.{LeadTo, IsCycle}
 use Rattle.lockorder.specs.Edges.{UsesClass, BindsClass, Makes, Edge}
 use Rattle.lockorder.specs.Faults.{arrows, cycle_text, second, StartsAt, IsFault, cycle}
-use Rattle.compiler.proofs.Alike.{mapped_at, looked_at, viewed_as, Spot, at_statement, at_return, spot, spots, points_alike, accesses_of_spot, accesses_at_alike, section_at, paths_same}
+use Rattle.compiler.proofs.Alike.{looked_at, viewed_as, Spot, at_statement, at_return, spot, spots, points_alike, accesses_of_spot, accesses_at_alike, section_at, paths_same}
+use Rattle.core_lang.specs.Theory.Items.{get_mapped}
 
 -- ---- skeletons of what is resolved
 
@@ -172,7 +173,7 @@ module _ (program other : Typed) (same : core_of program ≡ core_of other) wher
         → (found : Point) × (slice_get (points y) p ≡ Some found) × (spot found ≡ spot point)
     point_at p point at =
         viewed_as spot (slice_get (points y) p) (spot point)
-        (sym (mapped_at spot (points y) p) ∙ ap (λ list. slice_get list p) (sym spots_same) ∙ mapped_at spot (points x) p ∙ ap (option_map spot) at)
+        (sym (get_mapped spot (points y) p) ∙ ap (λ list. slice_get list p) (sym spots_same) ∙ get_mapped spot (points x) p ∙ ap (option_map spot) at)
 
     used_same : (p q : Point) → spot q ≡ spot p → paths_of program x (accesses_at p) ≡ paths_of other y (accesses_at q)
     used_same p q seen =

@@ -20,11 +20,9 @@ use Rattle.core_lang.specs.Expansion as x
 use Rattle.core_lang.specs.Expansion.{Pair, pair, At, behind_bound, behind_block, parameters_at, entered, one, RenamesPath, Renames, RenamesEach, RenamesTest, RenamesTests, RenamesResult, Arguments, Bound, Bodies, Writes, WritesRow, WritesAll, HelpersWritten, IsWrittenOut}
 use Rattle.resolution.specs.Core.{Path, Expr, number, null, place, global, element, member, negate, owned, chain, Operations, no_operations, operation, Condition, compare, negation, all_of, any_of, Conditions, no_conditions, condition, Action, bind, set_local, set_global, set_element, set_field, call, print, if_true, if_else, while_true, Stmts, no_stmts, stmt, Return, Section}
 use Rattle.resolution.specs.CoreViews.{core_path, core_expr, core_operations_row, core_condition, core_conditions_row, core_action, core_stmts_row, core_stmts, core_return, core_section}
+use Rattle.core_lang.specs.Theory.Items.{not_in_none}
 
 -- ---- lists
-
-not_in_none : {X : Type 0} (x : X) → Contains [] x → ⊥
-not_in_none x c = omega (arith, c.1)
 
 -- ---- locals by their new numbers
 

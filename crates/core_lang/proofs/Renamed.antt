@@ -20,6 +20,7 @@ use Rattle.core_lang.specs.Arithmetic.{negated, compared}
 use Rattle.core_lang.specs.Cells.{with, found, at_index, element_cell, reference_to, member_of, object_of, field_cell, final_value, if_named, owned, read, step_value}
 use Rattle.core_lang.specs.Meaning.{along, place_of, joined, value_of, chained, and_then, or_else, truth_of, all_true, any_true}
 use Rattle.core_lang.specs.Expansion.{Pair, pair, RenamesPath, Renames, RenamesEach, RenamesTest, RenamesTests, ArrayData, array_data, PoolData, pool_data, HasSamePlaces}
+use Rattle.core_lang.specs.Theory.Items.{get_mapped}
 
 -- each local in scope has the value of the one that stands for it
 abbrev pub Agree : List Pair → List Value → List Value → Type 0
@@ -29,11 +30,6 @@ Agree scope locals locals' =
 with_same : {A B : Type 0} (r : Result A Failure) (f g : A → Result B Failure) → ((a : A) → f a ≡ g a) → with r f ≡ with r g
 with_same (Ok a) f g h = h a
 with_same (Err e) f g h = refl
-
-get_mapped : {A B : Type 0} (f : A → B) (xs : List A) (k : ℕ) → slice_get (map f xs) k ≡ option_map f (slice_get xs k)
-get_mapped f [] k = refl
-get_mapped f (x ∷ xs) zero = refl
-get_mapped f (x ∷ xs) (suc k) = get_mapped f xs k
 
 get_same : {A B : Type 0} (f : A → B) (xs ys : List A) (k : ℕ) → map f ys ≡ map f xs → option_map f (slice_get ys k) ≡ option_map f (slice_get xs k)
 get_same f xs ys k e = sym (get_mapped f ys k) ∙ ap (λ zs. slice_get zs k) e ∙ get_mapped f xs k

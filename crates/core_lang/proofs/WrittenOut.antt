@@ -24,7 +24,8 @@ use Rattle.core_lang.specs.Theory.Lists.{effect_of-If, effect_of-IfElse, effect_
 use Rattle.core_lang.specs.Whole.{run_of}
 use Rattle.core_lang.specs.Expansion.{Pair, pair, At, Renames, RenamesTest, RenamesResult, HasSamePlaces, behind_bound, behind_block, parameters_at, entered, one, Arguments, Bound, Bodies, Writes, WritesRow, WritesAll, WritesBody, HelpersWritten, IsWrittenOut}
 use Rattle.core_lang.proofs.Renamed.{Agree, value_same, truth_same, place_same, element_same, cell_same}
-use Rattle.core_lang.proofs.WrittenScopes.{not_in_none, in_cases, get_set_same, get_set_other, length_set, there, Ordered, first_below, all_below, raised, set_agree, new_agree, bound_agree, BodiesGrow, writes_grow, row_grows, all_grow, helpers_grow}
+use Rattle.core_lang.proofs.WrittenScopes.{get_set_same, get_set_other, length_set, there, Ordered, first_below, all_below, raised, set_agree, new_agree, bound_agree, BodiesGrow, writes_grow, row_grows, all_grow, helpers_grow}
+use Rattle.core_lang.specs.Theory.Items.{not_in_none, in_cases}
 
 -- ---- flows
 

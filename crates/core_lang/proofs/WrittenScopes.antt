@@ -10,21 +10,9 @@ use Rattle.core_lang.specs.declared.tree.Return.{Return}
 use Rattle.core_lang.specs.declared.shape.Shape.{Shape}
 use Rattle.core_lang.specs.Expansion.{Pair, pair, At, behind_bound, behind_block, entered, Bound, Bodies, Writes, WritesRow, WritesAll, HelpersWritten}
 use Rattle.core_lang.proofs.Renamed.{Agree}
+use Rattle.core_lang.specs.Theory.Items.{in_cases, in_rest, not_in_none}
 
 -- ---- lists
-
-pub not_in_none : {X : Type 0} (x : X) → Contains [] x → ⊥
-not_in_none x c = omega (arith, c.1)
-
-pub in_first : {X : Type 0} (x : X) (xs : List X) → Contains (x ∷ xs) x
-in_first x xs = (0, omega arith, refl)
-
-pub in_rest : {X : Type 0} (x y : X) (xs : List X) → Contains xs y → Contains (x ∷ xs) y
-in_rest x y xs c = (suc c.0, omega (arith, c.1), c.2)
-
-pub in_cases : {X : Type 0} (x y : X) (xs : List X) → Contains (x ∷ xs) y → (x ≡ y) ⊎ Contains xs y
-in_cases x y xs (zero, lt, e) = inl e
-in_cases x y xs (suc i, lt, e) = inr (i, omega (arith, lt), e)
 
 pub get_set_same : (xs : List Value) (k : ℕ) (v : Value) → k < length xs → slice_get (slice_set xs k v) k ≡ Some v
 get_set_same [] k v lt = absurd (omega (arith, lt))

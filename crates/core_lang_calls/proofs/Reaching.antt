@@ -9,10 +9,7 @@ use Rattle.core_lang_calls.specs.declared.helper_set.HelperSet.{HelperSet}
 use Rattle.core_lang_calls.specs.Graphs.{Body}
 use Rattle.core_lang_calls.specs.Working.Tables.{has_helper, no_helpers, leads, is_called, called_by, reaches_over, AddsThrough, IsReach}
 use Rattle.core_lang_calls.proofs.Sets.{none_has}
-
-or_none : (b : Bool) → b ≡ (b || false)
-or_none true = refl
-or_none false = refl
+use Rattle.bit_set.specs.Theory.Bits.{or_none}
 
 -- past the table nothing is reached
 pub past_none : (rows : List HelperSet) (f g : ℕ) → length rows ≤ f → leads rows f g ≡ false

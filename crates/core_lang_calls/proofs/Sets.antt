@@ -6,63 +6,45 @@ use mir.Val.{bits}
 use Rattle.std.proofs.lemmas.Nat.Bits.{bit_at_or, bit_at-lt, bit_at-zero, bit_at_set_same, bit_at_set_other}
 use Rattle.std.proofs.lemmas.Bool.{cases_eq, or_right, eq-eqb, ne_eqb, ltb-true, ltb-false}
 use Rattle.std.proofs.lemmas.Bool.Decides.{nat_tests}
-use Rattle.core_lang_calls.specs.declared.helper_set.Half.{Half}
+use Rattle.bit_set.specs.declared.set.BitSet.{BitSet}
 use Rattle.core_lang_calls.specs.declared.helper_set.HelperSet.{HelperSet}
-use Rattle.core_lang_calls.specs.Working.Tables.{has_half, has_by, has_helper, no_helpers}
-
-abbrev pub bit : ℕ → ℕ → Bool
-bit n i = bit_at n i == 1
-
-small_or : (x y : ℕ) → x < 2 → y < 2 → (max x y == 1) ≡ (x == 1 || y == 1)
-small_or x y hx hy = grind (arith, nat_tests)
-
-pub bit_or_is : (a b i : ℕ) → bit (bit_or a b) i ≡ (bit a i || bit b i)
-bit_or_is a b i = ap (λ x. x == 1) (bit_at_or a b i) ∙ small_or (bit_at a i) (bit_at b i) (bit_at-lt a i) (bit_at-lt b i)
-
-or_none : (b : Bool) → b ≡ (b || false)
-or_none true = refl
-or_none false = refl
-
-pub bit_with : (w : Width) (n k : ℕ) → k < bits w → (j : ℕ) → bit (bit_or n (1 * 2 ^ k % 2 ^ bits w)) j ≡ (bit n j || (j == k))
-bit_with w n k h j =
-    elim (cases_eq j k) [
-      | inl e ↦ ap (λ x. bit (bit_or n (1 * 2 ^ k % 2 ^ bits w)) x) e ∙ ap (λ x. x == 1) (bit_at_set_same w n k h) ∙ sym (or_right (bit n j) (j == k) (eq-eqb j k e))
-      | inr ne ↦ ap (λ x. x == 1) (bit_at_set_other w n k h j ne) ∙ or_none (bit n j) ∙ ap (λ x. bit n j || x) (sym (ne_eqb j k ne))
-    ]
+use Rattle.core_lang_calls.specs.Working.Tables.{has_by, has_helper, no_helpers}
+use Rattle.bit_set.specs.Working.Sets.{has_number}
+use Rattle.bit_set.specs.Theory.Bits.{or_none}
 
 -- ---- both halves
 
 -- none is in a set whose halves have none
-empty_by : (b : Bool) (x : HelperSet) → ((k : ℕ) → has_half x.low k ≡ false) → ((k : ℕ) → has_half x.high k ≡ false) → (h : ℕ) → has_by b x h ≡ false
+empty_by : (b : Bool) (x : HelperSet) → ((k : ℕ) → has_number x.low k ≡ false) → ((k : ℕ) → has_number x.high k ≡ false) → (h : ℕ) → has_by b x h ≡ false
 empty_by true x low high h = low h
 empty_by false x low high h = high (h - 128)
 
-pub empty_has : (x : HelperSet) → ((k : ℕ) → has_half x.low k ≡ false) → ((k : ℕ) → has_half x.high k ≡ false) → (h : ℕ) → has_helper x h ≡ false
+pub empty_has : (x : HelperSet) → ((k : ℕ) → has_number x.low k ≡ false) → ((k : ℕ) → has_number x.high k ≡ false) → (h : ℕ) → has_helper x h ≡ false
 empty_has x low high h = empty_by (nat_lt h 128) x low high h
 
 pub none_has : (h : ℕ) → has_helper no_helpers h ≡ false
 none_has h = empty_has no_helpers (λ k. ap (λ x. x == 1) (bit_at-zero k)) (λ k. ap (λ x. x == 1) (bit_at-zero k)) h
 
 -- a union has those of either
-union_by : (b : Bool) (x y u : HelperSet) → ((k : ℕ) → has_half u.low k ≡ (has_half x.low k || has_half y.low k)) →
-    ((k : ℕ) → has_half u.high k ≡ (has_half x.high k || has_half y.high k)) → (h : ℕ) → has_by b u h ≡ (has_by b x h || has_by b y h)
+union_by : (b : Bool) (x y u : HelperSet) → ((k : ℕ) → has_number u.low k ≡ (has_number x.low k || has_number y.low k)) →
+    ((k : ℕ) → has_number u.high k ≡ (has_number x.high k || has_number y.high k)) → (h : ℕ) → has_by b u h ≡ (has_by b x h || has_by b y h)
 union_by true x y u low high h = low h
 union_by false x y u low high h = high (h - 128)
 
-pub union_has : (x y u : HelperSet) → ((k : ℕ) → has_half u.low k ≡ (has_half x.low k || has_half y.low k)) →
-    ((k : ℕ) → has_half u.high k ≡ (has_half x.high k || has_half y.high k)) → (h : ℕ) → has_helper u h ≡ (has_helper x h || has_helper y h)
+pub union_has : (x y u : HelperSet) → ((k : ℕ) → has_number u.low k ≡ (has_number x.low k || has_number y.low k)) →
+    ((k : ℕ) → has_number u.high k ≡ (has_number x.high k || has_number y.high k)) → (h : ℕ) → has_helper u h ≡ (has_helper x h || has_helper y h)
 union_has x y u low high h = union_by (nat_lt h 128) x y u low high h
 
 -- one more in the lower half
-with_low_by : (b : Bool) (x u : HelperSet) (g h : ℕ) → nat_lt h 128 ≡ b → g < 128 → ((k : ℕ) → has_half u.low k ≡ (has_half x.low k || k == g)) → u.high ≡ x.high →
+with_low_by : (b : Bool) (x u : HelperSet) (g h : ℕ) → nat_lt h 128 ≡ b → g < 128 → ((k : ℕ) → has_number u.low k ≡ (has_number x.low k || k == g)) → u.high ≡ x.high →
     has_by b u h ≡ (has_by b x h || h == g)
 with_low_by true x u g h e lt low high = low h
 with_low_by false x u g h e lt low high =
     let ge : 128 ≤ h = ltb-false h 128 e in
-    ap (λ (half : Half). has_half half (h - 128)) high ∙ or_none (has_half x.high (h - 128))
-    ∙ ap (λ (t : Bool). has_half x.high (h - 128) || t) (sym (ne_eqb h g (λ same. omega (arith, ge, lt, same))))
+    ap (λ (half : BitSet). has_number half (h - 128)) high ∙ or_none (has_number x.high (h - 128))
+    ∙ ap (λ (t : Bool). has_number x.high (h - 128) || t) (sym (ne_eqb h g (λ same. omega (arith, ge, lt, same))))
 
-pub with_low : (x u : HelperSet) (g : ℕ) → g < 128 → ((k : ℕ) → has_half u.low k ≡ (has_half x.low k || k == g)) → u.high ≡ x.high →
+pub with_low : (x u : HelperSet) (g : ℕ) → g < 128 → ((k : ℕ) → has_number u.low k ≡ (has_number x.low k || k == g)) → u.high ≡ x.high →
     (h : ℕ) → has_helper u h ≡ (has_helper x h || h == g)
 with_low x u g lt low high h = with_low_by (nat_lt h 128) x u g h refl lt low high
 
@@ -74,31 +56,31 @@ eq_back h g a b =
     ]
 
 -- and in the upper one
-with_high_by : (b : Bool) (x u : HelperSet) (g h : ℕ) → nat_lt h 128 ≡ b → 128 ≤ g → u.low ≡ x.low → ((k : ℕ) → has_half u.high k ≡ (has_half x.high k || k == g - 128)) →
+with_high_by : (b : Bool) (x u : HelperSet) (g h : ℕ) → nat_lt h 128 ≡ b → 128 ≤ g → u.low ≡ x.low → ((k : ℕ) → has_number u.high k ≡ (has_number x.high k || k == g - 128)) →
     has_by b u h ≡ (has_by b x h || h == g)
 with_high_by true x u g h e le low high =
     let lt : h < 128 = ltb-true h 128 e in
-    ap (λ (half : Half). has_half half h) low ∙ or_none (has_half x.low h)
-    ∙ ap (λ (t : Bool). has_half x.low h || t) (sym (ne_eqb h g (λ same. omega (arith, lt, le, same))))
+    ap (λ (half : BitSet). has_number half h) low ∙ or_none (has_number x.low h)
+    ∙ ap (λ (t : Bool). has_number x.low h || t) (sym (ne_eqb h g (λ same. omega (arith, lt, le, same))))
 with_high_by false x u g h e le low high =
     let ge : 128 ≤ h = ltb-false h 128 e in
-    high (h - 128) ∙ ap (λ (t : Bool). has_half x.high (h - 128) || t) (eq_back h g ge le)
+    high (h - 128) ∙ ap (λ (t : Bool). has_number x.high (h - 128) || t) (eq_back h g ge le)
 
-pub with_high : (x u : HelperSet) (g : ℕ) → 128 ≤ g → u.low ≡ x.low → ((k : ℕ) → has_half u.high k ≡ (has_half x.high k || k == g - 128)) →
+pub with_high : (x u : HelperSet) (g : ℕ) → 128 ≤ g → u.low ≡ x.low → ((k : ℕ) → has_number u.high k ≡ (has_number x.high k || k == g - 128)) →
     (h : ℕ) → has_helper u h ≡ (has_helper x h || h == g)
 with_high x u g le low high h = with_high_by (nat_lt h 128) x u g h refl le low high
 
 -- where a set stands in its half
-has_low_by : (b : Bool) (x : HelperSet) (h : ℕ) → nat_lt h 128 ≡ b → h < 128 → has_half x.low h ≡ has_by b x h
+has_low_by : (b : Bool) (x : HelperSet) (h : ℕ) → nat_lt h 128 ≡ b → h < 128 → has_number x.low h ≡ has_by b x h
 has_low_by true x h e lt = refl
 has_low_by false x h e lt = let ge : 128 ≤ h = ltb-false h 128 e in absurd (omega (arith, ge, lt))
 
-pub has_low : (x : HelperSet) (h : ℕ) → h < 128 → has_half x.low h ≡ has_helper x h
+pub has_low : (x : HelperSet) (h : ℕ) → h < 128 → has_number x.low h ≡ has_helper x h
 has_low x h lt = has_low_by (nat_lt h 128) x h refl lt
 
-has_high_by : (b : Bool) (x : HelperSet) (h : ℕ) → nat_lt h 128 ≡ b → 128 ≤ h → has_half x.high (h - 128) ≡ has_by b x h
+has_high_by : (b : Bool) (x : HelperSet) (h : ℕ) → nat_lt h 128 ≡ b → 128 ≤ h → has_number x.high (h - 128) ≡ has_by b x h
 has_high_by true x h e ge = let lt : h < 128 = ltb-true h 128 e in absurd (omega (arith, ge, lt))
 has_high_by false x h e ge = refl
 
-pub has_high : (x : HelperSet) (h : ℕ) → 128 ≤ h → has_half x.high (h - 128) ≡ has_helper x h
+pub has_high : (x : HelperSet) (h : ℕ) → 128 ≤ h → has_number x.high (h - 128) ≡ has_helper x h
 has_high x h ge = has_high_by (nat_lt h 128) x h refl ge

@@ -31,6 +31,7 @@ use Rattle.core_lang_calls.specs.Working.Laws.{CallsAreOfHelpers, HasNoGraphFaul
 use Rattle.core_lang_calls.proofs.Deep.{only_like, deep_at}
 use Rattle.core_lang_calls.proofs.Endless.{free_depth, free_ends}
 use Rattle.core_lang_calls.proofs.Faultless.{free, shallow, at_most_deep, bring_few}
+use Rattle.core_lang.specs.Theory.Items.{numbers_many}
 
 -- ---- the calls of statements, one by one
 
@@ -234,10 +235,6 @@ taken_few : (count : ℕ) (locals : List Local) → length (take count locals) �
 taken_few zero locals = omega arith
 taken_few (suc count) [] = omega arith
 taken_few (suc count) (x ∷ xs) = let h = taken_few count xs in omega arith
-
-numbers_many : (first count : ℕ) → length (numbers_from first count) ≡ count
-numbers_many first zero = refl
-numbers_many first (suc count) = let h = numbers_many (first + 1) count in omega arith
 
 -- ---- helpers whose calls end come to the same however far they are followed
 

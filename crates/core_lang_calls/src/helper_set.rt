@@ -1,58 +1,17 @@
 //! Sets of helpers.
 
 ghost use Rattle.std.specs.Prelude.{◌≡◌, ◌<◌, ◌==◌, ◌||◌, false, ℕ};
-ghost use Rattle.core_lang_calls.specs.Working.Tables.{has_half, has_helper};
+ghost use Rattle.core_lang_calls.specs.Working.Tables.{has_helper};
 
-/// Some of 128 helpers.
-#[derive(Clone, Copy)]
-pub struct Half {
-    /// Bit k stands for the helper of number k.
-    pub bits: u128,
-}
-
-impl Half {
-    /// None of them.
-    pub fn new() -> Half
-        ensures { (k : ℕ) → has_half result k ≡ false }
-    {
-        Half { bits: 0 }
-    }
-
-    /// Whether helper `helper` is in it.
-    pub fn contains(self, helper: usize) -> bool
-        requires { helper < 128 }
-        ensures { result ≡ has_half self helper }
-    {
-        (self.bits >> helper) & 1 == 1
-    }
-
-    /// With helper `helper` in it.
-    pub fn with(self, helper: usize) -> Half
-        requires { helper < 128 }
-        ensures { (k : ℕ) → has_half result k ≡ (has_half self k || k == helper) }
-    {
-        Half {
-            bits: self.bits | 1u128 << helper,
-        }
-    }
-
-    /// The helpers of either.
-    pub fn union(self, other: Half) -> Half
-        ensures { (k : ℕ) → has_half result k ≡ (has_half self k || has_half other k) }
-    {
-        Half {
-            bits: self.bits | other.bits,
-        }
-    }
-}
+use bit_set::set::BitSet;
 
 /// Some of a graph's helpers, of which there are at most 256.
 #[derive(Clone, Copy)]
 pub struct HelperSet {
     /// The helpers below 128.
-    pub low: Half,
+    pub low: BitSet,
     /// The others, by their numbers less 128.
-    pub high: Half,
+    pub high: BitSet,
 }
 
 impl HelperSet {
@@ -61,8 +20,8 @@ impl HelperSet {
         ensures { (h : ℕ) → has_helper result h ≡ false }
     {
         HelperSet {
-            low: Half::new(),
-            high: Half::new(),
+            low: BitSet::new(),
+            high: BitSet::new(),
         }
     }
 

@@ -8,21 +8,9 @@ use Rattle.core_lang.specs.declared.tree.Local.{Local}
 use Rattle.core_lang.specs.Typing.{local_types}
 use Rattle.core_lang.specs.Expansion.{Pair, pair, parameters_at}
 use Rattle.core_lang.specs.WrittenLocals.{LocalData, parameter_data}
+use Rattle.core_lang.specs.Theory.Items.{get_mapped, in_cases, in_first, in_rest, not_in_none}
 
 -- ---- lists
-
-pub not_in_none : {X : Type 0} (x : X) → Contains [] x → ⊥
-not_in_none x c = omega (arith, c.1)
-
-pub in_first : {X : Type 0} (x : X) (xs : List X) → Contains (x ∷ xs) x
-in_first x xs = (0, omega arith, refl)
-
-pub in_rest : {X : Type 0} (x y : X) (xs : List X) → Contains xs y → Contains (x ∷ xs) y
-in_rest x y xs c = (suc c.0, omega (arith, c.1), c.2)
-
-pub in_cases : {X : Type 0} (x y : X) (xs : List X) → Contains (x ∷ xs) y → (x ≡ y) ⊎ Contains xs y
-in_cases x y xs (zero, lt, e) = inl e
-in_cases x y xs (suc i, lt, e) = inr (i, omega (arith, lt), e)
 
 pub in_either : {X : Type 0} (xs ys : List X) (y : X) → Contains (xs ++ ys) y → Contains xs y ⊎ Contains ys y
 in_either [] ys y c = inr c
@@ -34,11 +22,6 @@ in_either (x ∷ xs) ys y c =
         | inr g ↦ inr g
       ]
     ]
-
-pub get_mapped : {A B : Type 0} (f : A → B) (xs : List A) (k : ℕ) → slice_get (map f xs) k ≡ option_map f (slice_get xs k)
-get_mapped f [] k = refl
-get_mapped f (x ∷ xs) zero = refl
-get_mapped f (x ∷ xs) (suc k) = get_mapped f xs k
 
 pub mapped_there : {A B : Type 0} (f : A → B) (xs : List A) (k : ℕ) (b : B) → slice_get (map f xs) k ≡ Some b → (a : A) × (slice_get xs k ≡ Some a) × (f a ≡ b)
 mapped_there f [] k b is = absurd cc
@@ -57,11 +40,6 @@ pub get_within : {X : Type 0} (xs ys : List X) (i : ℕ) (x : X) → slice_get x
 get_within [] ys i x is = absurd cc
 get_within (y ∷ xs) ys zero x is = is
 get_within (y ∷ xs) ys (suc i) x is = get_within xs ys i x is
-
-pub get_some : {X : Type 0} (xs : List X) (k : ℕ) → k < length xs → (x : X) × (slice_get xs k ≡ Some x)
-get_some [] k lt = absurd (omega (arith, lt))
-get_some (x ∷ xs) zero lt = (x, refl)
-get_some (x ∷ xs) (suc k) lt = get_some xs k (omega (arith, lt))
 
 pub get_taken : {X : Type 0} (xs : List X) (n k : ℕ) → k < n → slice_get (take n xs) k ≡ slice_get xs k
 get_taken xs zero k lt = absurd (omega (arith, lt))

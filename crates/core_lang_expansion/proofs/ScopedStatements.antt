@@ -13,7 +13,7 @@ use Rattle.core_lang.specs.Theory.Lists.{block_of, else_of}
 use Rattle.core_lang.specs.Meaning.{deepest}
 use Rattle.core_lang.specs.Scopes.{NamesOnly, AllNameOnly, TestsOnly, AllTestOnly, scope_after, IsScoped, AreScoped, AllScoped, scope_after_all, numbers_from, ResultNamesOnly}
 use Rattle.core_lang.specs.Expansion.{Pair, pair, At, behind_block, parameters_at, entered, one, Renames, RenamesEach, RenamesTest, RenamesTests, RenamesResult, Arguments, Bound, Bodies, Writes, WritesRow, WritesAll, HelpersWritten, IsWrittenOut}
-use Rattle.core_lang_expansion.proofs.Located.{not_in_none, in_first, in_rest, in_cases}
+use Rattle.core_lang.specs.Theory.Items.{not_in_none, in_first, in_rest, in_cases}
 
 -- each local that stands for one in scope may be named
 abbrev pub Covers : List Pair → List ℕ → Type 0

@@ -23,8 +23,9 @@ use Rattle.core_lang.specs.Expansion.{Pair, pair, At, behind_bound, behind_block
 use Rattle.core_lang.specs.WrittenLocals.{LocalData, local_data, parameter_data, own_local, hidden_local, Brought, locals_by, locals_in, locals_in_all}
 use Rattle.core_lang_expansion.specs.Data.{IsSameBesides}
 use Rattle.core_lang_expansion.proofs.Places.{field_same, global_same, array_same}
-use Rattle.core_lang_expansion.proofs.Located.{not_in_none, in_first, in_cases, in_either, get_mapped, mapped_there, get_behind, types_of, StandsFor, IsVar, NoParameters, none_of_both, type_there, stands_more}
+use Rattle.core_lang_expansion.proofs.Located.{in_either, mapped_there, get_behind, types_of, StandsFor, IsVar, NoParameters, none_of_both, type_there, stands_more}
 use Rattle.core_lang_expansion.proofs.TypedExprs.{path_typed, typed, test_typed}
+use Rattle.core_lang.specs.Theory.Items.{not_in_none, in_first, in_cases, get_mapped}
 
 -- ---- lists
 

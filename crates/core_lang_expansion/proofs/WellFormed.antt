@@ -21,16 +21,13 @@ use Rattle.core_lang_expansion.specs.Data.{CallData, call_data, ThreadData, thre
 use Rattle.core_lang_expansion.proofs.Pairs.{zip_back}
 use Rattle.core_lang_expansion.proofs.Limits.{data_there, within_limits}
 use Rattle.core_lang_expansion.proofs.Places.{laid_out, protected, opens_typed, have_types}
-use Rattle.core_lang_expansion.proofs.Located.{get_mapped, get_past, get_some, types_of, NoParameters, none_of_both, none_there, no_parameters, parameters_stand, parameter_there}
+use Rattle.core_lang_expansion.proofs.Located.{get_past, types_of, NoParameters, none_of_both, none_there, no_parameters, parameters_stand, parameter_there}
 use Rattle.core_lang_expansion.proofs.TypedExprs.{result_typed}
 use Rattle.core_lang_expansion.proofs.TypedStatements.{some_same, BodiesKeep, Ready, all_keep}
 use Rattle.core_lang_expansion.proofs.ScopedStatements.{written_out_scoped}
+use Rattle.core_lang.specs.Theory.Items.{numbers_many, get_mapped, get_some}
 
 -- ---- lists
-
-numbers_many : (first count : ℕ) → length (numbers_from first count) ≡ count
-numbers_many first zero = refl
-numbers_many first (suc count) = let h = numbers_many (first + 1) count in omega arith
 
 -- a section has at least as many locals as parameters
 enough_locals : (section : Section) → IsWellScoped section → section.parameters ≤ length section.locals.items

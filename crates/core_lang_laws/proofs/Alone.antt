@@ -25,11 +25,9 @@ use Rattle.core_lang.specs.Meaning.{deepest}
 use Rattle.core_lang.specs.WrittenLocals.{LocalData, local_data, own_local, Brought, locals_by, locals_in, locals_in_all, brought, AreWrittenLocals}
 use Rattle.core_lang.specs.Expansion.{Pair, pair, RenamesPath, Renames, RenamesEach, RenamesTest, RenamesTests, RenamesResult, At, behind_bound, behind_block, parameters_at, entered, one, Bodies, Writes, WritesRow, WritesAll, HelpersWritten, IsWrittenOut}
 use Rattle.core_lang_laws.specs.Laws.{AProgramWithoutHelpersIsItsOwnExpansion}
+use Rattle.core_lang.specs.Theory.Items.{in_first}
 
 -- ---- each local stands for itself
-
-in_first : {X : Type 0} (x : X) (xs : List X) → Contains (x ∷ xs) x
-in_first x xs = (0, omega arith, refl)
 
 in_rest : {X : Type 0} (x y : X) (xs : List X) → Contains xs y → Contains (x ∷ xs) y
 in_rest x y xs (k, lt, is) = (suc k, omega (arith, lt), is)

@@ -14,7 +14,7 @@ use Rattle.source.specs.declared.fault.Fault.{Fault}
 use Rattle.source.specs.Faults.{fault_text}
 use Rattle.source.specs.Texts.{SOURCE_LIMIT, IsFault, too_big, within}
 use Rattle.driver.specs.declared.status.Status.{Status}
-use Rattle.driver.specs.Answers.{TextAnswers, accepted, refused, IsRefused}
+use Rattle.driver.specs.Answers.{TextAnswers, accepted, refused}
 
 abbrev pub IsLong : List ℕ → Type 0
 IsLong text = SOURCE_LIMIT < length text

@@ -1,14 +1,13 @@
 -- The calls of an order, one after another, and where the turns stop them.
-use Rattle.std.proofs.Common.{◌≡◌, ◌∙◌, ℕ, ◌+◌, ◌<◌, ◌≤◌, zero, suc, List, [], ◌∷◌, ◌++◌, map, length, get_or, slice_get, Option, Some, None, ap, sym, refl, subst, arith, append_assoc, append-nil, length-append}
+use Rattle.std.proofs.Common.{◌≡◌, ◌∙◌, ℕ, ◌+◌, ◌≤◌, suc, List, [], ◌∷◌, ◌++◌, length, get_or, slice_get, Option, Some, None, ap, sym, refl, subst, arith, append_assoc, append-nil, length-append}
 use Rattle.std.specs.Option.{option_map, option_to_list}
 use Rattle.std.proofs.lemmas.List.{map-append}
 use Rattle.std.proofs.Math.ListN.{length-set}
 use Rattle.core_lang.specs.declared.typed.Call.{Call}
 use Rattle.core_lang.specs.declared.typed.Thread.{Thread}
 use Rattle.core_lang.specs.declared.typed.Typed.{Typed}
-use Rattle.core_lang.specs.declared.value.Value.{Value}
 use Rattle.core_lang.specs.Laws.{SettledAreSerial, HaveAtMostOneSerial}
-use Rattle.core_lang.specs.Serial.{Invocation, Scheduled, Ended, invocation, opening_heap, Serial, SerialFromOpening}
+use Rattle.core_lang.specs.Serial.{Invocation, Scheduled, Ended, invocation, opening_heap, SerialFromOpening}
 use Rattle.core_lang.specs.Typing.{lookup}
 use Rattle.core_lang.specs.WellFormed.{IsChecked, CanCall}
 use Rattle.outcomes.specs.Ends.{StopsAfter, done_after}

@@ -1,15 +1,16 @@
 -- An engine that could not read, or had no memory, or whose answer went out, has served its request.
-use Rattle.std.proofs.Common.{◌≡◌, ◌≢◌, ◌⊎◌, ◌||◌, ◌<◌, ◌+◌, ◌^◌, Bool, true, false, ℕ, List, [], ◌∷◌, length, Option, Some, None, Result, Ok, Err, IfOk, zero, suc, arith, refl, sym, ap, subst, ◌∙◌, string_bytes}
+use Rattle.std.proofs.Common.{◌≡◌, ◌≢◌, Bool, true, false, ℕ, List, [], ◌∷◌, Option, Some, None, Result, Ok, Err, IfOk, zero, suc, arith, refl, sym, subst, ◌∙◌, string_bytes}
 use Rattle.std.specs.List.{All}
+use Rattle.rope.specs.Working.Ropes.{rope_text}
 use Rattle.driver.specs.declared.answer.Answer.{Answer}
 use Rattle.driver.specs.declared.streams.Streams.{Streams}
 use Rattle.driver.specs.declared.status.Status.{Status}
 use Rattle.driver.specs.declared.status.Status.TheVariants.{Done, Refused, BadWords, Failed, OutOfMemory, Differs, BadInput, Unsettled, Strange}
 use Rattle.driver.specs.Engines.{Serves, Reading, Gave, first_unread, IsReadOut, IsReadOrLong, IsUnread, of_reader, of_memory}
-use Rattle.driver.specs.Messages.{cannot_read, cannot_write, no_memory}
+use Rattle.driver.specs.Messages.{cannot_read, no_memory}
 use Rattle.driver.specs.Working.Serving.{IsOut, GoesOut, IsGiven}
 use Rattle.source.specs.declared.memory.NoMemory.{NoMemory}
-use Rattle.driver.specs.Streams.{writing_failed, Writes, Tells}
+use Rattle.driver.specs.Streams.{writing_failed, Tells}
 
 -- statuses that no text is answered with
 pub record IsAnswered (status : Status) : Type 0 where
@@ -40,7 +41,7 @@ pub record IsRight (Answers : List ℕ → List (List ℕ) → Status → List �
   pub text : List ℕ
   pub texts : List (List ℕ)
   pub gave : Gave (program ∷ others) (text ∷ texts)
-  pub answers : Answers text texts answer.status (string_bytes answer.out) (string_bytes answer.err)
+  pub answers : Answers text texts answer.status (rope_text answer.out) (string_bytes answer.err)
   pub answered : IsAnswered answer.status
 
 pub differs : {status : Status} → status ≡ Differs → IsAnswered status
@@ -83,7 +84,7 @@ module _ {O E : Type 0} (Answers : List ℕ → List (List ℕ) → Status → L
   -- an answer went out
   module _ (answer : Answer) (text : List ℕ) (texts : List (List ℕ)) (none : first_unread (program ∷ others) ≡ None)
       (gave : Gave (program ∷ others) (text ∷ texts)) (read : IsReadOrLong program × All IsReadOut others)
-      (answers : Answers text texts answer.status (string_bytes answer.out) (string_bytes answer.err))
+      (answers : Answers text texts answer.status (rope_text answer.out) (string_bytes answer.err))
       (answered : IsAnswered answer.status) where
     gone : (failed : Bool) → writing_failed new.out ≡ failed → IsOut contents told answer old new status failed →
         Serves Answers program others contents told old new status
@@ -102,10 +103,10 @@ module _ {O E : Type 0} (Answers : List ℕ → List (List ℕ) → Status → L
           answers = λ fine memory. (
             text,
             texts,
-            string_bytes answer.out,
+            rope_text answer.out,
             string_bytes answer.err,
             gave,
-            subst (λ s. Answers text texts s (string_bytes answer.out) (string_bytes answer.err)) (sym g.0) answers,
+            subst (λ s. Answers text texts s (rope_text answer.out) (string_bytes answer.err)) (sym g.0) answers,
             g.1,
             g.2,
           );

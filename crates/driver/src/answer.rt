@@ -27,6 +27,7 @@ use lowering::compiled::Program;
 use meaning_registers::prepared::Prepared;
 use report::{history_text, unsettled_text};
 use report_check::Check;
+use rope::Rope;
 use source::fault::{Fault, Refusal};
 use source::line::fault_line;
 use source::memory::NoMemory;
@@ -36,12 +37,12 @@ use std::sync::Wait;
 use std::thread::Threads;
 
 /// The status, and what goes to the two outputs.
-#[derive(Debug, Drop)]
+#[derive(Drop)]
 pub struct Answer {
     /// How the command ended.
     pub status: Status,
     /// What goes to standard output.
-    pub out: String,
+    pub out: Rope,
     /// What goes to standard error.
     pub err: String,
 }
@@ -54,7 +55,7 @@ fn refused(alloc: Global, file: &str, text: &[u8], fault: &Fault) -> Result<Answ
     err.push_str("\n")?;
     Ok(Answer {
         status: Status::Refused,
-        out: String::new(alloc),
+        out: Rope::new(alloc),
         err,
     })
 }
@@ -117,12 +118,18 @@ fn ran(
     match ran.unsettled {
         None => Ok(Answer {
             status: Status::Done,
-            out: history_text(alloc, Format::One, program, &ran.records, ran.heap.cells())?,
+            out: Rope::of(
+                alloc,
+                history_text(alloc, Format::One, program, &ran.records, ran.heap.cells())?,
+            ),
             err,
         }),
         Some((thread, step)) => Ok(Answer {
             status: Status::Unsettled,
-            out: unsettled_text(alloc, program, &ran.records, thread, step)?,
+            out: Rope::of(
+                alloc,
+                unsettled_text(alloc, program, &ran.records, thread, step)?,
+            ),
             err,
         }),
     }

@@ -20,6 +20,7 @@ use explanation::{Acceptance, Explanation};
 use explanation_cycles::{cycle_notes, order_notes};
 use explanation_faults::fault_notes;
 use explanation_json::{accepted_json, fault_json};
+use rope::Rope;
 use source::fault::{Fault, Refusal};
 use source::memory::NoMemory;
 use std::alloc::Global;
@@ -66,7 +67,7 @@ fn explained(alloc: Global, json: bool, explanation: &Explanation<'_>) -> Result
 {
     Ok(Answer {
         status: Status::Refused,
-        out: fault_told(alloc, json, explanation)?,
+        out: Rope::of(alloc, fault_told(alloc, json, explanation)?),
         err: String::new(alloc),
     })
 }
@@ -115,7 +116,7 @@ fn order_explained(alloc: Global, asked: &Asked<'_>, ordered: &Ordered) -> Resul
     };
     Ok(Answer {
         status: Status::Done,
-        out: acceptance_told(alloc, asked.json, &acceptance)?,
+        out: Rope::of(alloc, acceptance_told(alloc, asked.json, &acceptance)?),
         err: String::new(alloc),
     })
 }

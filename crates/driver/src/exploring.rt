@@ -19,6 +19,7 @@ use outcomes::outcome::{Found, Outcome};
 use outcomes::search::Search;
 use report::unsettled_text;
 use report_outcomes::Ends;
+use rope::Rope;
 use source::memory::NoMemory;
 use std::alloc::Global;
 
@@ -38,7 +39,7 @@ fn told(
     };
     Ok(Answer {
         status: Status::Done,
-        out: ends.text(alloc)?,
+        out: Rope::of(alloc, ends.text(alloc)?),
         err: String::new(alloc),
     })
 }
@@ -93,7 +94,10 @@ impl Exploring<'_> {
         };
         Ok(Answer {
             status: Status::Unsettled,
-            out: unsettled_text(alloc, program, &ran.records, thread, step)?,
+            out: Rope::of(
+                alloc,
+                unsettled_text(alloc, program, &ran.records, thread, step)?,
+            ),
             err: String::new(alloc),
         })
     }

@@ -9,6 +9,7 @@ use crate::status::Status;
 use lockorder::class_pairs;
 use lowering::compiled::Program;
 use report_check::Order;
+use rope::Rope;
 use source::memory::NoMemory;
 use std::alloc::Global;
 
@@ -25,7 +26,7 @@ pub fn ordered(alloc: Global, text: &[u8], program: &Program) -> Result<Answer, 
     };
     Ok(Answer {
         status: Status::Done,
-        out: order.text(alloc)?,
+        out: Rope::of(alloc, order.text(alloc)?),
         err: String::new(alloc),
     })
 }

@@ -13,6 +13,7 @@ use crate::status::Status;
 use crate::why::push_why;
 use lowering::compiled::Program;
 use replay::{Judgement, Verdict, replay};
+use rope::Rope;
 use source::memory::NoMemory;
 use source_histories::refusal::{HistoryFault, HistoryRefusal};
 use source_histories::{Recorded, history_fault_line, read_history};
@@ -26,7 +27,7 @@ fn bad_history(alloc: Global, history_file: &str, fault: HistoryFault) -> Result
     err.push_str("\n")?;
     Ok(Answer {
         status: Status::BadInput,
-        out: String::new(alloc),
+        out: Rope::new(alloc),
         err,
     })
 }
@@ -68,7 +69,7 @@ fn judged(
     }
     Ok(Answer {
         status: status_of(judgement.verdict),
-        out,
+        out: Rope::of(alloc, out),
         err: String::new(alloc),
     })
 }

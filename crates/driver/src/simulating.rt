@@ -9,6 +9,7 @@ use crate::status::Status;
 use interleavings::world::run;
 use lowering::compiled::Program;
 use report_simulation::simulation_text;
+use rope::Rope;
 use source::memory::NoMemory;
 use source_steps::refusal::{StepsFault, StepsRefusal};
 use source_steps::{read_steps, steps_fault_line};
@@ -27,7 +28,7 @@ pub fn bad_steps(
     err.push_str("\n")?;
     Ok(Answer {
         status: Status::BadInput,
-        out: String::new(alloc),
+        out: Rope::new(alloc),
         err,
     })
 }
@@ -49,7 +50,7 @@ pub fn simulated(
     let world = run(alloc, program, &turns)?;
     Ok(Answer {
         status: Status::Done,
-        out: simulation_text(alloc, &world)?,
+        out: Rope::of(alloc, simulation_text(alloc, &world)?),
         err: String::new(alloc),
     })
 }

@@ -1,5 +1,6 @@
 //! A writer that remembers whether it failed.
 
+use rope::Rope;
 use std::io::Write;
 
 /// A writer, and whether writing to it failed. Nothing is written after that.
@@ -12,6 +13,7 @@ pub struct Sink<W> {
 impl<W: Write> Sink<W> {
     ghost use Rattle.std.specs.Prelude.{◌≡◌, true, false, []};
     ghost use Rattle.std.specs.Io.KnownBytes.{Appends, Keeps};
+    ghost use Rattle.rope.specs.Working.Ropes.{rope_text};
     ghost use Rattle.driver.specs.Streams.{writer_of, writing_failed};
 
     /// A writer that has not failed.
@@ -53,6 +55,19 @@ impl<W: Write> Sink<W> {
         if self.writer.write_all(bytes).is_err() {
             self.failed = true;
         }
+    }
+
+    /// Writes all of a text; after a failure, nothing.
+    pub fn put_text(&mut self, text: &Rope)
+        ensures stopped { writing_failed self.old ≡ true → writer_of self.new ≡ writer_of self.old }
+        ensures appends { writing_failed self.new ≡ false → Appends (W.contents (writer_of self.old)) (W.contents (writer_of self.new)) (rope_text text.now) }
+        ensures sticky { writing_failed self.new ≡ false → writing_failed self.old ≡ false }
+    {
+        for insert in 0..text.inserts() {
+            self.put(text.own_before(insert));
+            self.put(text.part_at(insert));
+        }
+        self.put(text.rest());
     }
 
     /// Sends on what the writer keeps back; after a failure, nothing.

@@ -87,7 +87,7 @@ impl<O: Write, E: Write> Streams<O, E> {
         requires { writing_failed self.old.out ≡ false }
         ensures { GoesOut O.contents E.contents answer.now self.old self.new result }
     {
-        self.out.put(answer.out.as_bytes());
+        self.out.put_text(&answer.out);
         self.out.flush();
         if self.out.has_failed() {
             self.tell_cannot_write();

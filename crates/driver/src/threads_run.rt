@@ -9,6 +9,7 @@ use crate::status::Status;
 use core_lang::value::Value;
 use lowering::compiled::Program;
 use report::entries_text;
+use rope::Rope;
 use source::memory::NoMemory;
 use source_histories::Format;
 use std::alloc::Global;
@@ -44,7 +45,7 @@ fn strange(alloc: Global) -> Result<Answer, NoMemory>
 {
     Ok(Answer {
         status: Status::Strange,
-        out: String::new(alloc),
+        out: Rope::new(alloc),
         err: String::from_str(alloc, "autolock: strange\n")?,
     })
 }
@@ -66,7 +67,10 @@ pub fn run_by_threads<R: Threads + Wait + Sync>(
     let values = values_of(alloc, &closed, typed.cells.len())?;
     Ok(Answer {
         status: Status::Done,
-        out: entries_text(alloc, Format::Two, typed, closed.history(), &values)?,
+        out: Rope::of(
+            alloc,
+            entries_text(alloc, Format::Two, typed, closed.history(), &values)?,
+        ),
         err: String::new(alloc),
     })
 }

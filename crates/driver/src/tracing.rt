@@ -10,6 +10,7 @@ use crate::simulating::bad_steps;
 use crate::status::Status;
 use lowering::compiled::Program;
 use report_trace::Trace;
+use rope::Rope;
 use source::memory::NoMemory;
 use source_steps::read_steps;
 use source_steps::refusal::StepsRefusal;
@@ -40,7 +41,7 @@ pub fn traced(
     };
     Ok(Answer {
         status: Status::Done,
-        out: trace.text(alloc, &turns)?,
+        out: Rope::of(alloc, trace.text(alloc, &turns)?),
         err: String::new(alloc),
     })
 }

@@ -12,7 +12,7 @@ use Rattle.locks.specs.declared.lock.Lock.{Lock}
 use Rattle.locks.specs.LockPaths.{LockPath, lock_named, Uses, IsInScope, BindsRoot}
 use Rattle.points.specs.Used.{IsUsedLater}
 use Rattle.points.specs.Wanted.{rank_of, IsTaken, IsSurelyHeld}
-use Rattle.inserter.proofs.Held.{not_in_none}
+use Rattle.core_lang.specs.Theory.Items.{not_in_none}
 
 module _ (program : Typed) (section : Section) (ranks : List ℕ) where
   -- all locks of the list are of lesser ranks than the path

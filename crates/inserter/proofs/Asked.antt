@@ -10,12 +10,14 @@ use Rattle.core_lang.specs.declared.typed.Typed.{Typed}
 use Rattle.locks.specs.declared.lock.Lock.{Lock}
 use Rattle.locks.specs.LockPaths.{LockPath, lock_paths, lock_named}
 use Rattle.locks.specs.Order.{Precedes, PrecedesIsStrict}
+use Rattle.locks.specs.Theory.Order.{by_rank, by_object}
 use Rattle.inserter.specs.Placement.{IsPath}
 use Rattle.inserter.specs.Working.Runs.{IsListed, Asks}
 use Rattle.inserter.specs.Working.Laws.{IsOrdered}
-use Rattle.inserter.proofs.Held.{not_in_none, in_first, in_rest, in_cases, held_or_not}
+use Rattle.inserter.proofs.Held.{held_or_not}
 use Rattle.inserter.proofs.Listed.{PathLaws, listed_wanted, somewhere}
 use Rattle.inserter.proofs.Named.{named_class}
+use Rattle.core_lang.specs.Theory.Items.{not_in_none, in_first, in_rest, in_cases}
 
 module _ (laws : PathLaws) (strict : PrecedesIsStrict) (program : Typed) (section : Section) (ranks : List ℕ) (lists : List (List ℕ))
     (ok : IsOrdered program section ranks lists) where
@@ -47,19 +49,19 @@ module _ (laws : PathLaws) (strict : PrecedesIsStrict) (program : Typed) (sectio
         (a ≡ b) ⊎ (Precedes ranks a b ⊎ Precedes ranks b a)
     compared a b x y =
         elim (cases_lt (slice_index ranks a.class) (slice_index ranks b.class)) [
-          | inl lt ↦ inr (inl (inl lt))
+          | inl lt ↦ inr (inl (by_rank ranks a b lt))
           | inr ge ↦ elim (cases_lt (slice_index ranks b.class) (slice_index ranks a.class)) [
-            | inl gt ↦ inr (inr (inl gt))
-            | inr le ↦ by_object (same_class a.class b.class (class_of a x) (class_of b y) (omega (arith, ge, le)))
+            | inl gt ↦ inr (inr (by_rank ranks b a gt))
+            | inr le ↦ in_class (same_class a.class b.class (class_of a x) (class_of b y) (omega (arith, ge, le)))
           ]
         ]
       where
-        by_object : a.class ≡ b.class → (a ≡ b) ⊎ (Precedes ranks a b ⊎ Precedes ranks b a)
-        by_object c =
+        in_class : a.class ≡ b.class → (a ≡ b) ⊎ (Precedes ranks a b ⊎ Precedes ranks b a)
+        in_class c =
             elim (cases_lt a.object b.object) [
-              | inl lt ↦ inr (inl (inr (c, lt)))
+              | inl lt ↦ inr (inl (by_object ranks a b c lt))
               | inr ge ↦ elim (cases_lt b.object a.object) [
-                | inl gt ↦ inr (inr (inr (sym c, gt)))
+                | inl gt ↦ inr (inr (by_object ranks b a (sym c) gt))
                 | inr le ↦ let o : a.object ≡ b.object = omega (arith, ge, le) in inl (λ i. record { class = c i; object = o i })
               ]
             ]

@@ -16,12 +16,7 @@ use Rattle.points.specs.Wanted.{rank_of, IsWanted, IsSurelyHeld, AreWanted, AreS
 use Rattle.inserter.specs.Placement.{IsPath, GoesBefore, IsListBefore}
 use Rattle.inserter.specs.Working.Keys.{key_of, AreKeys, numbers_in, IsLeft, AreDue, AreListsOf}
 use Rattle.inserter.proofs.KeyLists.{of_numbers, in_numbers, numbers_rise, own_key, number_of_key}
-
--- what a list has at a place below its end
-pub item_at : {X : Type 0} (xs : List X) (k : ℕ) → k < length xs → (x : X) × (slice_get xs k ≡ Some x)
-item_at [] k lt = absurd (omega (arith, lt))
-item_at (x ∷ xs) zero lt = (x, refl)
-item_at (x ∷ xs) (suc k) lt = item_at xs k (omega (arith, lt))
+use Rattle.core_lang.specs.Theory.Items.{get_some}
 
 -- the rank of a path is that at its number
 rank_at : (ranks : List ℕ) (paths : List LockPath) (i : ℕ) (path : LockPath) → slice_get paths i ≡ Some path →
@@ -60,7 +55,7 @@ module _ (program : Typed) (section : Section) (ranks keys : List ℕ) (few : le
     only = λ i c.
         let n = of_numbers left.0 keys i (subst (λ (l : List ℕ). Contains l i) left.2 c) in
         let own = own_key by_path keys few_by are n.0 n.1 in
-        let path = item_at paths i (omega (arith, subst (λ x. x < length by_path) n.2 own.0, long)) in
+        let path = get_some paths i (omega (arith, subst (λ x. x < length by_path) n.2 own.0, long)) in
         let parts = and_parts (has w i) (not (has h i)) (sym (left.1 i) ∙ n.3) in (
           path.0,
           path.1,
@@ -109,8 +104,8 @@ are_lists x ranks keys wanted held lists few are_keys are_wanted are_held due pr
       long = same ∙ w.0;
       each = λ p list e.
           let within = slice_get_within lists p list e in
-          let ws = item_at wanted p (omega (arith, within, same)) in
-          let hs = item_at held p (omega (arith, within, same, w.0, h.0)) in
+          let ws = get_some wanted p (omega (arith, within, same)) in
+          let hs = get_some held p (omega (arith, within, same, w.0, h.0)) in
           list_before program section ranks keys few' keys' p ws.0 hs.0 list (λ i path q. w.1 p i ws.0 path ws.1 q) (λ i path q. h.1 p i hs.0 path hs.1 q)
           (due.each p ws.0 hs.0 list ws.1 hs.1 e);
     }

@@ -6,7 +6,8 @@ use Rattle.std.proofs.lemmas.Bool.{or_cases, eqb-true}
 use Rattle.std.proofs.lemmas.Bool.Decides.{Decides-eqb}
 use Rattle.std.proofs.lemmas.Map.Made.{IsDistinct-from_AllPairs}
 use Rattle.std.proofs.lemmas.Map.Steps.{length-le_from_distinct_below}
-use Rattle.inserter.proofs.Held.{not_in_none, in_first, in_rest, in_cases, distinct_cons, distinct_first, distinct_rest}
+use Rattle.inserter.proofs.Held.{distinct_cons, distinct_rest}
+use Rattle.core_lang.specs.Theory.Items.{not_in_none, in_first, in_rest, in_cases, distinct_first}
 
 among : (q : ℕ) (xs : List ℕ) → list_any (λ x. q == x) xs ≡ true → Contains xs q
 among q [] e = absurd cc

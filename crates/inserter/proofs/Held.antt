@@ -7,19 +7,7 @@ use Rattle.std.proofs.lemmas.Option.{slice_get-get_or, get_or_from_slice_get}
 use Rattle.std.proofs.lemmas.List.Kept.{AllPairs-cons}
 use Rattle.std.proofs.lemmas.List.Quantifiers.{all_pairs_push}
 use Rattle.locks.specs.declared.lock.Lock.{Lock}
-
-pub not_in_none : {X : Type 0} (x : X) → Contains [] x → ⊥
-not_in_none x c = omega (arith, c.1)
-
-pub in_first : {X : Type 0} (x : X) (xs : List X) → Contains (x ∷ xs) x
-in_first x xs = (0, omega arith, refl)
-
-pub in_rest : {X : Type 0} (x y : X) (xs : List X) → Contains xs y → Contains (x ∷ xs) y
-in_rest x y xs c = (suc c.0, omega (arith, c.1), c.2)
-
-pub in_cases : {X : Type 0} (x y : X) (xs : List X) → Contains (x ∷ xs) y → (x ≡ y) ⊎ Contains xs y
-in_cases x y xs (zero, lt, e) = inl e
-in_cases x y xs (suc i, lt, e) = inr (i, omega (arith, lt), e)
+use Rattle.core_lang.specs.Theory.Items.{in_cases, in_rest, not_in_none}
 
 same_or_not : (a b : Lock) → (a ≡ b) ⊎ (a ≢ b)
 same_or_not a b =
@@ -52,9 +40,6 @@ distinct_push xs y d new = all_pairs_push ◌≢◌ xs y d (λ k z lt e. new (at
 
 pub distinct_cons : {X : Type 0} (x : X) (xs : List X) → AllPairs ◌≢◌ xs → (Contains xs x → ⊥) → AllPairs ◌≢◌ (x ∷ xs)
 distinct_cons x xs d new = AllPairs-cons ◌≢◌ x xs (λ k z lt e. new (at_contains xs k z x lt (sym e))) d
-
-pub distinct_first : {X : Type 0} (x : X) (xs : List X) → AllPairs ◌≢◌ (x ∷ xs) → Contains xs x → ⊥
-distinct_first x xs d c = d 0 (suc c.0) x (omega arith) (omega (arith, c.1)) (sym c.2)
 
 pub distinct_rest : {X : Type 0} (x : X) (xs : List X) → AllPairs ◌≢◌ (x ∷ xs) → AllPairs ◌≢◌ xs
 distinct_rest x xs d i j z lt b = d (suc i) (suc j) z (omega (arith, lt)) (omega (arith, b))

@@ -16,21 +16,9 @@ use Rattle.std.proofs.lemmas.Nat.{mod-mul-add}
 use Rattle.locks.specs.declared.path_set.PathSet.{PathSet}
 use Rattle.locks.specs.Sets.{has}
 use Rattle.inserter.specs.Working.Keys.{key_of, first_keys, AreKeys, numbers_in}
+use Rattle.core_lang.specs.Theory.Items.{in_cases, in_first, in_rest, not_in_none}
 
 -- ---- what a list contains
-
-not_in_none : {X : Type 0} (x : X) → Contains [] x → ⊥
-not_in_none x c = omega (arith, c.1)
-
-in_first : {X : Type 0} (x : X) (xs : List X) → Contains (x ∷ xs) x
-in_first x xs = (0, omega arith, refl)
-
-in_rest : {X : Type 0} (x y : X) (xs : List X) → Contains xs y → Contains (x ∷ xs) y
-in_rest x y xs c = (suc c.0, omega (arith, c.1), c.2)
-
-in_cases : {X : Type 0} (x y : X) (xs : List X) → Contains (x ∷ xs) y → (x ≡ y) ⊎ Contains xs y
-in_cases x y xs (zero, lt, e) = inl e
-in_cases x y xs (suc i, lt, e) = inr (i, omega (arith, lt), e)
 
 at_contains : {X : Type 0} (xs : List X) (k : ℕ) (d x : X) → k < length xs → get_or xs k d ≡ x → Contains xs x
 at_contains [] k d x lt e = absurd (omega (arith, lt))

@@ -9,6 +9,7 @@ use Rattle.core_lang.specs.declared.tree.Section.{Section}
 use Rattle.core_lang.specs.declared.typed.Typed.{Typed}
 use Rattle.locks.specs.declared.lock.Lock.{Lock}
 use Rattle.locks.specs.LockPaths.{LockPath, lock_paths, lock_named}
+use Rattle.locks.specs.Theory.Order.{by_rank}
 use Rattle.inserter.specs.Placement.{IsPath}
 use Rattle.inserter.specs.Working.Runs.{Asks, Run, begins, gets, goes}
 use Rattle.inserter.specs.Working.Laws.{IsOrdered, InRuns, AsksRise, UsedAreHeld, HeldAreNamed, FewAreHeld}
@@ -74,7 +75,7 @@ module _ (laws : PathLaws) (program : Typed) (section : Section) (ranks : List �
             let below = s.arrived.free x.path lock wanted.in_scope wanted.ahead x.named (λ d. asks.new (s.keeps lock d)) other old in
             let same = named_rank laws program section ranks lists ok x.path locals lock x.named in
             let lt : slice_index ranks other.class < slice_index ranks lock.class = omega (arith, below, same) in
-            inl lt
+            by_rank ranks other lock lt
         | inr new ↦ new.first lock asks.listed asks.new
       ]
 

@@ -22,9 +22,11 @@ use Rattle.worlds.specs.Worlds.{World, with_taken, taken}
 use Rattle.worlds.specs.Working.States.{IsSound, HoldsLockOf}
 use Rattle.interleavings.specs.declared.state.State.{State}
 use Rattle.interleavings.specs.Working.States.{thread_of, session_at, cells_seen}
-use Rattle.interleavings.proofs.Lists.{lookup_at, at_contained, item_at, map_at, same_everywhere}
-use Rattle.interleavings.proofs.Numbers.{number_found, cell_among, has_lock, contains_among, among_contains}
+use Rattle.interleavings.proofs.Lists.{lookup_at, same_everywhere}
+use Rattle.interleavings.proofs.Numbers.{number_found, cell_among, has_lock}
+use Rattle.locks.specs.Theory.Order.{contains_among, among_contains}
 use Rattle.interleavings.proofs.Holding.{open_holds, holds_open}
+use Rattle.core_lang.specs.Theory.Items.{at_contained, get_some, map_at}
 
 -- ---- cell by cell
 
@@ -65,7 +67,7 @@ value_among : (heap : List Value) (cs : List ℕ) (cell : ℕ) → ((c : ℕ) �
     value_at (numbered cs (values_on heap cs)) cell ≡ slice_get heap cell
 value_among heap [] cell all k = absurd (omega (arith, k.1))
 value_among heap (c ∷ cs) cell all k =
-    let v = item_at heap c (all c (0, omega arith, refl)) in
+    let v = get_some heap c (all c (0, omega arith, refl)) in
     let rest : (d : ℕ) → Contains cs d → d < length heap = λ d h. all d (suc h.0, omega (arith, h.1), h.2) in
     ap (λ o. value_at (numbered (c ∷ cs) (if_there o (values_on heap cs))) cell) v.1 ∙ elim (eqb_tells c cell) [
       | inl h ↦ first_is c cell (Some v.0) (value_at (numbered cs (values_on heap cs)) cell) h.1 ∙ sym v.1 ∙ ap (slice_get heap) h.1
@@ -113,7 +115,7 @@ taken_from m lock values k size here =
     let cells = cells_of m.layout.cell_locks lock in
     taken_are m.values (cells_seen m) cells (λ c h.
     let at = has_lock m.layout.cell_locks lock c h in
-    let v = item_at m.values c (cells_within m lock k size c h) in
+    let v = get_some m.values c (cells_within m lock k size c h) in
     (v.0, v.1, seen_at m c (slice_get_within m.layout.cell_locks c lock at) ∙ ap Some (free_cell m c lock values k size at here ∙ v.1)))
     ∙ ap (numbered cells) (sym (k.free lock values here))
 
@@ -132,7 +134,7 @@ pub record IsOne (plan : Plan) (w : World) (m : Managed) (states : List State) :
 has_place : (m : Managed) (lock : Lock) → IsKept m → Contains m.layout.locks lock → (p : LockPlace) × (place_of m lock ≡ Some p)
 has_place m lock k c =
     let at = at_contained m.layout.locks lock c in
-    let p = item_at m.places at.0 (omega (arith, slice_get_within m.layout.locks at.0 lock at.1, k.lock_count)) in
+    let p = get_some m.places at.0 (omega (arith, slice_get_within m.layout.locks at.0 lock at.1, k.lock_count)) in
     let n : number_from 0 m.layout.locks lock ≡ Some at.0 =
     number_found 0 m.layout.locks lock at.0 k.distinct at.1 ∙ ap Some (let e : 0 + at.0 ≡ at.0 = omega arith in e) in
     (p.0, lookup_at (number_from 0 m.layout.locks lock) at.0 (λ (i : ℕ). slice_get m.places i) n ∙ p.1)
@@ -162,7 +164,7 @@ module _ (plan : Plan) (w : World) (m : Managed) (states : List State) (one : Is
   each_cell : (cell : ℕ) (x : Option Value) → cell < length m.layout.cell_locks → slice_get w.cells cell ≡ Some x → x ≡ cell_of m cell
   each_cell cell None lt e = moved_cell cell e
   each_cell cell (Some v) lt e =
-      let lock = item_at m.layout.cell_locks cell lt in
+      let lock = get_some m.layout.cell_locks cell lt in
       let p = has_place m lock.0 one.kept (one.listed cell lock.0 lock.1) in
       present_cell cell v lock.0 p.0 e lock.1 p.1
 
@@ -172,7 +174,7 @@ module _ (plan : Plan) (w : World) (m : Managed) (states : List State) (one : Is
   pub same_cells : w.cells ≡ cells_seen m
   same_cells = same_everywhere w.cells (cells_seen m) (λ cell. elim (cases_lt cell (length m.layout.cell_locks)) [
     | inl lt ↦ (
-        let x = item_at w.cells cell (omega (arith, lt, as_many)) in
+        let x = get_some w.cells cell (omega (arith, lt, as_many)) in
         x.1 ∙ ap Some (each_cell cell x.0 lt x.1) ∙ sym (seen_at m cell lt))
     | inr le ↦ slice_get_past w.cells cell (omega (arith, le, as_many)) ∙ sym (slice_get_past (cells_seen m) cell (omega (arith, le, as_many_seen m)))
   ])

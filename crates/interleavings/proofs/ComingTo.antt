@@ -12,7 +12,7 @@ use Rattle.interleavings.specs.declared.state.State.TheVariants as state
 use Rattle.interleavings.specs.Working.States.{thread_of, world_of, IsTied}
 use Rattle.interleavings.specs.Working.Steps.{coming_at}
 use Rattle.interleavings.specs.Coming.{section_comes, open_comes, thread_comes, coming_to}
-use Rattle.interleavings.proofs.Lists.{map_at}
+use Rattle.core_lang.specs.Theory.Items.{map_at}
 
 -- with a lock pending, and with an outcome
 comes_asking : (a : Activation) (locks : List Lock) (outcome : Option Outcome) → locks ≢ [] → section_comes a locks outcome ≡ coming.Other

@@ -25,9 +25,10 @@ use Rattle.runner.specs.Working.Opens.{OpenOf, CanGiveBack, ticket_of}
 use Rattle.worlds.specs.Waiting.{first_if}
 use Rattle.worlds.specs.Worlds.{Activation, call_at, scripts, script_of}
 use Rattle.worlds.specs.Working.States.{IsWell, IsFit}
-use Rattle.interleavings.proofs.Lists.{some_same, contains_at, at_contained, all_contained, all_from, first_or_rest, later, map_at, map_back}
-use Rattle.interleavings.proofs.Numbers.{distinct_first, distinct_rest, has_lock, among_contains}
+use Rattle.interleavings.proofs.Numbers.{distinct_first, distinct_rest, has_lock}
+use Rattle.locks.specs.Theory.Order.{among_contains}
 use Rattle.interleavings.proofs.Cells.{first_is, first_is_not}
+use Rattle.core_lang.specs.Theory.Items.{contains_at, at_contained, some_same, all_contained, all_from, map_at, map_back, in_cases, in_rest}
 
 -- ---- values of cells
 
@@ -52,7 +53,7 @@ has_value : (xs : List (ℕ × Value)) (x : ℕ × Value) → Contains xs x → 
 has_value [] x c = absurd (omega (arith, c.1))
 has_value (y ∷ ys) x c = elim (eqb_tells y.0 x.0) [
   | inl e ↦ (y.1, first_is y.0 x.0 (Some y.1) (value_at ys x.0) e.1)
-  | inr e ↦ elim (first_or_rest y ys x c) [
+  | inr e ↦ elim (in_cases y x ys c) [
     | inl same ↦ absurd (e.1 (ap (λ (z : ℕ × Value). z.0) same))
     | inr rest ↦ (let r = has_value ys x rest in (r.0, first_is_not y.0 x.0 (Some y.1) (value_at ys x.0) e.1 ∙ r.1))
   ]
@@ -63,7 +64,7 @@ numbered_only [] vs c v h = absurd (none-some v h)
 numbered_only (d ∷ ds) [] c v h = absurd (none-some v h)
 numbered_only (d ∷ ds) (w ∷ ws) c v h = elim (eqb_tells d c) [
   | inl e ↦ (0, omega arith, e.1)
-  | inr e ↦ later d ds c (numbered_only ds ws c v (sym (first_is_not d c (Some w) (value_at (numbered ds ws) c) e.1) ∙ h))
+  | inr e ↦ in_rest d c ds (numbered_only ds ws c v (sym (first_is_not d c (Some w) (value_at (numbered ds ws) c) e.1) ∙ h))
 ]
 
 -- ---- the cells of grants
@@ -72,7 +73,7 @@ numbered_only (d ∷ ds) (w ∷ ws) c v h = elim (eqb_tells d c) [
 granted_value : (cell_locks : List Lock) (gs : List GrantOf) (g : GrantOf) (cell : ℕ) (v : Value) → AreDistinct (locks_of gs) → Contains gs g →
     slice_get cell_locks cell ≡ Some g.lock → value_at (cells_in cell_locks g) cell ≡ Some v → value_at (cells_granted cell_locks gs) cell ≡ Some v
 granted_value cell_locks [] g cell v d c at h = absurd (omega (arith, c.1))
-granted_value cell_locks (x ∷ gs) g cell v d c at h = elim (first_or_rest x gs g c) [
+granted_value cell_locks (x ∷ gs) g cell v d c at h = elim (in_cases x g gs c) [
   | inl same ↦ value_more (cells_in cell_locks x) (cells_granted cell_locks gs) cell v (ap (λ (y : GrantOf). value_at (cells_in cell_locks y) cell) same ∙ h)
   | inr rest ↦ (
       let others : Contains (locks_of gs) g.lock =

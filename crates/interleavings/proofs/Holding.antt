@@ -12,13 +12,13 @@ use Rattle.lock_manager.specs.declared.places.LockPlace.TheVariants.{Free, Taken
 use Rattle.lock_manager.specs.Working.Sessions.{SessionOf}
 use Rattle.lock_manager.specs.Working.Managers.{Managed, IsKept, Holds, session_in, place_of, holder_of, taker}
 use Rattle.runner.specs.Working.Opens.{OpenOf, session_of_open}
-use Rattle.worlds.specs.Asking.{among}
+use Rattle.locks.specs.Locks.{among}
 use Rattle.worlds.specs.Worlds.{World, ThreadState, Activation, HasOpen, holds, holder_from, holder}
 use Rattle.interleavings.specs.declared.state.State.{State}
 use Rattle.interleavings.specs.declared.state.State.TheVariants as state
 use Rattle.interleavings.specs.Working.States.{thread_of, open_thread, session_of_state, session_at}
-use Rattle.interleavings.proofs.Lists.{some_same, lookup_some, map_at, map_back}
-use Rattle.interleavings.proofs.Numbers.{contains_among, among_contains}
+use Rattle.locks.specs.Theory.Order.{contains_among, among_contains}
+use Rattle.core_lang.specs.Theory.Items.{lookup_some, some_same, map_at, map_back}
 
 -- ---- a state with an open section
 

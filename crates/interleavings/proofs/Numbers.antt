@@ -1,51 +1,19 @@
 -- Locks by number, and the cells of locks.
-use Rattle.std.proofs.Common.{◌≡◌, ◌≢◌, ℕ, zero, suc, ◌+◌, ◌<◌, Bool, true, false, if◌then◌else◌, ◌==◌, ◌&&◌, List, [], ◌∷◌, ◌++◌, length, get_or, Some, ◌⊎◌, inl, inr, refl, sym, ap, ◌∙◌, subst, arith, true≢false}
+use Rattle.std.proofs.Common.{◌≡◌, ◌≢◌, ℕ, zero, suc, ◌+◌, ◌<◌, Bool, true, false, if◌then◌else◌, List, [], ◌∷◌, ◌++◌, length, get_or, Some, ◌⊎◌, inl, inr, refl, sym, ap, ◌∙◌, subst, arith}
 use Rattle.std.specs.Prelude.{slice_get}
 use Rattle.std.specs.List.{Contains}
-use Rattle.std.proofs.lemmas.Bool.{cases_Bool, eqb-true, eq-eqb, or_cases, or_left, or_right}
 use Rattle.std.proofs.lemmas.Option.{none-some, slice_get-get_or}
 use Rattle.locks.specs.declared.lock.Lock.{Lock}
-use Rattle.layout.specs.LockCells.{same_lock, cells_from, cells_of}
+use Rattle.layout.specs.LockCells.{cells_from, cells_of}
+use Rattle.locks.specs.Locks.{same_lock}
 use Rattle.layout.specs.Layouts.{AreDistinct}
 use Rattle.lock_manager.specs.Working.Managers.{number_from}
-use Rattle.worlds.specs.Asking.{among}
-use Rattle.interleavings.proofs.Lists.{some_same}
+use Rattle.locks.specs.Theory.Order.{same_itself, lock_cases}
+use Rattle.core_lang.specs.Theory.Items.{some_same}
 
 -- ---- the same lock
 
-both_parts : (a b : Bool) → (a && b) ≡ true → (a ≡ true) × (b ≡ true)
-both_parts true b e = (refl, e)
-both_parts false b e = absurd cc
-
-same_itself : (a : Lock) → same_lock a a ≡ true
-same_itself a = ap (λ b. b && (a.object == a.object)) (eq-eqb a.class a.class refl) ∙ eq-eqb a.object a.object refl
-
-same_is : (a b : Lock) → same_lock a b ≡ true → a ≡ b
-same_is a b e =
-    let p = both_parts (a.class == b.class) (a.object == b.object) e in
-    let class : a.class ≡ b.class = eqb-true a.class b.class p.0 in
-    let object : a.object ≡ b.object = eqb-true a.object b.object p.1 in
-    λ i. record { class = class i; object = object i }
-
-lock_cases : (a b : Lock) → ((same_lock a b ≡ true) × (a ≡ b)) ⊎ ((same_lock a b ≡ false) × (a ≢ b))
-lock_cases a b = elim (cases_Bool (same_lock a b)) [
-  | inl e ↦ inl (e, same_is a b e)
-  | inr e ↦ inr (e, λ same. let t : same_lock a b ≡ true = ap (λ (l : Lock). same_lock a l) (sym same) ∙ same_itself a in let bad : true ≡ false = sym t ∙ e in absurd cc)
-]
-
 -- ---- locks among locks
-
-pub contains_among : (xs : List Lock) (l : Lock) → Contains xs l → among xs l ≡ true
-contains_among [] l (k, less, e) = absurd (omega (arith, less))
-contains_among (x ∷ xs) l (zero, less, e) = or_left (same_lock x l) (among xs l) (ap (λ (y : Lock). same_lock x y) (sym e) ∙ same_itself x)
-contains_among (x ∷ xs) l (suc k, less, e) = or_right (same_lock x l) (among xs l) (contains_among xs l (k, omega (arith, less), e))
-
-pub among_contains : (xs : List Lock) (l : Lock) → among xs l ≡ true → Contains xs l
-among_contains [] l h = absurd (true≢false (sym h))
-among_contains (x ∷ xs) l h = elim (or_cases (same_lock x l) (among xs l) h) [
-  | inl e ↦ (0, omega arith, same_is x l e)
-  | inr e ↦ (let c = among_contains xs l e in let less = c.1 in (suc c.0, omega (arith, less), c.2))
-]
 
 -- ---- each lock once
 

@@ -15,8 +15,9 @@ use Rattle.worlds.specs.Working.Ahead.{IsReadyWorld, WorldsStayReady}
 use Rattle.interleavings.specs.declared.state.State.{State}
 use Rattle.interleavings.specs.declared.state.State.TheVariants as state
 use Rattle.interleavings.specs.Working.States.{thread_of, session_of_state, session_at, IsAt, AreReady, cells_seen, world_of, IsTied}
-use Rattle.interleavings.proofs.Lists.{some_same, item_at, map_at, same_everywhere}
+use Rattle.interleavings.proofs.Lists.{same_everywhere}
 use Rattle.interleavings.proofs.Cells.{same_cells}
+use Rattle.core_lang.specs.Theory.Items.{some_same, get_some, map_at}
 
 none_open : (n t : ℕ) → session_in (replicate n None) t ≡ None
 none_open zero t = refl
@@ -41,7 +42,7 @@ module _ (plan : Plan) (m : Managed) (states : List State) (compiled : IsCompile
   same_threads : (opening_world plan).threads ≡ map thread_of states
   same_threads = same_everywhere (map at_first (scripts plan)) (map thread_of states) (λ t. elim (cases_lt t (length plan.program.threads.items)) [
     | inl lt ↦ (
-        let thread = item_at plan.program.threads.items t lt in
+        let thread = get_some plan.program.threads.items t lt in
         map_at at_first (scripts plan) t (script_of thread.0) (map_at script_of plan.program.threads.items t thread.0 thread.1)
         ∙ sym (map_at thread_of states t (state.Ready (record { thread = t; step = 0 })) (ready.each t lt)))
     | inr le ↦ slice_get_past (map at_first (scripts plan)) t

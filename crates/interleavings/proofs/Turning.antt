@@ -4,7 +4,7 @@ use Rattle.std.specs.Prelude.{slice_get, Result, Ok, Err, IfOk, OnErr}
 use Rattle.std.specs.List.{Contains}
 use Rattle.std.proofs.lemmas.Bool.{cases_eq}
 use Rattle.std.proofs.lemmas.List.{map-set, length-set}
-use Rattle.std.proofs.lemmas.Option.{none-some, slice_get_within}
+use Rattle.std.proofs.lemmas.Option.{slice_get_within}
 use Rattle.core_lang.specs.Typing.{lookup, IsHeap}
 use Rattle.locks.specs.declared.lock.Lock.{Lock}
 use Rattle.locks.specs.Order.{PrecedesIsStrict}
@@ -37,11 +37,11 @@ use Rattle.interleavings.specs.Working.States.{state_of, open_thread, thread_of,
 use Rattle.interleavings.specs.Working.Steps.{Begun, Moved, Got, Refused, Over, Stays, ReadySteps, RunningSteps, AskingSteps, EndedSteps, Steps, Refuses, Stepped, CanStep, status_at}
 use Rattle.interleavings.specs.Statuses.{calling, wanting, asking, section_status, thread_status, status_of}
 use Rattle.interleavings.specs.Threads.{ThreadsOf, threads_of}
-use Rattle.interleavings.proofs.Lists.{some_same, map_at, set_same, set_other, set_itself}
 use Rattle.interleavings.proofs.Numbers.{distinct_none, distinct_push}
 use Rattle.interleavings.proofs.Holding.{holder_is}
 use Rattle.interleavings.proofs.Cells.{same_cells, taken_from}
 use Rattle.interleavings.proofs.Ending.{can_end, step_within, no_ask}
+use Rattle.core_lang.specs.Theory.Items.{set_same, some_same, map_at, set_other, set_itself}
 
 -- ---- what a step gives, piece by piece
 

@@ -1,12 +1,9 @@
 -- What is found at places of lists, one behind another.
-use Rattle.std.proofs.Common.{◌≡◌, ◌≢◌, ◌∙◌, ℕ, suc, ◌+◌, ◌<◌, ◌≤◌, List, length, get_or, drop, drop-cons, Option, Some, None, inl, inr, add-one, refl, sym, ap, subst, arith}
+use Rattle.std.proofs.Common.{◌≡◌, ◌∙◌, ℕ, ◌<◌, ◌≤◌, List, length, get_or, Option, Some, None, sym, ap, arith}
 use Rattle.std.specs.Prelude.{slice_get}
-use Rattle.std.specs.Borrow.{Bor}
-use Rattle.std.specs.Slice.{IsItemAt}
-use Rattle.std.specs.Option.{option_copied, option_map}
-use Rattle.std.proofs.lemmas.Bool.{cases_lt}
+use Rattle.std.specs.Option.{option_map}
 use Rattle.std.proofs.lemmas.List.{length-map}
-use Rattle.std.proofs.lemmas.Option.{slice_get_past, slice_get_read, slice_get_within}
+use Rattle.std.proofs.lemmas.Option.{slice_get_within}
 use Rattle.core_lang.specs.declared.shape.Array.{Array}
 use Rattle.core_lang.specs.declared.shape.Object.{Object}
 use Rattle.core_lang.specs.declared.shape.Pool.{Pool}
@@ -22,28 +19,12 @@ use Rattle.core_lang.specs.declared.typed.Struct.{Struct}
 use Rattle.core_lang.specs.declared.typed.Typed.{Typed}
 use Rattle.core_lang.specs.Typing.{lookup, struct_of}
 use Rattle.core_lang.specs.WellFormed.{IsLaidOut}
-use Rattle.locks.specs.Locks.{final_of, led_to, global_lock, lock_of, protection_of, walked, protecting}
+use Rattle.locks.specs.Locks.{led_to, global_lock, lock_of, protection_of, walked, protecting}
 use Rattle.layout.specs.declared.places.CellPlace.{CellPlace}
-use Rattle.layout.specs.declared.places.ObjectPlace.{ObjectPlace}
 use Rattle.layout.specs.Layouts.{lock_fields, object_struct}
-use Rattle.layout.specs.Working.Numbers.{first_finals, locks_in, openings_in}
-use Rattle.layout.proofs.Lists.{lookup_at, map_at, read_at}
-
--- ---- of a list that a slice lends
-
-module _ {A : Type 0} (xs lent : List A) (i : ℕ) (same : lent ≡ xs) where
-  pub item_here : (b : Bor A) → IsItemAt lent i (Some b) → slice_get xs i ≡ Some b.now
-  item_here b h = subst (λ (ys : List A). slice_get ys i ≡ Some b.now) same (slice_get_read lent (length lent) i b.now refl h.3.0 h.1)
-
-  pub item_past : IsItemAt lent i None → slice_get xs i ≡ None
-  item_past h = subst (λ (ys : List A). slice_get ys i ≡ None) same (slice_get_past lent i h.3)
-
-pub item_copied : {A : Type 0} (xs lent : List A) (i : ℕ) (r : Option (Bor A)) → lent ≡ xs → IsItemAt lent i r → option_copied r ≡ slice_get xs i
-item_copied xs lent i (Some b) same h = sym (item_here xs lent i same b h)
-item_copied xs lent i None same h = sym (item_past xs lent i same h)
-
-pub lookup_none : {A B : Type 0} (r : Option A) (go : A → Option B) → r ≡ None → lookup r go ≡ None
-lookup_none r go e = ap (λ o. lookup o go) e
+use Rattle.layout.specs.Working.Numbers.{locks_in, openings_in}
+use Rattle.layout.proofs.Lists.{map_at}
+use Rattle.core_lang.specs.Theory.Items.{lookup_none, lookup_at, read_at}
 
 -- ---- numbers below a bound that goes by several names
 
@@ -64,26 +45,6 @@ at_end n a b le e ge = omega arith
 
 pub all_taken : (k a b d n : ℕ) → k ≡ a → b ≡ a → d ≡ b → d ≤ n → k ≤ n
 all_taken k a b d n e f g le = omega arith
-
--- ---- final references
-
-pub final_none : (shape : Shape) (o f : ℕ) → slice_get shape.objects.items o ≡ None → final_of shape o f ≡ None
-final_none shape o f e = lookup_none (slice_get shape.objects.items o) (λ (x : Object). slice_get shape.finals.items (x.finals + f)) e
-
-pub final_here : (shape : Shape) (o f : ℕ) (x : Object) → slice_get shape.objects.items o ≡ Some x → final_of shape o f ≡ slice_get shape.finals.items (x.finals + f)
-final_here shape o f x e = lookup_at (slice_get shape.objects.items o) x (λ (y : Object). slice_get shape.finals.items (y.finals + f)) e
-
-module _ (shape : Shape) (reached i : ℕ) (finals : List ℕ) (lt : i < length finals) where
-  pub led_further : (next : ℕ) → final_of shape reached (get_or finals i 0) ≡ Some next → led_to shape reached (drop i finals) ≡ led_to shape next (drop (i + 1) finals)
-  led_further next step =
-      ap (led_to shape reached) (drop-cons finals i 0 lt)
-      ∙ lookup_at (final_of shape reached (get_or finals i 0)) next (λ (n : ℕ). led_to shape n (drop (suc i) finals)) step
-      ∙ ap (λ (k : ℕ). led_to shape next (drop k finals)) (sym (add-one i))
-
-  pub led_nowhere : final_of shape reached (get_or finals i 0) ≡ None → led_to shape reached (drop i finals) ≡ None
-  led_nowhere step =
-      ap (led_to shape reached) (drop-cons finals i 0 lt)
-      ∙ lookup_none (final_of shape reached (get_or finals i 0)) (λ (n : ℕ). led_to shape n (drop (suc i) finals)) step
 
 -- ---- the lock of an annotation
 
@@ -176,28 +137,6 @@ module _ (program : Typed) (laid : IsLaidOut program) (o : ℕ) (x : Object) (at
         sym (ap lock_fields (lookup_at (struct_of program.shape o) p.structure (λ (k : ℕ). slice_get program.structs.items k) (of_pool program.shape o x p at there) ∙ is))
 
 -- ---- what a layout's places read
-
-module _ (objects : List ObjectPlace) (finals : List ℕ) (o f : ℕ) (named : lookup (slice_get (first_finals objects) o) (λ (first : ℕ). slice_get finals (first + f)) ≢ None) where
-  pub object_within : o < length objects
-  object_within = elim (cases_lt o (length objects)) [
-    | inl lt ↦ lt
-    | inr ge ↦ absurd (named (lookup_none (slice_get (first_finals objects) o) (λ (first : ℕ). slice_get finals (first + f))
-        (slice_get_past (first_finals objects) o (omega (arith, ge, length-map objects (λ (x : ObjectPlace). x.first_final))))))
-  ]
-
-  module _ (x : ObjectPlace) (is : x ≡ get_or objects o x) where
-    first_at : lookup (slice_get (first_finals objects) o) (λ (first : ℕ). slice_get finals (first + f)) ≡ slice_get finals (x.first_final + f)
-    first_at = lookup_at (slice_get (first_finals objects) o) x.first_final (λ (first : ℕ). slice_get finals (first + f))
-        (map_at (λ (y : ObjectPlace). y.first_final) objects o x (read_at objects o x object_within is))
-
-    pub final_within : x.first_final + f < length finals
-    final_within = elim (cases_lt (x.first_final + f) (length finals)) [
-      | inl lt ↦ lt
-      | inr ge ↦ absurd (named (first_at ∙ slice_get_past finals (x.first_final + f) ge))
-    ]
-
-    pub final_read : (y : ℕ) → y ≡ get_or finals (x.first_final + f) y → lookup (slice_get (first_finals objects) o) (λ (first : ℕ). slice_get finals (first + f)) ≡ Some y
-    final_read y is_y = first_at ∙ read_at finals (x.first_final + f) y final_within is_y
 
 module _ (cells : List CellPlace) (cell n : ℕ) (x : CellPlace) (lt : cell < n) (is : x ≡ get_or cells cell x) where
   pub lock_read : length (locks_in cells) ≡ n → slice_get (locks_in cells) cell ≡ Some x.lock

@@ -1,23 +1,20 @@
 -- The layout of a program, from what the code has put together.
-use Rattle.std.proofs.Common.{◌≡◌, ℕ, zero, suc, ◌+◌, ◌<◌, List, [], ◌∷◌, ◌++◌, length, Option, Some, None, inl, inr, refl, sym, ap, ◌∙◌, subst, arith}
+use Rattle.std.proofs.Common.{◌≡◌, ℕ, zero, suc, ◌+◌, ◌<◌, List, [], ◌∷◌, ◌++◌, length, Option, Some, inl, inr, refl, sym, ap, ◌∙◌, subst, arith}
 use Rattle.std.specs.Prelude.{slice_get}
 use Rattle.std.specs.List.{Contains}
-use Rattle.std.specs.Option.{option_map}
 use Rattle.std.proofs.lemmas.Bool.{cases_lt}
-use Rattle.std.proofs.lemmas.Option.{slice_get_past, slice_get-map}
-use Rattle.core_lang.specs.declared.shape.Object.{Object}
+use Rattle.std.proofs.lemmas.Option.{slice_get_past}
 use Rattle.core_lang.specs.declared.typed.Cell.{Cell}
 use Rattle.core_lang.specs.declared.typed.Typed.{Typed}
 use Rattle.core_lang.specs.Typing.{lookup}
 use Rattle.core_lang.specs.Serial.{opening_heap}
 use Rattle.core_lang.specs.WellFormed.{IsWellFormed}
 use Rattle.locks.specs.declared.lock.Lock.{Lock}
-use Rattle.locks.specs.Locks.{IsLock, protecting, final_of, lock_of_cell}
-use Rattle.layout.specs.Layouts.{LayoutOf, object_named, all_locks, AreDistinct, IsLayoutOf}
-use Rattle.layout.specs.Working.Numbers.{program_finals}
-use Rattle.layout.proofs.Lists.{lookup_some}
+use Rattle.locks.specs.Locks.{IsLock, protecting, lock_of_cell}
+use Rattle.layout.specs.Layouts.{LayoutOf, all_locks, AreDistinct, IsLayoutOf}
 use Rattle.layout.proofs.Listed.{listed}
 use Rattle.layout.proofs.Locked.{cell_locked}
+use Rattle.core_lang.specs.Theory.Items.{lookup_some}
 
 -- so many cells of a program, with their locks
 abbrev pub AreLocked : Typed → ℕ → List Lock → Type 0
@@ -54,18 +51,6 @@ all_locked program locks long are cell =
           ∙ ap (λ (o : Option Cell). lookup o (λ c. protecting program c.owner)) (sym (slice_get_past program.cells.items cell (omega arith)))
     ]
 
-lookup_map : {A B C : Type 0} (f : A → B) (go : B → Option C) (o : Option A) → lookup (option_map f o) go ≡ lookup o (λ x. go (f x))
-lookup_map f go None = refl
-lookup_map f go (Some x) = refl
-
-same_finals : (program : Typed) (layout : LayoutOf) → layout.first_finals ≡ program_finals program.shape.objects.items → layout.finals ≡ program.shape.finals.items →
-    (object final : ℕ) → object_named layout object final ≡ final_of program.shape object final
-same_finals program layout first finals object final =
-    ap (λ (fs : List ℕ). lookup (slice_get fs object) (λ f. slice_get layout.finals (f + final))) first
-    ∙ ap (λ (o : Option ℕ). lookup o (λ f. slice_get layout.finals (f + final))) (slice_get-map (λ (x : Object). x.finals) program.shape.objects.items object)
-    ∙ lookup_map (λ (x : Object). x.finals) (λ f. slice_get layout.finals (f + final)) (slice_get program.shape.objects.items object)
-    ∙ ap (λ (fs : List ℕ). lookup (slice_get program.shape.objects.items object) (λ x. slice_get fs (x.finals + final))) finals
-
 -- the lock of a cell is listed
 locked_listed : (program : Typed) (cell : ℕ) (lock : Lock) → IsWellFormed program → lock_of_cell program cell ≡ Some lock → Contains (all_locks program) lock
 locked_listed program cell lock well is =
@@ -77,9 +62,8 @@ locked_listed program cell lock well is =
 
 pub laid_out : (program : Typed) (layout : LayoutOf) → IsWellFormed program → layout.opening ≡ opening_heap program →
     length layout.cell_locks ≡ length program.cells.items → AreLocked program (length program.cells.items) layout.cell_locks → layout.locks ≡ all_locks program →
-    AreDistinct layout.locks → layout.first_finals ≡ program_finals program.shape.objects.items → layout.finals ≡ program.shape.finals.items →
-    IsLayoutOf program layout
-laid_out program layout well opening long locked locks once first finals = record {
+    AreDistinct layout.locks → IsLayoutOf program layout
+laid_out program layout well opening long locked locks once = record {
   opening = opening;
   cells = long;
   cell_locks = all_locked program layout.cell_locks long locked;
@@ -91,5 +75,4 @@ laid_out program layout well opening long locked locks once first finals = recor
   );
   distinct = once;
   order = locks;
-  finals = same_finals program layout first finals;
 }

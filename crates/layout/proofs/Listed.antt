@@ -19,9 +19,10 @@ use Rattle.layout.specs.declared.places.ClassPlace.{ClassPlace}
 use Rattle.layout.specs.declared.places.ClassPlace.TheVariants as place
 use Rattle.layout.specs.Layouts.{if_global_lock, global_locks, lock_fields, object_struct, locks_of_object, object_locks, all_locks}
 use Rattle.layout.specs.Working.Numbers.{KnowFields, AreFields, class_place, locks_at}
-use Rattle.layout.proofs.Lists.{lookup_some, lookup_at, contains_there, there_contains, read_at, still_at, last_at, map_at, take_one_more}
+use Rattle.layout.proofs.Lists.{still_at, last_at, map_at, take_one_more}
 use Rattle.std.proofs.lemmas.List.{map_push}
 use Rattle.layout.proofs.Locked.{object_there}
+use Rattle.core_lang.specs.Theory.Items.{lookup_some, contains_at, at_contained, map_some, lookup_at, read_at}
 
 not_in_none : (x : Lock) → Contains [] x → ⊥
 not_in_none x c = omega (arith, c.1)
@@ -29,10 +30,6 @@ not_in_none x c = omega (arith, c.1)
 alone : (x y : Lock) → Contains (x ∷ []) y → x ≡ y
 alone x y (zero, lt, e) = e
 alone x y (suc k, lt, e) = absurd (omega (arith, lt))
-
-map_some : {A B : Type 0} (f : A → B) (o : Option A) (b : B) → option_map f o ≡ Some b → (a : A) × (o ≡ Some a) × (f a ≡ b)
-map_some f None b e = absurd (none-some b e)
-map_some f (Some a) b e = (a, refl, cc)
 
 -- ---- what a list has is a lock
 
@@ -71,7 +68,7 @@ object_lock_is : (program : Typed) (object : ℕ) (lock : Lock) → IsWellFormed
 object_lock_is program object lock well c =
     let made : LockField → Lock = λ (x : LockField). record { class = x.class; object = object } in
     let fields = lock_fields (object_struct program object) in
-    let at = there_contains (map made fields) lock c in
+    let at = at_contained (map made fields) lock c in
     let m = map_some made (slice_get fields at.0) lock (sym (slice_get-map made fields at.0) ∙ at.1) in
     let f = field_of program object at.0 m.0 well m.1 in
     subst (IsLock program) m.2 (subst (IsLockOfClass program (made m.0)) (sym f.class_is) f.of)
@@ -129,7 +126,7 @@ is_there program lock (Some (class.Field s l)) well at h =
     let same : made field ≡ lock = ap (λ (k : ℕ). record { class = k; object = lock.object }) x.2.2 in
     let there : Contains (locks_of_object program lock.object) lock =
     subst (Contains (locks_of_object program lock.object)) same
-    (contains_there (locks_of_object program lock.object) l (made field) (map_at made (lock_fields (object_struct program lock.object)) l field field_is)) in
+    (contains_at (locks_of_object program lock.object) l (made field) (map_at made (lock_fields (object_struct program lock.object)) l field field_is)) in
     let o = object_there program lock.object s h in
     Contains-append_right (global_locks program n) (object_locks program m) lock
     (in_objects program m lock.object lock (slice_get_within program.shape.objects.items lock.object o.0 o.1) there)

@@ -11,29 +11,7 @@ use Rattle.core_lang.specs.Typing.{lookup}
 
 -- ---- what is found
 
-pub lookup_some : {A B : Type 0} (r : Option A) (go : A → Option B) (b : B) → lookup r go ≡ Some b → (a : A) × (r ≡ Some a) × (go a ≡ Some b)
-lookup_some (Some a) go b e = (a, refl, e)
-lookup_some None go b e = absurd (none-some b e)
-
-pub lookup_at : {A B : Type 0} (r : Option A) (a : A) (go : A → Option B) → r ≡ Some a → lookup r go ≡ go a
-lookup_at r a go e = ap (λ o. lookup o go) e
-
 -- ---- what stands at a place
-
-pub contains_there : {X : Type 0} (xs : List X) (i : ℕ) (x : X) → slice_get xs i ≡ Some x → Contains xs x
-contains_there xs i x e = (i, slice_get_within xs i x e, get_or_from_slice_get xs i x x e)
-
-pub there_contains : {X : Type 0} (xs : List X) (x : X) → Contains xs x → (i : ℕ) × (slice_get xs i ≡ Some x)
-there_contains xs x c = (c.0, slice_get-get_or xs c.0 x c.1 ∙ ap Some c.2)
-
-pub item_at : {X : Type 0} (xs : List X) (k : ℕ) → k < length xs → (x : X) × (slice_get xs k ≡ Some x)
-item_at [] k lt = absurd (omega arith)
-item_at (x ∷ xs) zero lt = (x, refl)
-item_at (x ∷ xs) (suc k) lt = item_at xs k (omega arith)
-
--- what an index reads
-pub read_at : {X : Type 0} (xs : List X) (k : ℕ) (x : X) → k < length xs → x ≡ get_or xs k x → slice_get xs k ≡ Some x
-read_at xs k x lt e = slice_get-get_or xs k x lt ∙ ap Some (sym e)
 
 pub still_at : {X : Type 0} (xs ys : List X) (k : ℕ) (x : X) → slice_get xs k ≡ Some x → slice_get (xs ++ ys) k ≡ Some x
 still_at [] ys k x e = absurd (none-some x e)
@@ -44,24 +22,10 @@ pub last_at : {X : Type 0} (xs : List X) (x : X) → slice_get (xs ++ x ∷ []) 
 last_at [] x = refl
 last_at (z ∷ xs) x = last_at xs x
 
-pub push_cases : {X : Type 0} (xs : List X) (y : X) (k : ℕ) (x : X) → slice_get (xs ++ y ∷ []) k ≡ Some x → (slice_get xs k ≡ Some x) ⊎ ((k ≡ length xs) × (y ≡ x))
-push_cases [] y zero x e = inr (refl, cc)
-push_cases [] y (suc k) x e = absurd (none-some x e)
-push_cases (z ∷ xs) y zero x e = inl e
-push_cases (z ∷ xs) y (suc k) x e = elim (push_cases xs y k x e) [ inl h ↦ inl h | inr h ↦ inr (ap suc h.0, h.1) ]
-
 pub map_at : {A B : Type 0} (f : A → B) (xs : List A) (k : ℕ) (x : A) → slice_get xs k ≡ Some x → slice_get (map f xs) k ≡ Some (f x)
 map_at f xs k x e = slice_get-map f xs k ∙ ap (option_map f) e
 
 -- ---- writes, and one item more
-
-pub get_set_same : {X : Type 0} (xs : List X) (i : ℕ) (x : X) → i < length xs → slice_get (set xs i x) i ≡ Some x
-get_set_same xs i x lt = slice_get-get_or (set xs i x) i x (omega (arith, lt, length-set xs i x)) ∙ ap Some (get_or-set_same xs i x x lt)
-
-pub get_set_other : {X : Type 0} (xs : List X) (i j : ℕ) (x y : X) → j ≢ i → slice_get xs j ≡ Some y → slice_get (set xs i x) j ≡ Some y
-get_set_other xs i j x y ne e =
-    slice_get-get_or (set xs i x) j y (omega (arith, slice_get_within xs j y e, length-set xs i x))
-    ∙ ap Some (get_or-set_other xs i j x y ne ∙ get_or_from_slice_get xs j y y e)
 
 pub take_one_more : {X : Type 0} (xs : List X) (k : ℕ) (x : X) → slice_get xs k ≡ Some x → take (suc k) xs ≡ take k xs ++ x ∷ []
 take_one_more [] k x e = absurd (none-some x e)

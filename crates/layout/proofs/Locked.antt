@@ -19,7 +19,7 @@ use Rattle.core_lang.specs.Typing.{lookup, struct_of}
 use Rattle.core_lang.specs.WellFormed.{IsWellFormed, IsLaidOut, IsCellOf, IsGlobalLock, FinalsLead, EndsAt}
 use Rattle.locks.specs.declared.lock.Lock.{Lock}
 use Rattle.locks.specs.Locks.{final_of, led_to, global_lock, IsLockOfClass, IsLock, lock_of, protection_of, walked, protecting, lock_of_cell}
-use Rattle.layout.proofs.Lists.{lookup_some, lookup_at}
+use Rattle.core_lang.specs.Theory.Items.{lookup_some, lookup_at}
 
 -- what an object's struct shows
 pub object_there : (program : Typed) (o s : ℕ) → struct_of program.shape o ≡ Some s → (x : Object) × (slice_get program.shape.objects.items o ≡ Some x)

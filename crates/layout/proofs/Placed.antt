@@ -1,5 +1,5 @@
 -- Cells placed behind those that their locks have.
-use Rattle.std.proofs.Common.{replicate, ◌≡◌, ◌≢◌, ℕ, zero, suc, ◌+◌, ◌<◌, ◌≤◌, Bool, true, false, if◌then◌else◌, ◌==◌, ◌&&◌, List, [], ◌∷◌, ◌++◌, length, get_or, set, IsTrue, Some, inl, inr, refl, sym, ap, ◌∙◌, subst, arith, add-zero, length-append}
+use Rattle.std.proofs.Common.{replicate, ◌≡◌, ◌≢◌, ℕ, zero, suc, ◌+◌, ◌<◌, ◌≤◌, Bool, true, false, if◌then◌else◌, ◌==◌, List, [], ◌∷◌, ◌++◌, length, get_or, set, IsTrue, Some, inl, inr, refl, sym, ap, ◌∙◌, subst, arith, add-zero, length-append}
 use Rattle.std.specs.Prelude.{slice_get}
 use Rattle.std.specs.List.{Contains}
 use Rattle.std.proofs.lemmas.Bool.{cases_Bool, both_ways, eqb-true, eq-eqb}
@@ -8,28 +8,17 @@ use Rattle.std.proofs.lemmas.List.{length-map, map_push, length-replicate}
 use Rattle.std.proofs.Math.ListN.{length-set}
 use Rattle.locks.specs.declared.lock.Lock.{Lock}
 use Rattle.layout.specs.declared.places.CellPlace.{CellPlace}
-use Rattle.layout.specs.LockCells.{same_lock, cells_from, cells_of, IsSlot}
+use Rattle.layout.specs.LockCells.{cells_from, cells_of, IsSlot}
+use Rattle.locks.specs.Locks.{same_lock}
 use Rattle.layout.specs.Layouts.{LayoutOf, AreDistinct}
 use Rattle.layout.specs.Working.Numbers.{openings_in, locks_in, IsPlaced, ArePlaced}
 use Rattle.layout.specs.Working.Growth.{with_cell}
 use Rattle.core_lang.specs.declared.value.Value.{Value}
-use Rattle.layout.proofs.Lists.{read_at, still_at, last_at, map_at, push_cases, get_set_same, get_set_other, contains_there}
+use Rattle.layout.proofs.Lists.{still_at, last_at, map_at}
+use Rattle.locks.specs.Theory.Order.{same_itself, same_is}
+use Rattle.core_lang.specs.Theory.Items.{contains_at, read_at, pushed_at, set_same, still_other}
 
 -- ---- the same lock
-
-both_parts : (a b : Bool) → (a && b) ≡ true → (a ≡ true) × (b ≡ true)
-both_parts true b e = (refl, e)
-both_parts false b e = absurd cc
-
-same_itself : (a : Lock) → same_lock a a ≡ true
-same_itself a = ap (λ b. b && (a.object == a.object)) (eq-eqb a.class a.class refl) ∙ eq-eqb a.object a.object refl
-
-same_is : (a b : Lock) → same_lock a b ≡ true → a ≡ b
-same_is a b e =
-    let p = both_parts (a.class == b.class) (a.object == b.object) e in
-    let class : a.class ≡ b.class = eqb-true a.class b.class p.0 in
-    let object : a.object ≡ b.object = eqb-true a.object b.object p.1 in
-    ap (λ (c : ℕ). record { class = c; object = a.object }) class ∙ ap (λ (o : ℕ). record { class = b.class; object = o }) object
 
 pub is_same_lock : (locks : List Lock) (n : ℕ) (other lock : Lock) (b : Bool) → slice_get locks n ≡ Some other → b ≡ same_lock other lock →
     (IsTrue b → slice_get locks n ≡ Some lock) × (slice_get locks n ≡ Some lock → IsTrue b)
@@ -141,13 +130,13 @@ module _ (locks : List Lock) (cells grown : List CellPlace) (sizes : List ℕ) (
   own_size lock same =
       let long : length (cells_of (locks_in cells ++ x.lock ∷ []) x.lock) ≡ x.offset + 1 =
       omega (arith, ap length (own_cell (locks_in cells) x.lock), length-append (cells_of (locks_in cells) x.lock) (length (locks_in cells) ∷ []), offset_is) in
-      get_set_same sizes number (x.offset + 1) (slice_get_within sizes number x.offset size_is) ∙ ap Some (sym long)
+      set_same sizes number (x.offset + 1) (slice_get_within sizes number x.offset size_is) ∙ ap Some (sym long)
       ∙ ap (λ (xs : List Lock). Some (length (cells_of xs x.lock))) (sym grown_locks) ∙ ap (λ (l : Lock). Some (length (cells_of (locks_in grown) l))) same
 
   other_size : (k : ℕ) (lock : Lock) → k ≢ number → slice_get locks k ≡ Some lock → slice_get (set sizes number (x.offset + 1)) k ≡ Some (length (cells_of (locks_in grown) lock))
   other_size k lock ne at =
       let other : x.lock ≡ lock → ⊥ = λ e. ne (once k number lock at (here ∙ ap Some e)) in
-      get_set_other sizes number k (x.offset + 1) (length (cells_of (locks_in cells) lock)) ne (p.size k lock at)
+      still_other sizes number k (x.offset + 1) (length (cells_of (locks_in cells) lock)) ne (p.size k lock at)
       ∙ ap (λ (xs : List ℕ). Some (length xs)) (sym (other_cell (locks_in cells) x.lock lock other))
       ∙ ap (λ (xs : List Lock). Some (length (cells_of xs lock))) (sym grown_locks)
 
@@ -166,7 +155,7 @@ module _ (locks : List Lock) (cells grown : List CellPlace) (sizes : List ℕ) (
   cell_added = record {
     long = length-set sizes number (x.offset + 1) ∙ p.long;
     each = λ cell y e.
-        elim (push_cases cells x cell y (subst (λ (cs : List CellPlace). slice_get cs cell ≡ Some y) is e)) [
+        elim (pushed_at cells x cell y (subst (λ (cs : List CellPlace). slice_get cs cell ≡ Some y) is e)) [
           | inl old ↦ old_placed cell y (p.each cell y old)
           | inr new ↦ subst (λ (z : CellPlace). IsPlaced locks grown cell z) new.1 (subst (λ (k : ℕ). IsPlaced locks grown k x) (sym new.0) new_placed)
         ];
@@ -176,7 +165,7 @@ module _ (locks : List Lock) (cells grown : List CellPlace) (sizes : List ℕ) (
 -- ---- what a placed cell shows
 
 pub cell_listed : (locks : List Lock) (cells : List CellPlace) (cell : ℕ) (x : CellPlace) → IsPlaced locks cells cell x → Contains locks x.lock
-cell_listed locks cells cell x p = contains_there locks p.number x.lock p.lock
+cell_listed locks cells cell x p = contains_at locks p.number x.lock p.lock
 
 -- the cell that an index reads
 module _ (locks : List Lock) (cells : List CellPlace) (sizes : List ℕ) (cell : ℕ) (x : CellPlace) (p : ArePlaced locks cells sizes) (lt : cell < length (locks_in cells))
@@ -203,11 +192,11 @@ offset_few locks cells sizes number lock offset p here size_is =
 
 -- ---- a layout with one cell more
 
-pub one_longer : (l : LayoutOf) (cells grown : List CellPlace) (x : CellPlace) (locks : List Lock) (firsts finals : List ℕ) →
-    record { opening = openings_in cells; cell_locks = locks_in cells; locks = locks; first_finals = firsts; finals = finals } ≡ l → grown ≡ cells ++ x ∷ [] →
-    ◌≡◌ {A = LayoutOf} (record { opening = openings_in grown; cell_locks = locks_in grown; locks = locks; first_finals = firsts; finals = finals }) (with_cell l x.opening x.lock)
-one_longer l cells grown x locks firsts finals is more =
-    let made : List Value → List Lock → LayoutOf = λ opening cell_locks. record { opening = opening; cell_locks = cell_locks; locks = locks; first_finals = firsts; finals = finals } in
+pub one_longer : (l : LayoutOf) (cells grown : List CellPlace) (x : CellPlace) (locks : List Lock) →
+    record { opening = openings_in cells; cell_locks = locks_in cells; locks = locks } ≡ l → grown ≡ cells ++ x ∷ [] →
+    ◌≡◌ {A = LayoutOf} (record { opening = openings_in grown; cell_locks = locks_in grown; locks = locks }) (with_cell l x.opening x.lock)
+one_longer l cells grown x locks is more =
+    let made : List Value → List Lock → LayoutOf = λ opening cell_locks. record { opening = opening; cell_locks = cell_locks; locks = locks } in
     ap (λ (cs : List CellPlace). made (openings_in cs) (locks_in cs)) more
     ∙ ap (λ (vs : List Value). made vs (locks_in (cells ++ x ∷ []))) (map_push (λ (y : CellPlace). y.opening) cells x)
     ∙ ap (λ (ls : List Lock). made (openings_in cells ++ x.opening ∷ []) ls) (map_push (λ (y : CellPlace). y.lock) cells x)

@@ -1,5 +1,5 @@
 -- The layout of a program.
-use Rattle.std.specs.Prelude.{◌≡◌, ℕ, zero, suc, ◌+◌, ◌↔◌, List, [], ◌∷◌, ◌++◌, length, map, slice_get, Option, Some, None}
+use Rattle.std.specs.Prelude.{◌≡◌, ℕ, zero, suc, ◌↔◌, List, [], ◌∷◌, ◌++◌, length, map, slice_get, Option, Some, None}
 use Rattle.std.specs.List.{Contains}
 use Rattle.core_lang.specs.declared.value.Value.{Value}
 use Rattle.core_lang.specs.declared.typed.LockClass.{LockClass}
@@ -10,20 +10,13 @@ use Rattle.core_lang.specs.declared.typed.Typed.{Typed}
 use Rattle.core_lang.specs.Serial.{opening_heap}
 use Rattle.core_lang.specs.Typing.{lookup, struct_of}
 use Rattle.locks.specs.declared.lock.Lock.{Lock}
-use Rattle.locks.specs.Locks.{final_of, global_lock, IsLock, lock_of_cell}
+use Rattle.locks.specs.Locks.{global_lock, IsLock, lock_of_cell}
 
--- what each cell opens with and which lock protects it, the locks by number, and what final references name
+-- what each cell opens with and which lock protects it, and the locks by number
 pub record LayoutOf : Type 0 where
   pub opening : List Value
   pub cell_locks : List Lock
   pub locks : List Lock
-  -- for each object the place of its final reference 0 in `finals`; the others follow
-  pub first_finals : List ℕ
-  pub finals : List ℕ
-
--- the object that a final reference of an object names
-abbrev pub object_named : LayoutOf → ℕ → ℕ → Option ℕ
-object_named layout object final = lookup (slice_get layout.first_finals object) (λ first. slice_get layout.finals (first + final))
 
 -- ---- the locks of a program
 
@@ -66,7 +59,7 @@ AreDistinct locks = (i j : ℕ) (lock : Lock) → slice_get locks i ≡ Some loc
 
 -- ---- the whole
 
--- the layout of a program: each cell with its opening value and its lock, all locks, and what each final reference names
+-- the layout of a program: each cell with its opening value and its lock, and all locks
 pub record IsLayoutOf (program : Typed) (layout : LayoutOf) : Type 0 where
   pub opening : layout.opening ≡ opening_heap program
   pub cells : length layout.cell_locks ≡ length program.cells.items
@@ -77,4 +70,3 @@ pub record IsLayoutOf (program : Typed) (layout : LayoutOf) : Type 0 where
   pub listed : (lock : Lock) → Contains layout.locks lock ↔ IsLock program lock
   pub distinct : AreDistinct layout.locks
   pub order : layout.locks ≡ all_locks program
-  pub finals : (object final : ℕ) → object_named layout object final ≡ final_of program.shape object final

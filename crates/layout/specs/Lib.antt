@@ -2,4 +2,4 @@ pub mod LockCells
 pub mod Layouts
 pub mod Working
 pub use Rattle.layout.specs.LockCells.{cells_of, IsSlot}
-pub use Rattle.layout.specs.Layouts.{LayoutOf, object_named, all_locks, AreDistinct, IsLayoutOf}
+pub use Rattle.layout.specs.Layouts.{LayoutOf, all_locks, AreDistinct, IsLayoutOf}

@@ -1,9 +1,7 @@
 -- The cells of a lock.
-use Rattle.std.specs.Prelude.{◌≡◌, ℕ, ◌+◌, ◌==◌, ◌&&◌, Bool, if◌then◌else◌, List, [], ◌∷◌, slice_get, Some}
+use Rattle.std.specs.Prelude.{◌≡◌, ℕ, ◌+◌, if◌then◌else◌, List, [], ◌∷◌, slice_get, Some}
 use Rattle.locks.specs.declared.lock.Lock.{Lock}
-
-abbrev pub same_lock : Lock → Lock → Bool
-same_lock a b = (a.class == b.class) && (a.object == b.object)
+use Rattle.locks.specs.Locks.{same_lock}
 
 -- where these are the locks of cells, the first of which has this number: the numbers of the lock's cells
 abbrev pub cells_from : ℕ → List Lock → Lock → List ℕ

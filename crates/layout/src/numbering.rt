@@ -4,9 +4,9 @@ ghost use Rattle.std.specs.Prelude.{◌≡◌, ◌↔◌, ◌<◌, ◌^◌, ℕ,
 ghost use Rattle.std.specs.List.{Contains};
 ghost use Rattle.core_lang.specs.WellFormed.{IsWellFormed};
 ghost use Rattle.layout.specs.Layouts.{all_locks, AreDistinct};
-ghost use Rattle.layout.specs.Working.Numbers.{AreNumbered, AreFields, HasFinalsOf, FindsField};
+ghost use Rattle.layout.specs.Working.Numbers.{AreNumbered, AreFields, FindsField};
 
-use crate::places::{ClassPlace, ObjectPlace};
+use crate::places::ClassPlace;
 use crate::protection::lock_fields;
 use core_lang::typed::{LockClass, LockField, Typed};
 use locks::lock::Lock;
@@ -20,8 +20,8 @@ pub struct Numbering {
     pub locks: Vec<Lock>,
     /// For each class where the numbers of its locks are found.
     pub classes: Vec<ClassPlace>,
-    /// For each object where its locks and its final references begin.
-    pub objects: Vec<ObjectPlace>,
+    /// For each object the number of its first lock.
+    pub objects: Vec<usize>,
     ghost numbered: { AreNumbered classes.items objects.items locks.items },
 }
 
@@ -33,7 +33,6 @@ impl Numbering {
         requires { IsWellFormed program.now }
         ensures locks { IfOk result (λ x. x.locks.items ≡ all_locks program.now) }
         ensures distinct { IfOk result (λ x. AreDistinct x.locks.items) }
-        ensures finals { IfOk result (λ x. HasFinalsOf program.now x.objects.items) }
     {
         let mut numbering = Numbering {
             locks: Vec::new(alloc),
@@ -44,8 +43,7 @@ impl Numbering {
             numbering.add_class(class)?;
         }
         for object in 0..program.shape.objects.len() {
-            let finals = program.shape.objects[object].finals;
-            numbering.add_object(finals, lock_fields(program, object))?;
+            numbering.add_object(lock_fields(program, object))?;
         }
         Ok(numbering)
     }
@@ -67,17 +65,14 @@ impl Numbering {
     }
 
     // The next object, with its locks.
-    fn add_object(&mut self, first_final: u32, fields: &[LockField]) -> Result<(), NoMemory>
+    fn add_object(&mut self, fields: &[LockField]) -> Result<(), NoMemory>
         requires fields { AreFields self.old.classes.items fields.now }
         requires few { length self.old.objects.items < 2 ^ 32 }
-        ensures { OnOk result (AddsObject first_final fields.now self.old self.new) }
+        ensures { OnOk result (AddsObject fields.now self.old self.new) }
     {
         let object = self.objects.len() as u32;
         let first_lock = self.locks.len();
-        self.objects.push(ObjectPlace {
-            first_lock,
-            first_final,
-        })?;
+        self.objects.push(first_lock)?;
         for field in fields {
             let class = field.class;
             self.locks.push(Lock { class, object })?;
@@ -92,7 +87,7 @@ impl Numbering {
     {
         match self.classes[lock.class] {
             ClassPlace::Global(number) => number,
-            ClassPlace::Field(field) => self.objects[lock.object as usize].first_lock + field,
+            ClassPlace::Field(field) => self.objects[lock.object as usize] + field,
         }
     }
 
@@ -136,6 +131,6 @@ impl Numbering {
         if object as usize >= self.objects.len() {
             return None;
         }
-        self.objects[object as usize].first_lock.checked_add(field)
+        self.objects[object as usize].checked_add(field)
     }
 }

@@ -12,15 +12,6 @@ pub enum ClassPlace {
     Field(usize),
 }
 
-/// Where the locks and the final references of an object begin.
-#[derive(Clone, Copy)]
-pub struct ObjectPlace {
-    /// The number of its first lock.
-    pub first_lock: usize,
-    /// The place of its final reference 0 among those of all objects.
-    pub first_final: u32,
-}
-
 /// What a cell opens with, and where it lies.
 #[derive(Clone, Copy)]
 pub struct CellPlace {

@@ -21,8 +21,7 @@ pub fn lay_out(alloc: Global, program: &Typed) -> Result<Layout, NoMemory>
     ensures { IfOk result (IsLayoutOf program.now) }
 {
     let numbering = Numbering::of(alloc, program)?;
-    let finals = program.shape.finals.clone()?;
-    let mut layout = Layout::without_cells(alloc, numbering, finals, program.cells.len())?;
+    let mut layout = Layout::without_cells(alloc, numbering, program.cells.len())?;
     for cell in 0..program.cells.len() {
         layout.add(program.cells[cell].opening, lock_of_cell(program, cell))?;
     }

@@ -8,6 +8,7 @@ ghost use Rattle.layout.specs.Layouts as layouts;
 
 use core_lang::typed::{LockClass, LockField, Owner, Protection, Typed};
 use locks::lock::Lock;
+use locks::objects::led_to;
 
 /// The lock fields of an object's struct.
 pub fn lock_fields(program: &Typed, object: usize) -> &[LockField]
@@ -20,29 +21,6 @@ pub fn lock_fields(program: &Typed, object: usize) -> &[LockField]
     program.structs[structure].locks.as_slice()
 }
 
-// The object that a final reference of an object names.
-fn final_of(program: &Typed, object: u32, number: u32) -> Option<u32>
-    ensures { result ≡ locking.final_of program.now.shape object number }
-{
-    let first = program.shape.objects.get(object as usize)?.finals;
-    program
-        .shape
-        .finals
-        .get(first as usize + number as usize)
-        .copied()
-}
-
-// The object to which final references lead from an object.
-fn led_to(program: &Typed, object: u32, finals: &[u32]) -> Option<u32>
-    ensures { result ≡ locking.led_to program.now.shape object finals.now }
-{
-    let mut reached = object;
-    for number in finals {
-        reached = final_of(program, reached, *number)?;
-    }
-    Some(reached)
-}
-
 // The lock of an annotation, walked from an object. A global lock is the same for all objects.
 fn walked(program: &Typed, protection: &Protection, object: u32) -> Option<Lock>
     ensures { result ≡ locking.walked program.now protection.now object }
@@ -51,7 +29,7 @@ fn walked(program: &Typed, protection: &Protection, object: u32) -> Option<Lock>
     match program.classes.get(class)? {
         LockClass::Global(_) => Some(Lock { class, object: 0 }),
         LockClass::Field { .. } => {
-            let object = led_to(program, object, &protection.through)?;
+            let object = led_to(&program.shape, object, &protection.through)?;
             Some(Lock { class, object })
         }
     }

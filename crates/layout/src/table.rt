@@ -3,7 +3,6 @@
 ghost use Rattle.std.specs.Prelude.{◌≡◌, ◌≢◌, ◌↔◌, ◌<◌, ◌^◌, ◌-◌, length, slice_get, Some, None, OnOk, IfOk, IsTrue};
 ghost use Rattle.std.specs.List.{Contains};
 ghost use Rattle.layout.specs.LockCells as lock_cells;
-ghost use Rattle.layout.specs.Layouts.{object_named};
 
 use crate::numbering::Numbering;
 use crate::places::CellPlace;
@@ -13,14 +12,13 @@ use source::memory::NoMemory;
 use std::alloc::Global;
 use std::marker::Model;
 
-/// Where the cells and the locks of a program lie. As a value it is what each cell opens with and which lock protects it, the
-/// list of the locks, and what final references name.
+/// Where the cells and the locks of a program lie. As a value it is what each cell opens with and which lock protects it, and
+/// the list of the locks.
 ///
-/// Cells, classes, objects and final references go by their numbers in [`core_lang::typed::Typed`].
+/// Cells, classes and objects go by their numbers in [`core_lang::typed::Typed`].
 #[derive(Drop)]
 pub struct Layout {
     numbering: Numbering,
-    finals: Vec<u32>,
     cells: Vec<CellPlace>,
     // For each lock how many cells it protects.
     sizes: Vec<u32>,
@@ -32,14 +30,12 @@ impl Model for Layout {
 
     ghost Value = { LayoutOf };
 
-    ghost use Rattle.layout.specs.Working.Numbers.{openings_in, locks_in, first_finals, ArePlaced};
+    ghost use Rattle.layout.specs.Working.Numbers.{openings_in, locks_in, ArePlaced};
 
     ghost view = { λ l. record {
       opening = openings_in l.cells.items;
       cell_locks = locks_in l.cells.items;
       locks = l.numbering.locks.items;
-      first_finals = first_finals l.numbering.objects.items;
-      finals = l.finals.items;
     } };
 
     ghost invariant = { λ l. ArePlaced l.numbering.locks.items l.cells.items l.sizes.items };
@@ -48,20 +44,18 @@ impl Model for Layout {
 impl Layout {
     ghost use Rattle.layout.specs.Working.Growth.{without_cells, with_cell};
 
-    // The locks and finals of a program, and no cells.
+    // The locks of a program, and no cells.
     pub(crate) fn without_cells(
         alloc: Global,
         numbering: Numbering,
-        finals: Vec<u32>,
         cells: usize,
     ) -> Result<Layout, NoMemory>
-        ensures { IfOk result (λ layout. layout ≡ without_cells numbering finals.items) }
+        ensures { IfOk result (λ layout. layout ≡ without_cells numbering) }
     {
         let sizes = vec![in alloc; 0u32; numbering.locks.len()]?;
         let cells = Vec::with_capacity(alloc, cells)?;
         Ok(Layout {
             numbering,
-            finals,
             cells,
             sizes,
         })
@@ -122,18 +116,6 @@ impl Layout {
         ensures { result ≡ length (lock_cells.cells_of self.now.cell_locks lock) }
     {
         self.sizes[self.numbering.number_of(lock)]
-    }
-
-    /// The object that a final reference of an object names, if there are both.
-    #[inline]
-    pub fn final_of(&self, object: u32, number: u32) -> Option<u32>
-        ensures { result ≡ object_named self.now object number }
-    {
-        let place = self.numbering.objects.get(object as usize)?;
-        let target = self
-            .finals
-            .get(place.first_final as usize + number as usize)?;
-        Some(*target)
     }
 
     /// The number of a lock: its place in the list of locks.

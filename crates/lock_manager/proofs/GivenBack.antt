@@ -15,9 +15,10 @@ use Rattle.lock_manager.specs.declared.places.LockPlace.TheVariants.{Free}
 use Rattle.lock_manager.specs.Working.Committed.{CommittedOf, members_of, lock_values, restored}
 use Rattle.lock_manager.specs.Working.Managers.{number_from, put_number, put_for, given_back}
 use Rattle.core_lang.specs.Typing.{lookup}
-use Rattle.lock_manager.proofs.Lists.{set_same, set_other, some_same, first_or_rest, later, first, contains_at}
-use Rattle.lock_manager.proofs.Numbers.{number_at, lock_cases}
-use Rattle.lock_manager.proofs.Slots.{lookup_some}
+use Rattle.lock_manager.proofs.Lists.{first}
+use Rattle.lock_manager.proofs.Numbers.{number_at}
+use Rattle.locks.specs.Theory.Order.{lock_cases}
+use Rattle.core_lang.specs.Theory.Items.{set_same, contains_at, lookup_some, set_other, some_same, in_cases, in_rest}
 
 pub put_at : (locks : List Lock) (places : List LockPlace) (lock : Lock) (place : LockPlace) (n : ℕ) → number_from 0 locks lock ≡ Some n → put_for locks places lock place ≡ set places n place
 put_at locks places lock place n e = ap (λ o. put_number o places place) e
@@ -135,8 +136,8 @@ back_cases locks places (g ∷ gs) lock p e = elim (lock_cases g.lock lock) [
       omega (arith, slice_get_within (given_back locks places (g ∷ gs)) n.0 p n.2, length-put locks (given_back locks places gs) g.lock (Free g.values)) in
       inl (g, first g gs g refl, same.1, some_same (Free g.values) p (sym (set_same (given_back locks places gs) n.0 (Free g.values) lt) ∙ sym (ap (λ ps. slice_get ps n.0) is) ∙ n.2)))
   | inr other ↦ elim (back_cases locks places gs lock p (sym (put_other locks (given_back locks places gs) g.lock lock (Free g.values) other.1) ∙ e)) [
-    | inl r ↦ inl (r.0, later g gs r.0 r.1, r.2, r.3)
-    | inr r ↦ inr (λ h c. elim (first_or_rest g gs h c) [ inl same ↦ (λ at. other.1 (ap (λ (x : GrantOf). x.lock) same ∙ at)) | inr rest ↦ r.0 h rest ], r.1)
+    | inl r ↦ inl (r.0, in_rest g r.0 gs r.1, r.2, r.3)
+    | inr r ↦ inr (λ h c. elim (in_cases g h gs c) [ inl same ↦ (λ at. other.1 (ap (λ (x : GrantOf). x.lock) same ∙ at)) | inr rest ↦ r.0 h rest ], r.1)
   ]
 ]
 
@@ -146,4 +147,4 @@ pub back_kept : (locks : List Lock) (places : List LockPlace) (gs : List GrantOf
 back_kept locks places [] lock none = refl
 back_kept locks places (g ∷ gs) lock none =
     put_other locks (given_back locks places gs) g.lock lock (Free g.values) (none g (first g gs g refl))
-    ∙ back_kept locks places gs lock (λ h c. none h (later g gs h c))
+    ∙ back_kept locks places gs lock (λ h c. none h (in_rest g h gs c))

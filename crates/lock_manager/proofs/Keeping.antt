@@ -21,12 +21,14 @@ use Rattle.lock_manager.specs.Working.Sessions.{SessionOf, TicketOf, fresh, with
 use Rattle.lock_manager.specs.Working.Queues.{leaving, joining}
 use Rattle.lock_manager.specs.Working.Managers.{Managed, IsKept, Holds, Asks, place_of, session_of, session_in, given_back, as_committed, ComesAfter, threads}
 use Rattle.lock_manager.specs.Working.Calls.{Knows, CanAsk, IsOwnWrite, Fits, AreItsGrants, with_session, after_grant, after_refusal, after_release, after_give_up}
-use Rattle.lock_manager.proofs.Lists.{all_contained, mapped, unmapped, some_same, push_cases}
-use Rattle.lock_manager.proofs.Numbers.{cell_is_of, lock_cases, distinct_none, distinct_push}
+use Rattle.lock_manager.proofs.Lists.{mapped, unmapped}
+use Rattle.lock_manager.proofs.Numbers.{cell_is_of, distinct_none, distinct_push}
+use Rattle.locks.specs.Theory.Order.{lock_cases}
 use Rattle.lock_manager.proofs.Heaps.{values_agree, values_same}
 use Rattle.lock_manager.proofs.Queued.{still_waits, waited}
 use Rattle.lock_manager.proofs.Slots.{slot_within, holds_cases, holds_other, holds_same, asks_cases, asks_other, asks_same, asks_back, as_it_asked, asked_session, session_same, once_set, closed_asks_nothing}
 use Rattle.lock_manager.proofs.GivenBack.{put_same, put_other, length-put, length-given_back, back_cases, back_kept}
+use Rattle.core_lang.specs.Theory.Items.{all_contained, some_same, push_cases}
 
 never_free : {P : Type 0} (values : List Value) (t : ℕ) → Some (Free values) ≡ Some (Taken t) → P
 never_free values t e = absurd (let q : Free values ≡ Taken t = some_same (Free values) (Taken t) e in cc)

@@ -8,8 +8,8 @@ use Rattle.locks.specs.declared.lock.Lock.{Lock}
 use Rattle.layout.specs.LockCells.{cells_of}
 use Rattle.layout.specs.Layouts.{LayoutOf, AreDistinct}
 use Rattle.lock_manager.specs.Working.Committed.{rows, members_of}
-use Rattle.lock_manager.proofs.Lists.{some_same, map_at, map_back, contains_at}
 use Rattle.lock_manager.proofs.Numbers.{own_cell, other_cell, distinct_rest, cell_is_of, cell_is_among}
+use Rattle.core_lang.specs.Theory.Items.{contains_at, some_same, map_at, map_back}
 
 -- ---- what a row is
 

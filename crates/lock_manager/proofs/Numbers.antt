@@ -5,35 +5,14 @@ use Rattle.std.specs.List.{Contains}
 use Rattle.std.proofs.lemmas.Bool.{cases_Bool, eqb-true, eq-eqb}
 use Rattle.std.proofs.lemmas.Option.{none-some}
 use Rattle.locks.specs.declared.lock.Lock.{Lock}
-use Rattle.layout.specs.LockCells.{same_lock, cells_from, cells_of}
+use Rattle.layout.specs.LockCells.{cells_from, cells_of}
+use Rattle.locks.specs.Locks.{same_lock}
 use Rattle.layout.specs.Layouts.{AreDistinct}
 use Rattle.lock_manager.specs.Working.Managers.{number_from}
-use Rattle.lock_manager.proofs.Lists.{contains_at, some_same}
+use Rattle.locks.specs.Theory.Order.{same_itself, same_is, other_than, lock_cases}
+use Rattle.core_lang.specs.Theory.Items.{contains_at, some_same}
 
 -- ---- the same lock
-
-both_parts : (a b : Bool) → (a && b) ≡ true → (a ≡ true) × (b ≡ true)
-both_parts true b e = (refl, e)
-both_parts false b e = absurd cc
-
-same_itself : (a : Lock) → same_lock a a ≡ true
-same_itself a = ap (λ b. b && (a.object == a.object)) (eq-eqb a.class a.class refl) ∙ eq-eqb a.object a.object refl
-
-pub same_is : (a b : Lock) → same_lock a b ≡ true → a ≡ b
-same_is a b e =
-    let p = both_parts (a.class == b.class) (a.object == b.object) e in
-    let class : a.class ≡ b.class = eqb-true a.class b.class p.0 in
-    let object : a.object ≡ b.object = eqb-true a.object b.object p.1 in
-    ap (λ (c : ℕ). record { class = c; object = a.object }) class ∙ ap (λ (o : ℕ). record { class = b.class; object = o }) object
-
-pub other_than : (a b : Lock) → same_lock a b ≡ false → a ≢ b
-other_than a b f same = let t : same_lock a b ≡ true = ap (λ (l : Lock). same_lock a l) (sym same) ∙ same_itself a in let bad : true ≡ false = sym t ∙ f in absurd cc
-
-pub lock_cases : (a b : Lock) → ((same_lock a b ≡ true) × (a ≡ b)) ⊎ ((same_lock a b ≡ false) × (a ≢ b))
-lock_cases a b = elim (cases_Bool (same_lock a b)) [
-  | inl e ↦ inl (e, same_is a b e)
-  | inr e ↦ inr (e, λ same. let t : same_lock a b ≡ true = ap (λ (l : Lock). same_lock a l) (sym same) ∙ same_itself a in let bad : true ≡ false = sym t ∙ e in absurd cc)
-]
 
 -- ---- numbers
 

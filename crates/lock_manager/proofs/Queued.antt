@@ -5,12 +5,13 @@ use Rattle.std.specs.List.{All, Contains}
 use Rattle.std.proofs.lemmas.Bool.Decides.{eqb_tells}
 use Rattle.lock_manager.specs.declared.queue.Waiter.{Waiter}
 use Rattle.lock_manager.specs.Working.Queues.{leaving, waiting_in}
-use Rattle.lock_manager.proofs.Lists.{first_or_rest, later, first, some_same}
+use Rattle.lock_manager.proofs.Lists.{first}
 use Rattle.std.proofs.lemmas.List.{drop_more}
 use Rattle.std.proofs.lemmas.Option.{none-some}
 use Rattle.locks.specs.declared.lock.Lock.{Lock}
 use Rattle.lock_manager.specs.Working.Calls.{first_and, first_waiters}
-use Rattle.layout.specs.LockCells.{same_lock}
+use Rattle.locks.specs.Locks.{same_lock}
+use Rattle.core_lang.specs.Theory.Items.{some_same, in_cases, in_rest}
 
 goes : (t : ℕ) (w : Waiter) (ws : List Waiter) → w.thread ≡ t → leaving t (w ∷ ws) ≡ leaving t ws
 goes t w ws e = elim (eqb_tells w.thread t) [ inl h ↦ ap (λ b. if b then leaving t ws else w ∷ leaving t ws) h.0 | inr h ↦ absurd (h.1 e) ]
@@ -42,23 +43,23 @@ leaving-others t (w ∷ ws) all = stays t w ws (all 0 w (omega arith)) ∙ ap (�
 pub still_waits : (t : ℕ) (ws : List Waiter) (w : Waiter) → Contains ws w → w.thread ≢ t → Contains (leaving t ws) w
 still_waits t [] w c ne = absurd (omega (arith, c.1))
 still_waits t (x ∷ ws) w c ne = elim (eqb_tells x.thread t) [
-  | inl h ↦ subst (λ (xs : List Waiter). Contains xs w) (sym (goes t x ws h.1)) (elim (first_or_rest x ws w c) [
+  | inl h ↦ subst (λ (xs : List Waiter). Contains xs w) (sym (goes t x ws h.1)) (elim (in_cases x w ws c) [
     | inl e ↦ absurd (ne (sym (ap (λ (y : Waiter). y.thread) e) ∙ h.1))
     | inr r ↦ still_waits t ws w r ne
   ])
-  | inr h ↦ subst (λ (xs : List Waiter). Contains xs w) (sym (stays t x ws h.1)) (elim (first_or_rest x ws w c) [
+  | inr h ↦ subst (λ (xs : List Waiter). Contains xs w) (sym (stays t x ws h.1)) (elim (in_cases x w ws c) [
     | inl e ↦ first x (leaving t ws) w e
-    | inr r ↦ later x (leaving t ws) w (still_waits t ws w r ne)
+    | inr r ↦ in_rest x w (leaving t ws) (still_waits t ws w r ne)
   ])
 ]
 
 pub waited : (t : ℕ) (ws : List Waiter) (w : Waiter) → Contains (leaving t ws) w → Contains ws w × (w.thread ≢ t)
 waited t [] w c = absurd (omega (arith, c.1))
 waited t (x ∷ ws) w c = elim (eqb_tells x.thread t) [
-  | inl h ↦ (let r = waited t ws w (subst (λ (xs : List Waiter). Contains xs w) (goes t x ws h.1) c) in (later x ws w r.0, r.1))
-  | inr h ↦ elim (first_or_rest x (leaving t ws) w (subst (λ (xs : List Waiter). Contains xs w) (stays t x ws h.1) c)) [
+  | inl h ↦ (let r = waited t ws w (subst (λ (xs : List Waiter). Contains xs w) (goes t x ws h.1) c) in (in_rest x w ws r.0, r.1))
+  | inr h ↦ elim (in_cases x w (leaving t ws) (subst (λ (xs : List Waiter). Contains xs w) (stays t x ws h.1) c)) [
     | inl e ↦ (first x ws w e, λ q. h.1 (ap (λ (y : Waiter). y.thread) e ∙ q))
-    | inr r ↦ (let s = waited t ws w r in (later x ws w s.0, s.1))
+    | inr r ↦ (let s = waited t ws w r in (in_rest x w ws s.0, s.1))
   ]
 ]
 
@@ -73,7 +74,7 @@ pub one_less : (t : ℕ) (ws : List Waiter) (w : Waiter) → Contains ws w → w
 one_less t [] w c e = absurd (omega (arith, c.1))
 one_less t (x ∷ ws) w c e = elim (eqb_tells x.thread t) [
   | inl h ↦ omega (arith, ap length (goes t x ws h.1), no_longer t ws)
-  | inr h ↦ elim (first_or_rest x ws w c) [
+  | inr h ↦ elim (in_cases x w ws c) [
     | inl q ↦ absurd (h.1 (ap (λ (y : Waiter). y.thread) q ∙ e))
     | inr r ↦ omega (arith, ap length (stays t x ws h.1), one_less t ws w r e)
   ]

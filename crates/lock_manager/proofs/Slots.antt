@@ -10,11 +10,7 @@ use Rattle.locks.specs.declared.lock.Lock.{Lock}
 use Rattle.lock_manager.specs.Working.Sessions.{SessionOf}
 use Rattle.lock_manager.specs.Working.Managers.{session_in, Holds, Asks}
 use Rattle.lock_manager.specs.Working.Ties.{sum_over, one_if_asking, one_if_some}
-use Rattle.lock_manager.proofs.Lists.{set_same, set_other, some_same}
-
-pub lookup_some : {A B : Type 0} (r : Option A) (go : A → Option B) (b : B) → lookup r go ≡ Some b → (a : A) × (r ≡ Some a) × (go a ≡ Some b)
-lookup_some (Some a) go b e = (a, refl, e)
-lookup_some None go b e = absurd (none-some b e)
+use Rattle.core_lang.specs.Theory.Items.{lookup_some, set_same, set_other, some_same}
 
 pub slot_of : (slots : List (Option SessionOf)) (t : ℕ) (s : SessionOf) → session_in slots t ≡ Some s → slice_get slots t ≡ Some (Some s)
 slot_of slots t s e = let r = lookup_some (slice_get slots t) (λ x. x) s e in r.1 ∙ ap Some r.2

@@ -12,7 +12,7 @@ ghost use Rattle.lock_manager.specs.Working.Calls.{IsOwnWrite};
 ghost use Rattle.lock_manager.specs.Working.Ties.{all_restored, AreNow};
 ghost use Rattle.lock_manager.specs.Working.Committed.{at_opening, with_writes, lock_values, restored, IsWithin};
 
-use crate::fitting::{are_whole, holds};
+use crate::fitting::are_whole;
 use crate::opening::{members, opening_values};
 use crate::places::LockPlace;
 use crate::values::{agrees, cells_with, have, reset, write_all};
@@ -191,7 +191,7 @@ impl<'p> Committed<'p> {
             if cell >= self.layout.cells_count() {
                 return false;
             }
-            if !holds(held, self.layout.lock_of(cell)) {
+            if !self.layout.lock_of(cell).is_among(held) {
                 return false;
             }
         }

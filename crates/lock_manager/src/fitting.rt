@@ -8,18 +8,6 @@ use layout::table::Layout;
 use locks::lock::Lock;
 use moved_cells::grant::Grant;
 
-/// Whether a lock is among these.
-pub fn holds(held: &[Lock], lock: Lock) -> bool
-    ensures { IsTrue result ↔ Contains held.now lock }
-{
-    for other in held {
-        if *other == lock {
-            return true;
-        }
-    }
-    false
-}
-
 // Whether a grant is of the lock.
 fn has_grant(grants: &[Grant], lock: Lock) -> bool
     ensures { IsTrue result ↔ Contains (locks_of grants.now) lock }
@@ -49,7 +37,7 @@ pub fn all_held(grants: &[Grant], held: &[Lock]) -> bool
     ensures { IsTrue result ↔ All (λ g. Contains held.now g.lock) grants.now }
 {
     for grant in grants {
-        if !holds(held, grant.lock()) {
+        if !grant.lock().is_among(held) {
             return false;
         }
     }

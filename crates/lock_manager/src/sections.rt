@@ -6,7 +6,6 @@ ghost use Rattle.lock_manager.specs.Working.Sessions.{SessionOf, fresh, with_loc
 ghost use Rattle.lock_manager.specs.Working.Managers.{session_in, Holds};
 ghost use Rattle.lock_manager.specs.Working.Ties.{HasRoom, IsChanged, cells_if_open};
 
-use crate::fitting::holds;
 use crate::session::Session;
 use layout::room::Room;
 use locks::lock::Lock;
@@ -149,7 +148,7 @@ impl Sections {
         ensures { IsTrue result ↔ Holds self.now thread lock }
     {
         match self.of(thread) {
-            Some(session) => holds(session.held(), lock),
+            Some(session) => lock.is_among(session.held()),
             None => false,
         }
     }

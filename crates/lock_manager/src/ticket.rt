@@ -146,6 +146,14 @@ impl Ticket {
     {
         self.pass.session.begun()
     }
+
+    /// The locks that its section holds, the oldest first.
+    #[inline]
+    pub fn held(&self) -> &[Lock]
+        ensures { result.now ≡ self.now.session.held }
+    {
+        self.pass.session.held()
+    }
 }
 
 impl Ticket {

@@ -11,12 +11,15 @@ use Rattle.locks.specs.declared.path_set.PathSet.{PathSet}
 use Rattle.locks.specs.Sets.{has}
 use Rattle.locks.specs.Texts.{class_name}
 use Rattle.points.specs.declared.table.Points.{Points}
-use Rattle.lockorder.specs.declared.class_set.ClassSet.{ClassSet}
+use Rattle.bit_set.specs.declared.set.BitSet.{BitSet}
 use Rattle.lockorder.specs.declared.ranks.Edge.{Edge}
 use Rattle.lockorder.specs.Faults.{arrows, classes_of, cycle_text}
 use Rattle.lockorder.specs.Working.Sections.{BindsAt, IsOfClass, MakesSomewhere, UsesSoFar}
-use Rattle.lockorder.specs.Working.Tables.{has_class, has_edge, no_classes, InSet, InTable, LeadsWithin}
+use Rattle.lockorder.specs.Working.Tables.{has_edge, no_classes, InSet, InTable, LeadsWithin}
+use Rattle.bit_set.specs.Working.Sets.{has_number}
 use Rattle.lockorder.proofs.InSection.{Below, one_class, set_within}
+use Rattle.bit_set.specs.Theory.Bits.{or_none}
+use Rattle.core_lang.specs.Theory.Items.{drop_past}
 
 -- ---- numbers below a bound that goes by several names
 
@@ -46,22 +49,18 @@ other a b lt ne = omega arith
 
 -- ---- an edge from each class of a set to one
 
-or_none : (b : Bool) → b ≡ (b || false)
-or_none true = refl
-or_none false = refl
-
-module _ (before : List ClassSet) (to : ℕ) (from old union : ClassSet) (lt : to < length before) (is : old ≡ get_or before to old)
-    (unites : (c : ℕ) → has_class union c ≡ (has_class old c || has_class from c)) where
-  pub each_added : (c d : ℕ) → has_edge (set before to union) c d ≡ (has_edge before c d || (d == to && has_class from c))
+module _ (before : List BitSet) (to : ℕ) (from old union : BitSet) (lt : to < length before) (is : old ≡ get_or before to old)
+    (unites : (c : ℕ) → has_number union c ≡ (has_number old c || has_number from c)) where
+  pub each_added : (c d : ℕ) → has_edge (set before to union) c d ≡ (has_edge before c d || (d == to && has_number from c))
   each_added c d = elim (cases_eq d to) [
     | inl e ↦
-        ap (λ (k : ℕ). has_class (get_or (set before to union) k no_classes) c) e
-        ∙ ap (λ (s : ClassSet). has_class s c) (get_or-set_same before to union no_classes lt) ∙ unites c
-        ∙ ap (λ (s : ClassSet). has_class s c || has_class from c) (get_or_read before to old lt is no_classes ∙ ap (λ (k : ℕ). get_or before k no_classes) (sym e))
-        ∙ ap (λ (b : Bool). has_edge before c d || (b && has_class from c)) (sym (eq-eqb d to e))
+        ap (λ (k : ℕ). has_number (get_or (set before to union) k no_classes) c) e
+        ∙ ap (λ (s : BitSet). has_number s c) (get_or-set_same before to union no_classes lt) ∙ unites c
+        ∙ ap (λ (s : BitSet). has_number s c || has_number from c) (get_or_read before to old lt is no_classes ∙ ap (λ (k : ℕ). get_or before k no_classes) (sym e))
+        ∙ ap (λ (b : Bool). has_edge before c d || (b && has_number from c)) (sym (eq-eqb d to e))
     | inr ne ↦
-        ap (λ (s : ClassSet). has_class s c) (get_or-set_other before to d union no_classes ne) ∙ or_none (has_edge before c d)
-        ∙ ap (λ (b : Bool). has_edge before c d || (b && has_class from c)) (sym (false_from_ne_true (d == to) (λ t. ne (eqb-true d to t))))
+        ap (λ (s : BitSet). has_number s c) (get_or-set_other before to d union no_classes ne) ∙ or_none (has_edge before c d)
+        ∙ ap (λ (b : Bool). has_edge before c d || (b && has_number from c)) (sym (false_from_ne_true (d == to) (λ t. ne (eqb-true d to t))))
   ]
 
   pub still_few : length before ≤ 128 → length (set before to union) ≤ 128
@@ -69,9 +68,9 @@ module _ (before : List ClassSet) (to : ℕ) (from old union : ClassSet) (lt : t
 
   pub still_within : LeadsWithin before → ((c : ℕ) → InSet from c → c < length before) → (c d : ℕ) → InTable (set before to union) c d → c < length (set before to union)
   still_within within new c d h =
-      subst (λ (n : ℕ). c < n) (sym (length-set before to union)) (elim (or_cases (has_edge before c d) (d == to && has_class from c) (sym (each_added c d) ∙ h)) [
+      subst (λ (n : ℕ). c < n) (sym (length-set before to union)) (elim (or_cases (has_edge before c d) (d == to && has_number from c) (sym (each_added c d) ∙ h)) [
         | inl there ↦ within c d there
-        | inr more ↦ new c (and_parts (d == to) (has_class from c) more).1
+        | inr more ↦ new c (and_parts (d == to) (has_number from c) more).1
       ])
 
 -- ---- the paths of a class, path by path
@@ -115,12 +114,6 @@ none_makes x from to n past none = (
 )
 
 -- ---- the text of a cycle
-
-drop_past : {A : Type 0} (xs : List A) (i : ℕ) → length xs ≤ i → drop i xs ≡ []
-drop_past [] zero h = refl
-drop_past [] (suc i) h = refl
-drop_past (x ∷ xs) zero h = absurd (omega arith)
-drop_past (x ∷ xs) (suc i) h = drop_past xs i (omega arith)
 
 module _ (program : Typed) (was : List ℕ) where
   pub all_arrows : (edges : List Edge) (i : ℕ) → length edges ≤ i → was ++ arrows program (classes_of (drop i edges)) ≡ arrows program (classes_of edges) →

@@ -11,26 +11,6 @@ use Rattle.locks.specs.declared.path_set.PathSet.{PathSet}
 use Rattle.locks.specs.Sets.{has}
 use Rattle.lockorder.specs.Working.Sections.{Share}
 
-abbrev pub bit : ℕ → ℕ → Bool
-bit n i = bit_at n i == 1
-
-small_or : (x y : ℕ) → x < 2 → y < 2 → (max x y == 1) ≡ (x == 1 || y == 1)
-small_or x y hx hy = grind (arith, nat_tests)
-
-pub bit_or_is : (a b i : ℕ) → bit (bit_or a b) i ≡ (bit a i || bit b i)
-bit_or_is a b i = ap (λ x. x == 1) (bit_at_or a b i) ∙ small_or (bit_at a i) (bit_at b i) (bit_at-lt a i) (bit_at-lt b i)
-
-or_none : (b : Bool) → b ≡ (b || false)
-or_none true = refl
-or_none false = refl
-
-pub bit_with : (w : Width) (n k : ℕ) → k < bits w → (j : ℕ) → bit (bit_or n (1 * 2 ^ k % 2 ^ bits w)) j ≡ (bit n j || (j == k))
-bit_with w n k h j =
-    elim (cases_eq j k) [
-      | inl e ↦ ap (λ x. bit (bit_or n (1 * 2 ^ k % 2 ^ bits w)) x) e ∙ ap (λ x. x == 1) (bit_at_set_same w n k h) ∙ sym (or_right (bit n j) (j == k) (eq-eqb j k e))
-      | inr ne ↦ ap (λ x. x == 1) (bit_at_set_other w n k h j ne) ∙ or_none (bit n j) ∙ ap (λ x. bit n j || x) (sym (ne_eqb j k ne))
-    ]
-
 -- a set that isn't empty has a path
 pub has_some : (s : PathSet) → 0 < s.bits → s.bits < 2 ^ 64 → (i : ℕ) × (has s i ≡ true)
 has_some s some fits =

@@ -21,8 +21,8 @@ use Rattle.points.specs.Used.{IsUsedBefore}
 use Rattle.lockorder.specs.Edges.{Makes, Edge}
 use Rattle.lockorder.specs.Working.Sections.{set_at, no_paths, IsOfClass, HasClass, BindsAt, UsesAt, MakesSomewhere, MakesAt}
 use Rattle.lockorder.specs.Working.Tellings.{AreBetween, AreEdges}
-use Rattle.lockorder.proofs.Lists.{contains_there, there_contains}
 use Rattle.lockorder.proofs.InSection.{set_within}
+use Rattle.core_lang.specs.Theory.Items.{contains_at, at_contained}
 
 -- the section of this number makes the edge
 abbrev pub MakesIn : Typed → ℕ → ℕ → ℕ → Type 0
@@ -46,10 +46,10 @@ module _ (program : Typed) (well : IsWellFormed program) (listed : UsedAreListed
   class_of i path e = ap (λ l. slice_get l i) are.classes ∙ slice_get-map (λ (p : LockPath). p.class) paths i ∙ ap (option_map (λ (p : LockPath). p.class)) e
 
   used_somewhere : (i : ℕ) (path : LockPath) → slice_get paths i ≡ Some path → (p : ℕ) × Uses program section p path
-  used_somewhere i path e = (listed program section path).0 (contains_there paths i path e)
+  used_somewhere i path e = (listed program section path).0 (contains_at paths i path e)
 
   number_of : (p : ℕ) (path : LockPath) → Uses program section p path → (i : ℕ) × (slice_get paths i ≡ Some path)
-  number_of p path u = there_contains paths path ((listed program section path).1 (p, u))
+  number_of p path u = at_contained paths path ((listed program section path).1 (p, u))
 
   -- the sets of a relation, read by class
   module _ (R : ℕ → LockPath → Type 0) (sets : List PathSet) (a : AreSets program section R sets) where
@@ -161,11 +161,11 @@ module _ (program : Typed) (well : IsWellFormed program) (listed : UsedAreListed
   pub classes_within : All (λ c. c < length program.classes.items) x.classes.items
   classes_within =
       All-weaker (Contains x.classes.items) (λ c. c < length program.classes.items) (λ c h.
-      let i = there_contains x.classes.items c h in
+      let i = at_contained x.classes.items c h in
       let path = path_of c i.0 i.1 in
       let u = used_somewhere i.0 path.0 path.1 in
-      let has_class = classes program section u.0 path.0 well u.1 in
-      subst (λ n. n < length program.classes.items) path.2 (slice_get_within program.classes.items path.0.class has_class.0 has_class.1)) x.classes.items (All-contains_itself x.classes.items)
+      let has_number = classes program section u.0 path.0 well u.1 in
+      subst (λ n. n < length program.classes.items) path.2 (slice_get_within program.classes.items path.0.class has_number.0 has_number.1)) x.classes.items (All-contains_itself x.classes.items)
 
 -- the classes of an edge are the program's
 pub edge_within : (program : Typed) → IsWellFormed program → PathsHaveClasses → (c d : ℕ) → Edge program c d → (c < length program.classes.items) × (d < length program.classes.items)

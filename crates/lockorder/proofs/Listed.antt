@@ -7,20 +7,21 @@ use Rattle.std.proofs.lemmas.Nat.Bits.{bit_at-zero}
 use Rattle.std.proofs.lemmas.List.{get_or_past}
 use Rattle.std.proofs.lemmas.List.Elements.{All-append, All-cons, Contains-append_left, Contains-append_right}
 use Rattle.std.proofs.lemmas.List.Quantifiers.{all_pairs_push}
-use Rattle.lockorder.specs.declared.class_set.ClassSet.{ClassSet}
+use Rattle.bit_set.specs.declared.set.BitSet.{BitSet}
 use Rattle.lockorder.specs.ClassPairs.{Precedes}
-use Rattle.lockorder.specs.Working.Tables.{has_class, no_classes, InTable, LeadsWithin, has_edge}
+use Rattle.lockorder.specs.Working.Tables.{no_classes, InTable, LeadsWithin, has_edge}
+use Rattle.bit_set.specs.Working.Sets.{has_number}
 use Rattle.lockorder.specs.Working.Tellings.{ArePairsOf}
-use Rattle.lockorder.proofs.Lists.{in_first}
+use Rattle.core_lang.specs.Theory.Items.{in_first}
 
 -- of the pairs before this one those that the table has
-pub record AreListed (before : List ClassSet) (from to : ℕ) (pairs : List (ℕ × ℕ)) : Type 0 where
+pub record AreListed (before : List BitSet) (from to : ℕ) (pairs : List (ℕ × ℕ)) : Type 0 where
   pub true : All (λ (pair : ℕ × ℕ). InTable before pair.0 pair.1) pairs
   pub rising : AllPairs Precedes pairs
   pub below : All (λ (pair : ℕ × ℕ). Precedes pair (from, to)) pairs
   pub all : (c d : ℕ) → InTable before c d → d < length before → Precedes (c, d) (from, to) → Contains pairs (c, d)
 
-module _ (before : List ClassSet) where
+module _ (before : List BitSet) where
   pub none_listed : AreListed before 0 0 []
   none_listed = record {
     true = λ k d lt. absurd (omega arith);
@@ -76,7 +77,7 @@ module _ (before : List ClassSet) where
   within : (c d : ℕ) → InTable before c d → d < length before
   within c d e = elim (cases_lt d (length before)) [
     | inl lt ↦ lt
-    | inr ge ↦ absurd (both_ways (has_edge before c d) (ap (λ (s : ClassSet). has_class s c) (get_or_past before d no_classes ge) ∙ ap (λ x. x == 1) (bit_at-zero c)) e)
+    | inr ge ↦ absurd (both_ways (has_edge before c d) (ap (λ (s : BitSet). has_number s c) (get_or_past before d no_classes ge) ∙ ap (λ x. x == 1) (bit_at-zero c)) e)
   ]
 
   pub all_listed : (from : ℕ) (pairs : List (ℕ × ℕ)) → length before ≤ from → LeadsWithin before → AreListed before from 0 pairs → ArePairsOf before pairs

@@ -12,27 +12,9 @@ use Rattle.std.proofs.lemmas.List.Kept.{AllPairs-cons}
 use Rattle.std.proofs.lemmas.List.Quantifiers.{all_pairs_push}
 use Rattle.std.proofs.lemmas.Map.Made.{IsDistinct-from_AllPairs}
 use Rattle.std.proofs.lemmas.Map.Steps.{length-le_from_distinct_below, le-length_from_below}
+use Rattle.core_lang.specs.Theory.Items.{in_cases, in_rest, not_in_none}
 
 -- ---- what a list contains
-
-pub not_in_none : {X : Type 0} (x : X) → Contains [] x → ⊥
-not_in_none x c = omega (arith, c.1)
-
-pub in_first : {X : Type 0} (x : X) (xs : List X) → Contains (x ∷ xs) x
-in_first x xs = (0, omega arith, refl)
-
-pub in_rest : {X : Type 0} (x y : X) (xs : List X) → Contains xs y → Contains (x ∷ xs) y
-in_rest x y xs c = (suc c.0, omega (arith, c.1), c.2)
-
-pub in_cases : {X : Type 0} (x y : X) (xs : List X) → Contains (x ∷ xs) y → (x ≡ y) ⊎ Contains xs y
-in_cases x y xs (zero, lt, e) = inl e
-in_cases x y xs (suc i, lt, e) = inr (i, omega (arith, lt), e)
-
-pub contains_there : {X : Type 0} (xs : List X) (i : ℕ) (x : X) → slice_get xs i ≡ Some x → Contains xs x
-contains_there xs i x e = (i, slice_get_within xs i x e, get_or_from_slice_get xs i x x e)
-
-pub there_contains : {X : Type 0} (xs : List X) (x : X) → Contains xs x → (i : ℕ) × (slice_get xs i ≡ Some x)
-there_contains xs x c = (c.0, slice_get-get_or xs c.0 x c.1 ∙ ap Some c.2)
 
 pub in_take : {X : Type 0} (k : ℕ) (xs : List X) (x : X) → Contains (take k xs) x → (j : ℕ) × (j < k) × (slice_get xs j ≡ Some x)
 in_take zero xs x c = absurd (not_in_none x c)
@@ -88,20 +70,6 @@ distinct_cons x xs d new = AllPairs-cons ◌≢◌ x xs (λ k z lt e. new (at_co
 
 -- ---- one more item, and another one
 
-pub push_cases : {X : Type 0} (xs : List X) (y : X) (k : ℕ) (x : X) → slice_get (xs ++ y ∷ []) k ≡ Some x → (slice_get xs k ≡ Some x) ⊎ ((k ≡ length xs) × (y ≡ x))
-push_cases [] y zero x e = inr (refl, cc)
-push_cases [] y (suc k) x e = absurd (none-some x e)
-push_cases (z ∷ xs) y zero x e = inl e
-push_cases (z ∷ xs) y (suc k) x e = elim (push_cases xs y k x e) [ inl h ↦ inl h | inr h ↦ inr (ap suc h.0, h.1) ]
-
-pub get_set_same : {X : Type 0} (xs : List X) (i : ℕ) (x : X) → i < length xs → slice_get (set xs i x) i ≡ Some x
-get_set_same xs i x lt = slice_get-get_or (set xs i x) i x (omega (arith, lt, length-set xs i x)) ∙ ap Some (get_or-set_same xs i x x lt)
-
-pub get_set_other : {X : Type 0} (xs : List X) (i j : ℕ) (x y : X) → j ≢ i → slice_get xs j ≡ Some y → slice_get (set xs i x) j ≡ Some y
-get_set_other xs i j x y ne e =
-    slice_get-get_or (set xs i x) j y (omega (arith, slice_get_within xs j y e, length-set xs i x))
-    ∙ ap Some (get_or-set_other xs i j x y ne ∙ get_or_from_slice_get xs j y y e)
-
 -- ---- numbers below a bound
 
 pub found_below : (f : ℕ → Bool) (n : ℕ) → ((k : ℕ) × (k < n) × (f k ≡ true)) ⊎ ((k : ℕ) → k < n → f k ≡ false)
@@ -117,11 +85,6 @@ found_below f (suc n) =
   where
     or_last : (k : ℕ) → k < suc n → f n ≡ false → ((j : ℕ) → j < n → f j ≡ false) → f k ≡ false
     or_last k lt last none = elim (cases_lt k n) [ inl less ↦ none k less | inr ge ↦ let same : k ≡ n = omega arith in ap f same ∙ last ]
-
-pub item_at : {X : Type 0} (xs : List X) (k : ℕ) → k < length xs → (x : X) × (slice_get xs k ≡ Some x)
-item_at [] k lt = absurd (omega arith)
-item_at (x ∷ xs) zero lt = (x, refl)
-item_at (x ∷ xs) (suc k) lt = item_at xs k (omega arith)
 
 -- what is like no value is none
 pub none_only : {A : Type 0} (C : Option A → Type 0) → ((x : A) → C (Some x) → ⊥) → (y : Option A) → C y → y ≡ None

@@ -9,12 +9,13 @@ use Rattle.std.proofs.lemmas.Option.{none-some, same_Some, slice_get_within, sli
 use Rattle.std.proofs.lemmas.List.{get_or-set_same, get_or-set_other, get_or_past, get_or_read}
 use Rattle.std.proofs.lemmas.List.Elements.{All-nil, All-cons, All-push, All-weaker, All-contains, Contains-append_left, Contains-push, Contains-push_cases}
 use Rattle.flow.specs.Flow.{Plus, one, more as further}
-use Rattle.lockorder.specs.declared.class_set.ClassSet.{ClassSet}
+use Rattle.bit_set.specs.declared.set.BitSet.{BitSet}
 use Rattle.lockorder.specs.declared.cycles.Reached.{Reached}
 use Rattle.lockorder.specs.Ranks.{LeadTo, IsCycle}
 use Rattle.lockorder.specs.Working.Tables.{InTable, IsOnCycle}
 use Rattle.lockorder.specs.Working.Reached.{distance_of, HasDistance, LeadsNearer, IsDone, AreReached, KeepsReached, AreDistances, IsNearestBelow, nearer}
-use Rattle.lockorder.proofs.Lists.{not_in_none, in_first, in_cases, contains_there, there_contains, no_more, distinct_push}
+use Rattle.lockorder.proofs.Lists.{no_more, distinct_push}
+use Rattle.core_lang.specs.Theory.Items.{not_in_none, in_first, in_cases, contains_at, at_contained}
 
 some_is_some : (o : Option ℕ) (a b : ℕ) → o ≡ Some a → o ≡ Some b → a ≡ b
 some_is_some o a b e f = same_Some a b (sym e ∙ f)
@@ -42,7 +43,7 @@ none_anywhere (suc n) (suc c) = none_anywhere n c
 
 -- ---- the target alone
 
-module _ (before : List ClassSet) (r : Reached) (lt : r.target < length before) (ds : r.distances.items ≡ set (replicate (length before) None) r.target (Some 0)) (cs : r.classes.items ≡ r.target ∷ []) where
+module _ (before : List BitSet) (r : Reached) (lt : r.target < length before) (ds : r.distances.items ≡ set (replicate (length before) None) r.target (Some 0)) (cs : r.classes.items ≡ r.target ∷ []) where
   none : List (Option ℕ)
   none = replicate (length before) None
 
@@ -72,7 +73,7 @@ module _ (before : List ClassSet) (r : Reached) (lt : r.target < length before) 
 
 -- ---- one more
 
-module _ (before : List ClassSet) (old new : Reached) (class distance b : ℕ) (r : AreReached before old) (at : distance_of old.distances.items class ≡ Some distance)
+module _ (before : List BitSet) (old new : Reached) (class distance b : ℕ) (r : AreReached before old) (at : distance_of old.distances.items class ≡ Some distance)
     (edge : InTable before b class) (lt : b < length before) (unknown : distance_of old.distances.items b ≡ None)
     (target : new.target ≡ old.target) (ds : new.distances.items ≡ set old.distances.items b (Some (distance + 1))) (cs : new.classes.items ≡ old.classes.items ++ b ∷ []) where
   abbrev with_b : List (Option ℕ)
@@ -151,12 +152,12 @@ kept_further a b c x y = record {
 -- ---- what a turn leaves
 
 -- all that have to come before the class, below a bound
-pub record IsReaching (before : List ClassSet) (old r : Reached) (class bound : ℕ) : Type 0 where
+pub record IsReaching (before : List BitSet) (old r : Reached) (class bound : ℕ) : Type 0 where
   pub reached : AreReached before r
   pub kept : KeepsReached old r
   pub done : (b : ℕ) → b < bound → InTable before b class → HasDistance r.distances.items b
 
-reaching_next : (before : List ClassSet) (old r new : Reached) (class bound : ℕ) → IsReaching before old r class bound → AreReached before new → KeepsReached r new →
+reaching_next : (before : List BitSet) (old r new : Reached) (class bound : ℕ) → IsReaching before old r class bound → AreReached before new → KeepsReached r new →
     (InTable before bound class → HasDistance new.distances.items bound) → IsReaching before old new class (bound + 1)
 reaching_next before old r new class bound i reached kept here = record {
   reached = reached;
@@ -168,13 +169,13 @@ reaching_next before old r new class bound i reached kept here = record {
 }
 
 -- the class at the bound has no edge to it, or has a distance already
-pub reaching_skip : (before : List ClassSet) (old r new : Reached) (class bound : ℕ) → IsReaching before old r class bound → new ≡ r →
+pub reaching_skip : (before : List BitSet) (old r new : Reached) (class bound : ℕ) → IsReaching before old r class bound → new ≡ r →
     (InTable before bound class → HasDistance r.distances.items bound) → IsReaching before old new class (bound + 1)
 reaching_skip before old r new class bound i same here =
     subst (λ (x : Reached). IsReaching before old x class (bound + 1)) (sym same) (reaching_next before old r r class bound i i.reached (all_kept r) here)
 
 -- it is reached now
-pub reaching_take : (before : List ClassSet) (old r new : Reached) (class bound distance : ℕ) → IsReaching before old r class bound → bound < length before →
+pub reaching_take : (before : List BitSet) (old r new : Reached) (class bound distance : ℕ) → IsReaching before old r class bound → bound < length before →
     distance_of old.distances.items class ≡ Some distance → InTable before bound class → distance_of r.distances.items bound ≡ None →
     new.target ≡ r.target → new.distances.items ≡ set r.distances.items bound (Some (distance + 1)) → new.classes.items ≡ r.classes.items ++ bound ∷ [] →
     IsReaching before old new class (bound + 1)
@@ -186,11 +187,11 @@ reaching_take before old r new class bound distance i lt at edge unknown target 
     (λ e. one_has before r new class distance bound i.reached there edge lt unknown target ds cs)
 
 -- those at the first places have all before them
-pub record AreDoneBelow (before : List ClassSet) (r : Reached) (bound : ℕ) : Type 0 where
+pub record AreDoneBelow (before : List BitSet) (r : Reached) (bound : ℕ) : Type 0 where
   pub reached : AreReached before r
   pub done : (i c : ℕ) → i < bound → slice_get r.classes.items i ≡ Some c → IsDone before r.distances.items c
 
-module _ (before : List ClassSet) (r : Reached) (a : AreReached before r) where
+module _ (before : List BitSet) (r : Reached) (a : AreReached before r) where
   pub reached_within : (c : ℕ) → HasDistance r.distances.items c → c < length before
   reached_within c h = omega (arith, within r.distances.items c h.0 h.1, a.long)
 
@@ -198,9 +199,9 @@ module _ (before : List ClassSet) (r : Reached) (a : AreReached before r) where
   reached_room = no_more r.classes.items (length before) a.distinct (All-weaker (HasDistance r.distances.items) (λ c. c < length before) reached_within r.classes.items a.known)
 
   pub known_at : (i c : ℕ) → slice_get r.classes.items i ≡ Some c → HasDistance r.distances.items c
-  known_at i c e = All-contains (HasDistance r.distances.items) r.classes.items c a.known (contains_there r.classes.items i c e)
+  known_at i c e = All-contains (HasDistance r.distances.items) r.classes.items c a.known (contains_at r.classes.items i c e)
 
-pub done_next : (before : List ClassSet) (old new : Reached) (bound class : ℕ) → AreDoneBelow before old bound → slice_get old.classes.items bound ≡ Some class →
+pub done_next : (before : List BitSet) (old new : Reached) (bound class : ℕ) → AreDoneBelow before old bound → slice_get old.classes.items bound ≡ Some class →
     AreReached before new → KeepsReached old new → IsDone before new.distances.items class → AreDoneBelow before new (bound + 1)
 done_next before old new bound class d here reached kept done = record {
   reached = reached;
@@ -220,11 +221,11 @@ done_next before old new bound class d here reached kept done = record {
     old_at : (i : ℕ) → i < bound → (c : ℕ) × (slice_get old.classes.items i ≡ Some c)
     old_at i less = let lt = slice_get_within old.classes.items bound class here in (get_or old.classes.items i 0, slice_get-get_or old.classes.items i 0 (omega (arith, lt, less)))
 
-pub all_done : (before : List ClassSet) (r : Reached) (bound : ℕ) → AreDoneBelow before r bound → length r.classes.items ≤ bound → AreDistances before r
+pub all_done : (before : List BitSet) (r : Reached) (bound : ℕ) → AreDoneBelow before r bound → length r.classes.items ≤ bound → AreDistances before r
 all_done before r bound d le = record {
   reached = d.reached;
   all = λ c h.
-      let i = there_contains r.classes.items c (d.reached.listed c h) in
+      let i = at_contained r.classes.items c (d.reached.listed c h) in
       d.done i.0 c (omega (arith, le, slice_get_within r.classes.items i.0 c i.1)) i.1;
 }
 
@@ -244,14 +245,14 @@ pub distance_some : (ds : List (Option ℕ)) (c : ℕ) (o : Option ℕ) → c < 
 distance_some ds c None lt e is = absurd cc
 distance_some ds c (Some k) lt e is = (k, sym (get_or_read ds c (Some k) lt e None))
 
-pub none_if_not_some : (before : List ClassSet) (ds : List (Option ℕ)) (c bound : ℕ) (o : Option (ℕ × ℕ)) → IsNearestBelow before ds c bound o → ((x : ℕ × ℕ) → o ≡ Some x → ⊥) →
+pub none_if_not_some : (before : List BitSet) (ds : List (Option ℕ)) (c bound : ℕ) (o : Option (ℕ × ℕ)) → IsNearestBelow before ds c bound o → ((x : ℕ × ℕ) → o ≡ Some x → ⊥) →
     IsNearestBelow before ds c bound None
 none_if_not_some before ds c bound None h never = h
 none_if_not_some before ds c bound (Some x) h never = absurd (never x refl)
 
 -- ---- the nearest
 
-module _ (before : List ClassSet) (ds : List (Option ℕ)) (c b : ℕ) where
+module _ (before : List BitSet) (ds : List (Option ℕ)) (c b : ℕ) where
   pub nearest_skip : (o : Option (ℕ × ℕ)) → IsNearestBelow before ds c b o → ((k : ℕ) → InTable before c b → distance_of ds b ≡ Some k → ⊥) → IsNearestBelow before ds c (b + 1) o
   nearest_skip None h never = λ d k lt edge e. elim (cases_lt d b) [
     | inl less ↦ h d k less edge e
@@ -313,7 +314,7 @@ module _ (before : List ClassSet) (ds : List (Option ℕ)) (c b : ℕ) where
 -- ---- the way back
 
 -- the classes so far: each leads to the next and the last to the one that is reached, and all but the target are farther
-pub record IsWay (before : List ClassSet) (r : Reached) (cycle : List ℕ) (class distance : ℕ) : Type 0 where
+pub record IsWay (before : List BitSet) (r : Reached) (cycle : List ℕ) (class distance : ℕ) : Type 0 where
   pub lead : LeadTo (InTable before) class cycle
   pub first : slice_index cycle 0 ≡ r.target
   pub some : 0 < length cycle
@@ -330,7 +331,7 @@ first_still : (cycle : List ℕ) (c : ℕ) → 0 < length cycle → slice_index 
 first_still [] c h = absurd (omega arith)
 first_still (x ∷ cycle) c h = refl
 
-module _ (before : List ClassSet) (r : Reached) (all : AreDistances before r) where
+module _ (before : List BitSet) (r : Reached) (all : AreDistances before r) where
   pub way_starts : (class distance : ℕ) (cycle : List ℕ) → InTable before r.target class → distance_of r.distances.items class ≡ Some distance → cycle ≡ r.target ∷ [] →
       IsWay before r cycle class distance
   way_starts class distance cycle edge at e = record {

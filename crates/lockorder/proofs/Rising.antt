@@ -4,7 +4,8 @@ use Rattle.std.specs.Prelude.{slice_get, slice_index}
 use Rattle.std.specs.List.{Contains}
 use Rattle.std.proofs.lemmas.Option.{none-some, slice_get_within, slice_get-get_or}
 use Rattle.lockorder.specs.Ranks.{IsReady, IsNext, EachIsNext, AreRanks, Rise, LeadTo, IsCycle}
-use Rattle.lockorder.proofs.Lists.{there_contains, in_take}
+use Rattle.lockorder.proofs.Lists.{in_take}
+use Rattle.core_lang.specs.Theory.Items.{at_contained}
 
 same_some : (a b : ℕ) → Some a ≡ Some b → a ≡ b
 same_some a b e = cc
@@ -42,7 +43,7 @@ module _ (E : ℕ → ℕ → Type 0) (n : ℕ) where
   pub ranks_rise : (ranks : List ℕ) → AreRanks E n ranks → Rise E ranks
   ranks_rise ranks a c d r s edge rc rd =
       let lt : d < length ranks = slice_get_within ranks d s rd in
-      let place = there_contains a.list d (a.is_list.all d (omega (arith, lt, a.long))) in
+      let place = at_contained a.list d (a.is_list.all d (omega (arith, lt, a.long))) in
       let before = stands_before a.list place.0 c d a.is_list.each place.1 edge in
       let k : s ≡ place.0 = same_some s place.0 (sym rd ∙ a.places place.0 d place.1) in
       let j : r ≡ before.0 = same_some r before.0 (sym rc ∙ a.places before.0 c before.2) in

@@ -5,35 +5,37 @@ use Rattle.std.specs.List.{All, AllPairs, Contains}
 use Rattle.std.proofs.lemmas.Bool.{and_parts, and_cases, both_ways, not-true, not-false}
 use Rattle.std.proofs.lemmas.List.Elements.{All-cons, All-nil, All-contains}
 use Rattle.flow.specs.Flow.{Plus, one, more}
-use Rattle.lockorder.specs.declared.class_set.ClassSet.{ClassSet}
-use Rattle.lockorder.specs.Working.Tables.{has_class, InSet, has_edge, InTable, LeadsWithin, HasCycle, IsReadyIn}
-use Rattle.lockorder.proofs.Lists.{not_in_none, in_cases, among_or_not, no_more, distinct_cons, found_below}
+use Rattle.bit_set.specs.declared.set.BitSet.{BitSet}
+use Rattle.lockorder.specs.Working.Tables.{InSet, has_edge, InTable, LeadsWithin, HasCycle, IsReadyIn}
+use Rattle.bit_set.specs.Working.Sets.{has_number}
+use Rattle.lockorder.proofs.Lists.{among_or_not, no_more, distinct_cons, found_below}
+use Rattle.core_lang.specs.Theory.Items.{not_in_none, in_cases}
 
-module _ (before : List ClassSet) (listed : ClassSet) (within : LeadsWithin before) (stuck : (c : ℕ) → IsReadyIn before listed c → ⊥) where
+module _ (before : List BitSet) (listed : BitSet) (within : LeadsWithin before) (stuck : (c : ℕ) → IsReadyIn before listed c → ⊥) where
   abbrev IsNew : ℕ → Type 0
-  IsNew c = has_class listed c ≡ false
+  IsNew c = has_number listed c ≡ false
 
   -- it isn't listed and has to come before c
   abbrev is_new_before : ℕ → ℕ → Bool
-  is_new_before c b = has_edge before b c && not (has_class listed b)
+  is_new_before c b = has_edge before b c && not (has_number listed b)
 
   -- a class that isn't listed has to come after another one
   new_before : (c : ℕ) → c < length before → IsNew c → (b : ℕ) × (b < length before) × InTable before b c × IsNew b
   new_before c lt new =
       elim (found_below (is_new_before c) (length before)) [
-        | inl x ↦ let p = and_parts (has_edge before x.0 c) (not (has_class listed x.0)) x.2 in (x.0, x.1, p.0, not-true (has_class listed x.0) p.1)
+        | inl x ↦ let p = and_parts (has_edge before x.0 c) (not (has_number listed x.0)) x.2 in (x.0, x.1, p.0, not-true (has_number listed x.0) p.1)
         | inr none ↦ absurd (stuck c (record {
           class = lt;
-          new = λ e. both_ways (has_class listed c) new e;
+          new = λ e. both_ways (has_number listed c) new e;
           listed_before = λ b e. is_listed b e (none b (within b c e));
         }))
       ]
     where
-      is_listed : (b : ℕ) → InTable before b c → (has_edge before b c && not (has_class listed b)) ≡ false → InSet listed b
+      is_listed : (b : ℕ) → InTable before b c → (has_edge before b c && not (has_number listed b)) ≡ false → InSet listed b
       is_listed b e h =
-          elim (and_cases (has_edge before b c) (not (has_class listed b)) h) [
+          elim (and_cases (has_edge before b c) (not (has_number listed b)) h) [
             | inl not_so ↦ absurd (both_ways (has_edge before b c) not_so e)
-            | inr not_so ↦ not-false (has_class listed b) not_so
+            | inr not_so ↦ not-false (has_number listed b) not_so
           ]
 
   -- distinct classes that aren't listed, the first of which leads to all others

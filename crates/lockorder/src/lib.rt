@@ -15,7 +15,6 @@
 
 mod before;
 mod class_order;
-mod class_set;
 mod cycles;
 mod fault;
 mod pairs;

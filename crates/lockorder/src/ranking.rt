@@ -4,15 +4,15 @@ ghost use Rattle.std.specs.Prelude.{◌<◌, ℕ, length, IfOk};
 ghost use Rattle.std.specs.Bool.{Decides};
 ghost use Rattle.lockorder.specs.Working.Tables.{InSet, InTable, IsNextOrNone, IsRanking};
 
-use crate::class_set::ClassSet;
 use crate::ranks::Ranks;
 use crate::table::Table;
+use bit_set::set::BitSet;
 use source::memory::NoMemory;
 use std::alloc::Global;
 
 impl Table {
     // Whether all classes that have to come before this one are listed.
-    fn is_behind(&self, listed: ClassSet, class: usize) -> bool
+    fn is_behind(&self, listed: BitSet, class: usize) -> bool
         requires { class < length self.now.before.items }
         ensures { Decides result ((b : ℕ) → InTable self.now.before.items b class → InSet listed b) }
     {
@@ -25,7 +25,7 @@ impl Table {
     }
 
     // The lowest-numbered class that isn't listed while all that have to come before it are.
-    fn next(&self, listed: ClassSet) -> Option<usize>
+    fn next(&self, listed: BitSet) -> Option<usize>
         ensures { IsNextOrNone self.now.before.items listed result }
     {
         for class in 0..self.before.len() {
@@ -46,7 +46,7 @@ impl Table {
         for _class in 0..classes {
             ranks.push(0)?;
         }
-        let mut listed = ClassSet::new();
+        let mut listed = BitSet::new();
         for rank in 0..classes {
             let Some(class) = self.next(listed) else {
                 return Ok(None);

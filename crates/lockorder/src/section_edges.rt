@@ -4,13 +4,14 @@ ghost use Rattle.std.specs.Prelude.{◌≡◌, ◌<◌, ◌≤◌, ℕ, length, 
 ghost use Rattle.std.specs.Bool.{Decides};
 ghost use Rattle.std.specs.List.{All};
 ghost use Rattle.locks.specs.Sets.{has};
-ghost use Rattle.lockorder.specs.Working.Tables.{InSet, has_class, AddsEdges, HasEdgesOf};
+ghost use Rattle.lockorder.specs.Working.Tables.{InSet, AddsEdges, HasEdgesOf};
+ghost use Rattle.bit_set.specs.Working.Sets.{has_number};
 ghost use Rattle.lockorder.specs.Working.Sections.{AreFlowPairs, AreUsedSoFar, HasClass, IsOfClass, IsUseOrNone, KeepsLower, LeadsToRoots, MakesAt, MakesFirstAt, MakesSomewhere};
 
 use crate::before::{leads_on, points_before};
-use crate::class_set::ClassSet;
 use crate::path_sets::share;
 use crate::table::Table;
+use bit_set::set::BitSet;
 use locks::path_set::PathSet;
 use points::table::Points;
 use source::memory::NoMemory;
@@ -42,11 +43,11 @@ impl<'a> SectionEdges<'a> {
     }
 
     // The classes of the paths of a set.
-    fn classes_of(&self, set: PathSet) -> ClassSet
+    fn classes_of(&self, set: PathSet) -> BitSet
         requires { All (λ c. c < 128) self.now.points.now.classes.items }
-        ensures { (c : ℕ) → Decides (has_class result c) (HasClass self.now.points.now set c) }
+        ensures { (c : ℕ) → Decides (has_number result c) (HasClass self.now.points.now set c) }
     {
-        let mut classes = ClassSet::new();
+        let mut classes = BitSet::new();
         for path in 0..self.points.classes.len() {
             if set.contains(path) {
                 classes = classes.with(self.points.classes[path]);
@@ -84,7 +85,7 @@ impl<'a> SectionEdges<'a> {
     }
 
     // Adds an edge from each of some classes to that of each path of a set.
-    fn add_roots(&self, bound: PathSet, used: ClassSet, table: &mut Table)
+    fn add_roots(&self, bound: PathSet, used: BitSet, table: &mut Table)
         requires classes { All (λ c. c < length table.old.before.items) self.now.points.now.classes.items }
         requires used { (c : ℕ) → InSet used c → c < length table.old.before.items }
         ensures classes { length table.new.before.items ≡ length table.old.before.items }

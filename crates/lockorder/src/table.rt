@@ -3,7 +3,7 @@
 ghost use Rattle.std.specs.Prelude.{◌≡◌, ◌<◌, ◌≤◌, false, ℕ, length, IfOk};
 ghost use Rattle.lockorder.specs.Working.Tables.{has_edge, AddsEach, InSet, LeadsWithin};
 
-use crate::class_set::ClassSet;
+use bit_set::set::BitSet;
 use source::memory::NoMemory;
 use std::alloc::Global;
 
@@ -11,7 +11,7 @@ use std::alloc::Global;
 #[derive(Drop)]
 pub struct Table {
     /// For each class those that have to come before it.
-    pub before: Vec<ClassSet>,
+    pub before: Vec<BitSet>,
     ghost few: { length before.items ≤ 128 },
     ghost within: { LeadsWithin before.items },
 }
@@ -23,7 +23,7 @@ impl Table {
         ensures classes { IfOk result (λ table. length table.before.items ≡ classes) }
         ensures edges { IfOk result (λ table. (c d : ℕ) → has_edge table.before.items c d ≡ false) }
     {
-        let before = vec![in alloc; ClassSet::new(); classes]?;
+        let before = vec![in alloc; BitSet::new(); classes]?;
         Ok(Table { before })
     }
 
@@ -37,7 +37,7 @@ impl Table {
     }
 
     /// Adds an edge from each of some classes to another.
-    pub fn add(&mut self, from: ClassSet, to: usize)
+    pub fn add(&mut self, from: BitSet, to: usize)
         requires from { (c : ℕ) → InSet from c → c < length self.old.before.items }
         requires to { to < length self.old.before.items }
         ensures classes { length self.new.before.items ≡ length self.old.before.items }

@@ -1,19 +1,7 @@
 -- What lists contain.
 use Rattle.std.proofs.Common.{◌≡◌, zero, suc, List, [], ◌∷◌, ◌++◌, ◌⊎◌, inl, inr, refl, ap, arith}
 use Rattle.std.specs.List.{Contains}
-
-pub not_in_none : {X : Type 0} (x : X) → Contains [] x → ⊥
-not_in_none x c = omega (arith, c.1)
-
-pub in_first : {X : Type 0} (x : X) (xs : List X) → Contains (x ∷ xs) x
-in_first x xs = (0, omega arith, refl)
-
-pub in_rest : {X : Type 0} (x y : X) (xs : List X) → Contains xs y → Contains (x ∷ xs) y
-in_rest x y xs c = (suc c.0, omega (arith, c.1), c.2)
-
-pub in_cases : {X : Type 0} (x y : X) (xs : List X) → Contains (x ∷ xs) y → (x ≡ y) ⊎ Contains xs y
-in_cases x y xs (zero, lt, e) = inl e
-in_cases x y xs (suc i, lt, e) = inr (i, omega (arith, lt), e)
+use Rattle.core_lang.specs.Theory.Items.{in_cases, in_first, in_rest, not_in_none}
 
 -- what stands before it and behind it
 pub around : {X : Type 0} (xs : List X) (x : X) → Contains xs x → (before : List X) × (behind : List X) × (xs ≡ before ++ x ∷ behind)

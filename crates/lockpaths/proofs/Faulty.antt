@@ -18,9 +18,10 @@ use Rattle.locks.specs.Faults.{HasSection, Named, where_at, IsUnstable, unstable
 use Rattle.locks.specs.Working.Laws.{SamePathDecides}
 use Rattle.lockpaths.specs.Working.Gathering.{is_in}
 use Rattle.lockpaths.specs.Working.Faulted.{fault_of, faults_behind, fault_unless, where_fault, owner_fault, faults_in, faults_of}
-use Rattle.lockpaths.proofs.Contained.{not_in_none, in_rest, in_cases, in_middle, around}
+use Rattle.lockpaths.proofs.Contained.{in_middle, around}
 use Rattle.lockpaths.proofs.Once.{is_in_contains, contains_is_in}
 use Rattle.lockpaths.proofs.Accessed.{lesser_is}
+use Rattle.core_lang.specs.Theory.Items.{not_in_none, in_rest, in_cases}
 
 -- ---- lists of faults
 

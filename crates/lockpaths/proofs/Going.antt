@@ -25,6 +25,7 @@ use Rattle.lockpaths.specs.Working.Told.{Told}
 use Rattle.lockpaths.specs.Working.Finding.{over, over_point, over_points, over_owner, over_owners, in_all, in_operands}
 use Rattle.flow.specs.Points.{Point}
 use Rattle.std.specs.List.{flat_map}
+use Rattle.core_lang.specs.Theory.Items.{drop_past, next_of}
 
 over_append : (f : Finder) (g : Told) (xs ys : List Access) → over f g (xs ++ ys) ≡ over f (over f g xs) ys
 over_append f g xs ys = ap (λ (x : Gathered). record { table = g.table; gathered = x }) (fold-append _ g.gathered xs ys)
@@ -48,12 +49,6 @@ none_behind (Final t g ∷ fs) s f = ap (option_map (λ rest. g ∷ rest)) (none
 none_behind (Field t g ∷ fs) s f = refl
 
 -- ---- lists of accesses
-
-drop_past : {A : Type 0} (xs : List A) (i : ℕ) → length xs ≤ i → drop i xs ≡ []
-drop_past [] zero h = refl
-drop_past [] (suc i) h = refl
-drop_past (x ∷ xs) zero h = absurd (omega arith)
-drop_past (x ∷ xs) (suc i) h = drop_past xs i (omega arith)
 
 pub over_chain : (f : Finder) (g h k : Told) (e one : Expr) (first : Box Expr Global) (rest : Vec Operation Global) (ops : List Operation) (i : ℕ) → e ≡ Chain first rest → one ≡ first.value →
     ops ≡ rest.items → h ≡ over f g (in_expr one) → length ops ≤ i → over f k (in_operands (drop i ops)) ≡ over f h (in_operands ops) → k ≡ over f g (in_expr e)
@@ -133,9 +128,6 @@ module _ (f : Finder) (g g' : Told) (start local : ℕ) (fields : List FieldStep
     field_behind = ap all_final taken_field ∙ none_behind (take k fields) s n
 
 -- ---- one part more of a list
-
-next_of : {A : Type 0} (xs : List A) (i : ℕ) (x : A) → i < length xs → x ≡ get_or xs i x → drop i xs ≡ x ∷ drop (i + 1) xs
-next_of {A = A} xs i x lt is = drop-cons xs i x lt ∙ ap (λ (y : A). y ∷ drop (suc i) xs) (sym is) ∙ ap (λ (k : ℕ). x ∷ drop k xs) (sym (add-one i))
 
 module _ {A : Type 0} (f : Finder) (h k : Told) where
   pub over_next : (part : A → List Access) (xs : List A) (i : ℕ) (x : A) → i < length xs → x ≡ get_or xs i x → k ≡ over f h (part x) →

@@ -7,7 +7,7 @@ use Rattle.std.proofs.lemmas.List.Elements.{filter-append}
 use Rattle.locks.specs.LockPaths.{LockPath, same_path, each_once}
 use Rattle.locks.specs.Working.Laws.{SamePathDecides}
 use Rattle.lockpaths.specs.Working.Gathering.{place_from, is_in}
-use Rattle.lockpaths.proofs.Contained.{not_in_none, in_first, in_rest, in_cases}
+use Rattle.core_lang.specs.Theory.Items.{not_in_none, in_first, in_rest, in_cases}
 
 abbrev others : LockPath → LockPath → Bool
 others x other = not (same_path x other)

@@ -30,6 +30,7 @@ use Rattle.lockpaths_forms.specs.Working.Forms.{Replacement, replacements_at}
 use Rattle.lockpaths.specs.Working.Told.{Told}
 use Rattle.lockpaths.specs.Working.Gathering.{gathered_at, gathered_in, Gathered, nothing_yet, place_from, with_owners, with_path, with_new}
 use Rattle.lockpaths.specs.Working.Numbers.{is_number}
+use Rattle.core_lang.specs.Theory.Items.{lookup_at, lookup_none, next_of}
 
 -- ---- of a list that a slice lends
 
@@ -39,15 +40,6 @@ module _ {A : Type 0} (xs lent : List A) (i : ℕ) (same : lent ≡ xs) where
 
   pub item_past : IsItemAt lent i None → slice_get xs i ≡ None
   item_past h = subst (λ (ys : List A). slice_get ys i ≡ None) same (slice_get_past lent i h.3)
-
-pub lookup_none : {A B : Type 0} (r : Option A) (go : A → Option B) → r ≡ None → lookup r go ≡ None
-lookup_none r go e = ap (λ o. lookup o go) e
-
-pub lookup_at : {A B : Type 0} (r : Option A) (a : A) (go : A → Option B) → r ≡ Some a → lookup r go ≡ go a
-lookup_at r a go e = ap (λ o. lookup o go) e
-
-pub first_of_rest : {A : Type 0} (xs : List A) (i : ℕ) (x : A) → i < length xs → x ≡ get_or xs i x → drop i xs ≡ x ∷ drop (i + 1) xs
-first_of_rest {A = A} xs i x lt is = drop-cons xs i x lt ∙ ap (λ (y : A). y ∷ drop (suc i) xs) (sym is) ∙ ap (λ (k : ℕ). x ∷ drop k xs) (sym (add-one i))
 
 -- ---- the protection of a struct's field
 
@@ -114,7 +106,7 @@ pub place_next : {A : Type 0} (at : A → LockPath) (path : LockPath) (k : ℕ) 
     place_from path (k + 1) (map at (drop (k + 1) items)) ≡ place_from path k (map at (drop k items))
 place_next {A = A} at path k items x lt is other =
     ap (λ (b : Bool). if b then Some k else place_from path (k + 1) (map at (drop (k + 1) items))) other
-    ∙ ap (λ (ys : List A). place_from path k (map at ys)) (sym (first_of_rest items k x lt is))
+    ∙ ap (λ (ys : List A). place_from path k (map at ys)) (sym (next_of items k x lt is))
 
 pub below_end : {A : Type 0} (k e v : ℕ) (items : List A) → k < e → e ≡ v → v ≡ length items → k < length items
 below_end k e v items lt is at = omega arith

@@ -24,9 +24,9 @@ use Rattle.lockpaths.specs.Working.Gathering.{Gathered, nothing_yet, gathered_at
 use Rattle.lockpaths.specs.Working.Faulted.{faults_behind, owner_fault, faults_in}
 use Rattle.lockpaths.specs.Working.Numbers.{is_number, IsSetOf, cut, AreRising, IsComplete, IsFinished, AreEach}
 use Rattle.lockpaths.specs.Paths.{AreSectionPaths, ArePaths}
-use Rattle.lockpaths.proofs.Contained.{not_in_none, in_first, in_rest, in_cases}
 use Rattle.lockpaths.proofs.Accessed.{IsWithin, IsState, IsBehind, ends_from, all_points_met, IsAfter, owners_met}
 use Rattle.lockpaths.proofs.Faulty.{none_found, all_have}
+use Rattle.core_lang.specs.Theory.Items.{not_in_none, in_first, in_rest, in_cases}
 
 -- ---- lists
 

@@ -8,10 +8,10 @@ use Rattle.core_lang.specs.Typing.{lookup}
 use Rattle.core_lang.specs.Scopes.{NamesOnly, IsWellScoped}
 use Rattle.locks.specs.Locks.{led_to}
 use Rattle.locks.specs.LockPaths.{StablePath, Binding, bindings, replaced, all_replaced, normal_form, object_at, IsLet, LetsAgree}
-use Rattle.locks.proofs.Lists.{in_first, in_rest}
 use Rattle.locks.proofs.Scoped.{bound_behind}
-use Rattle.locks.proofs.Normal.{lookup_some, IsFixed, IsRoot, Replaces, other, by_owner, no_path, by_path, past_parts, replaces, all_roots, fixed_kinds}
+use Rattle.locks.proofs.Normal.{IsFixed, IsRoot, Replaces, other, by_owner, no_path, by_path, past_parts, replaces, all_roots, fixed_kinds}
 use Rattle.locks.proofs.Finals.{object_append}
+use Rattle.core_lang.specs.Theory.Items.{in_first, in_rest, lookup_some}
 
 module _ (section : Section) (well : IsWellScoped section) (scope : List ℕ) (shape : Shape) (locals : List Value)
     (closed : (b : Binding) → Contains (bindings section) b → Contains scope b.local → NamesOnly scope b.value)

@@ -7,8 +7,8 @@ use Rattle.core_lang.specs.declared.tree.Section.{Section}
 use Rattle.std.proofs.lemmas.Bool.{eq-eqb}
 use Rattle.locks.specs.LockPaths.{StablePath, OwnerPath, Binding, stable_value, owner_of, owned_path, or_behind, bindings, behind, replaced, all_replaced}
 use Rattle.locks.specs.Working.Laws.{NormalFormOfOwned, NormalFormOfLet, NormalFormOfOther}
-use Rattle.locks.proofs.Lists.{not_in_none, in_cases}
 use Rattle.locks.proofs.Normal.{Replaces, other, by_owner, no_path, by_path, past_parts, IsOrdered, from_next, unchanged, bindings_ordered}
+use Rattle.core_lang.specs.Theory.Items.{not_in_none, in_cases}
 
 module _ (section : Section) where
   -- what a binding makes of a path that begins at its local

@@ -27,7 +27,8 @@ use Rattle.locks.specs.Working.Laws.{UsedAreInScope, ScopeOfPathsGoesBack}
 use Rattle.locks.proofs.Lists.{each_at, from_filter_map}
 use Rattle.locks.proofs.Scoped.{sound_point}
 use Rattle.locks.proofs.Named.{IsTargetNamed, IsNamed, accesses_named}
-use Rattle.locks.proofs.Normal.{lookup_some, map_some, stable_parts, IsFixed, IsRoot, all_roots}
+use Rattle.locks.proofs.Normal.{stable_parts, IsFixed, IsRoot, all_roots}
+use Rattle.core_lang.specs.Theory.Items.{lookup_some, map_some}
 
 -- ---- where a path comes from
 

@@ -38,11 +38,12 @@ use Rattle.flow.specs.Theory.PointTypes.{IsTypedPoint, points_typed}
 use Rattle.locks.proofs.Lists.{each_at}
 use Rattle.locks.proofs.Scoped.{Closed, IsSoundPoint, bound_once, sound_point}
 use Rattle.locks.proofs.Named.{IsTargetNamed, IsNamed, accesses_named}
-use Rattle.locks.proofs.Normal.{lookup_some, map_some, stable_parts, IsFixed, IsRoot}
+use Rattle.locks.proofs.Normal.{stable_parts, IsFixed, IsRoot}
 use Rattle.locks.proofs.InScope.{IsFieldPath, of_global, of_object, field_path}
 use Rattle.locks.proofs.TypedAccesses.{IsTypedTarget, IsTyped, accesses_typed}
 use Rattle.locks.proofs.Finals.{with_ok, found_ok, field_at, led_from, along_named, object_append, value_there, along_sound, led_there, index_at}
 use Rattle.locks.proofs.Agreeing.{normal_same}
+use Rattle.core_lang.specs.Theory.Items.{lookup_some, map_some}
 
 -- the path names the lock that protects the cell
 abbrev Names : Typed → List Value → LockPath → ℕ → Type 0

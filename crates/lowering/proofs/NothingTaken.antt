@@ -10,20 +10,12 @@ use Rattle.locks.specs.LockPaths.{LockPath, Uses, paths_of}
 use Rattle.inserter.specs.Placement.{IsDue}
 use Rattle.lowering.specs.Plans.{Plan, IsCompiled}
 use Rattle.lowering.specs.Working.PlanLaws.{HasLists, NothingIsTaken}
+use Rattle.core_lang.specs.Theory.Items.{in_first, not_in_none, some_same}
 
 -- ---- lists
 
-not_in_none : {X : Type 0} (x : X) → Contains [] x → ⊥
-not_in_none x c = omega (arith, c.1)
-
-in_first : {X : Type 0} (x : X) (xs : List X) → Contains (x ∷ xs) x
-in_first x xs = (0, omega arith, refl)
-
 none_is_some : {P : Type 0} {A : Type 0} (a : A) → None ≡ Some a → P
 none_is_some a e = absurd (let f : ⊥ = cc in f)
-
-same_some : {A : Type 0} (x y : A) → Some x ≡ Some y → x ≡ y
-same_some x y e = cc
 
 left_none : {X : Type 0} (xs ys : List X) → xs ++ ys ≡ [] → xs ≡ []
 left_none [] ys e = refl
@@ -37,7 +29,7 @@ right_none (x ∷ xs) ys e = absurd (let f : ⊥ = cc in f)
 nothing_of_each : {X Y : Type 0} (f : X → List Y) (xs : List X) (k : ℕ) (x : X) → flat_map f xs ≡ [] → slice_get xs k ≡ Some x →
     f x ≡ []
 nothing_of_each f [] k x e is = none_is_some x is
-nothing_of_each f (y ∷ ys) zero x e is = ap f (sym (same_some y x is)) ∙ left_none (f y) (flat_map f ys) e
+nothing_of_each f (y ∷ ys) zero x e is = ap f (sym (some_same y x is)) ∙ left_none (f y) (flat_map f ys) e
 nothing_of_each f (y ∷ ys) (suc k) x e is = nothing_of_each f ys k x (right_none (f y) (flat_map f ys) e) is
 
 -- ---- lists before points

@@ -8,11 +8,11 @@ ghost use Rattle.meaning_trees.specs.Working.Within.{effect_within, sequence_wit
 
 use crate::draft::Draft;
 use crate::evaluate::{evaluate, is_true};
-use crate::opening::with_defaults;
 use core_lang::shape::Shape;
 use core_lang::tree::{Action, Condition, Expr, Section, Stmt};
 use core_lang::value::{Failure, Outcome, Trap, Value};
 use meaning_operations::access::{cell_of_element, cell_of_field, follow, non_null};
+use meaning_operations::opening::with_defaults;
 use std::alloc::AllocError;
 use std::mem;
 

@@ -3,7 +3,6 @@
 //!
 //! - [`execution::Execution`]: a section under way. Its statements run exactly as `core_lang`'s specs define.
 //! - [`heap::Heap`]: the values of all cells; [`heap::Heap::open`] makes the opening heap of a program.
-//! - [`opening`]: the values with which locals begin.
 //! - [`draft::Draft`]: a heap with the writes of one run, which are kept or taken back.
 #![tactic(auto)]
 
@@ -11,4 +10,3 @@ pub mod draft;
 mod evaluate;
 pub mod execution;
 pub mod heap;
-pub mod opening;

@@ -6,7 +6,8 @@ use Rattle.std.proofs.lemmas.Option.{none-some}
 use Rattle.core_lang.specs.declared.value.Value.{Value}
 use Rattle.locks.specs.declared.lock.Lock.{Lock}
 use Rattle.code.specs.Memory.{value_at, with_changed, Agrees}
-use Rattle.layout.specs.LockCells.{same_lock, cells_from}
+use Rattle.layout.specs.LockCells.{cells_from}
+use Rattle.locks.specs.Locks.{same_lock}
 use Rattle.moved_cells.specs.Working.Grants.{numbered, values_on, if_there}
 
 -- each is at least n, and greater than those before it

@@ -14,6 +14,7 @@ use Rattle.outcomes.specs.Working.Hashes.{hash}
 use Rattle.outcomes.specs.Working.States.{Reached, IsAlike, entry_state, orders_to, at, nowhere, NoneIsAlike}
 use Rattle.outcomes.specs.Working.Tables.{hash_of, HasHash, IsLast, IsTable, HasAlike, IsLeft, left_count}
 use Rattle.outcomes.proofs.Lists.{pushed_at, still_at, last_at, set_at, replaced_at}
+use Rattle.core_lang.specs.Theory.Items.{get_some}
 
 -- entries with the same hashes in the same places
 abbrev HaveSame : List Entry → List Entry → ℕ → Type 0
@@ -196,16 +197,11 @@ pub left_smaller : (entries : List Entry) (places : HashMap ℕ ℕ (BuildHasher
     slice_get entries k ≡ Some e → left_count e.before < suc k
 left_smaller entries places total k e is here = count_below entries (hash_of e) k e.before (is.before k e here)
 
-some_at : {A : Type 0} (xs : List A) (k : ℕ) → k < length xs → (x : A) × (slice_get xs k ≡ Some x)
-some_at [] k within = absurd (omega arith)
-some_at (x ∷ xs) zero within = (x, refl)
-some_at (x ∷ xs) (suc k) within = some_at xs k (omega arith)
-
 -- where nothing is left, there is no such state
 pub none_alike : (entries : List Entry) (done : List ℕ) (cells : List Value) (o : Option ℕ) → IsLeft entries done cells o → o ≡ None →
     NoneIsAlike done cells (map entry_state entries)
 none_alike entries done cells o left is k within alike =
     let none = subst (IsLeft entries done cells) is left in
     let inside : k < length entries = rw length-map at within in
-    let there = some_at entries k inside in
+    let there = get_some entries k inside in
     none k (there.0, there.1, subst (IsAlike done cells) (at_entry entries k there.0 there.1) alike)

@@ -21,11 +21,7 @@ use Rattle.worlds.specs.Worlds.{World, ThreadState, script_of, scripts, call_at,
 use Rattle.outcomes_laws.specs.Laws.{AllHaveEnded, HoldsHeap, order_of, IsAmongTold, EveryEndIsTold}
 use Rattle.outcomes_laws.proofs.Counts.{sums, lengths, sums-lengths, sums_zero, zero_at}
 use Rattle.outcomes_laws.proofs.Orders.{Follows, IsWhole, all_of, whole}
-
-item_at : {A : Type 0} (xs : List A) (k : ℕ) → k < length xs → (x : A) × (slice_get xs k ≡ Some x)
-item_at [] k within = absurd (omega arith)
-item_at (x ∷ xs) zero within = (x, refl)
-item_at (x ∷ xs) (suc k) within = item_at xs k (omega arith)
+use Rattle.core_lang.specs.Theory.Items.{get_some}
 
 within_of : {A : Type 0} (xs : List A) (k : ℕ) (x : A) → slice_get xs k ≡ Some x → k < length xs
 within_of [] k x there = cc
@@ -83,7 +79,7 @@ whole_script : (plan : Plan) (w : World) (accepted : List Thread) → map script
 whole_script plan w accepted same follows ended t x there =
     let script : slice_get (scripts plan) t ≡ Some (script_of x) = ap (λ (ss : List (List Invocation)). slice_get ss t) (sym same) ∙ script_at accepted t x there in
     let within : t < length w.threads = (let s = within_of (scripts plan) t (script_of x) script in let l = follows.all_threads in omega (arith, s, l)) in
-    let state = item_at w.threads t within in
+    let state = get_some w.threads t within in
     let none : slice_get (script_of x) state.0.step ≡ None =
     ap (λ (o : Option (List Invocation)). option_map_or (λ (calls : List Invocation). slice_get calls state.0.step) o None) (sym script)
     ∙ ended.none_left t state.0 state.1 in
@@ -118,8 +114,8 @@ holds_heap : (plan : Plan) (w : World) (heap : List Value) → IsCompiled plan �
     length w.cells ≡ length plan.program.cells.items → HoldsHeap plan w heap
 holds_heap plan w heap compiled held free ended all cell within =
     let here = compiled.laid_out.cells in
-    let lock = item_at plan.layout.cell_locks cell (omega (arith, within, here)) in
-    let value = item_at w.cells cell (omega (arith, within, all)) in
+    let lock = get_some plan.layout.cell_locks cell (omega (arith, within, here)) in
+    let value = get_some w.cells cell (omega (arith, within, all)) in
     not_away plan w cell lock.0 heap value.0 held free ended (sym (compiled.laid_out.cell_locks cell) ∙ lock.1) value.1
 
 -- ---- the law

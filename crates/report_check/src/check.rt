@@ -1,16 +1,18 @@
 //! The text of `check`.
 
-ghost use Rattle.std.specs.Prelude.{◌≡◌, ◌==◌, OnOk, IfOk, position, string_bytes};
+ghost use Rattle.std.specs.Prelude.{◌≡◌, ◌==◌, OnOk, IfOk, position};
 ghost use Rattle.locks.specs.Texts.{AddsText};
 ghost use Rattle.lockpaths.specs.Paths.{ArePaths};
+ghost use Rattle.rope.specs.Working.Ropes.{rope_text, Grows};
 ghost use Rattle.report_check.specs.Check.{ranked_class, rank_text, rank_texts};
 
 use crate::places::Cursor;
-use crate::section_text::SectionText;
+use crate::section_text::{SectionText, path_texts};
 use core_lang::typed::Typed;
 use inserter::placed::Placed;
 use lockpaths::table::Paths;
 use locks::text::push_class;
+use rope::Rope;
 use source::memory::NoMemory;
 use std::alloc::{AllocError, Global};
 
@@ -81,18 +83,19 @@ impl Check<'_> {
 
     // The lines of each section. Its statements stand behind those of the sections before it, so that the text is read
     // once.
-    fn push_sections(&self, alloc: Global, out: &mut String) -> Result<(), NoMemory>
-        ensures { OnOk result (AddsText (section_texts_of self.now) out.old out.new) }
+    fn push_sections(&self, alloc: Global, out: &mut Rope) -> Result<(), NoMemory>
+        ensures { OnOk result (Grows (section_texts_of self.now) out.old out.new) }
     {
         let mut cursor = Cursor::new(self.text);
         for (i, section) in self.program.sections.iter().enumerate() {
             let Some(lists) = self.placed.sections.get(i) else {
                 return Ok(());
             };
+            let paths = path_texts(alloc, self.program, section, &self.paths.sections[i].paths)?;
             let lines = SectionText {
                 program: self.program,
                 section,
-                paths: &self.paths.sections[i].paths,
+                group: out.keep(paths)?,
                 lists,
             };
             lines.push(alloc, out, &mut cursor)?;
@@ -102,11 +105,12 @@ impl Check<'_> {
 
     /// The text of `check`: that the program is accepted, the class of each rank, and for each section the points before
     /// which locks are taken, each with its place in the text and the lock paths. The only error is a refused growth.
-    pub fn text(&self, alloc: Global) -> Result<String, NoMemory>
-        ensures { IfOk result (λ text. string_bytes text ≡ check_text_of self.now) }
+    pub fn text(&self, alloc: Global) -> Result<Rope, NoMemory>
+        ensures { IfOk result (λ text. rope_text text ≡ check_text_of self.now) }
     {
-        let mut out = String::from_str(alloc, "accepted\n")?;
-        push_ranks(&mut out, self.program, self.ranks)?;
+        let mut ranks = String::from_str(alloc, "accepted\n")?;
+        push_ranks(&mut ranks, self.program, self.ranks)?;
+        let mut out = Rope::of(alloc, ranks);
         self.push_sections(alloc, &mut out)?;
         Ok(out)
     }

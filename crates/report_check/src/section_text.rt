@@ -1,9 +1,9 @@
 //! The lines of a section in the text of `check`. The one error is a refused growth.
 
-ghost use Rattle.std.specs.Prelude.{◌≡◌, OnOk, map};
-ghost use Rattle.std.proofs.Props.{props};
-ghost use Rattle.locks.specs.Texts.{AddsText};
-ghost use Rattle.locks.specs.LockPaths.{lock_path_of, lock_paths};
+ghost use Rattle.std.specs.Prelude.{◌≡◌, IfOk, OnOk, map, string_bytes};
+ghost use Rattle.locks.specs.LockPaths.{lock_path_of};
+ghost use Rattle.locks.specs.Texts.{path_text};
+ghost use Rattle.rope.specs.Working.Ropes.{AddsTo};
 
 use crate::places::Cursor;
 use core_lang::tree::Section;
@@ -12,8 +12,27 @@ use flow::points::{PointRef, points_of};
 use inserter::placed::SectionLists;
 use locks::path::LockPath;
 use locks::text::push_path;
+use rope::Rope;
 use source::memory::NoMemory;
 use std::alloc::{AllocError, Global};
+
+/// The texts of lock paths of a section.
+pub fn path_texts(
+    alloc: Global,
+    program: &Typed,
+    section: &Section,
+    paths: &[LockPath],
+) -> Result<Vec<String>, NoMemory>
+    ensures { IfOk result (λ texts. map string_bytes texts.items ≡ map (path_text program.now section.now) (map lock_path_of paths.now)) }
+{
+    let mut texts = Vec::with_capacity(alloc, paths.len())?;
+    for path in paths {
+        let mut text = String::new(alloc);
+        push_path(&mut text, program, section, path)?;
+        texts.push(text)?;
+    }
+    Ok(texts)
+}
 
 /// What the lines of a section are made from.
 #[derive(Drop)]
@@ -22,33 +41,23 @@ pub struct SectionText<'a> {
     pub program: &'a Typed,
     /// A section of it.
     pub section: &'a Section,
-    /// The section's lock paths by number.
-    pub paths: &'a [LockPath],
+    /// The number of the group of parts that has the texts of the section's lock paths.
+    pub group: usize,
     /// The lists before its points.
     pub lists: &'a SectionLists,
-    ghost numbered: { map lock_path_of paths.now ≡ lock_paths program.now section.now } by { Prim.hlevel props },
 }
 
 impl SectionText<'_> {
-    ghost use Rattle.report_check.specs.Working.Values.{numbered_path_of, taken_text_of, take_text_of, take_texts_of, section_text_of};
-
-    // A lock path.
-    fn push_numbered(&self, out: &mut String, number: usize) -> Result<(), AllocError>
-        ensures { OnOk result (AddsText (numbered_path_of self.now number) out.old out.new) }
-    {
-        match self.paths.get(number) {
-            Some(path) => push_path(out, self.program, self.section, path),
-            None => Ok(()),
-        }
-    }
+    ghost use Rattle.report_check.specs.Working.Values.{HasPaths, taken_text_of, take_text_of, take_texts_of, section_text_of};
 
     // The lock paths of a list, a space before each.
-    fn push_taken(&self, out: &mut String, list: &[u8]) -> Result<(), AllocError>
-        ensures { OnOk result (AddsText (taken_text_of self.now list.now) out.old out.new) }
+    fn push_taken(&self, out: &mut Rope, list: &[u8]) -> Result<(), AllocError>
+        requires { HasPaths self.now out.old }
+        ensures { OnOk result (AddsTo (taken_text_of self.now list.now) out.old out.new) }
     {
         for number in list {
             out.push_str(" ")?;
-            self.push_numbered(out, *number as usize)?;
+            out.push_part(self.group, *number as usize)?;
         }
         Ok(())
     }
@@ -56,19 +65,24 @@ impl SectionText<'_> {
     // The line of a point whose statement starts at `start`, if its list is not empty.
     fn push_take(
         &self,
-        out: &mut String,
+        out: &mut Rope,
         cursor: &mut Cursor<'_>,
         start: usize,
         list: &[u8],
     ) -> Result<(), AllocError>
+        requires { HasPaths self.now out.old }
         ensures same { cursor.new.text.now ≡ cursor.old.text.now }
-        ensures line { OnOk result (AddsText (take_text_of cursor.old.text.now self.now start list.now) out.old out.new) }
+        ensures line { OnOk result (AddsTo (take_text_of cursor.old.text.now self.now start list.now) out.old out.new) }
     {
         if list.is_empty() {
             return Ok(());
         }
         cursor.go_to(start);
-        write!(out, "at {}:{} take", cursor.line, cursor.column)?;
+        out.push_str("at ")?;
+        out.push_number(cursor.line)?;
+        out.push_str(":")?;
+        out.push_number(cursor.column)?;
+        out.push_str(" take")?;
         self.push_taken(out, list)?;
         out.push_str("\n")
     }
@@ -76,12 +90,13 @@ impl SectionText<'_> {
     // The lines of points: of each whose list is not empty.
     fn push_takes(
         &self,
-        out: &mut String,
+        out: &mut Rope,
         cursor: &mut Cursor<'_>,
         points: &[PointRef<'_>],
     ) -> Result<(), AllocError>
+        requires { HasPaths self.now out.old }
         ensures same { cursor.new.text.now ≡ cursor.old.text.now }
-        ensures lines { OnOk result (AddsText (take_texts_of cursor.old.text.now self.now points.now) out.old out.new) }
+        ensures lines { OnOk result (AddsTo (take_texts_of cursor.old.text.now self.now points.now) out.old out.new) }
     {
         for (i, point) in points.iter().enumerate() {
             let Some(list) = self.lists.before.get(i) else {
@@ -96,13 +111,16 @@ impl SectionText<'_> {
     pub fn push(
         &self,
         alloc: Global,
-        out: &mut String,
+        out: &mut Rope,
         cursor: &mut Cursor<'_>,
     ) -> Result<(), NoMemory>
+        requires { HasPaths self.now out.old }
         ensures same { cursor.new.text.now ≡ cursor.old.text.now }
-        ensures lines { OnOk result (AddsText (section_text_of cursor.old.text.now self.now) out.old out.new) }
+        ensures lines { OnOk result (AddsTo (section_text_of cursor.old.text.now self.now) out.old out.new) }
     {
-        write!(out, "section {}\n", self.section.name)?;
+        out.push_str("section ")?;
+        out.push_str(self.section.name.as_str())?;
+        out.push_str("\n")?;
         let points = points_of(alloc, self.section)?;
         self.push_takes(out, cursor, &points)?;
         Ok(())

@@ -1,5 +1,3 @@
-pub mod Written
-pub mod Indexes
 pub mod Points
 pub mod Tables
 pub mod Steps

@@ -3,12 +3,13 @@
 ghost use Rattle.std.specs.Prelude.{◌≡◌, [], ◌∷◌, replicate, IfOk, OnOk};
 ghost use Rattle.std.proofs.Props.{props};
 ghost use Rattle.locks.specs.Texts.{AddsText};
-ghost use Rattle.report_trace.specs.Working.Listers.{names_shown};
+ghost use Rattle.code.specs.Working.Listers.{names_of};
 ghost use Rattle.source_steps.specs.Turns.{steps_of};
 ghost use Rattle.report_trace.specs.Working.Told.{AreTables};
 
-use crate::instructions::Lister;
+use crate::instructions::push_instr;
 use crate::places::SectionPlaces;
+use code::Lister;
 use code::section_code::ProgramCode;
 use core_lang::typed::Typed;
 use interleavings::coming::Coming;
@@ -51,7 +52,7 @@ pub struct Teller<'a> {
     // By section.
     places: Vec<SectionPlaces>,
     moves: bool,
-    ghost names: { names_shown lister ≡ code.now.names } by { Prim.hlevel props },
+    ghost names: { names_of lister ≡ code.now.names } by { Prim.hlevel props },
     ghost tables: { AreTables text.now program.now.program code.now places.items } by { Prim.hlevel props },
 }
 
@@ -111,7 +112,7 @@ impl<'a> Teller<'a> {
         };
         places.push(out, place)?;
         match made.instructions.get(place) {
-            Some(instr) => self.lister.push_instr(out, made, place, *instr),
+            Some(instr) => push_instr(&self.lister, out, made, place, *instr),
             None => Ok(()),
         }
     }

@@ -8,12 +8,13 @@ use Rattle.core_lang.specs.Typing.{lookup}
 use Rattle.locks.specs.declared.lock.Lock.{Lock}
 use Rattle.locks.specs.declared.path.LockPath as written
 use Rattle.locks.specs.LockPaths.{LockPath, lock_path_of, lock_named}
-use Rattle.layout.specs.LockCells.{same_lock}
+use Rattle.locks.specs.Locks.{same_lock, among}
 use Rattle.lockpaths.specs.declared.table.SectionPaths.{SectionPaths}
 use Rattle.lockpaths.specs.declared.table.Paths.{Paths}
 use Rattle.lockpaths.specs.Paths.{ArePaths}
 use Rattle.lowering.specs.Plans.{Plan}
-use Rattle.worlds.specs.Asking.{among, insert, precedes, insert_new, lock_numbered, to_ask}
+use Rattle.worlds.specs.Asking.{insert, insert_new, lock_numbered, to_ask}
+use Rattle.locks.specs.Order.{precedes}
 use Rattle.worlds.specs.Worlds.{section_at}
 use Rattle.runner.specs.Working.Asked.{lock_at, asked_at}
 

@@ -138,10 +138,10 @@ are_lent m o lock values is_open are_whole agree its kept known free =
     (subst (λ (l : LayoutOf). values ≡ values_on m.values (cells_of l.cell_locks lock)) known.layout (kept.free lock values free))
 
 -- it can hold them
-pub can_hold : (o : OpenOf) (lock : Lock) (rest : List Lock) (ticket : TicketOf) (run : RunOf) (held : List Lock) (held_room pending_room : ℕ)
-    (grant : GrantOf) → SectionsStayInOrder → PrecedesIsStrict → IsAsking o lock rest → IsKeptOpen o ticket run held held_room pending_room →
+pub can_hold : (o : OpenOf) (lock : Lock) (rest : List Lock) (ticket : TicketOf) (run : RunOf) (pending_room : ℕ)
+    (grant : GrantOf) → SectionsStayInOrder → PrecedesIsStrict → IsAsking o lock rest → IsKeptOpen o ticket run pending_room →
     run.machine ≡ o.activation.machine → grant.lock ≡ lock → AreLent o lock grant.values → CanHold (holding_of run) grant
-can_hold o lock rest ticket run held held_room pending_room grant laws strict a kept machine is lent =
+can_hold o lock rest ticket run pending_room grant laws strict a kept machine is lent =
     let act = o.activation in
     let f = λ (l : Lock). length (cells_of o.plan.layout.cell_locks l) in
     let fit = both_fit o lock rest laws a in
@@ -167,14 +167,13 @@ numbered_length [] vs e = refl
 numbered_length (c ∷ cs) [] e = absurd (omega arith)
 numbered_length (c ∷ cs) (v ∷ vs) e = ap suc (numbered_length cs vs (omega arith))
 
-pub kept_granted : (o : OpenOf) (lock : Lock) (rest : List Lock) (ticket : TicketOf) (run : RunOf) (held : List Lock)
-    (held_room pending_room more room : ℕ) (grant : GrantOf) → SectionsStayInOrder → IsAsking o lock rest →
-    IsKeptOpen o ticket run held held_room pending_room → run.machine ≡ o.activation.machine → grant.lock ≡ lock →
-    AreLent o lock grant.values → held_room ≤ more → pending_room ≤ room →
+pub kept_granted : (o : OpenOf) (lock : Lock) (rest : List Lock) (ticket : TicketOf) (run : RunOf) (pending_room room : ℕ) (grant : GrantOf) → SectionsStayInOrder → IsAsking o lock rest →
+    IsKeptOpen o ticket run pending_room → run.machine ≡ o.activation.machine → grant.lock ≡ lock →
+    AreLent o lock grant.values → pending_room ≤ room →
     let o' = further o (granted o.activation lock rest (numbered (cells_of o.plan.layout.cell_locks lock) grant.values)) in
     IsKeptOpen o' (ticket_of o') (record (with_holding run (with_grant (holding_of run) grant)) { machine = o'.activation.machine })
-    (held ++ lock ∷ []) more room
-kept_granted o lock rest ticket run held held_room pending_room more room grant laws a kept machine is lent le longer =
+    room
+kept_granted o lock rest ticket run pending_room room grant laws a kept machine is lent longer =
     let act = o.activation in
     let locks = o.plan.layout.cell_locks in
     let f = λ (l : Lock). length (cells_of locks l) in
@@ -190,11 +189,9 @@ kept_granted o lock rest ticket run held held_room pending_room more room grant 
       ticket_is = refl;
       layout = kept.layout;
       locks = λ i. kept.locks i ++ is i ∷ [];
-      held_are = ap (λ (ls : List Lock). ls ++ lock ∷ []) kept.held_are;
       operands = kept.operands;
       lock_room = kept.lock_room;
       cell_room = kept.cell_room;
-      held_fits = omega (arith, kept.held_fits);
       pending_fits = omega (arith, kept.pending_fits);
       cells =
           let more_cells : length (act.machine.memory.cells ++ values) ≡ length act.machine.memory.cells + length values =
@@ -202,12 +199,12 @@ kept_granted o lock rest ticket run held held_room pending_room more room grant 
           omega (arith, more_cells, numbered_length (cells_of locks lock) grant.values lent.whole, kept.cells, sums);
     }
 
-pub kept_waiting : (o : OpenOf) (lock : Lock) (rest : List Lock) (ticket : TicketOf) (run : RunOf) (held : List Lock)
-    (held_room pending_room : ℕ) → SectionsStayInOrder → IsAsking o lock rest →
-    IsKeptOpen o ticket run held held_room pending_room →
+pub kept_waiting : (o : OpenOf) (lock : Lock) (rest : List Lock) (ticket : TicketOf) (run : RunOf)
+    (pending_room : ℕ) → SectionsStayInOrder → IsAsking o lock rest →
+    IsKeptOpen o ticket run pending_room →
     let o' = further o (record o.activation { asked = true }) in
-    IsKeptOpen o' (ticket_of o') run held held_room pending_room
-kept_waiting o lock rest ticket run held held_room pending_room laws a kept = record {
+    IsKeptOpen o' (ticket_of o') run pending_room
+kept_waiting o lock rest ticket run pending_room laws a kept = record {
   is_open = record {
     compiled = a.is_open.compiled;
     in_order = laws.asks o.plan o.activation a.is_open.compiled a.is_open.in_order;
@@ -216,11 +213,9 @@ kept_waiting o lock rest ticket run held held_room pending_room laws a kept = re
   ticket_is = refl;
   layout = kept.layout;
   locks = kept.locks;
-  held_are = kept.held_are;
   operands = kept.operands;
   lock_room = kept.lock_room;
   cell_room = kept.cell_room;
-  held_fits = kept.held_fits;
   pending_fits = kept.pending_fits;
   cells = kept.cells;
 }

@@ -52,8 +52,8 @@ as_begun x ticket step p is =
 
 pub kept_at_first : (x : Beginning) (ticket : TicketOf) (step : ℕ) → SectionsStayInOrder → IsBeginning x →
     ticket.session ≡ fresh ticket.session.begun x.room →
-    IsKeptOpen (open_as x.program.now ticket step (its_call x) x.machine.value x.pending.items false) ticket x.machine.value x.held.items
-    (vec_capacity x.held) (vec_capacity x.pending)
+    IsKeptOpen (open_as x.program.now ticket step (its_call x) x.machine.value x.pending.items false) ticket x.machine.value
+    (vec_capacity x.pending)
 kept_at_first x ticket step laws p is =
     let plan = x.program.now in
     let call = its_call x in
@@ -80,11 +80,9 @@ kept_at_first x ticket step laws p is =
       };
       layout = ap (λ (r : RunOf). r.layout) p.run_is;
       locks = ap (λ (r : RunOf). r.locks) p.run_is ∙ sym none;
-      held_are = p.none_held ∙ sym none;
       operands = ap (λ (r : RunOf). r.operand_room) p.run_is ∙ ap (λ (r : Room). r.operands) (sym its_room);
       lock_room = ap (λ (r : RunOf). r.lock_room) p.run_is ∙ ap (λ (r : Room). r.locks) (sym its_room);
       cell_room = ap (λ (r : RunOf). r.cell_room) p.run_is ∙ ap (λ (r : Room). r.cells) (sym its_room);
-      held_fits = omega (arith, locks, p.held_fits);
       pending_fits = omega (arith, locks, p.pending_fits);
       cells = ap (λ (r : RunOf). length r.machine.memory.cells) p.run_is ∙ sym (ap (cells_together plan) none);
     }

@@ -38,12 +38,12 @@ entered thread step section arguments begun p outcome = record {
   prints = p.prints.items;
 }
 
-module _ (plan : Plan) (ticket : TicketOf) (step section : ℕ) (arguments : List Value) (run : RunOf) (held pending : List Lock)
-    (asked : Bool) (held_room pending_room : ℕ) (outcome : Outcome)
+module _ (plan : Plan) (ticket : TicketOf) (step section : ℕ) (arguments : List Value) (run : RunOf) (pending : List Lock)
+    (asked : Bool) (pending_room : ℕ) (outcome : Outcome)
     (p : Left) (thread begun : ℕ) where
   -- it ran, and is taken apart
   pub record IsTakenApart : Type 0 where
-    pub kept : IsKeptOpen (open_as plan ticket step (call_of section arguments) run pending asked) ticket run held held_room pending_room
+    pub kept : IsKeptOpen (open_as plan ticket step (call_of section arguments) run pending asked) ticket run pending_room
     pub none : pending ≡ []
     pub leads : moved (open_as plan ticket step (call_of section arguments) run pending asked)
         ≡ over_by (open_as plan ticket step (call_of section arguments) run pending asked) outcome

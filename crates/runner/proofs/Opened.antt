@@ -177,20 +177,18 @@ same_length [] (y ∷ ys) e = absurd (omega (arith, ap (λ (zs : List ℕ). leng
 same_length (x ∷ xs) [] e = absurd (omega (arith, ap (λ (zs : List ℕ). length zs) e))
 same_length (x ∷ xs) (y ∷ ys) e = ap suc (same_length xs ys (ap (λ (zs : List ℕ). drop 1 zs) e))
 
-pub kept_moving : (o : OpenOf) (ticket : TicketOf) (run : RunOf) (held : List Lock) (held_room pending_room : ℕ) (m : Machine HeldCells) →
-    KeepsHeld → SectionsStayInOrder → RunsInOrder o → IsKeptOpen o ticket run held held_room pending_room →
+pub kept_moving : (o : OpenOf) (ticket : TicketOf) (run : RunOf) (pending_room : ℕ) (m : Machine HeldCells) →
+    KeepsHeld → SectionsStayInOrder → RunsInOrder o → IsKeptOpen o ticket run pending_room →
     next_effect o.plan o.activation ≡ Moves m →
-    IsKeptOpen (further o (record o.activation { machine = m })) ticket (with_machine run m) held held_room pending_room
-kept_moving o ticket run held held_room pending_room m keeps laws r kept is = record {
+    IsKeptOpen (further o (record o.activation { machine = m })) ticket (with_machine run m) pending_room
+kept_moving o ticket run pending_room m keeps laws r kept is = record {
   is_open = open_after o (Moves m) laws r is;
   ticket_is = kept.ticket_is;
   layout = kept.layout;
   locks = kept.locks;
-  held_are = kept.held_are;
   operands = kept.operands;
   lock_room = kept.lock_room;
   cell_room = kept.cell_room;
-  held_fits = kept.held_fits;
   pending_fits = kept.pending_fits;
   cells =
       same_length m.memory.cells o.activation.machine.memory.cells
@@ -199,11 +197,11 @@ kept_moving o ticket run held held_room pending_room m keeps laws r kept is = re
       ∙ kept.cells;
 }
 
-pub kept_asking : (o : OpenOf) (ticket : TicketOf) (run : RunOf) (held : List Lock) (held_room pending_room more : ℕ) (point : ℕ) →
-    SectionsStayInOrder → RunsInOrder o → IsKeptOpen o ticket run held held_room pending_room →
+pub kept_asking : (o : OpenOf) (ticket : TicketOf) (run : RunOf) (pending_room more : ℕ) (point : ℕ) →
+    SectionsStayInOrder → RunsInOrder o → IsKeptOpen o ticket run pending_room →
     next_effect o.plan o.activation ≡ Asks point → pending_room ≤ more →
-    IsKeptOpen (further o (instructed o.plan o.activation (Asks point))) ticket (with_machine run (passed run.machine)) held held_room more
-kept_asking o ticket run held held_room pending_room more point laws r kept is le = record {
+    IsKeptOpen (further o (instructed o.plan o.activation (Asks point))) ticket (with_machine run (passed run.machine)) more
+kept_asking o ticket run pending_room more point laws r kept is le = record {
   is_open = open_after o (Asks point) laws r is;
   ticket_is =
       kept.ticket_is
@@ -218,11 +216,9 @@ kept_asking o ticket run held held_room pending_room more point laws r kept is l
       });
   layout = kept.layout;
   locks = kept.locks;
-  held_are = kept.held_are;
   operands = kept.operands;
   lock_room = kept.lock_room;
   cell_room = kept.cell_room;
-  held_fits = kept.held_fits;
   pending_fits = omega (arith, kept.pending_fits);
   cells = kept.cells;
 }

@@ -3,7 +3,7 @@
 ghost use Rattle.std.specs.Prelude.{◌≡◌, ◌≤◌, ◌<◌, [], length, vec_capacity};
 ghost use Rattle.runner.specs.Working.Asked.{lock_at, with_lock_of, asked_of, asked_before};
 
-use crate::asking::{is_among, lock_named, put_in};
+use crate::asking::put_in;
 use core_lang::value::Value;
 use locks::lock::Lock;
 use lowering::compiled::Program;
@@ -28,7 +28,7 @@ impl<'a> Asker<'a> {
         let Some(path) = paths.paths.get(number as usize) else {
             return None;
         };
-        lock_named(path, self.program, self.locals)
+        path.lock(&self.program.typed().shape, self.locals)
     }
 
     // Puts the lock of a lock path in, unless it is held.
@@ -38,7 +38,7 @@ impl<'a> Asker<'a> {
         ensures capacity { vec_capacity pending.old ≤ vec_capacity pending.new }
     {
         if let Some(lock) = self.lock(number) {
-            if !is_among(self.held, lock) {
+            if !lock.is_among(self.held) {
                 put_in(self.program.ranks(), lock, pending);
             }
         }

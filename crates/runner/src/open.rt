@@ -7,7 +7,7 @@ ghost use Rattle.runner.specs.Working.Opens.{moved};
 ghost use Rattle.runner.specs.Working.Ties.{effect_on, HasMoved};
 
 use crate::asker::Asker;
-use crate::asking::{put_last, take_first};
+use crate::asking::take_first;
 use crate::spare::Kept;
 use code::instr::Instr;
 use core_lang::value::{Outcome, Value};
@@ -30,8 +30,6 @@ pub(crate) struct Open<'p> {
     pub(crate) section: usize,
     pub(crate) arguments: Vec<Value>,
     pub(crate) machine: Box<Machine<'p>>,
-    // The locks of the ticket.
-    pub(crate) held: Vec<Lock>,
     pub(crate) pending: Vec<Lock>,
     pub(crate) asked: bool,
     // For its end.
@@ -57,7 +55,7 @@ impl<'p> Model for Open<'p> {
     ghost invariant = { λ o.
         IsKeptOpen
         (open_as o.program.now o.ticket o.step (call_of o.section o.arguments.items) o.machine.value o.pending.items o.asked)
-        o.ticket o.machine.value o.held.items (vec_capacity o.held) (vec_capacity o.pending) };
+        o.ticket o.machine.value (vec_capacity o.pending) };
 }
 
 impl<'p> Open<'p> {
@@ -83,7 +81,7 @@ impl<'p> Open<'p> {
         let asker = Asker {
             program: self.program,
             section: self.section,
-            held: &self.held,
+            held: self.ticket.held(),
             locals: self.machine.locals(),
         };
         asker.ask_before(point, &mut self.pending);
@@ -132,7 +130,6 @@ impl<'p> Open<'p> {
         match manager.request(&mut self.ticket, lock) {
             Response::Granted(grant) => {
                 self.machine.grant(grant);
-                put_last(&mut self.held, lock);
                 take_first(&mut self.pending);
                 self.asked = false;
                 None
@@ -201,7 +198,6 @@ impl<'p> Open<'p> {
             section: _,
             arguments: _,
             machine,
-            held: _,
             pending: _,
             asked: _,
             memory: _,
@@ -225,7 +221,6 @@ pub(crate) struct Beginning<'p> {
     pub(crate) arguments: Vec<Value>,
     pub(crate) room: Room,
     pub(crate) machine: Box<Machine<'p>>,
-    pub(crate) held: Vec<Lock>,
     pub(crate) pending: Vec<Lock>,
     pub(crate) memory: Box<Kept>,
 }
@@ -242,7 +237,6 @@ impl<'p> Beginning<'p> {
             arguments: _,
             room: _,
             machine,
-            held: _,
             pending: _,
             memory: _,
         } = self;
@@ -262,7 +256,6 @@ impl<'p> Beginning<'p> {
             arguments,
             room: _,
             machine,
-            held,
             pending,
             memory,
         } = self;
@@ -273,7 +266,6 @@ impl<'p> Beginning<'p> {
             section,
             arguments,
             machine,
-            held,
             pending,
             asked: false,
             memory,

@@ -1,21 +1,12 @@
 //! The locals of a section that begins.
 
 ghost use Rattle.std.specs.Prelude.{◌≡◌, [], IfOk};
-ghost use Rattle.core_lang.specs.Whole.{default_of, opening};
+ghost use Rattle.core_lang.specs.Whole.{opening};
 
 use core_lang::tree::Section;
-use core_lang::value::{Value, ValueType};
+use core_lang::value::Value;
+use meaning_operations::opening::with_defaults;
 use source::memory::NoMemory;
-
-// 0 or null.
-fn default_value(value_type: ValueType) -> Value
-    ensures { result ≡ default_of value_type }
-{
-    match value_type {
-        ValueType::Integer => Value::Int(0),
-        ValueType::Reference(_) => Value::Ref(None),
-    }
-}
 
 // A copy of values, in memory that is made larger where it is too small.
 pub(crate) fn copied(values: &[Value], memory: Vec<Value>) -> Result<Vec<Value>, NoMemory>
@@ -36,9 +27,7 @@ pub(crate) fn opening_locals(
 ) -> Result<Vec<Value>, NoMemory>
     ensures { IfOk result (λ locals. locals.items ≡ (opening section.now arguments.now []).locals) }
 {
-    let mut locals = copied(arguments, memory)?;
-    for number in arguments.len()..section.locals.len() {
-        locals.push(default_value(section.locals[number].value_type))?;
-    }
+    let values = copied(arguments, memory)?;
+    let locals = with_defaults(values, &section.locals)?;
     Ok(locals)
 }

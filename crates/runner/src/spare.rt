@@ -27,7 +27,6 @@ pub(crate) struct Kept {
     pub(crate) operands: Operands,
     pub(crate) locals: Vec<Value>,
     pub(crate) entry: Entry,
-    pub(crate) held: Vec<Lock>,
     pub(crate) pending: Vec<Lock>,
     pub(crate) read_marks: Vec<usize>,
     pub(crate) write_marks: Vec<usize>,
@@ -56,7 +55,6 @@ impl Kept {
             operands: Operands::new(0, Vec::new(alloc))?,
             locals: Vec::new(alloc),
             entry: no_entry(alloc),
-            held: Vec::new(alloc),
             pending: Vec::new(alloc),
             read_marks: Vec::new(alloc),
             write_marks: Vec::new(alloc),
@@ -114,7 +112,6 @@ pub(crate) fn prepared_in<'p>(
 struct Spare {
     arguments: Vec<Value>,
     locals: Vec<Value>,
-    held: Vec<Lock>,
     pending: Vec<Lock>,
     machine: MachineSpare,
     block: Box<Kept>,
@@ -129,7 +126,6 @@ impl Spare {
             operands,
             locals,
             entry,
-            held,
             pending,
             read_marks,
             write_marks,
@@ -149,7 +145,6 @@ impl Spare {
         Ok(Spare {
             arguments,
             locals,
-            held,
             pending,
             machine: MachineSpare {
                 operands: operands.into_memory(),
@@ -184,13 +179,11 @@ impl Spare {
         let Spare {
             arguments: given,
             locals,
-            held,
             pending,
             machine,
             block,
         } = self;
         let given = copied(arguments, given)?;
-        let held = emptied(held, room.locks)?;
         let pending = emptied(pending, room.locks)?;
         let locals = opening_locals(called, arguments, locals)?;
         let machine = machine.machine(locals, program.layout(), room)?;
@@ -201,7 +194,6 @@ impl Spare {
             arguments: given,
             room,
             machine: boxed,
-            held,
             pending,
             memory: block,
         })

@@ -14,8 +14,9 @@ use Rattle.moved_cells.specs.Working.Grants.{GrantOf, numbered, cells_in, IsWhol
 use Rattle.moved_cells.specs.Working.Laws.{OffsetsFindValues, OffsetsChangeCells}
 use Rattle.runner_cells.specs.Working.Held.{cells_granted}
 use Rattle.runner_cells.specs.Working.Kept.{cells_under, values_count, IsGrantAt, IsSpot, IsElsewhere}
-use Rattle.runner_cells.proofs.Lists.{first, later, get_left, get_right, past, value_left, value_right, changed_left, changed_right}
+use Rattle.runner_cells.proofs.Lists.{first, get_left, get_right, past, value_left, value_right, changed_left, changed_right}
 use Rattle.runner_cells.proofs.Places.{lock_of_cell, distinct_rest, never_again}
+use Rattle.core_lang.specs.Theory.Items.{in_rest}
 
 -- ---- grants one after another
 
@@ -129,7 +130,7 @@ outside_numbered : (cs : List ℕ) (vs : List Value) (c : ℕ) → (Contains cs 
 outside_numbered [] vs c out = refl
 outside_numbered (d ∷ cs) [] c out = refl
 outside_numbered (d ∷ cs) (v ∷ vs) c out =
-    past (d, v) (numbered cs vs) c (λ e. out (first d cs c e)) ∙ outside_numbered cs vs c (λ has. out (later d cs c has))
+    past (d, v) (numbered cs vs) c (λ e. out (first d cs c e)) ∙ outside_numbered cs vs c (λ has. out (in_rest d c cs has))
 
 -- a grant of another lock hasn't the cell
 other_grant : (cell_locks : List Lock) (g : GrantOf) (cell : ℕ) (lock : Lock) → slice_get cell_locks cell ≡ Some lock → g.lock ≢ lock →
@@ -141,7 +142,7 @@ other_grant cell_locks g cell lock is ne =
 lock_at : (gs : List GrantOf) (i : ℕ) (g : GrantOf) → slice_get gs i ≡ Some g → Contains (locks_of gs) g.lock
 lock_at [] i g at = absurd (none-some g at)
 lock_at (h ∷ gs) zero g at = first h.lock (locks_of gs) g.lock (ap (λ (x : GrantOf). x.lock) (same_Some h g at))
-lock_at (h ∷ gs) (suc i) g at = later h.lock (locks_of gs) g.lock (lock_at gs i g at)
+lock_at (h ∷ gs) (suc i) g at = in_rest h.lock g.lock (locks_of gs) (lock_at gs i g at)
 
 -- the first grant isn't one of the later ones
 first_other : (h : GrantOf) (gs : List GrantOf) (i : ℕ) (g : GrantOf) → AreDistinct (locks_of (h ∷ gs)) → slice_get gs i ≡ Some g → h.lock ≢ g.lock
@@ -153,7 +154,7 @@ elsewhere cell_locks (g ∷ gs) cell out =
     value_right (cells_in cell_locks g) (cells_granted cell_locks gs) cell
     (outside_numbered (cells_of cell_locks g.lock) g.values cell
     (λ has. out.other g.lock (lock_of_cell cell_locks g.lock cell has) (first g.lock (locks_of gs) g.lock refl)))
-    ∙ elsewhere cell_locks gs cell (record { other = λ lock is has. out.other lock is (later g.lock (locks_of gs) lock has) })
+    ∙ elsewhere cell_locks gs cell (record { other = λ lock is has. out.other lock is (in_rest g.lock lock (locks_of gs) has) })
 
 module _ (cell_locks : List Lock) (cell offset : ℕ) (g : GrantOf) (slot : IsSlot cell_locks cell g.lock offset) (read : OffsetsFindValues) where
   pub granted_value : (gs : List GrantOf) (i : ℕ) (v : Value) → All (IsWhole cell_locks) gs → AreDistinct (locks_of gs) → slice_get gs i ≡ Some g →

@@ -7,34 +7,12 @@ use Rattle.std.proofs.lemmas.List.Elements.{Contains-append_cases}
 use Rattle.std.proofs.lemmas.Option.{none-some, slice_get_within, slice_get-get_or, get_or_from_slice_get}
 use Rattle.core_lang.specs.declared.value.Value.{Value}
 use Rattle.code.specs.Memory.{value_at, with_changed}
+use Rattle.core_lang.specs.Theory.Items.{in_rest}
 
 -- ---- what stands where
 
-pub contains_at : {X : Type 0} (xs : List X) (i : ℕ) (x : X) → slice_get xs i ≡ Some x → Contains xs x
-contains_at xs i x e = (i, slice_get_within xs i x e, get_or_from_slice_get xs i x x e)
-
-pub at_contained : {X : Type 0} (xs : List X) (x : X) → Contains xs x → (i : ℕ) × (slice_get xs i ≡ Some x)
-at_contained xs x c = (c.0, slice_get-get_or xs c.0 x c.1 ∙ ap Some c.2)
-
-pub first_or_rest : {X : Type 0} (y : X) (ys : List X) (x : X) → Contains (y ∷ ys) x → (y ≡ x) ⊎ Contains ys x
-first_or_rest y ys x (zero, lt, e) = inl e
-first_or_rest y ys x (suc k, lt, e) = inr (k, omega (arith, lt), e)
-
-pub later : {X : Type 0} (y : X) (ys : List X) (x : X) → Contains ys x → Contains (y ∷ ys) x
-later y ys x c = (suc c.0, omega (arith, c.1), c.2)
-
 pub first : {X : Type 0} (y : X) (ys : List X) (x : X) → y ≡ x → Contains (y ∷ ys) x
 first y ys x e = (0, omega arith, e)
-
-pub set_here : {X : Type 0} (xs : List X) (i : ℕ) (x : X) → i < length xs → slice_get (set xs i x) i ≡ Some x
-set_here [] i x lt = absurd (omega (arith, lt))
-set_here (z ∷ xs) zero x lt = refl
-set_here (z ∷ xs) (suc i) x lt = set_here xs i x (omega (arith, lt))
-
-pub item_there : {X : Type 0} (xs : List X) (i : ℕ) → i < length xs → (x : X) × (slice_get xs i ≡ Some x)
-item_there [] i lt = absurd (omega (arith, lt))
-item_there (x ∷ xs) zero lt = (x, refl)
-item_there (x ∷ xs) (suc i) lt = item_there xs i (omega (arith, lt))
 
 pub get_left : {X : Type 0} (xs ys : List X) (i : ℕ) (x : X) → slice_get xs i ≡ Some x → slice_get (xs ++ ys) i ≡ Some x
 get_left [] ys i x e = absurd (none-some x e)
@@ -57,7 +35,7 @@ pub distinct_append : (xs ys : List ℕ) → Distinct xs → Distinct ys → ((c
 distinct_append [] ys d e apart = e
 distinct_append (x ∷ xs) ys d e apart = (
   λ has. elim (Contains-append_cases xs ys x has) [ inl h ↦ d.0 h | inr h ↦ apart x (first x xs x refl) h ],
-  distinct_append xs ys d.1 e (λ c a b. apart c (later x xs c a) b),
+  distinct_append xs ys d.1 e (λ c a b. apart c (in_rest x c xs a) b),
 )
 
 -- ---- the value of a cell

@@ -7,9 +7,10 @@ use Rattle.std.proofs.lemmas.Option.{none-some, same_Some, slice_get_within}
 use Rattle.core_lang.specs.declared.value.Value.{Value}
 use Rattle.code.specs.Memory.{value_at, with_value}
 use Rattle.runner_cells.specs.Working.Noted.{NotesOf, if_of, led_by, number_of, with_note_at, with_note, in_order, EachOnce, AreNotes}
-use Rattle.runner_cells.proofs.Lists.{contains_at, at_contained, first, later, first_or_rest, set_here, get_left, get_right, Distinct, here, past, value_right}
+use Rattle.runner_cells.proofs.Lists.{first, get_left, get_right, Distinct, here, past, value_right}
 use Rattle.runner_cells.proofs.Rising.{set_in_order}
 use Rattle.runner_cells.proofs.Sorted.{at_value, value_somewhere, none_nowhere}
+use Rattle.core_lang.specs.Theory.Items.{contains_at, at_contained, set_same, in_cases, in_rest}
 
 -- ---- a list with one item more, or another one
 
@@ -83,13 +84,13 @@ one_less (c ∷ cs) (suc i) a at = omega (arith, one_less cs i a at)
 
 still : (cs : List ℕ) (i d a : ℕ) → slice_get cs i ≡ Some a → Contains cs d → d ≢ a → Contains (without cs i) d
 still [] i d a at has ne = absurd (none-some a at)
-still (c ∷ cs) zero d a at has ne = elim (first_or_rest c cs d has) [
+still (c ∷ cs) zero d a at has ne = elim (in_cases c d cs has) [
   | inl e ↦ absurd (ne (sym e ∙ same_Some c a at))
   | inr h ↦ h
 ]
-still (c ∷ cs) (suc i) d a at has ne = elim (first_or_rest c cs d has) [
+still (c ∷ cs) (suc i) d a at has ne = elim (in_cases c d cs has) [
   | inl e ↦ first c (without cs i) d e
-  | inr h ↦ later c (without cs i) d (still cs i d a at h ne)
+  | inr h ↦ in_rest c d (without cs i) (still cs i d a at h ne)
 ]
 
 no_more : (xs : List (ℕ × Value)) (cs : List ℕ) → EachOnce xs → ((c : ℕ) (v : Value) → value_at xs c ≡ Some v → Contains cs c) → length xs ≤ length cs
@@ -178,7 +179,7 @@ module _ (cells : List ℕ) (n : NotesOf) (are : AreNotes cells n) where
             marked = λ j x at. elim (eqb_tells j k) [
               | inl h ↦ (
                   let same : (cell, v) ≡ x =
-                  same_Some (cell, v) x (sym (set_here n.list k (cell, v) (slice_get_within n.list k (cell, old.0) old.1)) ∙ ap (slice_get (set n.list k (cell, v))) (sym h.1) ∙ at) in
+                  same_Some (cell, v) x (sym (set_same n.list k (cell, v) (slice_get_within n.list k (cell, old.0) old.1)) ∙ ap (slice_get (set n.list k (cell, v))) (sym h.1) ∙ at) in
                   let m = are.marked k (cell, old.0) old.1 in
                   record {
                     place = m.place;
@@ -200,7 +201,7 @@ module _ (cells : List ℕ) (n : NotesOf) (are : AreNotes cells n) where
                   record {
                     place = place;
                     cell_is = has_place ∙ ap (λ (z : ℕ × Value). Some z.0) same;
-                    mark_is = set_here n.marks place (length n.list) fits ∙ ap Some (sym h.1);
+                    mark_is = set_same n.marks place (length n.list) fits ∙ ap Some (sym h.1);
                   })
               | inr h ↦ (
                   let within : j < length (n.list ++ (cell, v) ∷ []) = slice_get_within (n.list ++ (cell, v) ∷ []) j x at in
@@ -232,7 +233,7 @@ module _ (cells : List ℕ) (n : NotesOf) (are : AreNotes cells n) where
           let old = found k e in
           set_in_order n.list (set n.list k (cell, v)) cell v
           (at_value (set n.list k (cell, v)) k (cell, v) (once_set n.list k cell old.0 v are.once old.1)
-          (set_here n.list k (cell, v) (slice_get_within n.list k (cell, old.0) old.1)))
+          (set_same n.list k (cell, v) (slice_get_within n.list k (cell, old.0) old.1)))
           (λ d ne. set_elsewhere n.list k cell old.0 v d old.1 ne)
       set_by None e =
           set_in_order n.list (n.list ++ (cell, v) ∷ []) cell v

@@ -6,37 +6,15 @@ use Rattle.std.proofs.lemmas.Bool.{cases_Bool, eqb-true, eq-eqb}
 use Rattle.std.proofs.lemmas.List.Elements.{Contains-append_cases}
 use Rattle.std.proofs.lemmas.Option.{none-some, same_Some}
 use Rattle.locks.specs.declared.lock.Lock.{Lock}
-use Rattle.layout.specs.LockCells.{same_lock, cells_from, cells_of}
+use Rattle.layout.specs.LockCells.{cells_from, cells_of}
+use Rattle.locks.specs.Locks.{same_lock}
 use Rattle.layout.specs.Layouts.{AreDistinct}
 use Rattle.runner_cells.specs.Working.Kept.{cells_under}
-use Rattle.runner_cells.proofs.Lists.{contains_at, at_contained, first, later, Distinct, distinct_append}
+use Rattle.runner_cells.proofs.Lists.{first, Distinct, distinct_append}
+use Rattle.locks.specs.Theory.Order.{same_itself, same_is, other_than, lock_cases}
+use Rattle.core_lang.specs.Theory.Items.{contains_at, at_contained, in_rest}
 
 -- ---- the same lock
-
-both_parts : (a b : Bool) → (a && b) ≡ true → (a ≡ true) × (b ≡ true)
-both_parts true b e = (refl, e)
-both_parts false b e = absurd cc
-
-same_itself : (a : Lock) → same_lock a a ≡ true
-same_itself a = ap (λ b. b && (a.object == a.object)) (eq-eqb a.class a.class refl) ∙ eq-eqb a.object a.object refl
-
-pub same_is : (a b : Lock) → same_lock a b ≡ true → a ≡ b
-same_is a b e =
-    let p = both_parts (a.class == b.class) (a.object == b.object) e in
-    let class : a.class ≡ b.class = eqb-true a.class b.class p.0 in
-    let object : a.object ≡ b.object = eqb-true a.object b.object p.1 in
-    ap (λ (c : ℕ). record { class = c; object = a.object }) class ∙ ap (λ (o : ℕ). record { class = b.class; object = o }) object
-
-pub other_than : (a b : Lock) → same_lock a b ≡ false → a ≢ b
-other_than a b e same =
-    let t : same_lock a b ≡ true = ap (λ (l : Lock). same_lock a l) (sym same) ∙ same_itself a in
-    let bad : true ≡ false = sym t ∙ e in absurd cc
-
-lock_cases : (a b : Lock) → ((same_lock a b ≡ true) × (a ≡ b)) ⊎ ((same_lock a b ≡ false) × (a ≢ b))
-lock_cases a b = elim (cases_Bool (same_lock a b)) [
-  | inl e ↦ inl (e, same_is a b e)
-  | inr e ↦ inr (e, other_than a b e)
-]
 
 -- ---- the cells of one lock
 
@@ -81,7 +59,7 @@ pub lock_under : (cell_locks locks : List Lock) (cell : ℕ) → Contains (cells
 lock_under cell_locks [] cell c = absurd (omega (arith, c.1))
 lock_under cell_locks (l ∷ ls) cell c = elim (Contains-append_cases (cells_of cell_locks l) (cells_under cell_locks ls) cell c) [
   | inl h ↦ (l, lock_of_cell cell_locks l cell h, first l ls l refl)
-  | inr h ↦ (let r = lock_under cell_locks ls cell h in (r.0, r.1, later l ls r.0 r.2))
+  | inr h ↦ (let r = lock_under cell_locks ls cell h in (r.0, r.1, in_rest l r.0 ls r.2))
 ]
 
 pub distinct_rest : (l : Lock) (ls : List Lock) → AreDistinct (l ∷ ls) → AreDistinct ls

@@ -10,8 +10,9 @@ use Rattle.std.proofs.lemmas.Option.{none-some, same_Some}
 use Rattle.core_lang.specs.declared.value.Value.{Value}
 use Rattle.code.specs.Memory.{value_at, with_value}
 use Rattle.runner_cells.specs.Working.Noted.{in_order, EachOnce}
-use Rattle.runner_cells.proofs.Lists.{at_contained, same_cell, other_cell, here, past}
+use Rattle.runner_cells.proofs.Lists.{same_cell, other_cell, here, past}
 use Rattle.runner_cells.proofs.Rising.{same_rising, in_order_rises, in_order_values}
+use Rattle.core_lang.specs.Theory.Items.{at_contained}
 
 -- ---- the same values in another order
 

@@ -13,11 +13,12 @@ use Rattle.moved_cells.specs.Working.Laws.{OffsetsFindValues, OffsetsChangeCells
 use Rattle.runner_cells.specs.Working.Held.{HoldingOf, cells_granted, CanHold, with_grant, IsLoad, IsStore}
 use Rattle.runner_cells.specs.Working.Noted.{NotesOf, number_of, with_note, in_order, EachOnce, AreNotes}
 use Rattle.runner_cells.specs.Working.Kept.{cells_under, values_count, IsSpot, IsElsewhere, IsKept, holding_of}
-use Rattle.runner_cells.proofs.Lists.{item_there, Distinct}
+use Rattle.runner_cells.proofs.Lists.{Distinct}
 use Rattle.runner_cells.proofs.Rising.{in_order_values}
 use Rattle.runner_cells.proofs.Noting.{found_value, not_found, noted_so, noted_with, with_cells, one_more, same_room}
 use Rattle.runner_cells.proofs.Places.{distinct_under, distinct_push, under_append}
 use Rattle.runner_cells.proofs.Granted.{locks_append, count_append, granted_append, append_none, length_locks, granted_count, under_count, elsewhere, granted_value, granted_changed, cell_at, locks_set, count_set, whole_at}
+use Rattle.core_lang.specs.Theory.Items.{get_some}
 
 pub item_is : {X : Type 0} (xs : List X) (i : ℕ) (x y : X) → slice_get xs i ≡ Some x → y ≡ get_or xs i y → y ≡ x
 item_is xs i x y at e = e ∙ get_or_from_slice_get xs i x y at
@@ -155,7 +156,7 @@ module _ (layout : LayoutOf) (gs : List GrantOf) (reads writes : NotesOf) (ls cs
 
       pub stored : OffsetsChangeCells → IsStore old cell v true (holding_of layout (set gs index h) reads more ls cs)
       stored change =
-          let before = item_there spot.grant.values offset spot.offset_fits in
+          let before = get_some spot.grant.values offset spot.offset_fits in
           let held : HeldCells = (holding_of layout gs reads writes ls cs).memory in
           let noting : in_order more.list ≡ with_value held.writes cell v =
           ap (λ (n : NotesOf). in_order n.list) e

@@ -271,7 +271,6 @@ module _ (alloc : Global) (name : String Global) where
     listed = λ lock. (λ c. subst (IsLock (inc_program alloc name)) (in_one (the_lock 0 0) lock c) refl, is_listed lock.class lock.object);
     distinct = λ i j lock e is. (the_one (the_lock 0 0) lock i e).1 ∙ sym (the_one (the_lock 0 0) lock j is).1;
     order = refl;
-    finals = λ object final. refl;
   }
 
   -- ---- no helper is called

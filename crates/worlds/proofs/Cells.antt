@@ -1,28 +1,17 @@
 -- Cells that move between a world and its sections.
-use Rattle.std.proofs.Common.{◌≡◌, ◌==◌, ◌⊎◌, ℕ, zero, suc, ◌+◌, Bool, true, false, if◌then◌else◌, List, [], ◌∷◌, ◌++◌, length, map, Option, Some, None, slice_get, set, refl, sym, ap, ◌∙◌, subst, arith, inl, inr, nat_eq, true≢false}
-use Rattle.std.proofs.lemmas.Bool.{eqb-true, eq-eqb, ne_eqb, cases_Bool, cases_eq, cond-true, cond-false, and_parts, and_from, or_cases, or_left, or_right}
+use Rattle.std.proofs.Common.{◌≡◌, ◌⊎◌, ℕ, zero, suc, ◌+◌, Bool, true, false, if◌then◌else◌, List, [], ◌∷◌, ◌++◌, length, map, Option, Some, None, slice_get, set, refl, sym, ap, ◌∙◌, subst, arith, inl, inr, nat_eq, true≢false}
+use Rattle.std.proofs.lemmas.Bool.{eqb-true, eq-eqb, ne_eqb, cases_Bool, cases_eq, cond-true, cond-false, or_cases, or_left, or_right}
 use Rattle.std.proofs.lemmas.List.{length-set}
-use Rattle.std.specs.List.{Contains}
 use Rattle.core_lang.specs.declared.value.Value.{Value}
 use Rattle.locks.specs.declared.lock.Lock.{Lock}
-use Rattle.layout.specs.LockCells.{same_lock, cells_from, cells_of}
+use Rattle.layout.specs.LockCells.{cells_from, cells_of}
+use Rattle.locks.specs.Locks.{same_lock, among}
 use Rattle.code.specs.Memory.{value_at, overwritten, Agrees}
-use Rattle.worlds.specs.Asking.{among}
 use Rattle.worlds.specs.Worlds.{with_taken, taken, without, with_back}
 use Rattle.worlds.proofs.Places.{get_set_other, get_set_same, get_set_is}
+use Rattle.locks.specs.Theory.Order.{same_is, same_refl}
 
 -- ---- locks
-
-pub same_is : (a b : Lock) → same_lock a b ≡ true → a ≡ b
-same_is a b h =
-    let parts = and_parts (a.class == b.class) (a.object == b.object) h in
-    let c : a.class ≡ b.class = eqb-true a.class b.class parts.0 in
-    let o : a.object ≡ b.object = eqb-true a.object b.object parts.1 in
-    λ i. record { class = c i; object = o i }
-
-pub same_refl : (a b : Lock) → a ≡ b → same_lock a b ≡ true
-same_refl a b e = and_from (a.class == b.class) (a.object == b.object)
-    (eq-eqb a.class b.class (ap (λ x. x.class) e)) (eq-eqb a.object b.object (ap (λ x. x.object) e))
 
 pub among_more : (xs ys : List Lock) (l : Lock) → among xs l ≡ true → among (xs ++ ys) l ≡ true
 among_more [] ys l h = absurd (true≢false (sym h))
@@ -46,19 +35,6 @@ among_push (x ∷ xs) k l h = elim (or_cases (same_lock x l) (among (xs ++ k ∷
     | inl q ↦ inl (or_right (same_lock x l) (among xs l) q)
     | inr q ↦ inr q
   ]
-]
-
--- the same as a relation
-pub contains_among : (xs : List Lock) (l : Lock) → Contains xs l → among xs l ≡ true
-contains_among [] l (k, less, e) = absurd (omega (arith, less))
-contains_among (x ∷ xs) l (zero, less, e) = or_left (same_lock x l) (among xs l) (same_refl x l e)
-contains_among (x ∷ xs) l (suc k, less, e) = or_right (same_lock x l) (among xs l) (contains_among xs l (k, omega (arith, less), e))
-
-pub among_contains : (xs : List Lock) (l : Lock) → among xs l ≡ true → Contains xs l
-among_contains [] l h = absurd (true≢false (sym h))
-among_contains (x ∷ xs) l h = elim (or_cases (same_lock x l) (among xs l) h) [
-  | inl e ↦ (0, omega arith, same_is x l e)
-  | inr e ↦ (let c = among_contains xs l e in let less = c.1 in (suc c.0, omega (arith, less), c.2))
 ]
 
 -- ---- numbers among numbers

@@ -122,8 +122,6 @@ module _ (alloc : Global) (name : String Global) where
       opening = Int (pos 0) ∷ [];
       cell_locks = the_lock 0 0 ∷ [];
       locks = the_lock 0 0 ∷ [];
-      first_finals = [];
-      finals = [];
     };
   }
 
@@ -221,8 +219,6 @@ module _ (alloc : Global) (name : String Global) where
       opening = Int (pos 0) ∷ Int (pos 0) ∷ [];
       cell_locks = the_lock 0 0 ∷ the_lock 1 0 ∷ [];
       locks = the_lock 0 0 ∷ the_lock 1 0 ∷ [];
-      first_finals = [];
-      finals = [];
     };
   }
 
@@ -283,8 +279,6 @@ module _ (alloc : Global) (name : String Global) where
       opening = Int (pos 10) ∷ Int (pos 20) ∷ [];
       cell_locks = the_lock 0 0 ∷ the_lock 0 1 ∷ [];
       locks = the_lock 0 0 ∷ the_lock 0 1 ∷ [];
-      first_finals = 0 ∷ 0 ∷ [];
-      finals = [];
     };
   }
 
@@ -419,8 +413,6 @@ module _ (alloc : Global) (name : String Global) where
       opening = Int (pos 0) ∷ Int (pos 0) ∷ Int (pos 0) ∷ [];
       cell_locks = replicate 3 (the_lock 0 0);
       locks = the_lock 0 0 ∷ [];
-      first_finals = 0 ∷ 0 ∷ 1 ∷ [];
-      finals = 0 ∷ 0 ∷ [];
     };
   }
 

@@ -17,13 +17,9 @@ use Rattle.history.specs.Commits.{Commit, call_of, answer_of, script_call}
 use Rattle.lowering.specs.Plans.{Plan, IsCompiled, CompiledRunAlike}
 use Rattle.worlds.specs.Worlds.{World, script_of, scripts, call_at}
 use Rattle.worlds.specs.Claims.{calls_by, numbered, FollowsScripts, AreOfScripts, OfScriptsRunAlike}
+use Rattle.core_lang.specs.Theory.Items.{get_some, numbers_many}
 
 -- ---- lists
-
-get_some : {X : Type 0} (xs : List X) (k : ℕ) → k < length xs → (x : X) × (slice_get xs k ≡ Some x)
-get_some [] k lt = absurd (omega (arith, lt))
-get_some (x ∷ xs) zero lt = (x, refl)
-get_some (x ∷ xs) (suc k) lt = get_some xs k (omega (arith, lt))
 
 some_same : {X : Type 0} (o : Option X) (a b : X) → o ≡ Some a → o ≡ Some b → a ≡ b
 some_same None a b e f = absurd cc
@@ -68,10 +64,6 @@ typed_many shape [] [] h = refl
 typed_many shape [] (v ∷ vs) h = absurd h
 typed_many shape (t ∷ ts) [] h = absurd h
 typed_many shape (t ∷ ts) (v ∷ vs) h = ap suc (typed_many shape ts vs h.1)
-
-numbers_many : (first count : ℕ) → length (numbers_from first count) ≡ count
-numbers_many first zero = refl
-numbers_many first (suc count) = let h = numbers_many (first + 1) count in omega arith
 
 taken_many : (n : ℕ) (locals : List Local) → n ≤ length locals → length (local_types (take n locals)) ≡ n
 taken_many zero locals le = refl

@@ -5,13 +5,13 @@ use Rattle.history.specs.Commits.{call_of, answer_of, committed}
 use Rattle.locks.specs.Order.{PrecedesIsStrict}
 use Rattle.history.specs.Working.Laws.{LegalIsSerial}
 use Rattle.lowering.specs.Plans.{Plan, IsCompiled, CompiledRunAlike}
-use Rattle.worlds.specs.Asking.{among}
+use Rattle.locks.specs.Locks.{among}
 use Rattle.worlds.specs.Worlds.{World, happens, world_after, opening_world, final}
 use Rattle.worlds.specs.Claims.{IsSerial, HeldCellsAre, FollowsScripts, EveryRunHasIt, EveryWorldKeepsTheRules}
 use Rattle.worlds.specs.Waiting.{RisingHasNoCycle, RisingWaitsForHolders, RisingGoesOn, InstructionsHaveTheirCase, PendingRises}
 use Rattle.worlds.specs.Working.States.{IsSound, OpeningIsSound, StepsKeepSound}
 use Rattle.worlds.specs.Working.Ahead.{IsReadyWorld, WorldsStayReady}
-use Rattle.worlds.proofs.Cells.{contains_among, among_contains}
+use Rattle.locks.specs.Theory.Order.{contains_among, among_contains}
 use Rattle.worlds.proofs.Well.{opening_size}
 use Rattle.worlds.proofs.Ends.{in_order, have_entries}
 use Rattle.worlds.proofs.Scripts.{follows_scripts}

@@ -1,6 +1,6 @@
 -- What an acquire asks for, one lock after another.
 use Rattle.std.proofs.Common.{◌≡◌, ◌⊎◌, ◌==◌, ◌&&◌, ℕ, zero, suc, Bool, true, false, if◌then◌else◌, nat_lt, List, [], ◌∷◌, ◌++◌, Option, Some, None, slice_get, refl, sym, ap, ◌∙◌, subst, arith, inl, inr, true≢false}
-use Rattle.std.proofs.lemmas.Bool.{cases_Bool, cases_lt, eq-eqb, lt-ltb, ltb-true, eqb-true, and_parts, and_from, or_cases, or_left, or_right, or_parts}
+use Rattle.std.proofs.lemmas.Bool.{cases_Bool, cases_lt, eq-eqb, lt-ltb, and_from, or_cases, or_left, or_right, or_parts}
 use Rattle.std.proofs.lemmas.Option.{get_or_from_slice_get, slice_get_within, slice_get-get_or}
 use Rattle.std.proofs.lemmas.List.Elements.{Contains-append_left, Contains-push, Contains-append_cases}
 use Rattle.std.specs.Prelude.{slice_index}
@@ -17,14 +17,15 @@ use Rattle.locks.specs.declared.path.Root.{Root}
 use Rattle.locks.specs.declared.path.Root.TheVariants.{GlobalLock, Local as AtLocal}
 use Rattle.locks.specs.LockPaths.{LockPath, lock_paths, lock_from, lock_named, object_at}
 use Rattle.locks.specs.Working.Laws.{PathsHaveClasses, UsedAreListed}
-use Rattle.locks.specs.Order.{Precedes, PrecedesIsStrict}
-use Rattle.layout.specs.LockCells.{same_lock}
+use Rattle.locks.specs.Order.{Precedes, PrecedesIsStrict, precedes}
+use Rattle.locks.specs.Locks.{same_lock, among}
 use Rattle.lockorder.specs.Edges.{AreRanksOf}
 use Rattle.inserter.specs.Working.Runs.{IsListed, Asks, Run, gets}
 use Rattle.inserter.specs.Working.Laws.{IsOrdered, InRuns, AsksRise}
-use Rattle.worlds.specs.Asking.{among, precedes, insert, insert_new, lock_numbered, to_ask}
+use Rattle.worlds.specs.Asking.{insert, insert_new, lock_numbered, to_ask}
 use Rattle.worlds.specs.Working.InTurn.{RiseBehind, AskedInTurn}
-use Rattle.worlds.proofs.Cells.{same_is, same_refl, contains_among, among_contains}
+use Rattle.locks.specs.Theory.Order.{by_rank, by_object, same_is, same_refl, contains_among, among_contains}
+use Rattle.core_lang.specs.Theory.Items.{in_cases, in_first}
 
 pub record OrderLaws : Type 0 where
   pub classes : PathsHaveClasses
@@ -54,27 +55,19 @@ same_rank program ranks ok a b ka kb e =
     let classes : Some a.class ≡ Some b.class = sym p.1 ∙ (ap (slice_get ok.list) same ∙ q.1) in
     cc classes
 
-precedes-true : (ranks : List ℕ) (a b : Lock) → precedes ranks a b ≡ true → Precedes ranks a b
-precedes-true ranks a b h =
-    elim (or_cases (nat_lt (slice_index ranks a.class) (slice_index ranks b.class)) ((a.class == b.class) && nat_lt a.object b.object) h) [
-      | inl e ↦ inl (ltb-true (slice_index ranks a.class) (slice_index ranks b.class) e)
-      | inr e ↦ (let parts = and_parts (a.class == b.class) (nat_lt a.object b.object) e in
-          inr (eqb-true a.class b.class parts.0, ltb-true a.object b.object parts.1))
-    ]
-
 -- of two locks that aren't the same one comes before the other
 total : (program : Typed) (ranks : List ℕ) → AreRanksOf program ranks → (a b : Lock) → Known program a → Known program b → same_lock a b ≡ false →
     precedes ranks a b ≡ false → Precedes ranks b a
 total program ranks ok a b ka kb differ not =
     let parts = or_parts (nat_lt (slice_index ranks a.class) (slice_index ranks b.class)) ((a.class == b.class) && nat_lt a.object b.object) not in
     elim (cases_lt (slice_index ranks b.class) (slice_index ranks a.class)) [
-      | inl less ↦ inl less
+      | inl less ↦ by_rank ranks b a less
       | inr more ↦ elim (cases_lt (slice_index ranks a.class) (slice_index ranks b.class)) [
         | inl less ↦ absurd (true≢false (sym (lt-ltb (slice_index ranks a.class) (slice_index ranks b.class) less) ∙ parts.0))
         | inr other ↦ (let ranks_same : slice_index ranks a.class ≡ slice_index ranks b.class = omega (arith, more, other) in
             let same = same_rank program ranks ok a b ka kb ranks_same in
             elim (cases_lt b.object a.object) [
-              | inl less ↦ inr (sym same, less)
+              | inl less ↦ by_object ranks b a (sym same) less
               | inr further ↦ elim (cases_lt a.object b.object) [
                 | inl less ↦ absurd (true≢false (sym (and_from (a.class == b.class) (nat_lt a.object b.object)
                     (eq-eqb a.class b.class same) (lt-ltb a.object b.object less)) ∙ parts.1))
@@ -131,7 +124,7 @@ rising_insert strict program ranks ok l (x ∷ xs) kl known rise =
           Rising ranks (if b then x ∷ xs else if d then l ∷ x ∷ xs else x ∷ insert ranks l xs)
       by true same d before rest = rise
       by false same true before rest =
-          let first : Precedes ranks l x = precedes-true ranks l x before in (
+          let first : Precedes ranks l x = before in (
             λ y h. elim (or_cases (same_lock x y) (among xs y) h) [
               | inl e ↦ subst (Precedes ranks l) (same_is x y e) first
               | inr e ↦ strict.goes_on ranks l x y first (rise.0 y e)
@@ -179,15 +172,8 @@ named_by : (program : Typed) (section : Section) (locals : List Value) (i : ℕ)
 named_by program section locals i l None e h = absurd cc
 named_by program section locals i l (Some path) e h = record { path = path; is_path = e; named = h }
 
-pub in_first : {X : Type 0} (x : X) (xs : List X) → Contains (x ∷ xs) x
-in_first x xs = (0, omega arith, refl)
-
 pub in_rest : {X : Type 0} (x y : X) (xs : List X) → Contains xs y → Contains (x ∷ xs) y
 in_rest x y xs c = (let less = c.1 in (suc c.0, omega (arith, less), c.2))
-
-pub in_cases : {X : Type 0} (x y : X) (xs : List X) → Contains (x ∷ xs) y → (x ≡ y) ⊎ Contains xs y
-in_cases x y xs (zero, lt, e) = inl e
-in_cases x y xs (suc i, lt, e) = inr (i, omega (arith, lt), e)
 
 known_named : OrderLaws → (program : Typed) (section : Section) (ranks : List ℕ) (lists : List (List ℕ)) → IsOrdered program section ranks lists →
     (locals : List Value) (i : ℕ) (l : Lock) → IsNamed program section locals i l → Known program l

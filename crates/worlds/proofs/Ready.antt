@@ -27,7 +27,8 @@ use Rattle.worlds.specs.Working.InTurn.{RiseBehind}
 use Rattle.worlds.specs.Waiting.{PendingRises, AllHaveNext}
 use Rattle.worlds.specs.Working.Ahead.{SeesTyped, CanGoOn, running, asking, over, IsReady, IsReadyWorld, WorldsStayReady}
 use Rattle.worlds.proofs.Turns.{Turn, idles, starts, gets, waits, over as ends, moves, turn}
-use Rattle.worlds.proofs.Cells.{contains_among, taken_only}
+use Rattle.worlds.proofs.Cells.{taken_only}
+use Rattle.locks.specs.Theory.Order.{contains_among}
 use Rattle.worlds.proofs.Sound.{changed, now_open, still_open}
 use Rattle.worlds.proofs.Well.{opening_size, true_commit}
 use Rattle.worlds.proofs.Steps.{section_of_call, none_open}

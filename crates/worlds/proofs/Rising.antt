@@ -10,11 +10,11 @@ use Rattle.locks.specs.Order.{Precedes, PrecedesIsStrict}
 use Rattle.locks.specs.Waiting.{Asker, AsksRise, NoCircle}
 use Rattle.lowering.specs.Plans.{Plan}
 use Rattle.worlds.specs.declared.event.Event.{Event}
-use Rattle.worlds.specs.Asking.{among}
+use Rattle.locks.specs.Locks.{among}
 use Rattle.worlds.specs.Worlds.{World, ThreadState, Activation, holds, holder_from, holder, asks, goes_on, steps_with, thread_steps, happens, HasOpen}
 use Rattle.worlds.specs.Waiting.{first_if, asker_of, asker, IsNoWait, IsWait, PendingRises, RisingHasNoCycle, RisingWaitsForHolders, RisingGoesOn}
 use Rattle.worlds.specs.declared.event.Event.TheVariants.{Idle, Began, Got, Waits, Moved, Ended}
-use Rattle.worlds.proofs.Cells.{among_contains}
+use Rattle.locks.specs.Theory.Order.{IsBefore, is_before, by_rank, by_object, among_contains}
 use Rattle.worlds.proofs.Places.{get_set_same}
 use Rattle.worlds.proofs.Turns.{Turn, idles, starts, gets, waits, over, moves, turn}
 use Rattle.worlds.proofs.Steps.{got_map}
@@ -47,16 +47,16 @@ rising_has_no_cycle none ranks w rise = none ranks (map asker w.threads) asks_ri
 
 precedes_or_not : (ranks : List ℕ) (a b : Lock) → Precedes ranks a b ⊎ (Precedes ranks a b → ⊥)
 precedes_or_not ranks a b = elim (cases_lt (slice_index ranks a.class) (slice_index ranks b.class)) [
-  | inl less ↦ inl (inl less)
+  | inl less ↦ inl (by_rank ranks a b less)
   | inr more ↦ elim (cases_eq a.class b.class) [
     | inl same ↦ elim (cases_lt a.object b.object) [
-      | inl less ↦ inl (inr (same, less))
-      | inr further ↦ inr (λ p. neither more (λ q. omega (arith, q.1, further)) p)
+      | inl less ↦ inl (by_object ranks a b same less)
+      | inr further ↦ inr (λ p. neither more (λ q. omega (arith, q.1, further)) (is_before ranks a b p))
     ]
-    | inr other ↦ inr (λ p. neither more (λ q. other q.0) p)
+    | inr other ↦ inr (λ p. neither more (λ q. other q.0) (is_before ranks a b p))
   ]
 ] where
-  neither : slice_index ranks b.class ≤ slice_index ranks a.class → ((a.class ≡ b.class) × (a.object < b.object) → ⊥) → Precedes ranks a b → ⊥
+  neither : slice_index ranks b.class ≤ slice_index ranks a.class → ((a.class ≡ b.class) × (a.object < b.object) → ⊥) → IsBefore ranks a b → ⊥
   neither more not (inl less) = omega (arith, more, less)
   neither more not (inr q) = not q
 

@@ -1,23 +1,22 @@
 -- Each open section keeps the rules of locking.
-use Rattle.std.proofs.Common.{◌≡◌, ◌⊎◌, ◌<◌, ℕ, zero, suc, ◌+◌, true, List, [], ◌∷◌, ◌++◌, length, slice_get, slice_set, Some, None, refl, sym, ap, ◌∙◌, subst, arith, inl, inr}
+use Rattle.std.proofs.Common.{◌≡◌, ℕ, zero, suc, ◌+◌, true, List, [], ◌∷◌, ◌++◌, slice_get, slice_set, Some, None, refl, sym, ap, ◌∙◌, subst, arith, inl, inr}
 use Rattle.std.proofs.lemmas.Bool.{cases_eq}
 use Rattle.std.specs.List.{Contains}
 use Rattle.locks.specs.declared.lock.Lock.{Lock}
 use Rattle.locks.specs.Order.{PrecedesIsStrict}
-use Rattle.locks.specs.Locks.{lock_of_cell}
+use Rattle.locks.specs.Locks.{among}
 use Rattle.layout.specs.Layouts.{AreDistinct}
 use Rattle.code.specs.Machine.{Effect, Moves, Asks, Finishes, Undefined}
 use Rattle.code.specs.Memory.{HeldCells}
 use Rattle.lowering.specs.Plans.{Plan, IsCompiled}
 use Rattle.worlds.specs.declared.event.Event.{Event}
-use Rattle.worlds.specs.Asking.{among}
 use Rattle.worlds.specs.Worlds.{World, ThreadState, Activation, HasOpen, scripts, instructed, next_effect, happens, opening_world}
 use Rattle.worlds.specs.Waiting.{PendingRises}
-use Rattle.worlds.specs.Claims.{HoldsCell, KeepsTheRules}
+use Rattle.worlds.specs.Claims.{KeepsTheRules}
 use Rattle.worlds.specs.Working.States.{IsSound}
 use Rattle.worlds.proofs.Places.{get_set_is, get_push}
 use Rattle.worlds.proofs.Turns.{Turn, idles, starts, gets, waits, over, moves, turn}
-use Rattle.worlds.proofs.Cells.{contains_among, among_contains}
+use Rattle.locks.specs.Theory.Order.{contains_among, among_contains}
 use Rattle.worlds.proofs.Ends.{others_stay}
 use Rattle.worlds.proofs.Scripts.{at_first_is}
 

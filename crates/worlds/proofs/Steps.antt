@@ -17,7 +17,7 @@ use Rattle.code.specs.Memory.{value_at, overwritten}
 use Rattle.history.specs.Commits.{committed}
 use Rattle.lowering.specs.Plans.{Plan, IsCompiled}
 use Rattle.worlds.specs.declared.event.Event.{Event}
-use Rattle.worlds.specs.Asking.{among}
+use Rattle.locks.specs.Locks.{among}
 use Rattle.worlds.specs.Worlds.{World, ThreadState, Activation, activation, commit, granted, taken, without, with_back, holds, holder_from, holder, instructed, next_effect, script_of, scripts, call_at, section_at, at_first, happens, opening_world, HasOpen}
 use Rattle.worlds.specs.Working.States.{IsWell, IsFit, IsSound}
 use Rattle.worlds.specs.Claims.{HoldsCell}

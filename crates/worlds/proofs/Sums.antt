@@ -16,6 +16,7 @@ use Rattle.locks.specs.LockPaths.{LockPath, object_at, lock_from, lock_named}
 use Rattle.layout.specs.LockCells.{cells_of}
 use Rattle.lowering.specs.Working.Rooms.{most_among}
 use Rattle.worlds.proofs.Places.{get_set_other}
+use Rattle.core_lang.specs.Theory.Items.{in_first, in_rest, distinct_first}
 
 -- ---- sums
 
@@ -34,17 +35,8 @@ without_one (x ∷ ns) (suc i) n h = let rest = without_one ns i n h in omega (a
 
 -- ---- none twice
 
-distinct_first : {X : Type 0} (x : X) (xs : List X) → AllPairs ◌≢◌ (x ∷ xs) → Contains xs x → ⊥
-distinct_first x xs d c = d 0 (suc c.0) x (omega arith) (omega (arith, c.1)) (sym c.2)
-
 distinct_rest : {X : Type 0} (x : X) (xs : List X) → AllPairs ◌≢◌ (x ∷ xs) → AllPairs ◌≢◌ xs
 distinct_rest x xs d i j z lt b = d (suc i) (suc j) z (omega (arith, lt)) (omega (arith, b))
-
-in_rest : {X : Type 0} (x y : X) (xs : List X) → Contains xs y → Contains (x ∷ xs) y
-in_rest x y xs c = (suc c.0, omega (arith, c.1), c.2)
-
-in_first : {X : Type 0} (x : X) (xs : List X) → Contains (x ∷ xs) x
-in_first x xs = (0, omega arith, refl)
 
 -- each item has a number of its own, under which stands no less than its weight: so all weigh no more than what stands there
 module _ {X : Type 0} (weight : X → ℕ) (HasNumber : ℕ → X → Type 0) (one : (i : ℕ) (x y : X) → HasNumber i x → HasNumber i y → x ≡ y) where

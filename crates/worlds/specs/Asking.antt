@@ -1,22 +1,13 @@
 -- Which locks are asked for before a point.
-use Rattle.std.specs.Prelude.{ℕ, Bool, false, ◌&&◌, ◌||◌, ◌==◌, nat_lt, if◌then◌else◌, List, [], ◌∷◌, slice_get, slice_index, Option, Some, None}
+use Rattle.std.specs.Prelude.{ℕ, if◌then◌else◌, List, [], ◌∷◌, slice_get, Option, Some, None}
 use Rattle.core_lang.specs.declared.value.Value.{Value}
 use Rattle.core_lang.specs.declared.tree.Section.{Section}
 use Rattle.core_lang.specs.declared.typed.Typed.{Typed}
 use Rattle.core_lang.specs.Typing.{lookup}
 use Rattle.locks.specs.declared.lock.Lock.{Lock}
 use Rattle.locks.specs.LockPaths.{LockPath, lock_paths, lock_named}
-use Rattle.layout.specs.LockCells.{same_lock}
-
--- whether a lock is one of these
-abbrev pub among : List Lock → Lock → Bool
-among [] lock = false
-among (l ∷ ls) lock = same_lock l lock || among ls lock
-
--- whether one lock comes before another, where these are the ranks of the classes
-abbrev pub precedes : List ℕ → Lock → Lock → Bool
-precedes ranks a b =
-    nat_lt (slice_index ranks a.class) (slice_index ranks b.class) || ((a.class == b.class) && nat_lt a.object b.object)
+use Rattle.locks.specs.Locks.{same_lock, among}
+use Rattle.locks.specs.Order.{precedes}
 
 -- with a lock put in front of those that it comes before; a lock that is there isn't put in again
 abbrev pub insert : List ℕ → Lock → List Lock → List Lock

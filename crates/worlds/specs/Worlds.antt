@@ -19,7 +19,8 @@ use Rattle.lowering.specs.Lowered.{lists_at}
 use Rattle.lowering.specs.Plans.{Plan}
 use Rattle.worlds.specs.declared.event.Event.{Event}
 use Rattle.worlds.specs.declared.event.Event.TheVariants as event
-use Rattle.worlds.specs.Asking.{to_ask, among}
+use Rattle.worlds.specs.Asking.{to_ask}
+use Rattle.locks.specs.Locks.{among}
 
 -- ---- what there is
 

@@ -1,5 +1,5 @@
 -- What the code of the listing computes: an index of the globals, and an instruction as a word and its operand.
-use Rattle.std.specs.Prelude.{◌≡◌, ℕ, ◌+◌, ◌-◌, ◌==◌, List, [], ◌++◌, nat_eq}
+use Rattle.std.specs.Prelude.{◌≡◌, ℕ, ◌+◌, ◌-◌, ◌==◌, List, [], ◌++◌, map, slice_get, Some, codes, String, string_bytes, nat_eq}
 use Rattle.std.specs.Fmt.{decimal, signed_decimal}
 use Rattle.std.specs.List.{find}
 use Rattle.std.specs.Option.{option_copied}
@@ -10,37 +10,56 @@ use Rattle.code.specs.declared.instr.Instr.TheVariants.{PushNumber, GetLocal, Pu
 use Rattle.code.specs.declared.names.GlobalName.{GlobalName}
 use Rattle.code.specs.declared.names.ListingNames.{ListingNames}
 use Rattle.code.specs.declared.section_code.SectionCode.{SectionCode}
-use Rattle.code.specs.Listing.{named, global_text, final_text, where_text, field_text, acquired_text, instr_text}
+use Rattle.code.specs.Listing.{named, global_text, final_text, where_text, field_text, acquired_text, instr_text, line}
+use Rattle.rope.specs.Working.Ropes.{RopeOf}
 
 -- the index has for each cell the first global that has it
 abbrev pub IsIndexOf : {S : Type 0} → List GlobalName → IndexMap ℕ (Bor GlobalName) S → Type 0
 IsIndexOf globals index =
     (cell : ℕ) → option_copied (get nat_eq index cell) ≡ find (λ (g : GlobalName). g.cell == cell) globals
 
--- an instruction's operand, as it is written behind the word
-abbrev pub operand_text : ListingNames → SectionCode → ℕ → Instr → List ℕ
-operand_text names section place (PushNumber n) = signed_decimal n
-operand_text names section place (GetLocal k) = decimal k
-operand_text names section place (PutLocal k) = decimal k
-operand_text names section place (LoadGlobal cell) = global_text names cell
-operand_text names section place (PutGlobal cell) = global_text names cell
-operand_text names section place (LoadElement array) = named names.arrays.items array
-operand_text names section place (Bound array) = named names.arrays.items array
-operand_text names section place (PutElement array) = named names.arrays.items array
-operand_text names section place (GetMember pool) = named names.pools.items pool
-operand_text names section place (LoadFinal f structure) = final_text names structure f
-operand_text names section place (LoadField f structure) = field_text names structure f
-operand_text names section place (PutField f structure) = field_text names structure f
-operand_text names section place (Where f structure k) = where_text names structure f k
-operand_text names section place (Jump over) = decimal (place + 1 + over)
-operand_text names section place (JumpBack back) = decimal (place - back)
-operand_text names section place (JumpIfFalse over) = decimal (place + 1 + over)
-operand_text names section place (JumpIfTrue over) = decimal (place + 1 + over)
-operand_text names section place (Acquire point) = acquired_text section point
-operand_text names section place _ = []
+-- an instruction's operand, as it is written behind the word, but for lock paths
+abbrev pub operand_text : ListingNames → ℕ → Instr → List ℕ
+operand_text names place (PushNumber n) = signed_decimal n
+operand_text names place (GetLocal k) = decimal k
+operand_text names place (PutLocal k) = decimal k
+operand_text names place (LoadGlobal cell) = global_text names cell
+operand_text names place (PutGlobal cell) = global_text names cell
+operand_text names place (LoadElement array) = named names.arrays.items array
+operand_text names place (Bound array) = named names.arrays.items array
+operand_text names place (PutElement array) = named names.arrays.items array
+operand_text names place (GetMember pool) = named names.pools.items pool
+operand_text names place (LoadFinal f structure) = final_text names structure f
+operand_text names place (LoadField f structure) = field_text names structure f
+operand_text names place (PutField f structure) = field_text names structure f
+operand_text names place (Where f structure k) = where_text names structure f k
+operand_text names place (Jump over) = decimal (place + 1 + over)
+operand_text names place (JumpBack back) = decimal (place - back)
+operand_text names place (JumpIfFalse over) = decimal (place + 1 + over)
+operand_text names place (JumpIfTrue over) = decimal (place + 1 + over)
+operand_text names place _ = []
+
+-- the lock paths that it asks for
+abbrev pub asked_text : SectionCode → Instr → List ℕ
+asked_text section (Acquire point) = acquired_text section point
+asked_text section _ = []
 
 -- the word of an instruction: all that is written of it ahead of its operand
 abbrev pub IsMnemonic : Instr → List ℕ → Type 0
 IsMnemonic instr word =
     (names : ListingNames) (section : SectionCode) (place : ℕ)
-    → instr_text names section place instr ≡ word ++ operand_text names section place instr
+    → instr_text names section place instr ≡ word ++ operand_text names place instr ++ asked_text section instr
+
+-- an instruction comes behind what was written, but for the lock paths that it asks for
+abbrev pub AddsBare : {Z : Type 0} → ListingNames → ℕ → Instr → String Z → String Z → Type 0
+AddsBare names place instr old new =
+    (section : SectionCode) → string_bytes new ++ asked_text section instr
+    ≡ string_bytes old ++ instr_text names section place instr
+
+-- the line of an instruction
+abbrev pub line_text : ListingNames → SectionCode → ℕ → Instr → List ℕ
+line_text names section place instr = line (decimal place ++ codes " " ++ instr_text names section place instr)
+
+-- the rope keeps the texts of the section's lock paths, as the group of this number
+abbrev pub HasNames : SectionCode → ℕ → RopeOf → Type 0
+HasNames section group rope = slice_get rope.groups group ≡ Some (map string_bytes section.paths.items)

@@ -15,6 +15,7 @@ use Rattle.core_lang.specs.Meaning.{deepest}
 use Rattle.core_lang.specs.WrittenLocals.{LocalData, Brought, local_data, own_local, locals_by, locals_in, locals_in_all, brought, written_locals}
 use Rattle.core_lang.specs.WrittenPoints.{points_by, points_among, points_among_all, brought_points, helper_points}
 use Rattle.core_lang.specs.WellFormed.{IsChecked, IsWellFormed}
+use Rattle.core_lang.specs.Theory.Items.{numbers_many}
 
 no_helper : (program : Typed) (k : ℕ) (h : Section) → program.shape.helpers.items ≡ [] → slice_get program.shape.helpers.items k ≡ Some h → ⊥
 no_helper program k h none is =
@@ -101,10 +102,6 @@ module _ (brings : ℕ → Brought) (own : List Local) where
   all_locals_few : (xs : List Stmt) → EachCallsOnly NoHelper xs → length (locals_in_all brings own xs) ≤ length (bound_in_all xs)
   all_locals_few [] only = omega arith
   all_locals_few (x ∷ xs) only = both_few _ _ _ _ (locals_few x.action only.0) (all_locals_few xs only.1)
-
-numbers_many : (first count : ℕ) → length (numbers_from first count) ≡ count
-numbers_many first zero = refl
-numbers_many first (suc count) = let h = numbers_many (first + 1) count in omega arith
 
 taken_few : (count : ℕ) (locals : List Local) → length (take count locals) ≤ count
 taken_few zero locals = omega arith

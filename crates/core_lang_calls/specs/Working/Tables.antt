@@ -1,9 +1,8 @@
 -- What the tables of the code hold. Nobody has to believe these: what the faults are, says `Faults`.
 use Rattle.std.specs.Prelude.{◌≡◌, ℕ, zero, suc, ◌+◌, ◌<◌, ◌-◌, min, nat_lt, ◌==◌, ◌&&◌, ◌||◌, Bool, true, false, List, length, slice_get, slice_index_or, Option, Some, None}
 use Rattle.std.specs.List.{list_any, sum_by}
-use Rattle.std.specs.Int.{bit_at}
 use Rattle.core_lang_calls.specs.declared.graph.CallSite.{CallSite}
-use Rattle.core_lang_calls.specs.declared.helper_set.Half.{Half}
+use Rattle.bit_set.specs.Working.Sets.{has_number}
 use Rattle.core_lang_calls.specs.declared.helper_set.HelperSet.{HelperSet}
 use Rattle.core_lang_calls.specs.declared.extents.Extent.{Extent}
 use Rattle.core_lang_calls.specs.Graphs.{Body}
@@ -13,13 +12,10 @@ use Rattle.core_lang_calls.specs.Faults.{LOCAL_LIMIT, POINT_LIMIT}
 
 -- ---- sets of helpers
 
-abbrev pub has_half : Half → ℕ → Bool
-has_half half k = bit_at half.bits k == 1
-
 -- helpers below 128 in the lower half
 abbrev pub has_by : Bool → HelperSet → ℕ → Bool
-has_by true set h = has_half set.low h
-has_by false set h = has_half set.high (h - 128)
+has_by true set h = has_number set.low h
+has_by false set h = has_number set.high (h - 128)
 
 abbrev pub has_helper : HelperSet → ℕ → Bool
 has_helper set h = has_by (nat_lt h 128) set h

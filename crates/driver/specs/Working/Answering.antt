@@ -13,6 +13,7 @@ use Rattle.explanation.specs.Notes.{note_of}
 use Rattle.source.specs.Faults.{fault_text}
 use Rattle.source_steps.specs.declared.refusal.StepsFault.{StepsFault}
 use Rattle.source_steps.specs.Steps.{steps_fault_text}
+use Rattle.rope.specs.Working.Ropes.{rope_text}
 use Rattle.driver.specs.declared.answer.Answer.{Answer}
 use Rattle.driver.specs.declared.request.PairRequest.{PairRequest}
 use Rattle.driver.specs.declared.request.PairRequest.TheVariants.{Simulate, Trace, Replay}
@@ -37,12 +38,12 @@ use Rattle.replay.specs.declared.verdict.Judgement.{Judgement}
 
 -- the answer's status and outputs are what is wanted of them
 abbrev pub Meets : (Status → List ℕ → List ℕ → Type 0) → Answer → Type 0
-Meets Wanted answer = Wanted answer.status (string_bytes answer.out) (string_bytes answer.err)
+Meets Wanted answer = Wanted answer.status (rope_text answer.out) (string_bytes answer.err)
 
 -- the answer to a fault
 abbrev pub IsFaultAnswer : List ℕ → List ℕ → Fault → Answer → Type 0
 IsFaultAnswer file text fault answer =
-    (answer.status ≡ Refused) × (string_bytes answer.out ≡ []) × (string_bytes answer.err ≡ line (fault_text file text fault))
+    (answer.status ≡ Refused) × (rope_text answer.out ≡ []) × (string_bytes answer.err ≡ line (fault_text file text fault))
 
 -- what explains a fault, and what tells of a program without one, of values of the code
 abbrev pub fault_told_of : Bool → Explanation → List ℕ
@@ -54,26 +55,26 @@ acceptance_told_of json x = acceptance_told json x.file.now x.text.now (map note
 -- to a fault that is explained
 abbrev pub IsExplainedAnswer : Bool → Explanation → Answer → Type 0
 IsExplainedAnswer json explanation answer =
-    (answer.status ≡ Refused) × (string_bytes answer.out ≡ fault_told_of json explanation) × (string_bytes answer.err ≡ [])
+    (answer.status ≡ Refused) × (rope_text answer.out ≡ fault_told_of json explanation) × (string_bytes answer.err ≡ [])
 
 abbrev pub IsBadStepsAnswer : List ℕ → List ℕ → StepsFault → Answer → Type 0
 IsBadStepsAnswer steps_file items fault answer =
-    (answer.status ≡ BadInput) × (string_bytes answer.out ≡ []) × (string_bytes answer.err ≡ line (steps_fault_text steps_file items fault))
+    (answer.status ≡ BadInput) × (rope_text answer.out ≡ []) × (string_bytes answer.err ≡ line (steps_fault_text steps_file items fault))
 
 abbrev pub IsBadHistoryAnswer : List ℕ → HistoryFault → Answer → Type 0
 IsBadHistoryAnswer history_file fault answer =
-    (answer.status ≡ BadInput) × (string_bytes answer.out ≡ []) × (string_bytes answer.err ≡ line (history_fault_text history_file fault))
+    (answer.status ≡ BadInput) × (rope_text answer.out ≡ []) × (string_bytes answer.err ≡ line (history_fault_text history_file fault))
 
 -- to a judgement on these lines
 abbrev pub IsJudgementAnswer : Bool → Judgement → List (List ℕ) → Answer → Type 0
 IsJudgementAnswer why judgement lines answer =
     (answer.status ≡ verdict_status judgement.verdict)
-    × (string_bytes answer.out ≡ judgement_text why judgement.verdict judgement.wanted lines) × (string_bytes answer.err ≡ [])
+    × (rope_text answer.out ≡ judgement_text why judgement.verdict judgement.wanted lines) × (string_bytes answer.err ≡ [])
 
 -- to ends of all orders, or of some that were drawn
 abbrev pub IsToldAnswer : Typed → Option ℕ → List Told → Answer → Type 0
 IsToldAnswer program states ends answer =
-    (answer.status ≡ Done) × (string_bytes answer.out ≡ outcomes_text program states ends) × (string_bytes answer.err ≡ [])
+    (answer.status ≡ Done) × (rope_text answer.out ≡ outcomes_text program states ends) × (string_bytes answer.err ≡ [])
 
 -- to threads that found another history than they had left
 abbrev pub IsStrangeAnswer : Answer → Type 0

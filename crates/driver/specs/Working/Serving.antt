@@ -1,6 +1,7 @@
 -- What this crate's functions tell each other of files and outputs. It mirrors the code: nobody has to believe it.
 use Rattle.std.specs.Prelude.{◌≡◌, ℕ, Bool, true, false, List, Option, string_bytes, Result, Ok, Err}
 use Rattle.source.specs.declared.memory.NoMemory.{NoMemory}
+use Rattle.rope.specs.Working.Ropes.{rope_text}
 use Rattle.driver.specs.declared.answer.Answer.{Answer}
 use Rattle.driver.specs.declared.status.Status.{Status}
 use Rattle.driver.specs.declared.status.Status.TheVariants.{Failed, OutOfMemory}
@@ -13,7 +14,7 @@ abbrev pub IsOut : {O E : Type 0} → (O → Option (List ℕ)) → (E → Optio
     Status → Bool → Type 0
 IsOut contents told answer old new status true = (status ≡ Failed) × Tells told old.err new.err cannot_write
 IsOut contents told answer old new status false =
-    (status ≡ answer.status) × Writes contents old.out new.out (string_bytes answer.out)
+    (status ≡ answer.status) × Writes contents old.out new.out (rope_text answer.out)
     × Tells told old.err new.err (string_bytes answer.err)
 
 abbrev pub GoesOut : {O E : Type 0} → (O → Option (List ℕ)) → (E → Option (List ℕ)) → Answer → Streams O E → Streams O E →

@@ -1,12 +1,12 @@
 -- One class, object or cell more. Nobody has to believe these.
-use Rattle.std.specs.Prelude.{◌≡◌, List, [], ◌∷◌, ◌++◌, ℕ, length, Some}
+use Rattle.std.specs.Prelude.{◌≡◌, List, [], ◌∷◌, ◌++◌, length, Some}
 use Rattle.core_lang.specs.declared.value.Value.{Value}
 use Rattle.core_lang.specs.declared.typed.LockClass.{LockClass}
 use Rattle.core_lang.specs.declared.typed.LockField.{LockField}
 use Rattle.locks.specs.declared.lock.Lock.{Lock}
 use Rattle.layout.specs.declared.numbering.Numbering.{Numbering}
 use Rattle.layout.specs.Layouts.{LayoutOf, if_global_lock}
-use Rattle.layout.specs.Working.Numbers.{class_place, locks_at, first_finals}
+use Rattle.layout.specs.Working.Numbers.{class_place, locks_at}
 
 -- the next class, and its lock where it is a global one
 pub record AddsClass (class : LockClass) (old new : Numbering) : Type 0 where
@@ -15,20 +15,14 @@ pub record AddsClass (class : LockClass) (old new : Numbering) : Type 0 where
   pub objects : new.objects.items ≡ old.objects.items
 
 -- the next object, whose struct has these lock fields
-pub record AddsObject (first_final : ℕ) (fields : List LockField) (old new : Numbering) : Type 0 where
+pub record AddsObject (fields : List LockField) (old new : Numbering) : Type 0 where
   pub locks : new.locks.items ≡ old.locks.items ++ locks_at (length old.objects.items) fields
   pub classes : new.classes.items ≡ old.classes.items
-  pub finals : first_finals new.objects.items ≡ first_finals old.objects.items ++ first_final ∷ []
+  pub objects : new.objects.items ≡ old.objects.items ++ length old.locks.items ∷ []
 
 -- a layout that has no cells
-abbrev pub without_cells : Numbering → List ℕ → LayoutOf
-without_cells numbering finals = record {
-  opening = [];
-  cell_locks = [];
-  locks = numbering.locks.items;
-  first_finals = first_finals numbering.objects.items;
-  finals = finals;
-}
+abbrev pub without_cells : Numbering → LayoutOf
+without_cells numbering = record { opening = []; cell_locks = []; locks = numbering.locks.items }
 
 -- a layout with one cell more
 abbrev pub with_cell : LayoutOf → Value → Lock → LayoutOf

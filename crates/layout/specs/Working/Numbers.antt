@@ -1,7 +1,6 @@
 -- How the code finds the numbers of locks, and the slots of cells. Nobody has to believe these.
 use Rattle.std.specs.Prelude.{◌≡◌, ℕ, ◌+◌, ◌^◌, ◌<◌, List, length, map, slice_get, Option, Some}
 use Rattle.core_lang.specs.declared.value.Value.{Value}
-use Rattle.core_lang.specs.declared.shape.Object.{Object}
 use Rattle.core_lang.specs.declared.typed.LockClass.{LockClass}
 use Rattle.core_lang.specs.declared.typed.LockClass.TheVariants as class
 use Rattle.core_lang.specs.declared.typed.LockField.{LockField}
@@ -10,7 +9,6 @@ use Rattle.core_lang.specs.Typing.{lookup}
 use Rattle.locks.specs.declared.lock.Lock.{Lock}
 use Rattle.layout.specs.declared.places.ClassPlace.{ClassPlace}
 use Rattle.layout.specs.declared.places.ClassPlace.TheVariants as place
-use Rattle.layout.specs.declared.places.ObjectPlace.{ObjectPlace}
 use Rattle.layout.specs.declared.places.CellPlace.{CellPlace}
 use Rattle.layout.specs.LockCells.{cells_of}
 
@@ -21,16 +19,16 @@ abbrev pub class_place : ℕ → LockClass → ClassPlace
 class_place number (class.Global name) = place.Global number
 class_place number (class.Field s l) = place.Field l
 
--- a lock's number, where its object has these places
-abbrev pub number_at : ClassPlace → Option ObjectPlace → Option ℕ
+-- a lock's number, where this is the number of its object's first lock
+abbrev pub number_at : ClassPlace → Option ℕ → Option ℕ
 number_at (place.Global number) object = Some number
-number_at (place.Field l) object = lookup object (λ (x : ObjectPlace). Some (x.first_lock + l))
+number_at (place.Field l) object = lookup object (λ (first : ℕ). Some (first + l))
 
-abbrev pub number_of : List ClassPlace → List ObjectPlace → Lock → Option ℕ
+abbrev pub number_of : List ClassPlace → List ℕ → Lock → Option ℕ
 number_of classes objects lock = lookup (slice_get classes lock.class) (λ (c : ClassPlace). number_at c (slice_get objects lock.object))
 
 -- each lock is found at its number
-abbrev pub AreNumbered : List ClassPlace → List ObjectPlace → List Lock → Type 0
+abbrev pub AreNumbered : List ClassPlace → List ℕ → List Lock → Type 0
 AreNumbered classes objects locks = (n : ℕ) (lock : Lock) → slice_get locks n ≡ Some lock → number_of classes objects lock ≡ Some n
 
 -- the places of the first n classes of a program tell of each lock field its number
@@ -40,7 +38,7 @@ KnowFields program n classes =
     slice_get classes number ≡ Some (place.Field l)
 
 -- the number of a lock field of an object is this, where there is the object and the number is one of the machine
-abbrev pub FindsField : List ObjectPlace → ℕ → ℕ → Option ℕ → Type 0
+abbrev pub FindsField : List ℕ → ℕ → ℕ → Option ℕ → Type 0
 FindsField objects object l number =
     (n : ℕ) → n < 2 ^ 64 → number_at (place.Field l) (slice_get objects object) ≡ Some n → number ≡ Some n
 
@@ -51,17 +49,6 @@ AreFields classes fields = (l : ℕ) (field : LockField) → slice_get fields l 
 -- the locks of an object whose struct has these lock fields
 abbrev pub locks_at : ℕ → List LockField → List Lock
 locks_at object fields = map (λ (x : LockField). record { class = x.class; object = object }) fields
-
--- where the final references of objects begin
-abbrev pub first_finals : List ObjectPlace → List ℕ
-first_finals objects = map (λ (x : ObjectPlace). x.first_final) objects
-
-abbrev pub program_finals : List Object → List ℕ
-program_finals objects = map (λ (x : Object). x.finals) objects
-
--- of each object of the program
-abbrev pub HasFinalsOf : Typed → List ObjectPlace → Type 0
-HasFinalsOf program objects = first_finals objects ≡ program_finals program.shape.objects.items
 
 -- ---- cells
 

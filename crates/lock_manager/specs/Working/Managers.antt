@@ -8,7 +8,8 @@ use Rattle.locks.specs.declared.lock.Lock.{Lock}
 use Rattle.locks.specs.Order.{Precedes}
 use Rattle.locks.specs.Waiting.{Asker}
 use Rattle.code.specs.Memory.{value_at}
-use Rattle.layout.specs.LockCells.{same_lock, cells_of}
+use Rattle.layout.specs.LockCells.{cells_of}
+use Rattle.locks.specs.Locks.{same_lock}
 use Rattle.layout.specs.Layouts.{LayoutOf, AreDistinct, IsLayoutOf}
 use Rattle.moved_cells.specs.Working.Grants.{GrantOf, cells_in, values_on}
 use Rattle.history.specs.Commits.{Commit, committed, IsLegal}

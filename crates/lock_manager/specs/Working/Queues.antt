@@ -1,7 +1,7 @@
 -- Who waits for which lock.
 use Rattle.std.specs.Prelude.{ℕ, nat_eq, if◌then◌else◌, List, [], ◌∷◌, ◌++◌, Option, Some, None}
 use Rattle.locks.specs.declared.lock.Lock.{Lock}
-use Rattle.layout.specs.LockCells.{same_lock}
+use Rattle.locks.specs.Locks.{same_lock}
 use Rattle.lock_manager.specs.declared.queue.Waiter.{Waiter}
 
 -- those that wait for a lock, in the order in which they first asked

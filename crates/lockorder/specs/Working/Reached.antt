@@ -1,7 +1,7 @@
 -- How far classes are from a target. Nobody has to believe these: what a cycle is, says `Ranks`.
 use Rattle.std.specs.Prelude.{◌≡◌, ◌≢◌, ◌⊎◌, ◌<◌, ◌≤◌, nat_le, if◌then◌else◌, ℕ, List, length, slice_get, slice_index_or, MatchOption, Option, Some, None}
 use Rattle.std.specs.List.{All, AllPairs, Contains}
-use Rattle.lockorder.specs.declared.class_set.ClassSet.{ClassSet}
+use Rattle.bit_set.specs.declared.set.BitSet.{BitSet}
 use Rattle.lockorder.specs.declared.cycles.Reached.{Reached}
 use Rattle.lockorder.specs.Working.Tables.{InTable}
 
@@ -12,15 +12,15 @@ abbrev pub HasDistance : List (Option ℕ) → ℕ → Type 0
 HasDistance distances c = (k : ℕ) × (distance_of distances c ≡ Some k)
 
 -- an edge leads from the class to one of a lesser distance
-abbrev pub LeadsNearer : List ClassSet → List (Option ℕ) → ℕ → ℕ → Type 0
+abbrev pub LeadsNearer : List BitSet → List (Option ℕ) → ℕ → ℕ → Type 0
 LeadsNearer before distances c k = (d m : ℕ) × InTable before c d × (distance_of distances d ≡ Some m) × (m < k)
 
 -- all that have to come before the class have a distance
-abbrev pub IsDone : List ClassSet → List (Option ℕ) → ℕ → Type 0
+abbrev pub IsDone : List BitSet → List (Option ℕ) → ℕ → Type 0
 IsDone before distances c = (b : ℕ) → InTable before b c → HasDistance distances b
 
 -- so far: the target has distance 0, and from each other class that has one an edge leads nearer
-pub record AreReached (before : List ClassSet) (r : Reached) : Type 0 where
+pub record AreReached (before : List BitSet) (r : Reached) : Type 0 where
   pub long : length r.distances.items ≡ length before
   pub target : distance_of r.distances.items r.target ≡ Some 0
   pub nearer : (c k : ℕ) → distance_of r.distances.items c ≡ Some k → (c ≡ r.target) ⊎ LeadsNearer before r.distances.items c k
@@ -36,12 +36,12 @@ pub record KeepsReached (old new : Reached) : Type 0 where
   pub classes : (i c : ℕ) → slice_get old.classes.items i ≡ Some c → slice_get new.classes.items i ≡ Some c
 
 -- and all from which edges lead to the target have a distance
-pub record AreDistances (before : List ClassSet) (r : Reached) : Type 0 where
+pub record AreDistances (before : List BitSet) (r : Reached) : Type 0 where
   pub reached : AreReached before r
   pub all : (c : ℕ) → HasDistance r.distances.items c → IsDone before r.distances.items c
 
 -- of the classes below a bound to which an edge leads from the class, the nearest and its distance
-abbrev pub IsNearestBelow : List ClassSet → List (Option ℕ) → ℕ → ℕ → Option (ℕ × ℕ) → Type 0
+abbrev pub IsNearestBelow : List BitSet → List (Option ℕ) → ℕ → ℕ → Option (ℕ × ℕ) → Type 0
 IsNearestBelow before distances c bound nearest =
     MatchOption nearest ((d k : ℕ) → d < bound → InTable before c d → distance_of distances d ≡ Some k → ⊥)
     (λ x. InTable before c x.0 × (distance_of distances x.0 ≡ Some x.1)
@@ -53,5 +53,5 @@ nearer None c k = Some (c, k)
 nearer (Some x) c k = if nat_le x.1 k then Some x else Some (c, k)
 
 -- the nearest of all
-abbrev pub IsNearest : List ClassSet → Reached → ℕ → Option (ℕ × ℕ) → Type 0
+abbrev pub IsNearest : List BitSet → Reached → ℕ → Option (ℕ × ℕ) → Type 0
 IsNearest before r c nearest = IsNearestBelow before r.distances.items c (length before) nearest

@@ -7,7 +7,7 @@ use Rattle.flow.specs.Working.Parts.{skeleton_of}
 use Rattle.locks.specs.declared.path_set.PathSet.{PathSet}
 use Rattle.locks.specs.Sets.{has}
 use Rattle.points.specs.declared.table.Points.{Points}
-use Rattle.lockorder.specs.declared.class_set.ClassSet.{ClassSet}
+use Rattle.bit_set.specs.declared.set.BitSet.{BitSet}
 use Rattle.lockorder.specs.declared.section_edges.Made.{Made}
 use Rattle.lockorder.specs.Working.Tables.{InSet}
 
@@ -120,5 +120,5 @@ abbrev pub AreUsedSoFar : Points → ℕ → PathSet → Type 0
 AreUsedSoFar x p set = (i : ℕ) → has set i ≡ (has (set_at x.used.items p) i || has (set_at x.used_before.items p) i)
 
 -- from each class of a set to that of each path of another
-abbrev pub LeadsToRoots : Points → ClassSet → PathSet → ℕ → ℕ → Type 0
+abbrev pub LeadsToRoots : Points → BitSet → PathSet → ℕ → ℕ → Type 0
 LeadsToRoots x used bound c d = InSet used c × HasClass x bound d

@@ -2,74 +2,70 @@
 use Rattle.std.specs.Prelude.{◌≡◌, ◌⊎◌, ◌==◌, ◌&&◌, ◌||◌, ◌<◌, ℕ, Bool, true, List, length, slice_index_or, MatchOption, Option, Vec}
 use Rattle.std.specs.Bool.{Decides}
 use Rattle.std.proofs.Common.{Global}
-use Rattle.std.specs.Int.{bit_at}
 use Rattle.flow.specs.Flow.{Plus}
-use Rattle.lockorder.specs.declared.class_set.ClassSet.{ClassSet}
+use Rattle.bit_set.specs.declared.set.BitSet.{BitSet}
+use Rattle.bit_set.specs.Working.Sets.{has_number}
 use Rattle.lockorder.specs.Ranks.{IsReady, IsNext, AreRanks, IsCycle}
 
 -- ---- sets
 
--- the set has the class
-abbrev pub has_class : ClassSet → ℕ → Bool
-has_class set c = bit_at set.bits c == 1
+abbrev pub InSet : BitSet → ℕ → Type 0
+InSet set c = has_number set c ≡ true
 
-abbrev pub InSet : ClassSet → ℕ → Type 0
-InSet set c = has_class set c ≡ true
-
-abbrev pub no_classes : ClassSet
+abbrev pub no_classes : BitSet
 no_classes = record { bits = 0 }
 
 -- ---- tables: for each class the set of those that have to come before it
 
 -- the table has an edge from c to d
-abbrev pub has_edge : List ClassSet → ℕ → ℕ → Bool
-has_edge before c d = has_class (slice_index_or before d no_classes) c
+abbrev pub has_edge : List BitSet → ℕ → ℕ → Bool
+has_edge before c d = has_number (slice_index_or before d no_classes) c
 
-abbrev pub InTable : List ClassSet → ℕ → ℕ → Type 0
+abbrev pub InTable : List BitSet → ℕ → ℕ → Type 0
 InTable before c d = has_edge before c d ≡ true
 
 -- edges lead from classes of the table alone
-abbrev pub LeadsWithin : List ClassSet → Type 0
+abbrev pub LeadsWithin : List BitSet → Type 0
 LeadsWithin before = (c d : ℕ) → InTable before c d → c < length before
 
 -- edges lead from the class round to itself
-abbrev pub IsOnCycle : List ClassSet → ℕ → Type 0
+abbrev pub IsOnCycle : List BitSet → ℕ → Type 0
 IsOnCycle before c = Plus (InTable before) c c
 
-abbrev pub HasCycle : List ClassSet → Type 0
+abbrev pub HasCycle : List BitSet → Type 0
 HasCycle before = (c : ℕ) × (c < length before) × IsOnCycle before c
 
-abbrev pub IsReadyIn : List ClassSet → ClassSet → ℕ → Type 0
+abbrev pub IsReadyIn : List BitSet → BitSet → ℕ → Type 0
 IsReadyIn before listed c = IsReady (InTable before) (length before) (InSet listed) c
 
-abbrev pub IsNextIn : List ClassSet → ClassSet → ℕ → Type 0
+abbrev pub IsNextIn : List BitSet → BitSet → ℕ → Type 0
 IsNextIn before listed c = IsNext (InTable before) (length before) (InSet listed) c
 
-abbrev pub AreRanksIn : List ClassSet → List ℕ → Type 0
+abbrev pub AreRanksIn : List BitSet → List ℕ → Type 0
 AreRanksIn before ranks = AreRanks (InTable before) (length before) ranks
 
 -- the next class, or none where no class is ready
-abbrev pub IsNextOrNone : List ClassSet → ClassSet → Option ℕ → Type 0
+abbrev pub IsNextOrNone : List BitSet → BitSet → Option ℕ → Type 0
 IsNextOrNone before listed next = MatchOption next ((c : ℕ) → IsReadyIn before listed c → ⊥) (IsNextIn before listed)
 
 -- ranks, or none where some class is on a cycle
-abbrev pub IsRanking : List ClassSet → Option (Vec ℕ Global) → Type 0
+abbrev pub IsRanking : List BitSet → Option (Vec ℕ Global) → Type 0
 IsRanking before ranks = MatchOption ranks (HasCycle before) (λ r. AreRanksIn before r.items)
 
 -- a cycle, or none where the class is on none
-abbrev pub IsCycleThrough : List ClassSet → ℕ → Option (Vec ℕ Global) → Type 0
+abbrev pub IsCycleThrough : List BitSet → ℕ → Option (Vec ℕ Global) → Type 0
 IsCycleThrough before c cycle = MatchOption cycle (IsOnCycle before c → ⊥) (λ list. IsCycle (InTable before) list.items)
 
 -- ---- what is added
 
 -- the table has exactly the edges of a relation
-abbrev pub HasEdgesOf : List ClassSet → (ℕ → ℕ → Type 0) → Type 0
+abbrev pub HasEdgesOf : List BitSet → (ℕ → ℕ → Type 0) → Type 0
 HasEdgesOf before R = (c d : ℕ) → Decides (has_edge before c d) (R c d)
 
 -- and those that it had
-abbrev pub AddsEdges : List ClassSet → List ClassSet → (ℕ → ℕ → Type 0) → Type 0
+abbrev pub AddsEdges : List BitSet → List BitSet → (ℕ → ℕ → Type 0) → Type 0
 AddsEdges old new R = HasEdgesOf new (λ c d. InTable old c d ⊎ R c d)
 
 -- an edge from each class of a set to one
-abbrev pub AddsEach : List ClassSet → List ClassSet → ClassSet → ℕ → Type 0
-AddsEach old new from to = (c d : ℕ) → has_edge new c d ≡ (has_edge old c d || (d == to && has_class from c))
+abbrev pub AddsEach : List BitSet → List BitSet → BitSet → ℕ → Type 0
+AddsEach old new from to = (c d : ℕ) → has_edge new c d ≡ (has_edge old c d || (d == to && has_number from c))

@@ -3,7 +3,7 @@ use Rattle.std.specs.Prelude.{◌≡◌, ◌⊎◌, ◌<◌, ℕ, List, [], ◌�
 use Rattle.std.specs.List.{All, AllPairs, Contains}
 use Rattle.core_lang.specs.declared.typed.Typed.{Typed}
 use Rattle.points.specs.declared.table.Points.{Points}
-use Rattle.lockorder.specs.declared.class_set.ClassSet.{ClassSet}
+use Rattle.bit_set.specs.declared.set.BitSet.{BitSet}
 use Rattle.lockorder.specs.declared.ranks.ClassPair.{ClassPair}
 use Rattle.lockorder.specs.declared.ranks.Edge.{Edge}
 use Rattle.lockorder.specs.ClassPairs.{Precedes}
@@ -70,7 +70,7 @@ abbrev pub AreBetween : ℕ → List (ℕ × ℕ) → Type 0
 AreBetween classes pairs = All (λ (pair : ℕ × ℕ). (pair.0 < classes) × (pair.1 < classes)) pairs
 
 -- those that a table has, in rising order
-pub record ArePairsOf (before : List ClassSet) (pairs : List (ℕ × ℕ)) : Type 0 where
+pub record ArePairsOf (before : List BitSet) (pairs : List (ℕ × ℕ)) : Type 0 where
   pub true : All (λ (pair : ℕ × ℕ). InTable before pair.0 pair.1) pairs
   pub rising : AllPairs Precedes pairs
   pub all : (c d : ℕ) → InTable before c d → Contains pairs (c, d)

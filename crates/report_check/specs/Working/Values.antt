@@ -1,15 +1,19 @@
 -- What values of the code say, in the words of the text of `check`.
-use Rattle.std.specs.Prelude.{ℕ, List, map}
+use Rattle.std.specs.Prelude.{◌≡◌, ℕ, List, map, slice_get, Some}
 use Rattle.flow.specs.declared.points.PointRef.{PointRef}
 use Rattle.flow.specs.Working.PointList.{point_at}
 use Rattle.inserter.specs.Placement.{lists_of, all_lists}
+use Rattle.locks.specs.LockPaths.{lock_paths}
+use Rattle.locks.specs.Texts.{path_text}
+use Rattle.rope.specs.Working.Ropes.{RopeOf}
 use Rattle.report_check.specs.declared.section_text.SectionText.{SectionText}
 use Rattle.report_check.specs.declared.check.Check.{Check}
-use Rattle.report_check.specs.Check.{numbered_path, taken_text, take_text, take_texts, section_text, section_texts, check_text}
+use Rattle.report_check.specs.Check.{taken_text, take_text, take_texts, section_text, section_texts, check_text}
 
 -- of a section
-abbrev pub numbered_path_of : SectionText → ℕ → List ℕ
-numbered_path_of x i = numbered_path x.program.now x.section.now i
+-- the rope keeps the texts of its lock paths
+abbrev pub HasPaths : SectionText → RopeOf → Type 0
+HasPaths x rope = slice_get rope.groups x.group ≡ Some (map (path_text x.program.now x.section.now) (lock_paths x.program.now x.section.now))
 
 abbrev pub taken_text_of : SectionText → List ℕ → List ℕ
 taken_text_of x list = taken_text x.program.now x.section.now list

@@ -50,16 +50,14 @@ abbrev pub cells_together : Plan → List Lock → ℕ
 cells_together plan locks = sum_by (λ (lock : Lock). length (cells_of plan.layout.cell_locks lock)) locks
 
 -- its ticket and its machine are its own, and there is room for all locks
-pub record IsKeptOpen (o : OpenOf) (ticket : TicketOf) (run : RunOf) (held : List Lock) (held_room pending_room : ℕ) : Type 0 where
+pub record IsKeptOpen (o : OpenOf) (ticket : TicketOf) (run : RunOf) (pending_room : ℕ) : Type 0 where
   pub is_open : IsOpen o
   pub ticket_is : ticket ≡ ticket_of o
   pub layout : run.layout ≡ o.plan.layout
   pub locks : run.locks ≡ o.activation.held
-  pub held_are : held ≡ o.activation.held
   pub operands : run.operand_room ≡ o.room.operands
   pub lock_room : run.lock_room ≡ o.room.locks
   pub cell_room : run.cell_room ≡ o.room.cells
-  pub held_fits : o.room.locks ≤ held_room
   pub pending_fits : o.room.locks ≤ pending_room
   pub cells : length o.activation.machine.memory.cells ≡ cells_together o.plan o.activation.held
 
@@ -88,9 +86,7 @@ pub record IsBeginning (p : Beginning) : Type 0 where
   pub fits : CanCall p.program.now.program p.section p.arguments.items
   pub room_is : IsRoomAt p.program.now p.section p.room
   pub run_is : p.machine.value ≡ at_first (locals_at p.program.now (its_call p)) p.program.now.layout p.room
-  pub none_held : p.held.items ≡ []
   pub none_pending : p.pending.items ≡ []
-  pub held_fits : p.room.locks ≤ vec_capacity p.held
   pub pending_fits : p.room.locks ≤ vec_capacity p.pending
 
 -- it begins where the history is so long

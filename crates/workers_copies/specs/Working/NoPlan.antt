@@ -36,5 +36,5 @@ no_plan = record {
   program = no_program;
   ranks = [];
   lists = [];
-  layout = record { opening = []; cell_locks = []; locks = []; first_finals = []; finals = [] };
+  layout = record { opening = []; cell_locks = []; locks = [] };
 }

@@ -11,7 +11,7 @@ use Rattle.code.specs.Alone.{alone}
 use Rattle.code.specs.Working.Laws.{on_heap}
 use Rattle.history.specs.Commits.{committed, IsLegal, AreTrue}
 use Rattle.lowering.specs.Plans.{Plan, IsCompiled}
-use Rattle.worlds.specs.Asking.{among}
+use Rattle.locks.specs.Locks.{among}
 use Rattle.worlds.specs.Worlds.{World, Activation, section_at, code_at, locals_at, happens, opening_world, HasOpen}
 use Rattle.worlds.specs.Claims.{HoldsCell}
 

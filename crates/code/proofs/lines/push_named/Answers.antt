@@ -1,7 +1,7 @@
 use Rattle.std.proofs.Common.{string_bytes}
 use Rattle.std.proofs.lemmas.Result.{on_ok_weaker}
 use Rattle.locks.specs.Theory.Written.{piece_added}
-use Rattle.code.proofs.Written.{found_added, none_added}
+use Rattle.code.specs.Theory.Written.{found_added, none_added}
 use Rattle.code.proofs.lines.push_named.Goals as goal
 
 pub returns-in-Some : goal.returns-in-Some

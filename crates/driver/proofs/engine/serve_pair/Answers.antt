@@ -4,7 +4,7 @@ use Rattle.std.proofs.lemmas.Result.{IfOk-weaker}
 use Rattle.source.specs.Texts.{SOURCE_LIMIT}
 use Rattle.driver.specs.Working.Answering.{PairWanted}
 use Rattle.driver.specs.Answers.{Beside, TextAnswers}
-use Rattle.driver.specs.Engines.{reading_of, IsReadOut, IsUnread}
+use Rattle.driver.specs.Engines.{reading_of, IsReadOut}
 use Rattle.driver.specs.Streams.{name_of, reader_of}
 use Rattle.driver.proofs.AnswerLemmas.{pair_is_answered}
 use Rattle.driver.proofs.LongTexts.{answers_of_whole, read_or_long, whole_text, read_out}

@@ -1,4 +1,5 @@
-use Rattle.std.proofs.Common.{refl}
+use Rattle.std.proofs.Common.{refl, ap, ◌∙◌}
+use Rattle.rope.specs.Working.Ropes.{rope_text}
 use Rattle.driver.specs.Explanations.{faultless}
 use Rattle.driver.proofs.explaining.order_explained.Goals as goal
 
@@ -13,6 +14,6 @@ returns c = faultless (record {
   notes = _;
   tell = rw (c.deref.ensures.value, ← c.deref-2.ensures.value) at c.in_ok-notes.ensures;
   ended = refl;
-  written = c.in_ok-acceptance_told.ensures;
+  written = ap rope_text c.of.ensures ∙ c.in_ok-acceptance_told.ensures;
   told = c.new.ensures.bytes;
 })

@@ -1,7 +1,5 @@
-use Rattle.std.proofs.Common.{◌≡◌, ◌∙◌, ℕ, ◌+◌, ◌<◌, List, [], ◌∷◌, ◌++◌, length, map, drop, drop-cons, add-one, get_or, slice_set, Some, ap, sym, subst, refl}
+use Rattle.std.proofs.Common.{◌≡◌, ℕ, ◌+◌, ◌<◌, List, [], ◌∷◌, ◌++◌, length, map, drop, drop-cons, add-one, get_or, slice_set, ap, sym, subst, refl}
 use Rattle.std.proofs.lemmas.List.{map-append}
-use Rattle.core_lang.specs.Serial.{Scheduled}
-use Rattle.driver.specs.Outcomes.{scheduled_next}
 use Rattle.driver.specs.Working.Running.{scheduled_of}
 use Rattle.driver.proofs.OrderLemmas.{IsAlong, along_further, never_stuck, step_is}
 use Rattle.driver.proofs.order_calls.order_calls.Goals as goal

@@ -6,11 +6,12 @@ use Rattle.core_lang.specs.declared.typed.Cell.{Cell}
 use Rattle.core_lang.specs.Serial.{opening_heap}
 use Rattle.locks.specs.declared.lock.Lock.{Lock}
 use Rattle.layout.specs.Layouts.{LayoutOf, AreDistinct}
-use Rattle.layout.proofs.Lists.{read_at, map_at, take_one_more, taken_whole, same_items}
+use Rattle.layout.proofs.Lists.{map_at, take_one_more, taken_whole}
 use Rattle.layout.proofs.Listed.{listed}
 use Rattle.layout.proofs.Found.{below_end}
 use Rattle.layout.proofs.Laid.{AreLocked, one_locked, laid_out}
 use Rattle.layout.proofs.program_layout.lay_out.Goals as goal
+use Rattle.core_lang.specs.Theory.Items.{read_at}
 
 pub loop-cell-init : goal.loop-cell-init
 loop-cell-init c =
@@ -18,8 +19,6 @@ loop-cell-init c =
     let cell_locks = ap (λ (v : LayoutOf). v.cell_locks) e in
     record {
       locks = ap (λ (v : LayoutOf). v.locks) e ∙ c.in_ok-numbering.ensures.locks;
-      first_finals = ap (λ (v : LayoutOf). v.first_finals) e ∙ c.in_ok-numbering.ensures.finals;
-      finals = ap (λ (v : LayoutOf). v.finals) e ∙ same_items c.args.program.now.shape.finals.items c.in_ok-finals.finals.items c.in_ok-finals.ensures.cases.0;
       opening = ap (λ (v : LayoutOf). v.opening) e;
       long = ap length cell_locks;
       cell_locks = λ k lt. absurd (omega (arith, lt));
@@ -46,8 +45,6 @@ loop-cell-preserved c =
     let cell_locks = ap (λ (v : LayoutOf). v.cell_locks) e in
     record {
       locks = ap (λ (v : LayoutOf). v.locks) e ∙ i.locks;
-      first_finals = ap (λ (v : LayoutOf). v.first_finals) e ∙ i.first_finals;
-      finals = ap (λ (v : LayoutOf). v.finals) e ∙ i.finals;
       opening = ap (λ (v : LayoutOf). v.opening) e ∙ ap (λ vs. vs ++ c.index.result.now.opening ∷ []) i.opening
           ∙ rw add-one (sym (take_one_more (opening_heap program) n c.index.result.now.opening opens));
       long = ap length cell_locks ∙ length-append old.cell_locks _ ∙ ap (λ k. k + 1) i.long;
@@ -65,7 +62,7 @@ returns c =
     i.opening ∙ taken_whole (opening_heap program) c.loop-cell.cell (omega (arith, through, length-map program.cells.items (λ (x : Cell). x.opening))) in
     let locks = c.in_ok-numbering.ensures.locks ∙ sym i.locks in
     laid_out program layout c.requires opening (i.long ∙ through) (subst (λ (n : ℕ). AreLocked program n layout.cell_locks) through i.cell_locks) i.locks
-    (subst AreDistinct locks c.in_ok-numbering.ensures.distinct) i.first_finals i.finals
+    (subst AreDistinct locks c.in_ok-numbering.ensures.distinct)
 
 pub lock_of_cell-requires-clause-cell : goal.lock_of_cell-requires-clause-cell
 lock_of_cell-requires-clause-cell c = below_end c.loop-cell.cell c.len-cell-end.result _ (length c.args.program.now.cells.items) c.loop-cell-test.true c.len-cell-end.ensures c.args.program.now.cells.ok.0

@@ -1,7 +1,7 @@
 use Rattle.std.proofs.Common.{◌∙◌, length, sym}
-use Rattle.layout.proofs.Lists.{read_at}
 use Rattle.layout.proofs.Found.{below_same, pool_within, structure_within, fields_read}
 use Rattle.layout.proofs.protection.lock_fields.Goals as goal
+use Rattle.core_lang.specs.Theory.Items.{read_at}
 
 pub index-requires-2 : goal.index-requires-2
 index-requires-2 c =

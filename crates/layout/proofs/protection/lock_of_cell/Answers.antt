@@ -1,9 +1,9 @@
 use Rattle.std.proofs.Common.{◌≡◌, Some, sym, ap, ◌∙◌, subst}
 use Rattle.std.specs.Prelude.{is_some}
 use Rattle.locks.specs.Locks.{IsLock}
-use Rattle.layout.proofs.Lists.{read_at}
 use Rattle.layout.proofs.Locked.{cell_locked, of_cell}
 use Rattle.layout.proofs.protection.lock_of_cell.Goals as goal
+use Rattle.core_lang.specs.Theory.Items.{read_at}
 
 pub unwrap-requires : goal.unwrap-requires
 unwrap-requires c =

@@ -1,5 +1,6 @@
 use Rattle.std.proofs.Common.{◌∙◌, None, Some, sym}
-use Rattle.layout.proofs.Found.{item_here, item_past, of_global, of_element}
+use Rattle.layout.proofs.Found.{of_global, of_element}
+use Rattle.locks.specs.Theory.Written.{item_here, item_past}
 use Rattle.layout.proofs.protection.protecting.Goals as goal
 
 pub returns-in_ok-class-in-Element : goal.returns-in_ok-class-in-Element

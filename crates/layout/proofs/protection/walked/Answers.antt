@@ -1,6 +1,7 @@
 use Rattle.std.proofs.Common.{◌∙◌, None, Some, sym, ap}
 use Rattle.locks.specs.Locks.{led_to}
-use Rattle.layout.proofs.Found.{item_here, item_past, no_class, of_global_class, of_field_class}
+use Rattle.layout.proofs.Found.{no_class, of_global_class, of_field_class}
+use Rattle.locks.specs.Theory.Written.{item_here, item_past}
 use Rattle.layout.proofs.protection.walked.Goals as goal
 
 pub returns-in_err-object-in-Field : goal.returns-in_err-object-in-Field

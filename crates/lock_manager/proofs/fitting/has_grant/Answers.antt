@@ -1,7 +1,7 @@
 use Rattle.std.proofs.Common.{sym, ◌∙◌}
 use Rattle.moved_cells.specs.Working.Grants.{GrantOf}
 use Rattle.lock_manager.proofs.Lists.{is_mapped, not_mapped_more, not_mapped}
-use Rattle.lock_manager.proofs.Numbers.{same_is, other_than}
+use Rattle.locks.specs.Theory.Order.{same_is, other_than}
 use Rattle.lock_manager.proofs.fitting.has_grant.Goals as goal
 
 pub loop-grant-preserved : goal.loop-grant-preserved

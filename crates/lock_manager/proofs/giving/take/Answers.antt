@@ -1,7 +1,8 @@
 use Rattle.std.proofs.Common.{ap, ◌∙◌, sym, Some}
 use Rattle.lock_manager.specs.declared.places.LockPlace.TheVariants.{Taken}
-use Rattle.lock_manager.proofs.Lists.{set_set, set_itself, read_at}
+use Rattle.lock_manager.proofs.Lists.{set_set}
 use Rattle.lock_manager.proofs.giving.take.Goals as goal
+use Rattle.core_lang.specs.Theory.Items.{set_itself, read_at}
 
 pub returns-in-Taken-clause-stay : goal.returns-in-Taken-clause-stay
 returns-in-Taken-clause-stay c =

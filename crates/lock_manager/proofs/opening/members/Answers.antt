@@ -1,8 +1,8 @@
 use Rattle.std.proofs.Common.{ℕ, ◌<◌, ◌≤◌, length, take, replicate, [], ◌∙◌, sym, ap, arith, subst}
 use Rattle.std.proofs.lemmas.Option.{slice_get_within}
-use Rattle.lock_manager.proofs.Lists.{read_at}
 use Rattle.lock_manager.proofs.Members.{none_yet, cell_added, as_many, all_cells}
 use Rattle.lock_manager.proofs.opening.members.Goals as goal
+use Rattle.core_lang.specs.Theory.Items.{read_at}
 
 pub loop-cell-init : goal.loop-cell-init
 loop-cell-init c = c.in_ok-all.ensures ∙ ap (λ (n : ℕ). replicate n []) c.locks_count.ensures ∙ sym (none_yet c.args.layout.now.locks)

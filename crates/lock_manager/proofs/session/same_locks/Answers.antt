@@ -1,9 +1,9 @@
 use Rattle.std.proofs.Common.{◌≡◌, ◌≤◌, ◌<◌, ℕ, Bool, true, false, get_or, refl, sym, subst, ◌∙◌}
 use Rattle.std.specs.Prelude.{not}
 use Rattle.locks.specs.declared.lock.Lock.{Lock}
-use Rattle.layout.specs.LockCells.{same_lock}
+use Rattle.locks.specs.Locks.{same_lock}
 use Rattle.std.proofs.lemmas.List.{take_all, take_more_same}
-use Rattle.lock_manager.proofs.Numbers.{same_is}
+use Rattle.locks.specs.Theory.Order.{same_is}
 use Rattle.lock_manager.proofs.session.same_locks.Goals as goal
 
 not_false : (b : Bool) → not b ≡ false → b ≡ true

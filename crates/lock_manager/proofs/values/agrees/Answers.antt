@@ -1,10 +1,11 @@
 use Rattle.std.proofs.Common.{ap, ◌∙◌, sym, Some, subst, refl}
 use Rattle.std.proofs.lemmas.Option.{slice_get-get_or}
 use Rattle.lock_manager.proofs.Heaps.{agrees_more, agrees_at, beyond}
-use Rattle.lock_manager.proofs.Lists.{never_both, both_false, some_same}
+use Rattle.lock_manager.proofs.Lists.{never_both}
 use Rattle.code.specs.Memory.{Agrees}
 use Rattle.std.proofs.lemmas.List.{take_all}
 use Rattle.lock_manager.proofs.values.agrees.Goals as goal
+use Rattle.core_lang.specs.Theory.Items.{both_false, some_same}
 
 pub returns-then-cell-values : goal.returns-then-cell-values
 returns-then-cell-values c =

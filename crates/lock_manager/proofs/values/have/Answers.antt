@@ -1,11 +1,12 @@
 use Rattle.std.proofs.Common.{ap, ◌∙◌, sym, Some, subst, refl, take, ℕ, List, ◌≤◌}
 use Rattle.code.specs.Memory.{overwritten, Agrees}
 use Rattle.lock_manager.proofs.Heaps.{have_at, have_more}
-use Rattle.lock_manager.proofs.Lists.{never_both, both_false, some_same}
+use Rattle.lock_manager.proofs.Lists.{never_both}
 use Rattle.std.proofs.lemmas.List.{take_all}
 use Rattle.core_lang.specs.declared.value.Value.{Value}
 use Rattle.moved_cells.specs.Working.Grants.{numbered}
 use Rattle.lock_manager.proofs.values.have.Goals as goal
+use Rattle.core_lang.specs.Theory.Items.{both_false, some_same}
 
 pub returns-then-not-same : goal.returns-then-not-same
 returns-then-not-same c =

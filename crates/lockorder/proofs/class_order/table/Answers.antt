@@ -4,10 +4,10 @@ use Rattle.std.proofs.lemmas.Bool.{both_ways}
 use Rattle.std.proofs.lemmas.Option.{slice_get_within}
 use Rattle.lockorder.specs.Working.Tables.{has_edge}
 use Rattle.lockorder.specs.Working.Sections.{MakesSomewhere}
-use Rattle.lockorder.proofs.Lists.{item_at}
 use Rattle.lockorder.proofs.InSection.{joined_by}
 use Rattle.lockorder.proofs.Bridge.{MakesIn, classes_within, somewhere_makes, makes_somewhere}
 use Rattle.lockorder.proofs.class_order.table.Goals as goal
+use Rattle.core_lang.specs.Theory.Items.{get_some}
 
 pub loop-section-init : goal.loop-section-init
 loop-section-init c = record {
@@ -22,7 +22,7 @@ pub add_to-requires : goal.add_to-requires
 add_to-requires c =
     let program = c.args.program.now in
     let k = c.loop-section.section in
-    let s = item_at program.sections.items k (omega (arith, c.loop-section-test.true, c.len-section-end.ensures, program.sections.ok.0)) in
+    let s = get_some program.sections.items k (omega (arith, c.loop-section-test.true, c.len-section-end.ensures, program.sections.ok.0)) in
     subst (λ n. All (λ x. x < n) c.in_ok-points.points.classes.items) (sym c.loop-section.invariant.classes)
     (classes_within program c.requires.program c.each_path_once.ensures.listed c.paths_have_classes.ensures k s.0 s.1 c.in_ok-points.points
     (c.in_ok-points.ensures s.0 s.1))
@@ -32,7 +32,7 @@ loop-section-preserved c =
     let program = c.args.program.now in
     let k = c.loop-section.section in
     let x = c.in_ok-points.points in
-    let s = item_at program.sections.items k (omega (arith, c.loop-section-test.true, c.len-section-end.ensures, program.sections.ok.0)) in
+    let s = get_some program.sections.items k (omega (arith, c.loop-section-test.true, c.len-section-end.ensures, program.sections.ok.0)) in
     let are = c.in_ok-points.ensures s.0 s.1 in
     record {
       classes = c.add_to.ensures.classes ∙ c.loop-section.invariant.classes;

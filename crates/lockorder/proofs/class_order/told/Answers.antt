@@ -1,11 +1,11 @@
 use Rattle.std.proofs.Common.{◌<◌, ℕ, List, length, ◌∙◌, sym, ap, subst, arith}
 use Rattle.lockorder.specs.Working.Tellings.{IsToldMore, AreBetween, AreClosed, pair_at, told_at}
-use Rattle.lockorder.proofs.Lists.{item_at}
 use Rattle.std.specs.List.{All}
 use Rattle.std.proofs.lemmas.Option.{slice_get_within}
 use Rattle.lockorder.proofs.Bridge.{classes_within, edges_between, made_somewhere, at_makes, makes_at_points, makes_somewhere}
 use Rattle.lockorder.proofs.Tells.{none_are_told, are_told_more, all_told, closed_pairs}
 use Rattle.lockorder.proofs.class_order.told.Goals as goal
+use Rattle.core_lang.specs.Theory.Items.{get_some}
 
 pub loop-section-init : goal.loop-section-init
 loop-section-init c = record {
@@ -17,7 +17,7 @@ pub tell-requires-clause-made : goal.tell-requires-clause-made
 tell-requires-clause-made c =
     let program = c.args.program.now in
     let k = c.loop-section.section in
-    let s = item_at program.sections.items k (omega (arith, c.loop-section-test.true, c.len-section-end.ensures, program.sections.ok.0)) in
+    let s = get_some program.sections.items k (omega (arith, c.loop-section-test.true, c.len-section-end.ensures, program.sections.ok.0)) in
     made_somewhere program c.requires.program c.each_path_once.ensures.listed c.paths_have_classes.ensures k s.0 s.1 c.in_ok-points.points
     (c.in_ok-points.ensures s.0 s.1)
 
@@ -26,7 +26,7 @@ loop-section-preserved c =
     let program = c.args.program.now in
     let k = c.loop-section.section in
     let x = c.in_ok-points.points in
-    let s = item_at program.sections.items k (omega (arith, c.loop-section-test.true, c.len-section-end.ensures, program.sections.ok.0)) in
+    let s = get_some program.sections.items k (omega (arith, c.loop-section-test.true, c.len-section-end.ensures, program.sections.ok.0)) in
     let are = c.in_ok-points.ensures s.0 s.1 in
     let i = c.loop-section.invariant in
     record {
@@ -49,7 +49,7 @@ pub table-requires-clause-within : goal.table-requires-clause-within
 table-requires-clause-within c =
     let program = c.args.program.now in
     let k = c.loop-section.section in
-    let s = item_at program.sections.items k (omega (arith, c.loop-section-test.true, c.len-section-end.ensures, program.sections.ok.0)) in
+    let s = get_some program.sections.items k (omega (arith, c.loop-section-test.true, c.len-section-end.ensures, program.sections.ok.0)) in
     subst (λ n. All (λ x. x < n) c.in_ok-points.points.classes.items) (sym (c.len.ensures ∙ program.classes.ok.0))
     (classes_within program c.requires.program c.each_path_once.ensures.listed c.paths_have_classes.ensures k s.0 s.1 c.in_ok-points.points
     (c.in_ok-points.ensures s.0 s.1))

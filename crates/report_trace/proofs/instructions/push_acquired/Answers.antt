@@ -2,7 +2,7 @@ use Rattle.std.proofs.Common.{◌≡◌, ◌++◌, ℕ, List, [], Vec, Global, s
 use Rattle.std.specs.Option.{option_map_or}
 use Rattle.std.proofs.lemmas.Result.{on_ok_weaker}
 use Rattle.code.specs.Listing.{paths_text}
-use Rattle.report_trace.proofs.Written.{found_added, none_added}
+use Rattle.code.specs.Theory.Written.{found_added, none_added}
 use Rattle.report_trace.proofs.instructions.push_acquired.Goals as goal
 
 pub returns-in-Some : goal.returns-in-Some

@@ -11,8 +11,8 @@ pub invariant_of-result : goal.invariant_of-result
 invariant_of-result c =
     let x = c.opened.inside in
     let p = c.into_parts-place.result in
-    let apart : IsTakenApart x.program.now x.ticket x.step x.section x.arguments.items x.machine.value x.held.items x.pending.items x.asked
-    (vec_capacity x.held) (vec_capacity x.pending) c.args.outcome
+    let apart : IsTakenApart x.program.now x.ticket x.step x.section x.arguments.items x.machine.value x.pending.items x.asked
+    (vec_capacity x.pending) c.args.outcome
     p c.thread-thread.result c.begun-begun.result =
     record {
       kept = c.opened.invariant;
@@ -25,8 +25,8 @@ invariant_of-result c =
     subst (λ (k : Kept).
     IsKeptEnded (ended_as x.program.now x.ticket x.step p.place k.operands.stack k.locals.items p.parts.grants.items k.entry x.asked)
     x.ticket p.parts.grants.items k.entry) (sym c.replace-nothing.ensures.after)
-    (kept_ended x.program.now x.ticket x.step x.section x.arguments.items x.machine.value x.held.items x.pending.items x.asked
-    (vec_capacity x.held) (vec_capacity x.pending) c.args.outcome
+    (kept_ended x.program.now x.ticket x.step x.section x.arguments.items x.machine.value x.pending.items x.asked
+    (vec_capacity x.pending) c.args.outcome
     p c.thread-thread.result c.begun-begun.result
     c.sections_stay_in_order.ensures apart)
 
@@ -34,8 +34,8 @@ pub returns : goal.returns
 returns c =
     let x = c.opened.inside in
     let p = c.into_parts-place.result in
-    let apart : IsTakenApart x.program.now x.ticket x.step x.section x.arguments.items x.machine.value x.held.items x.pending.items x.asked
-    (vec_capacity x.held) (vec_capacity x.pending) c.args.outcome
+    let apart : IsTakenApart x.program.now x.ticket x.step x.section x.arguments.items x.machine.value x.pending.items x.asked
+    (vec_capacity x.pending) c.args.outcome
     p c.thread-thread.result c.begun-begun.result =
     record {
       kept = c.opened.invariant;
@@ -48,7 +48,7 @@ returns c =
     ap (λ (k : Kept).
     ended_as x.program.now x.ticket x.step p.place k.operands.stack k.locals.items p.parts.grants.items k.entry x.asked)
     c.replace-nothing.ensures.after
-    ∙ ended_is x.program.now x.ticket x.step x.section x.arguments.items x.machine.value x.held.items x.pending.items x.asked
-    (vec_capacity x.held) (vec_capacity x.pending) c.args.outcome
+    ∙ ended_is x.program.now x.ticket x.step x.section x.arguments.items x.machine.value x.pending.items x.asked
+    (vec_capacity x.pending) c.args.outcome
     p c.thread-thread.result c.begun-begun.result apart
     ∙ ap (λ (s : OpenOf). over_by s c.args.outcome) c.opened.view_is

@@ -1,7 +1,7 @@
 use Rattle.std.proofs.Common.{List, length, refl, sym, ap, ◌∙◌, arith}
 use Rattle.std.proofs.lemmas.Option.{slice_get_read}
 use Rattle.core_lang.specs.declared.value.Value.{Value}
-use Rattle.runner_cells.proofs.Places.{same_is, other_than}
+use Rattle.locks.specs.Theory.Order.{same_is, other_than}
 use Rattle.runner_cells.proofs.Granted.{count_more, count_within, earlier_more}
 use Rattle.runner_cells.proofs.finding.find.Goals as goal
 

@@ -4,7 +4,7 @@ use Rattle.std.specs.Option.{option_map_or}
 use Rattle.std.proofs.lemmas.Result.{on_ok_weaker}
 use Rattle.code.specs.declared.names.StructNames.{StructNames}
 use Rattle.code.specs.Listing.{named}
-use Rattle.code.proofs.Written.{found_added, none_added}
+use Rattle.code.specs.Theory.Written.{found_added, none_added}
 use Rattle.code.proofs.lines.Lister.push_final.Goals as goal
 
 pub returns-in-Some : goal.returns-in-Some

@@ -1,6 +1,10 @@
-use Rattle.std.proofs.Common.{◌≡◌, ◌++◌, string_bytes, take}
+use Rattle.std.proofs.Common.{◌≡◌, ◌++◌, take}
+use Rattle.rope.specs.Working.Ropes.{rope_text}
 use Rattle.code.specs.Listing.{paths_text}
 use Rattle.code.proofs.section_code.SectionCode.push_paths.Given as goal
 
 abbrev pub invariant-loop-number : goal.invariant-loop-number
-invariant-loop-number l = string_bytes l.out ≡ string_bytes l.initial.out ++ paths_text l.self (take l.number-index l.list)
+invariant-loop-number l = record {
+  text : rope_text l.out ≡ rope_text l.initial.out ++ paths_text l.self (take l.number-index l.list);
+  groups : l.out.groups ≡ l.initial.out.groups;
+}

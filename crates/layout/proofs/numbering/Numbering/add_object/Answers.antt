@@ -1,22 +1,22 @@
 use Rattle.std.proofs.Common.{◌≡◌, ℕ, List, ◌+◌, ◌++◌, ◌∷◌, [], length, take, Some, is_ok, sym, ap, ◌∙◌, subst, arith, length-append}
 use Rattle.std.specs.Prelude.{slice_get}
-use Rattle.std.proofs.lemmas.List.{length-map, length-take-le, map_push}
+use Rattle.std.proofs.lemmas.List.{length-map, length-take-le}
 use Rattle.core_lang.specs.declared.typed.LockField.{LockField}
 use Rattle.locks.specs.declared.lock.Lock.{Lock}
 use Rattle.layout.specs.declared.places.ClassPlace.TheVariants as place
-use Rattle.layout.specs.declared.places.ObjectPlace.{ObjectPlace}
-use Rattle.layout.specs.Working.Numbers.{first_finals, locks_at}
-use Rattle.layout.proofs.Lists.{read_at, last_at, taken_whole}
+use Rattle.layout.specs.Working.Numbers.{locks_at}
+use Rattle.layout.proofs.Lists.{last_at, taken_whole}
 use Rattle.layout.proofs.Listed.{one_more_lock}
 use Rattle.layout.proofs.Numbered.{object_added, field_added}
 use Rattle.layout.proofs.numbering.Numbering.add_object.Goals as goal
+use Rattle.core_lang.specs.Theory.Items.{read_at}
 
 pub invariant_of-self : goal.invariant_of-self
 invariant_of-self c =
     let x = c.args.self.now in
     record {
       numbered = object_added (is_ok c.push.result) x.classes.items x.objects.items c.push.new.self.items x.locks.items
-          (record { first_lock = c.len-first_lock.result; first_final = c.args.first_final }) x.numbered c.push.ensures.items;
+          c.len-first_lock.result x.numbered c.push.ensures.items;
     }
 
 pub invariant_of-self-in-loop-field : goal.invariant_of-self-in-loop-field
@@ -26,7 +26,7 @@ invariant_of-self-in-loop-field c =
     let i = c.loop-field.invariant in
     let fields = c.args.fields.now in
     let l = c.loop-field.field-index in
-    let own : ObjectPlace = record { first_lock = c.len-first_lock.result; first_final = c.args.first_final } in
+    let own : ℕ = c.len-first_lock.result in
     let at = read_at fields l c.field-item.result c.loop-field-test.true c.field-item.is in
     let class_at : slice_get x.classes.items c.field-item.result.class ≡ Some (place.Field l) =
     subst (λ cs. slice_get cs c.field-item.result.class ≡ Some (place.Field l)) (sym i.classes) (c.requires.fields l c.field-item.result at) in
@@ -67,5 +67,5 @@ returns c =
       locks = i.locks ∙ ap (λ (fs : List LockField). old.locks.items ++ locks_at c.len-object.result fs) (taken_whole c.args.fields.now c.loop-field.field-index c.loop-field-test.false)
           ∙ ap (λ (n : ℕ). old.locks.items ++ locks_at n c.args.fields.now) (c.len-object.ensures ∙ old.objects.ok.0);
       classes = i.classes;
-      finals = ap first_finals i.objects ∙ map_push (λ (x : ObjectPlace). x.first_final) old.objects.items (record { first_lock = c.len-first_lock.result; first_final = c.args.first_final });
+      objects = i.objects ∙ ap (λ (n : ℕ). old.objects.items ++ n ∷ []) (c.len-first_lock.ensures ∙ old.locks.ok.0);
     }

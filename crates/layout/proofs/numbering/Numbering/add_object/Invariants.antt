@@ -6,5 +6,5 @@ abbrev pub invariant-loop-field : goal.invariant-loop-field
 invariant-loop-field l = record {
   locks : l.self.locks.items ≡ l.fn.self.locks.items ++ locks_at l.object (take l.field-index l.fields);
   classes : l.self.classes.items ≡ l.fn.self.classes.items;
-  objects : l.self.objects.items ≡ l.fn.self.objects.items ++ record { first_lock = l.first_lock; first_final = l.first_final } ∷ [];
+  objects : l.self.objects.items ≡ l.fn.self.objects.items ++ l.first_lock ∷ [];
 }

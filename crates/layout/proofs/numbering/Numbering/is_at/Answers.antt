@@ -1,4 +1,4 @@
-use Rattle.layout.proofs.Found.{item_here, item_past}
+use Rattle.locks.specs.Theory.Written.{item_here, item_past}
 use Rattle.layout.proofs.Placed.{is_same_lock}
 use Rattle.layout.proofs.Numbered.{none_there}
 use Rattle.layout.proofs.numbering.Numbering.is_at.Goals as goal

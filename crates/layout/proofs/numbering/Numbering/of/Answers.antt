@@ -1,15 +1,13 @@
-use Rattle.std.proofs.Common.{◌≡◌, ℕ, ◌+◌, ◌++◌, ◌∷◌, [], length, take, Some, sym, ap, ◌∙◌, subst, arith, add-one, length-append}
+use Rattle.std.proofs.Common.{◌≡◌, ℕ, ◌+◌, ◌++◌, length, Some, sym, ap, ◌∙◌, subst, length-append}
 use Rattle.std.specs.Prelude.{slice_get}
-use Rattle.std.proofs.lemmas.List.{append-nil, length-map}
-use Rattle.core_lang.specs.declared.shape.Object.{Object}
-use Rattle.layout.specs.declared.places.ObjectPlace.{ObjectPlace}
+use Rattle.std.proofs.lemmas.List.{append-nil}
 use Rattle.layout.specs.Layouts.{global_locks, object_locks, lock_fields, object_struct, if_global_lock}
-use Rattle.layout.specs.Working.Numbers.{KnowFields, AreFields, first_finals, program_finals, locks_at}
-use Rattle.layout.proofs.Lists.{read_at, map_at, take_one_more, taken_whole}
-use Rattle.layout.proofs.Found.{below_end, at_end, all_taken, few_objects}
+use Rattle.layout.specs.Working.Numbers.{KnowFields, AreFields, locks_at}
+use Rattle.layout.proofs.Found.{below_end, at_end, few_objects}
 use Rattle.layout.proofs.Numbered.{distinct}
 use Rattle.layout.proofs.Listed.{knows_more, fields_known, one_class, one_object}
 use Rattle.layout.proofs.numbering.Numbering.of.Goals as goal
+use Rattle.core_lang.specs.Theory.Items.{read_at}
 
 pub loop-class-preserved : goal.loop-class-preserved
 loop-class-preserved c =
@@ -42,37 +40,19 @@ loop-object-preserved c =
     let i = c.loop-object.invariant in
     let globals = global_locks program (length program.classes.items) in
     let fields = lock_fields (object_struct program n) in
-    let at : slice_get program.shape.objects.items n ≡ Some c.index.result.now =
-    read_at program.shape.objects.items n c.index.result.now (omega (arith, c.loop-object-test.true, c.len-object-end.ensures, program.shape.objects.ok.0)) c.index.ensures in
-    let first : slice_get (program_finals program.shape.objects.items) n ≡ Some c.index.result.now.finals =
-    map_at (λ (x : Object). x.finals) program.shape.objects.items n c.index.result.now at in
-    let finals : first_finals new.objects.items ≡ take (n + 1) (program_finals program.shape.objects.items) =
-    c.in_ok-add_object.ensures.finals ∙ ap (λ ls. ls ++ c.index.result.now.finals ∷ []) i.finals
-    ∙ rw add-one (sym (take_one_more (program_finals program.shape.objects.items) n c.index.result.now.finals first)) in
     record {
       fields = subst (KnowFields program (length program.classes.items)) (sym c.in_ok-add_object.ensures.classes) i.fields;
       locks = c.in_ok-add_object.ensures.locks ∙ ap (λ ls. ls ++ locks_at (length old.objects.items) c.lock_fields.result.now) i.locks
           ∙ ap (λ k. (globals ++ object_locks program n) ++ locks_at k c.lock_fields.result.now) i.objects
           ∙ ap (λ fs. (globals ++ object_locks program n) ++ locks_at n fs) c.lock_fields.ensures
           ∙ one_object program globals n;
-      finals = finals;
-      objects = sym (length-map new.objects.items (λ (x : ObjectPlace). x.first_final)) ∙ ap length c.in_ok-add_object.ensures.finals
-          ∙ length-append (first_finals old.objects.items) _ ∙ ap (λ k. k + 1) (length-map old.objects.items (λ (x : ObjectPlace). x.first_final) ∙ i.objects);
+      objects = ap length c.in_ok-add_object.ensures.objects ∙ length-append old.objects.items _ ∙ ap (λ k. k + 1) i.objects;
     }
 
 pub returns-clause-distinct : goal.returns-clause-distinct
 returns-clause-distinct c =
     let x = c.loop-object.numbering in
     distinct x.classes.items x.objects.items x.locks.items x.numbered
-
-pub returns-clause-finals : goal.returns-clause-finals
-returns-clause-finals c =
-    let objects = c.args.program.now.shape.objects in
-    let n = c.loop-object.object in
-    c.loop-object.invariant.finals
-    ∙ taken_whole (program_finals objects.items) n
-    (all_taken (length (program_finals objects.items)) (length objects.items) _ c.len-object-end.result n (length-map objects.items (λ (x : Object). x.finals)) objects.ok.0 c.len-object-end.ensures
-    c.loop-object-test.false)
 
 pub returns-clause-locks : goal.returns-clause-locks
 returns-clause-locks c =
@@ -96,7 +76,6 @@ loop-object-init c =
     record {
       fields = subst (λ (n : ℕ). KnowFields program n c.loop-class.numbering.classes.items) through i.fields;
       locks = i.locks ∙ ap (global_locks program) through ∙ sym (append-nil (global_locks program (length program.classes.items)));
-      finals = ap first_finals i.objects;
       objects = ap length i.objects;
     }
 

@@ -1,6 +1,6 @@
-use Rattle.std.proofs.Common.{◌≡◌, [], ◌++◌, take, length}
+use Rattle.std.proofs.Common.{◌≡◌, [], ◌++◌, length}
 use Rattle.layout.specs.Layouts.{global_locks, object_locks}
-use Rattle.layout.specs.Working.Numbers.{KnowFields, first_finals, program_finals}
+use Rattle.layout.specs.Working.Numbers.{KnowFields}
 use Rattle.layout.proofs.numbering.Numbering.of.Given as goal
 
 abbrev pub invariant-loop-class : goal.invariant-loop-class
@@ -15,6 +15,5 @@ abbrev pub invariant-loop-object : goal.invariant-loop-object
 invariant-loop-object l = record {
   fields : KnowFields l.program (length l.program.classes.items) l.numbering.classes.items;
   locks : l.numbering.locks.items ≡ global_locks l.program (length l.program.classes.items) ++ object_locks l.program l.object;
-  finals : first_finals l.numbering.objects.items ≡ take l.object (program_finals l.program.shape.objects.items);
   objects : length l.numbering.objects.items ≡ l.object;
 }

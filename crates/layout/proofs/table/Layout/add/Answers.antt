@@ -4,12 +4,12 @@ use Rattle.std.proofs.lemmas.List.{length-map}
 use Rattle.std.proofs.lemmas.Option.{slice_get_within}
 use Rattle.layout.specs.declared.places.CellPlace.{CellPlace}
 use Rattle.layout.specs.Layouts.{LayoutOf}
-use Rattle.layout.specs.Working.Numbers.{first_finals, ArePlaced}
-use Rattle.layout.proofs.Lists.{read_at}
+use Rattle.layout.specs.Working.Numbers.{ArePlaced}
 use Rattle.layout.proofs.Numbered.{distinct}
 use Rattle.layout.proofs.Placed.{offset_few, cell_added, one_longer, size_within}
 use Rattle.layout.proofs.table.Layout.add.Goals as goal
 use Rattle.layout.proofs.table.Layout.add.Goals.{In_ok-push}
+use Rattle.core_lang.specs.Theory.Items.{read_at}
 
 -- the size of the lock is the offset
 size_is : (c : In_ok-push) → slice_get c.self.inside.sizes.items c.number_of-number.result ≡ Some c.index-offset.result.now
@@ -49,7 +49,7 @@ pub returns : goal.returns
 returns c =
     let x = c.self.inside in
     one_longer c.args.self.now x.cells.items c.push.new.self.items (record { opening = c.args.opening; lock = c.args.lock; offset = c.index-offset.result.now })
-    x.numbering.locks.items (first_finals x.numbering.objects.items) x.finals.items c.self.view_is c.in_ok-push.ensures.items
+    x.numbering.locks.items c.self.view_is c.in_ok-push.ensures.items
 
 pub invariant_of-self : goal.invariant_of-self
 invariant_of-self c =

@@ -5,6 +5,7 @@ use Rattle.std.proofs.lemmas.Option.{slice_get_within}
 use Rattle.std.proofs.lemmas.List.Elements.{All-more}
 use Rattle.core_lang.specs.declared.value.Value.{Value}
 use Rattle.locks.specs.declared.lock.Lock.{Lock}
+use Rattle.locks.specs.Theory.Order.{is_contained}
 use Rattle.lock_manager.specs.Working.Calls.{IsOwnWrite}
 use Rattle.lock_manager.specs.Working.Committed.{CommittedOf}
 use Rattle.lock_manager.proofs.Lists.{all_fails, all_whole, never_both, one_place}
@@ -37,15 +38,15 @@ returns-then-cell-cells_count c =
     not_there c.self.inside.layout.now.cell_locks c.args.self.now.layout.cell_locks c.args.held.now (ap (λ (v : CommittedOf). v.layout.cell_locks) c.self.view_is) c.args.writes.now
     c.loop-cell.cell-index _ c.loop-cell-test.true c.cells_count.result c.cells_count.ensures c.if-cell-cells_count.true
 
-pub returns-then-not-holds : goal.returns-then-not-holds
-returns-then-not-holds c =
+pub returns-then-not-is_among : goal.returns-then-not-is_among
+returns-then-not-is_among c =
     not_held c.self.inside.layout.now.cell_locks c.args.self.now.layout.cell_locks c.args.held.now (ap (λ (v : CommittedOf). v.layout.cell_locks) c.self.view_is) c.args.writes.now
-    c.loop-cell.cell-index _ c.loop-cell-test.true c.lock_of.result c.holds.result c.lock_of.ensures.lock c.holds.ensures.1 c.if-not-holds.true
+    c.loop-cell.cell-index _ c.loop-cell-test.true c.lock_of.result c.is_among.result c.lock_of.ensures.lock (is_contained c.args.held.now c.lock_of.result c.is_among.result c.is_among.ensures).1 c.if-not-is_among.true
 
 pub loop-cell-preserved : goal.loop-cell-preserved
 loop-cell-preserved c =
     one_more c.self.inside.layout.now.cell_locks c.args.self.now.layout.cell_locks c.args.held.now (ap (λ (v : CommittedOf). v.layout.cell_locks) c.self.view_is) c.args.writes.now
-    c.loop-cell.cell-index _ c.loop-cell-test.true c.lock_of.result c.lock_of.ensures.lock (c.holds.ensures.0 c.if-not-holds.false) c.loop-cell.invariant
+    c.loop-cell.cell-index _ c.loop-cell-test.true c.lock_of.result c.lock_of.ensures.lock ((is_contained c.args.held.now c.lock_of.result c.is_among.result c.is_among.ensures).0 c.if-not-is_among.false) c.loop-cell.invariant
 
 pub returns : goal.returns
 returns c = all_whole (IsOwnWrite c.args.self.now.layout.cell_locks c.args.held.now) c.args.writes.now c.loop-cell.cell-index c.loop-cell.invariant c.loop-cell-test.false

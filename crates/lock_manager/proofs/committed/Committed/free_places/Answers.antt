@@ -5,10 +5,10 @@ use Rattle.core_lang.specs.declared.value.Value.{Value}
 use Rattle.moved_cells.specs.Working.Grants.{values_on}
 use Rattle.lock_manager.specs.declared.places.LockPlace.TheVariants.{Free}
 use Rattle.lock_manager.specs.Working.Committed.{CommittedOf, rows, members_of}
-use Rattle.lock_manager.proofs.Lists.{read_at, map_at}
 use Rattle.lock_manager.proofs.Members.{row_within, rows_long}
 use Rattle.lock_manager.proofs.GivenBack.{one_place_more, all_places}
 use Rattle.lock_manager.proofs.committed.Committed.free_places.Goals as goal
+use Rattle.core_lang.specs.Theory.Items.{read_at, map_at}
 
 pub cells_with-requires : goal.cells_with-requires
 cells_with-requires c =

@@ -4,10 +4,10 @@ use Rattle.std.specs.List.{All}
 use Rattle.std.proofs.lemmas.Option.{slice_get_within}
 use Rattle.layout.specs.LockCells.{cells_of}
 use Rattle.lock_manager.specs.Working.Committed.{CommittedOf}
-use Rattle.lock_manager.proofs.Lists.{read_at}
 use Rattle.lock_manager.proofs.Members.{rows_count, row_is, cells_within, within_same}
 use Rattle.lock_manager.proofs.committed.Committed.row.Goals.{After-as_slice}
 use Rattle.lock_manager.proofs.committed.Committed.row.Goals as goal
+use Rattle.core_lang.specs.Theory.Items.{read_at}
 
 -- the row of the lock
 found : (c : After-as_slice) → c.as_slice.result.now ≡ cells_of c.self.inside.layout.now.cell_locks c.args.lock

@@ -1,8 +1,8 @@
 use Rattle.std.proofs.Common.{◌<◌, ◌∙◌, length, subst, sym, ap}
 use Rattle.std.specs.Prelude.{slice_get}
 use Rattle.lock_manager.specs.Working.Committed.{CommittedOf}
-use Rattle.lock_manager.proofs.Lists.{read_at}
 use Rattle.lock_manager.proofs.committed.Committed.value.Goals as goal
+use Rattle.core_lang.specs.Theory.Items.{read_at}
 
 pub returns : goal.returns
 returns c =

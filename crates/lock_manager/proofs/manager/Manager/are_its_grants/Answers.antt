@@ -5,9 +5,9 @@ use Rattle.lock_manager.proofs.Rules.{listed_held}
 use Rattle.locks.specs.declared.lock.Lock.{Lock}
 use Rattle.lock_manager.specs.Working.Sessions.{SessionOf}
 use Rattle.lock_manager.specs.Working.Calls.{AreOf}
-use Rattle.lock_manager.proofs.Lists.{both_false, some_same}
 use Rattle.std.proofs.lemmas.Option.{none-some}
 use Rattle.lock_manager.proofs.manager.Manager.are_its_grants.Goals as goal
+use Rattle.core_lang.specs.Theory.Items.{both_false, some_same}
 
 pub are_of-requires : goal.are_of-requires
 are_of-requires c =

@@ -3,8 +3,9 @@ use Rattle.std.specs.List.{All, Contains}
 use Rattle.locks.specs.declared.lock.Lock.{Lock}
 use Rattle.moved_cells.specs.Working.Grants.{GrantOf, IsWhole}
 use Rattle.lock_manager.specs.Working.Managers.{Managed}
-use Rattle.lock_manager.proofs.Lists.{all_contained, all_from, both_false, never_both}
+use Rattle.lock_manager.proofs.Lists.{never_both}
 use Rattle.lock_manager.proofs.manager.Manager.are_of.Goals as goal
+use Rattle.core_lang.specs.Theory.Items.{all_contained, all_from, both_false}
 
 pub are_whole-requires : goal.are_whole-requires
 are_whole-requires c =

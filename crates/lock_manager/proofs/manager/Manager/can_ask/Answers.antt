@@ -2,10 +2,11 @@ use Rattle.std.proofs.Common.{List, subst, sym, ap, ◌∙◌}
 use Rattle.locks.specs.declared.lock.Lock.{Lock}
 use Rattle.lock_manager.specs.Working.Sessions.{SessionOf}
 use Rattle.lock_manager.specs.Working.Managers.{Managed, ComesAfter}
-use Rattle.lock_manager.proofs.Lists.{both_false, never_both}
+use Rattle.lock_manager.proofs.Lists.{never_both}
 use Rattle.std.specs.List.{Contains}
 use Rattle.lock_manager.specs.Working.Ties.{MayTake}
 use Rattle.lock_manager.proofs.manager.Manager.can_ask.Goals as goal
+use Rattle.core_lang.specs.Theory.Items.{both_false}
 
 pub returns-then-not-comes_after : goal.returns-then-not-comes_after
 returns-then-not-comes_after c =

@@ -1,11 +1,11 @@
 use Rattle.std.proofs.Common.{Some, set, length, List, Option, sym, ap, ◌∙◌, arith, ◌<◌, subst}
 use Rattle.lock_manager.specs.Working.Sessions.{SessionOf, with_lock}
 use Rattle.lock_manager.specs.Working.Managers.{session_in}
-use Rattle.lock_manager.proofs.Lists.{some_same}
 use Rattle.lock_manager.proofs.Slots.{none_there, some_there, slot_within}
 use Rattle.std.proofs.lemmas.Option.{none-some}
 use Rattle.std.proofs.Math.ListN.{length-set}
 use Rattle.lock_manager.proofs.sections.Sections.grant.Goals as goal
+use Rattle.core_lang.specs.Theory.Items.{some_same}
 
 pub unreachable-requires : goal.unreachable-requires
 unreachable-requires c =

@@ -4,7 +4,8 @@ use Rattle.std.proofs.lemmas.Bool.{both_ways, and_parts, and_from}
 use Rattle.std.proofs.lemmas.Option.{slice_get_within}
 use Rattle.locks.specs.Sets.{has}
 use Rattle.lockorder.specs.declared.table.Table.{Table}
-use Rattle.lockorder.specs.Working.Tables.{has_class, has_edge, InSet, InTable}
+use Rattle.lockorder.specs.Working.Tables.{has_edge, InSet, InTable}
+use Rattle.bit_set.specs.Working.Sets.{has_number}
 use Rattle.lockorder.specs.Working.Sections.{IsIn, IsOfClass}
 use Rattle.lockorder.proofs.Added.{below_end}
 use Rattle.lockorder.proofs.InSection.{joined, not_joined, class_read, class_decides}
@@ -23,9 +24,9 @@ loop-path-preserved c =
         edges = λ b d.
             let of = class_decides x n w.index.result.now d (class_read x n w.index.result.now lt w.index.ensures) in
             joined (λ i. IsIn c.args.bound i × IsOfClass x d i × InSet c.args.used b) n (InTable old b d) (has_edge c.loop-path.table.before.items b d) (has_edge c.if-contains.table.before.items b d)
-            (d == w.index.result.now && has_class c.args.used b) (c.loop-path.invariant.edges b d) (ap (λ (t : Table). has_edge t.before.items b d) w.table-is ∙ w.add.ensures.edges b d) (
-              λ h. let p = and_parts (d == w.index.result.now) (has_class c.args.used b) h in (sym c.contains.ensures ∙ w.if-contains.true, of.0 p.0, p.1),
-              λ h. and_from (d == w.index.result.now) (has_class c.args.used b) (of.1 h.1) h.2,
+            (d == w.index.result.now && has_number c.args.used b) (c.loop-path.invariant.edges b d) (ap (λ (t : Table). has_edge t.before.items b d) w.table-is ∙ w.add.ensures.edges b d) (
+              λ h. let p = and_parts (d == w.index.result.now) (has_number c.args.used b) h in (sym c.contains.ensures ∙ w.if-contains.true, of.0 p.0, p.1),
+              λ h. and_from (d == w.index.result.now) (has_number c.args.used b) (of.1 h.1) h.2,
             );
       }
       | else-contains w ↦ record {

@@ -3,8 +3,8 @@ use Rattle.std.specs.Prelude.{◌==◌}
 use Rattle.std.proofs.lemmas.Bool.{both_ways}
 use Rattle.std.proofs.lemmas.Option.{slice_get_within}
 use Rattle.locks.specs.Sets.{has}
-use Rattle.lockorder.specs.declared.class_set.ClassSet.{ClassSet}
-use Rattle.lockorder.specs.Working.Tables.{has_class}
+use Rattle.bit_set.specs.declared.set.BitSet.{BitSet}
+use Rattle.bit_set.specs.Working.Sets.{has_number}
 use Rattle.lockorder.specs.Working.Sections.{IsIn, IsOfClass}
 use Rattle.lockorder.proofs.InSection.{joined, not_joined, class_read, class_decides}
 use Rattle.lockorder.proofs.section_edges.SectionEdges.classes_of.Goals as goal
@@ -18,12 +18,12 @@ loop-path-preserved c d =
     elim c.if-contains.branch [
       | then-contains w ↦
           let of = class_decides x n w.index.result.now d (class_read x n w.index.result.now lt w.index.ensures) in
-          joined (λ i. IsIn c.args.set i × IsOfClass x d i) n ⊥ (has_class c.loop-path.classes d) (has_class c.if-contains.classes d) (d == w.index.result.now) (c.loop-path.invariant d)
-          (ap (λ (s : ClassSet). has_class s d) w.classes-is ∙ w.with-classes.ensures d)
+          joined (λ i. IsIn c.args.set i × IsOfClass x d i) n ⊥ (has_number c.loop-path.classes d) (has_number c.if-contains.classes d) (d == w.index.result.now) (c.loop-path.invariant d)
+          (ap (λ (s : BitSet). has_number s d) w.classes-is ∙ w.with-classes.ensures d)
           (λ h. (sym c.contains.ensures ∙ w.if-contains.true, of.0 h), λ h. of.1 h.1)
       | else-contains w ↦
-          not_joined (λ i. IsIn c.args.set i × IsOfClass x d i) n ⊥ (has_class c.loop-path.classes d) (has_class c.if-contains.classes d) (c.args.set.bits == n) (c.loop-path.invariant d)
-          (ap (λ (s : ClassSet). has_class s d) w.classes-is) (λ p. both_ways (has c.args.set n) (sym c.contains.ensures ∙ w.if-contains.false) p.0)
+          not_joined (λ i. IsIn c.args.set i × IsOfClass x d i) n ⊥ (has_number c.loop-path.classes d) (has_number c.if-contains.classes d) (c.args.set.bits == n) (c.loop-path.invariant d)
+          (ap (λ (s : BitSet). has_number s d) w.classes-is) (λ p. both_ways (has c.args.set n) (sym c.contains.ensures ∙ w.if-contains.false) p.0)
     ]
 
 pub returns : goal.returns

@@ -1,6 +1,7 @@
 use Rattle.std.proofs.Common.{inl, inr, sym, ◌∙◌, arith}
 use Rattle.std.proofs.lemmas.Bool.{cases_lt, both_ways}
-use Rattle.lockorder.specs.Working.Tables.{IsReadyIn, has_class}
+use Rattle.lockorder.specs.Working.Tables.{IsReadyIn}
+use Rattle.bit_set.specs.Working.Sets.{has_number}
 use Rattle.lockorder.proofs.InSection.{none_next}
 use Rattle.lockorder.proofs.table.Table.next.Goals as goal
 use Rattle.lockorder.proofs.table.Table.next.Goals.{else-not-contains-via-then-not-contains+else-is_behind, else-not-contains-via-else-not-contains}
@@ -9,7 +10,7 @@ pub returns-then-is_behind : goal.returns-then-is_behind
 returns-then-is_behind c = record {
   ready = record {
     class = omega (arith, c.loop-class-test.true, c.len-class-end.ensures, c.args.self.now.before.ok.0);
-    new = λ e. both_ways (has_class c.args.listed c.loop-class.class) (sym c.contains.ensures ∙ c.if-not-contains.true) e;
+    new = λ e. both_ways (has_number c.args.listed c.loop-class.class) (sym c.contains.ensures ∙ c.if-not-contains.true) e;
     listed_before = c.is_behind.ensures.0 c.if-is_behind.true;
   };
   lowest = λ d is. elim (cases_lt d c.loop-class.class) [ inl less ↦ absurd (c.loop-class.invariant d less is) | inr ge ↦ ge ];

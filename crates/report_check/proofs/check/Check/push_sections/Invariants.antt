@@ -1,4 +1,5 @@
-use Rattle.std.proofs.Common.{◌≡◌, ◌++◌, map, drop, string_bytes}
+use Rattle.std.proofs.Common.{◌≡◌, ◌++◌, map, drop}
+use Rattle.rope.specs.Working.Ropes.{rope_text}
 use Rattle.inserter.specs.Placement.{lists_of}
 use Rattle.report_check.specs.Check.{section_texts}
 use Rattle.report_check.proofs.check.Check.push_sections.Given as goal
@@ -10,8 +11,8 @@ invariant-loop-i l =
     let program = l.self.program.now in
     record {
       same : l.cursor.text.now ≡ text;
-      whole : string_bytes l.out
+      whole : rope_text l.out
           ++ section_texts text program (drop l.i program.sections.items) (map lists_of (drop l.i l.self.placed.now.sections.items))
-          ≡ string_bytes l.initial.out
+          ≡ rope_text l.initial.out
           ++ section_texts text program program.sections.items (map lists_of l.self.placed.now.sections.items);
     }

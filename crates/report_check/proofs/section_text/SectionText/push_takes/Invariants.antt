@@ -1,4 +1,5 @@
-use Rattle.std.proofs.Common.{◌≡◌, ◌++◌, map, drop, string_bytes}
+use Rattle.std.proofs.Common.{◌≡◌, ◌++◌, map, drop}
+use Rattle.rope.specs.Working.Ropes.{rope_text}
 use Rattle.flow.specs.Working.PointList.{point_at}
 use Rattle.report_check.specs.Check.{take_texts}
 use Rattle.report_check.proofs.section_text.SectionText.push_takes.Given as goal
@@ -12,7 +13,8 @@ invariant-loop-i l =
     let lists = l.self.lists.now.before.items in
     record {
       same : l.cursor.text.now ≡ text;
-      whole : string_bytes l.out
+      groups : l.out.groups ≡ l.initial.out.groups;
+      whole : rope_text l.out
           ++ take_texts text program section (map point_at (drop l.i l.points)) (map (λ list. list.items) (drop l.i lists))
-          ≡ string_bytes l.initial.out ++ take_texts text program section (map point_at l.points) (map (λ list. list.items) lists);
+          ≡ rope_text l.initial.out ++ take_texts text program section (map point_at l.points) (map (λ list. list.items) lists);
     }

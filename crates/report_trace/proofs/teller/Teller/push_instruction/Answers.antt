@@ -1,4 +1,4 @@
-use Rattle.std.proofs.Common.{◌≡◌, ◌∙◌, ◌++◌, List, [], Some, None, length, slice_get, string_bytes, refl, ap}
+use Rattle.std.proofs.Common.{◌∙◌, ◌++◌, [], string_bytes, ap}
 use Rattle.std.specs.Option.{option_map_or}
 use Rattle.std.proofs.lemmas.Result.{on_ok_weaker}
 use Rattle.locks.specs.Theory.Written.{item_here, item_past}

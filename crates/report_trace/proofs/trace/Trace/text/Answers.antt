@@ -1,4 +1,4 @@
-use Rattle.std.proofs.Common.{◌≡◌, ◌∙◌, ◌++◌, string_bytes, ap}
+use Rattle.std.proofs.Common.{◌∙◌, ◌++◌, string_bytes, ap}
 use Rattle.source_steps.specs.Turns.{steps_of}
 use Rattle.report_trace.proofs.Steps.{trace_made}
 use Rattle.report_trace.proofs.trace.Trace.text.Goals as goal

@@ -1,7 +1,9 @@
 use Rattle.std.specs.Prelude.{◌≡◌, List, length, slice_get, Some, None}
 use Rattle.std.proofs.Common.{refl, sym, ap, ◌∙◌}
 use Rattle.std.proofs.lemmas.Option.{slice_get_read, slice_get_past}
+use Rattle.core_lang.specs.declared.typed.Typed.{Typed}
 use Rattle.locks.specs.declared.path.LockPath.{LockPath}
+use Rattle.locks.specs.LockPaths.{lock_path_of, lock_named}
 use Rattle.lockpaths.specs.declared.table.SectionPaths.{SectionPaths}
 use Rattle.runner.proofs.Asked.{no_section, no_path, of_path}
 use Rattle.runner.proofs.asker.Asker.lock.Goals as goal
@@ -41,4 +43,5 @@ returns c =
     ∙ slice_get_read paths (length paths) c.args.number path refl c.in-Some-get.ensures.lookup.3.0 c.in-Some-get.ensures.lookup.1 in
     let is = of_path a.program.now a.section a.locals.now c.args.number c.paths.result.now c.in-Some.paths.now path
     c.paths.ensures at some in
-    c.lock_named.ensures ∙ sym is
+    c.lock.ensures
+    ∙ ap (λ (t : Typed). lock_named (lock_path_of path) t.shape a.locals.now) c.typed.ensures.program ∙ sym is

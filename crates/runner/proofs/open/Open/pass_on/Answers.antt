@@ -20,9 +20,9 @@ ask_before-requires-clause-room c =
     } in
     let is = ap (λ (o : OpenOf). next_effect o.plan o.activation) c.self.view_is ∙ c.requires.asks in
     let locals : c.locals.result.now ≡ x.machine.value.machine.locals =
-    c.locals.ensures ∙ ap (λ (r : RunOf). r.machine.locals) c.deref-2.ensures in
-    let held : c.deref.result.now ≡ o.activation.held = c.deref.ensures.value ∙ c.self.invariant.held_are in
-    let same : length (locks_before o.plan o.activation.call.section c.args.point c.deref.result.now c.locals.result.now)
+    c.locals.ensures ∙ ap (λ (r : RunOf). r.machine.locals) c.deref.ensures in
+    let held : c.held.result.now ≡ o.activation.held = c.held.ensures in
+    let same : length (locks_before o.plan o.activation.call.section c.args.point c.held.result.now c.locals.result.now)
     ≡ length (locks_before o.plan o.activation.call.section c.args.point o.activation.held o.activation.machine.locals) =
     λ i. length (locks_before o.plan o.activation.call.section c.args.point (held i) (locals i)) in
     omega (arith, asked_fits o c.args.point c.sections_stay_in_order.ensures r is, same, c.self.invariant.pending_fits)
@@ -53,11 +53,11 @@ invariant_of-self c =
     } in
     let is = ap (λ (o : OpenOf). next_effect o.plan o.activation) c.self.view_is ∙ c.requires.asks in
     let room = vec_capacity c.ask_before.new.pending in
-    let kept = kept_asking o x.ticket x.machine.value x.held.items (vec_capacity x.held) (vec_capacity x.pending) room c.args.point
+    let kept = kept_asking o x.ticket x.machine.value (vec_capacity x.pending) room c.args.point
     c.sections_stay_in_order.ensures r c.self.invariant is c.ask_before.ensures.capacity in
     let locals : c.locals.result.now ≡ x.machine.value.machine.locals =
-    c.locals.ensures ∙ ap (λ (r : RunOf). r.machine.locals) c.deref-2.ensures in
-    let held : c.deref.result.now ≡ o.activation.held = c.deref.ensures.value ∙ c.self.invariant.held_are in
+    c.locals.ensures ∙ ap (λ (r : RunOf). r.machine.locals) c.deref.ensures in
+    let held : c.held.result.now ≡ o.activation.held = c.held.ensures in
     let pending : c.ask_before.new.pending.items
     ≡ locks_before o.plan o.activation.call.section c.args.point o.activation.held o.activation.machine.locals =
     c.ask_before.ensures.items
@@ -67,7 +67,7 @@ invariant_of-self c =
     let at_run = subst (λ (run : RunOf).
     IsKeptOpen (open_as x.program.now x.ticket x.step (call_of x.section x.arguments.items) run
     (locks_before o.plan o.activation.call.section c.args.point o.activation.held o.activation.machine.locals) false)
-    x.ticket run x.held.items (vec_capacity x.held) room) (sym passed_on) kept in
+    x.ticket run room) (sym passed_on) kept in
     subst (λ (ps : List Lock).
     IsKeptOpen (open_as x.program.now x.ticket x.step (call_of x.section x.arguments.items) c.pass.new.self ps false)
-    x.ticket c.pass.new.self x.held.items (vec_capacity x.held) room) (sym pending) at_run
+    x.ticket c.pass.new.self room) (sym pending) at_run

@@ -55,8 +55,8 @@ invariant_of-self c =
     is ∙ ap (λ (t : Typed). act load_held store_held t.shape (Some i) x.machine.value.machine) (sym c.typed.ensures.program)
     ∙ ap (λ (run : RunOf). act load_held store_held c.typed.result.now.shape (Some i) run.machine) (sym c.deref_mut.ensures.value)
     ∙ c.in-Moved.ensures.0 in
-    let kept = kept_moving o x.ticket x.machine.value x.held.items (vec_capacity x.held) (vec_capacity x.pending) m
+    let kept = kept_moving o x.ticket x.machine.value (vec_capacity x.pending) m
     c.steps_go_alike.ensures.keeps c.sections_stay_in_order.ensures r c.self.invariant moves in
     subst (λ (run : RunOf).
     IsKeptOpen (open_as x.program.now x.ticket x.step (call_of x.section x.arguments.items) run x.pending.items x.asked)
-    x.ticket run x.held.items (vec_capacity x.held) (vec_capacity x.pending)) (sym (c.in-Moved.ensures.1 ∙ ap (λ (run : RunOf). with_machine run m) c.deref_mut.ensures.value)) kept
+    x.ticket run (vec_capacity x.pending)) (sym (c.in-Moved.ensures.1 ∙ ap (λ (run : RunOf). with_machine run m) c.deref_mut.ensures.value)) kept

@@ -41,8 +41,6 @@ returns-clause-prepared c =
       fits = can;
       room_is = c.room-room.ensures;
       run_is = c.in_ok-boxed.ensures ∙ c.in_ok-machine.ensures ∙ (λ i. at_first (locals i) (c.layout.ensures i) room);
-      none_held = c.in_ok-held.ensures.none;
       none_pending = c.in_ok-pending.ensures.none;
-      held_fits = c.in_ok-held.ensures.room;
       pending_fits = c.in_ok-pending.ensures.room;
     }
