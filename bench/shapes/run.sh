@@ -49,6 +49,15 @@ def along(length, size):
     return head + line * ((size - len(head) - 2) // len(line)) + "}\n"
 
 
+def printed(length, size, branch):
+    """A path of so many finals, taken in each of many branches."""
+    head = (
+        "struct S { lock l; int x protected_by(l); final ref S n; }\npool S p[1];\ninit p[0].n = p[0];\n"
+        f"atomic f(ref S a, int k) {{\nlet m: ref S = a{'.n' * length};\n"
+    )
+    return head + branch * ((size - len(head) - 2) // len(branch)) + "}\n"
+
+
 def aliases(length, size):
     head = (
         "struct S { lock l; int x protected_by(l); final ref S n; }\npool S p[1];\ninit p[0].n = p[0];\n"
@@ -72,6 +81,8 @@ write("repeat_1_60_deep", f"atomic f(int k) {{ }}\nthread t {{ {repeat} }}\n")
 write("repeat_once", "atomic f(int k) { }\nthread t { repeat 100000 { f(7); } }\n")
 write("ifs_60_deep", nested("if (n > 0) {", "}", "n=1;"))
 write("ifs_beside", nested("if (n > 0) { n = 1; }", "", "n=1;"))
+for name, branch in (("taken_often", "if (k > 0) { m.x = 1; }\n"), ("taken_once", "if (m.x > 0) { k = 1; }\n")):
+    write(f"chain_of_finals_{name}_128K", printed(32768, 131072, branch.replace("k = 1", "m.x = 1")))
 for size in (262144, 524288, 1048000):
     write(f"chain_of_finals_{size // 1024}K", along(size // 8, size))
     write(f"chain_of_finals_by_62_names_{size // 1024}K", aliases(size // 8, size))
