@@ -9,22 +9,30 @@
 set -euo pipefail
 cd "$(dirname "$0")/.."
 [ $# -gt 0 ] || set -- $(cd tests/no_compile && ls -- *.rattle | sed 's/\.rattle$//')
-below="source core_lang flow locks layout code history moved_cells lock_manager"
+# The manager and all that it stands on: crates.txt names the lower ones first, so it is read from its end.
+declare -A wanted=([lock_manager]=yes)
+while read -r crate needs; do
+  [ -z "${wanted[${crate:-none}]:-}" ] || for need in $needs; do wanted[$need]=yes; done
+done < <(tac crates.txt | sed 's/:/ /')
 room=$(mktemp -d)
 trap 'rm -rf "$room"' EXIT
 mkdir "$room/crates"
 cp HANDLES "$room"
-for crate in $below; do
+below=
+while IFS= read -r line; do
+  crate=${line%%:*}
+  [ -n "${wanted[${crate:-none}]:-}" ] || continue
   cp -a "crates/$crate" "$room/crates"
-  grep "^$crate:" crates.txt >>"$room/crates.txt"
-done
+  echo "$line" >>"$room/crates.txt"
+  below+=" $crate"
+done <crates.txt
 failed=0
 for name in "$@"; do
   program=tests/no_compile/$name.rattle
   code=$(sed -n 's,^//! refused: ,,p' "$program")
   mkdir -p "$room/crates/$name/src"
   cp "$program" "$room/crates/$name/src/lib.rt"
-  echo "$name: $below" >>"$room/crates.txt"
+  echo "$name:$below" >>"$room/crates.txt"
   if (cd "$room/crates/$name" && rt check) >"$room/log" 2>&1; then
     echo "FAILED $name: it compiles"
     failed=1
