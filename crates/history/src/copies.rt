@@ -66,7 +66,7 @@ impl CopyRoom {
     }
 
     /// Whether there is room for a copy of this section.
-    pub fn holds(&self, entry: &Entry) -> bool
+    pub fn holds(&self, entry: &Kept<'_>) -> bool
         ensures { IsTrue result ↔ HasRoom self.now entry.now }
     {
         entry.arguments.len() <= self.arguments.capacity()
@@ -76,7 +76,7 @@ impl CopyRoom {
     }
 }
 
-impl Entry {
+impl Kept<'_> {
     /// A copy, in room that was made for it. Memory that it doesn't need it gives back.
     pub fn copy_into(&self, room: CopyRoom) -> Entry
         requires { HasRoom room self.now }
@@ -88,10 +88,10 @@ impl Entry {
             mut writes,
             mut prints,
         } = room;
-        fill_values(&mut arguments, &self.arguments);
-        fill_cells(&mut reads, &self.reads);
-        fill_cells(&mut writes, &self.writes);
-        fill_numbers(&mut prints, &self.prints);
+        fill_values(&mut arguments, self.arguments);
+        fill_cells(&mut reads, self.reads);
+        fill_cells(&mut writes, self.writes);
+        fill_numbers(&mut prints, self.prints);
         Entry {
             thread: self.thread,
             step: self.step,
@@ -104,7 +104,9 @@ impl Entry {
             prints,
         }
     }
+}
 
+impl Entry {
     /// Whether an entry of a history is the same.
     pub fn is_same(&self, other: &Kept<'_>) -> bool
         ensures { IsTrue result → self.now ≡ other.now }
@@ -129,31 +131,31 @@ impl Entry {
 }
 
 // Fills a list that is empty, in room that is there, and gives back the rest of the room.
-fn fill_values(into: &mut Vec<Value>, from: &Vec<Value>)
-    requires { vec_len into.old + length from.now.items ≤ vec_capacity into.old }
-    ensures { into.new.items ≡ into.old.items ++ from.now.items }
+fn fill_values(into: &mut Vec<Value>, from: &[Value])
+    requires { vec_len into.old + length from.now ≤ vec_capacity into.old }
+    ensures { into.new.items ≡ into.old.items ++ from.now }
 {
-    match into.extend_from_slice(from.as_slice()) {
+    match into.extend_from_slice(from) {
         Ok(()) => into.shrink_to_fit(),
         Err(_) => unreachable!(),
     }
 }
 
-fn fill_cells(into: &mut Vec<CellValue>, from: &Vec<CellValue>)
-    requires { vec_len into.old + length from.now.items ≤ vec_capacity into.old }
-    ensures { into.new.items ≡ into.old.items ++ from.now.items }
+fn fill_cells(into: &mut Vec<CellValue>, from: &[CellValue])
+    requires { vec_len into.old + length from.now ≤ vec_capacity into.old }
+    ensures { into.new.items ≡ into.old.items ++ from.now }
 {
-    match into.extend_from_slice(from.as_slice()) {
+    match into.extend_from_slice(from) {
         Ok(()) => into.shrink_to_fit(),
         Err(_) => unreachable!(),
     }
 }
 
-fn fill_numbers(into: &mut Vec<i64>, from: &Vec<i64>)
-    requires { vec_len into.old + length from.now.items ≤ vec_capacity into.old }
-    ensures { into.new.items ≡ into.old.items ++ from.now.items }
+fn fill_numbers(into: &mut Vec<i64>, from: &[i64])
+    requires { vec_len into.old + length from.now ≤ vec_capacity into.old }
+    ensures { into.new.items ≡ into.old.items ++ from.now }
 {
-    match into.extend_from_slice(from.as_slice()) {
+    match into.extend_from_slice(from) {
         Ok(()) => into.shrink_to_fit(),
         Err(_) => unreachable!(),
     }

@@ -1,11 +1,10 @@
 //! The entries of a history.
 
 ghost use Rattle.std.specs.Prelude.{◌≡◌, ◌<◌, ◌+◌, [], ◌∷◌, ◌++◌, length, slice_get, Some, OnOk, OnErr};
-ghost use Rattle.history.specs.Working.Histories.{IsPromised, nothing_promised, with_promise};
+ghost use Rattle.history.specs.Working.Histories.{IsPromised, IsWithin, nothing_promised, with_promise};
 
-use crate::entry::Entry;
 use crate::kept::Kept;
-use crate::lists::{Lists, Stored};
+use crate::lists::{Lists, Packed};
 use source::memory::NoMemory;
 use std::alloc::Global;
 use std::marker::Model;
@@ -17,7 +16,7 @@ use std::marker::Model;
 /// mostly no memory is taken for one.
 #[derive(Drop)]
 pub struct History {
-    entries: Vec<Stored>,
+    entries: Vec<Packed>,
     lists: Lists,
 }
 
@@ -28,12 +27,12 @@ impl Model for History {
 
     ghost Value = { HistoryOf };
 
-    ghost use Rattle.history.specs.Working.Lists.{commits_in, IsStored};
+    ghost use Rattle.history.specs.Working.Lists.{commits_in, IsPacked};
 
     ghost view = { λ h. record { commits = commits_in h.lists h.entries.items; promised = h.lists.promised } };
 
     ghost invariant = { λ h.
-        All (IsStored h.lists) h.entries.items
+        All (IsPacked h.lists) h.entries.items
         × (vec_len h.entries + h.lists.promised.entries ≤ vec_capacity h.entries) };
 }
 
@@ -61,18 +60,18 @@ impl History {
         self.lists.promise(cells)
     }
 
-    /// Enters a section that has ended, into room that was made for it. An entry whose memory isn't kept is given back.
-    pub fn enter(&mut self, cells: usize, entry: Entry) -> Option<Entry>
-        requires { IsPromised self.old.promised cells }
+    /// Enters a copy of a section that has ended, into room that was made for it.
+    pub fn enter(&mut self, cells: usize, entry: &Kept<'_>)
+        requires promised { IsPromised self.old.promised cells }
+        requires within { IsWithin cells entry.now }
         ensures promised { self.old.promised ≡ with_promise self.new.promised cells }
-        ensures commits { self.new.commits ≡ self.old.commits ++ entry ∷ [] }
+        ensures commits { self.new.commits ≡ self.old.commits ++ entry.now ∷ [] }
     {
-        let (stored, unused) = self.lists.store(cells, entry);
-        match self.entries.push(stored) {
+        let packed = self.lists.pack(cells, entry);
+        match self.entries.push(packed) {
             Ok(()) => {}
             Err(_) => unreachable!(),
         }
-        unused
     }
 
     /// Forgoes room that was made for a section.
@@ -98,6 +97,6 @@ impl History {
         requires { position < length self.now.commits }
         ensures { slice_get self.now.commits position ≡ Some result }
     {
-        self.lists.entry(&self.entries[position])
+        self.lists.kept(&self.entries[position])
     }
 }

@@ -1,21 +1,31 @@
-//! A finished section as a history keeps it.
+//! A finished section whose lists are lent.
 
 use crate::entry::CellValue;
 use core_lang::value::{Outcome, Value};
 use std::marker::Model;
 
-/// A finished section of a history, lent: its lists may stand among those of the others.
+/// A finished section, lent: its lists stand elsewhere, as those of a history's entry among those of the others. So it is
+/// handed on, entered and copied with nothing moved.
 #[derive(Drop)]
 pub struct Kept<'h> {
-    pub(crate) thread: u32,
-    pub(crate) step: usize,
-    pub(crate) section: usize,
-    pub(crate) arguments: &'h [Value],
-    pub(crate) begun: usize,
-    pub(crate) reads: &'h [CellValue],
-    pub(crate) writes: &'h [CellValue],
-    pub(crate) outcome: Outcome,
-    pub(crate) prints: &'h [i64],
+    /// The thread that ran it.
+    pub thread: u32,
+    /// Which of the thread's calls it was.
+    pub step: usize,
+    /// The section.
+    pub section: usize,
+    /// What it was called with.
+    pub arguments: &'h [Value],
+    /// How long the history was when it began.
+    pub begun: usize,
+    /// Each cell that it read before it wrote it, with the value that it found.
+    pub reads: &'h [CellValue],
+    /// Each cell that it wrote, with the value that it wrote last.
+    pub writes: &'h [CellValue],
+    /// How it ended.
+    pub outcome: Outcome,
+    /// What it printed.
+    pub prints: &'h [i64],
 }
 
 impl<'h> Model for Kept<'h> {

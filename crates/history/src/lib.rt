@@ -4,12 +4,12 @@
 //!   one after another, end, print and leave the cells as the entries say.
 //! - [`laws::commuting`]: entries that don't write a cell leave its value.
 //! - [`entries::History`]: the entries, in order, with their lists in a few arrays.
-//! - [`entry::Entry`], [`kept::Kept`]: a finished section with lists of its own, and one that a history lends.
+//! - [`entry::Entry`], [`kept::Kept`]: a finished section with lists of its own, and one whose lists are lent.
 //! - [`copies::CopyRoom`]: room for a copy of a finished section, made before.
 //!
 //! `specs/` defines finished sections as data, which lists of them are legal and when one is true (`Commits`), what the
-//! laws claim (`Laws`), a history as a value (`Histories`), and for what a copy has room (`Copies`). `Arrays` and `Lists`
-//! only say what the code relies on; nobody has to believe them.
+//! laws claim (`Laws`), a history as a value and for which entries it has room (`Histories`), and for what a copy has room
+//! (`Copies`). `Arrays` and `Lists` only say what the code relies on; nobody has to believe them.
 #![tactic(auto)]
 
 pub mod copies;

@@ -1,11 +1,11 @@
 //! The lists of entries.
 
-ghost use Rattle.std.specs.Prelude.{◌≡◌, ◌≤◌, ◌+◌, ◌++◌, [], length, vec_len, vec_capacity, OnOk, OnErr, IsTrue};
-ghost use Rattle.history.specs.Working.Histories.{IsPromised, nothing_promised, with_promise};
+ghost use Rattle.std.specs.Prelude.{◌≡◌, ◌≤◌, ◌+◌, ◌++◌, [], length, vec_len, vec_capacity, OnOk, OnErr};
+ghost use Rattle.history.specs.Working.Histories.{IsPromised, IsWithin, nothing_promised, with_promise};
 ghost use Rattle.history.specs.Working.Arrays.{with_room};
-ghost use Rattle.history.specs.Working.Lists.{part_behind, packed_commit, packed_behind, with_lists, commit_in, IsPacked, IsStored, IsWithin, Stores};
+ghost use Rattle.history.specs.Working.Lists.{part_behind, packed_commit, packed_behind, with_lists, IsPacked};
 
-use crate::entry::{CellValue, Entry};
+use crate::entry::CellValue;
 use crate::kept::Kept;
 use core_lang::value::{Outcome, Value};
 use source::memory::NoMemory;
@@ -48,15 +48,6 @@ pub struct Packed {
     pub outcome: Outcome,
     /// What it printed.
     pub prints: Part,
-}
-
-/// A finished section as it is stored.
-#[derive(Drop)]
-pub enum Stored {
-    /// Its lists stand in the arrays.
-    Within(Packed),
-    /// One of its lists is longer than the room that was made for it: it keeps its own ones.
-    Aside(Entry),
 }
 
 /// The lists of entries, those of one kind one after another in one array, and the room that was made in them. What a
@@ -147,7 +138,7 @@ impl Lists {
     }
 
     /// Copies the lists of an entry into the room that was made for them.
-    pub fn pack(&mut self, cells: usize, entry: &Entry) -> Packed
+    pub fn pack(&mut self, cells: usize, entry: &Kept<'_>) -> Packed
         requires promised { IsPromised self.old.promised cells }
         requires within { IsWithin cells entry.now }
         ensures packed { result ≡ packed_behind self.old entry.now }
@@ -169,19 +160,6 @@ impl Lists {
         }
     }
 
-    /// Stores an entry, into room that was made for it. What is packed is given back, for its memory.
-    pub fn store(&mut self, cells: usize, entry: Entry) -> (Stored, Option<Entry>)
-        requires { IsPromised self.old.promised cells }
-        ensures { Stores self.old cells entry result.0 self.new }
-    {
-        if is_within(cells, &entry) {
-            let packed = self.pack(cells, &entry);
-            return (Stored::Within(packed), Some(entry));
-        }
-        self.forgo(cells);
-        (Stored::Aside(entry), None)
-    }
-
     /// An entry whose lists stand here.
     #[inline]
     pub fn kept(&self, packed: &Packed) -> Kept<'_>
@@ -200,28 +178,6 @@ impl Lists {
             prints: &self.prints[packed.prints.begin..packed.prints.end],
         }
     }
-
-    /// An entry as it is stored.
-    #[inline]
-    pub fn entry<'h>(&'h self, stored: &'h Stored) -> Kept<'h>
-        requires { IsStored self.now stored.now }
-        ensures { result ≡ commit_in self.now stored.now }
-    {
-        match stored {
-            Stored::Within(packed) => self.kept(packed),
-            Stored::Aside(entry) => entry.lent(),
-        }
-    }
-}
-
-// Whether the lists of an entry have the lengths for which room is made.
-fn is_within(cells: usize, entry: &Entry) -> bool
-    ensures { IsTrue result → IsWithin cells entry.now }
-{
-    entry.arguments().len() <= MOST_ARGUMENTS
-        && entry.reads().len() <= cells
-        && entry.writes().len() <= cells
-        && entry.prints().len() <= MOST_PRINTS
 }
 
 // Appends a list into room that is there, and says where it stands.

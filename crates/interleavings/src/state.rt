@@ -7,7 +7,7 @@ pub enum State<'p> {
     /// In its own step. No thread is here between steps.
     Away,
     /// No section is open.
-    Ready(Ready),
+    Ready(Ready<'p>),
     /// The next step of its section is an instruction.
     Running(Running<'p>),
     /// Its section is to be granted a lock.

@@ -52,10 +52,10 @@ fn begin<'p>(
     alloc: Global,
     program: &'p Program,
     manager: &mut Manager<'p>,
-    ready: Ready,
+    ready: Ready<'p>,
 ) -> (State<'p>, Result<Event, NoMemory>)
     requires { CanBegin manager.old ready }
-    ensures { Stepped program.now manager.old (state.Ready ready) result.1 result.0 manager.new }
+    ensures { Stepped program.now manager.old (state.Ready ready.entry) result.1 result.0 manager.new }
 {
     match call_at(program, ready.thread(), ready.step()) {
         None => (State::Ready(ready), Ok(Event::Idle)),

@@ -1,15 +1,14 @@
 -- Locks by number, and the cells of locks.
-use Rattle.std.proofs.Common.{◌≡◌, ◌≢◌, ℕ, zero, suc, ◌+◌, ◌<◌, Bool, true, false, if◌then◌else◌, ◌==◌, ◌&&◌, List, [], ◌∷◌, ◌++◌, length, get_or, Some, ◌⊎◌, inl, inr, refl, sym, ap, ◌∙◌, subst, arith}
+use Rattle.std.proofs.Common.{◌≡◌, ◌≢◌, ℕ, zero, suc, ◌+◌, ◌<◌, Bool, true, false, if◌then◌else◌, List, [], ◌∷◌, ◌++◌, length, get_or, Some, ◌⊎◌, inl, inr, refl, sym, ap, ◌∙◌, subst, arith}
 use Rattle.std.specs.Prelude.{slice_get}
 use Rattle.std.specs.List.{Contains}
-use Rattle.std.proofs.lemmas.Bool.{cases_Bool, eqb-true, eq-eqb}
 use Rattle.std.proofs.lemmas.Option.{none-some}
 use Rattle.locks.specs.declared.lock.Lock.{Lock}
 use Rattle.layout.specs.LockCells.{cells_from, cells_of}
 use Rattle.locks.specs.Locks.{same_lock}
 use Rattle.layout.specs.Layouts.{AreDistinct}
 use Rattle.lock_manager.specs.Working.Managers.{number_from}
-use Rattle.locks.specs.Theory.Order.{same_itself, same_is, other_than, lock_cases}
+use Rattle.locks.specs.Theory.Order.{same_itself, lock_cases}
 use Rattle.core_lang.specs.Theory.Items.{contains_at, some_same}
 
 -- ---- the same lock

@@ -1,6 +1,6 @@
 //! What the entries leave in each cell.
 
-ghost use Rattle.std.specs.Prelude.{◌≡◌, ◌↔◌, ◌<◌, length, map, slice_get, Some, IfOk, IsTrue};
+ghost use Rattle.std.specs.Prelude.{◌≡◌, ◌↔◌, ◌<◌, [], length, map, slice_get, Some, IfOk, IsTrue};
 ghost use Rattle.std.specs.List.{Contains, All};
 ghost use Rattle.locks.specs.declared.lock.Lock.{Lock as LockOf};
 ghost use Rattle.code.specs.Memory.{overwritten, Agrees};
@@ -23,7 +23,6 @@ use layout::table::Layout;
 use locks::lock::Lock;
 use moved_cells::cells::Cells;
 use moved_cells::grant::Grant;
-use moved_cells::grant_room::GrantRoom;
 use source::memory::NoMemory;
 use std::alloc::Global;
 use std::marker::Model;
@@ -119,26 +118,27 @@ impl<'p> Committed<'p> {
         write_all(&mut self.values, writes);
     }
 
-    /// The cells of these grants are back; and the memory of the grants.
-    pub fn put_back(&self, places: &mut Vec<LockPlace>, mut grants: Vec<Grant>) -> GrantRoom
+    /// The cells of these grants are back. None is left in the list.
+    pub fn put_back(&self, places: &mut Vec<LockPlace>, grants: &mut Vec<Grant>)
         requires count { length places.old.items ≡ length self.now.layout.locks }
-        requires listed { All (λ g. Contains self.now.layout.locks g.lock) grants.items }
-        ensures { places.new.items ≡ given_back self.now.layout.locks places.old.items grants.items }
+        requires listed { All (λ g. Contains self.now.layout.locks g.lock) grants.old.items }
+        ensures back { places.new.items ≡ given_back self.now.layout.locks places.old.items grants.old.items }
+        ensures none { grants.new.items ≡ [] }
     {
         while let Some(grant) = grants.pop() {
             let (lock, cells) = grant.into_parts();
             let number = self.number_of(lock);
             places[number] = LockPlace::Free(cells);
         }
-        GrantRoom::of(grants)
     }
 
-    /// The cells of these grants are back, with what the entries leave in them.
-    pub fn restore(&self, places: &mut Vec<LockPlace>, mut grants: Vec<Grant>)
+    /// The cells of these grants are back, with what the entries leave in them. None is left in the list.
+    pub fn restore(&self, places: &mut Vec<LockPlace>, grants: &mut Vec<Grant>)
         requires count { length places.old.items ≡ length self.now.layout.locks }
-        requires listed { All (λ g. Contains self.now.layout.locks g.lock) grants.items }
-        requires whole { All (IsWhole self.now.layout.cell_locks) grants.items }
-        ensures { places.new.items ≡ all_restored self.now places.old.items grants.items }
+        requires listed { All (λ g. Contains self.now.layout.locks g.lock) grants.old.items }
+        requires whole { All (IsWhole self.now.layout.cell_locks) grants.old.items }
+        ensures back { places.new.items ≡ all_restored self.now places.old.items grants.old.items }
+        ensures none { grants.new.items ≡ [] }
     {
         while let Some(grant) = grants.pop() {
             let (lock, mut cells) = grant.into_parts();
@@ -146,7 +146,6 @@ impl<'p> Committed<'p> {
             let number = self.number_of(lock);
             places[number] = LockPlace::Free(cells);
         }
-        grants.destroy_empty();
     }
 
     // The cells of a lock get what the entries leave in them.

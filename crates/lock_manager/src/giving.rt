@@ -1,6 +1,6 @@
 //! Cells that go to a thread, and grants that nobody waits for.
 
-ghost use Rattle.std.specs.Prelude.{◌≡◌, ◌<◌, length, slice_get, slice_set, Some, IfOk, IfErr, OnOk, OnErr};
+ghost use Rattle.std.specs.Prelude.{◌≡◌, ◌<◌, [], length, slice_get, slice_set, Some, IfOk, IfErr, OnOk, OnErr};
 ghost use Rattle.lock_manager.specs.declared.places.LockPlace.TheVariants as place;
 
 use crate::places::LockPlace;
@@ -26,9 +26,10 @@ pub fn take(places: &mut Vec<LockPlace>, number: usize, thread: u32) -> Result<C
 }
 
 /// Lets go of grants that are not of the section that brings them.
-pub fn let_go(mut grants: Vec<Grant>) {
+pub fn let_go(grants: &mut Vec<Grant>)
+    ensures { grants.new.items ≡ [] }
+{
     while let Some(grant) = grants.pop() {
         let (_lock, _cells) = grant.into_parts();
     }
-    grants.destroy_empty();
 }

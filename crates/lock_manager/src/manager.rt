@@ -1,8 +1,9 @@
 //! The manager of locks.
 
-ghost use Rattle.std.specs.Prelude.{◌≡◌, ◌↔◌, ◌<◌, length, slice_get, Some, IfOk, OnErr, IsTrue, is_some};
+ghost use Rattle.std.specs.Prelude.{◌≡◌, ◌↔◌, ◌<◌, [], length, slice_get, Some, IfOk, OnErr, IsTrue, is_some};
 ghost use Rattle.std.specs.List.{Contains, All};
 ghost use Rattle.locks.specs.Waiting.{HasNoCycle};
+ghost use Rattle.history.specs.Working.Histories.{IsWithin};
 ghost use Rattle.lock_manager.specs.Working.Managers.{IsLayout, IsKept, opened, waiting_for, session_of, IsQuiet, holder_of, cell_of, askers_of};
 ghost use Rattle.lock_manager.specs.Working.Calls.{Begins, Answers, CanAsk, Knows, Fits, CanRelease, Releases, GivesUp, AreOf, AreItsGrants};
 
@@ -17,7 +18,7 @@ use crate::sections::Sections;
 use crate::ticket::{Receipt, Spare, Ticket};
 use core_lang::value::Value;
 use history::entries::History;
-use history::entry::Entry;
+use history::kept::Kept;
 use layout::room::Room;
 use layout::table::Layout;
 use locks::lock::Lock;
@@ -134,11 +135,14 @@ impl<'p> Manager<'p> {
         }
     }
 
-    /// Ends a section: its cells come back, and its entry goes last into the history.
-    pub fn release(&mut self, ticket: Ticket, grants: Vec<Grant>, entry: Entry) -> Receipt
+    /// Ends a section: its cells come back, and its entry goes last into the history. The list of the grants stays with
+    /// the caller, empty, and so do the lists of the entry, which the history copies: nothing large is moved.
+    pub fn release(&mut self, ticket: Ticket, grants: &mut Vec<Grant>, entry: &Kept<'_>) -> Receipt
         requires known { Knows self.old ticket }
-        requires fits { Fits self.old ticket grants.items entry }
-        ensures { Releases self.old ticket grants.items entry result self.new }
+        requires fits { Fits self.old ticket grants.old.items entry.now }
+        requires within { IsWithin ticket.session.room.cells entry.now }
+        ensures released { Releases self.old ticket grants.old.items entry.now result self.new }
+        ensures none { grants.new.items ≡ [] }
     {
         history::laws::one_entry_more();
         history::laws::commuting();
@@ -146,23 +150,20 @@ impl<'p> Manager<'p> {
         let (thread, pass) = ticket.woken(&self.queue);
         self.committed.overwrite(entry.writes());
         let cells = self.sections.cells(thread);
-        let entry = self.history.enter(cells, entry);
-        let grants = self.committed.put_back(&mut self.places, grants);
+        self.history.enter(cells, entry);
+        self.committed.put_back(&mut self.places, grants);
         self.sections.close(thread);
-        Receipt {
-            position,
-            pass,
-            grants,
-            entry,
-        }
+        Receipt { position, pass }
     }
 
-    /// Ends a section without an entry, where the grants are exactly those of its thread's slot.
-    pub fn give_up(&mut self, ticket: Ticket, grants: Vec<Grant>)
-        ensures { GivesUp self.old ticket grants.items self.new }
+    /// Ends a section without an entry, where the grants are exactly those of its thread's slot. None is left in the
+    /// list in either case.
+    pub fn give_up(&mut self, ticket: Ticket, grants: &mut Vec<Grant>)
+        ensures given_up { GivesUp self.old ticket grants.old.items self.new }
+        ensures none { grants.new.items ≡ [] }
     {
         let thread = ticket.into_thread();
-        if self.are_its_grants(thread, &grants) {
+        if self.are_its_grants(thread, grants) {
             let cells = self.sections.cells(thread);
             self.committed.restore(&mut self.places, grants);
             self.queue.leave(thread);
@@ -197,9 +198,9 @@ impl<'p> Manager<'p> {
         self.committed.has_lock(lock)
     }
 
-    /// Whether [`Manager::release`] may be called: the ticket is known, and the section may end with these grants and
-    /// this entry.
-    pub fn fits(&self, ticket: &Ticket, grants: &[Grant], entry: &Entry) -> bool
+    /// Whether [`Manager::release`] may be called, with an entry that the ticket's room holds: the ticket is known, and
+    /// the section may end with these grants and this entry.
+    pub fn fits(&self, ticket: &Ticket, grants: &[Grant], entry: &Kept<'_>) -> bool
         ensures { IsTrue result ↔ CanRelease self.now ticket.now grants.now entry.now }
     {
         if !self.knows(ticket) {

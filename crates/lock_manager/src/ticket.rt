@@ -7,10 +7,8 @@ ghost use Rattle.lock_manager.specs.Working.Calls.{ticket_with, first_waiters};
 
 use crate::queue::Queue;
 use crate::session::Session;
-use history::entry::Entry;
 use layout::room::Room;
 use locks::lock::Lock;
-use moved_cells::grant_room::GrantRoom;
 use source::memory::NoMemory;
 use std::alloc::Global;
 use std::marker::Model;
@@ -225,9 +223,6 @@ fn wake_first(held: &[Lock], queue: &Queue, wake: &mut Vec<u32>)
 pub struct Receipt {
     pub(crate) position: usize,
     pub(crate) pass: Box<Pass>,
-    // The memory of what the section no more needs.
-    pub(crate) grants: GrantRoom,
-    pub(crate) entry: Option<Entry>,
 }
 
 impl Model for Receipt {
@@ -236,17 +231,6 @@ impl Model for Receipt {
     ghost Value = { ReceiptOf };
 
     ghost view = { λ r. record { position = r.position; wake = r.pass.value.wake.items } };
-}
-
-/// The memory that a section had, for the next one of its thread.
-#[derive(Drop)]
-pub struct Memory {
-    /// For the ticket.
-    pub ticket: Spare,
-    /// For the grants.
-    pub grants: GrantRoom,
-    /// The entry, where the history doesn't keep the entry's memory.
-    pub entry: Option<Entry>,
 }
 
 impl Receipt {
@@ -266,18 +250,9 @@ impl Receipt {
         self.pass.wake.get(i).copied()
     }
 
-    /// The memory that the section had.
-    pub fn into_memory(self) -> Memory {
-        let Receipt {
-            position: _,
-            pass,
-            grants,
-            entry,
-        } = self;
-        Memory {
-            ticket: Spare { pass: Some(pass) },
-            grants,
-            entry,
-        }
+    /// The memory of its ticket, for the next section of its thread.
+    pub fn into_spare(self) -> Spare {
+        let Receipt { position: _, pass } = self;
+        Spare { pass: Some(pass) }
     }
 }

@@ -77,7 +77,7 @@ may_ask m o lock rest laws known a =
 
 -- ---- the cells that it is granted
 
-have_length : (shape : Shape) (ts : List ValueType) (vs : List Value) → HaveTypes shape ts vs → length vs ≡ length ts
+pub have_length : (shape : Shape) (ts : List ValueType) (vs : List Value) → HaveTypes shape ts vs → length vs ≡ length ts
 have_length shape [] [] h = refl
 have_length shape [] (v ∷ vs) h = absurd h
 have_length shape (t ∷ ts) [] h = absurd h
@@ -193,6 +193,7 @@ kept_granted o lock rest ticket run pending_room room grant laws a kept machine 
       lock_room = kept.lock_room;
       cell_room = kept.cell_room;
       pending_fits = omega (arith, kept.pending_fits);
+      few_arguments = kept.few_arguments;
       cells =
           let more_cells : length (act.machine.memory.cells ++ values) ≡ length act.machine.memory.cells + length values =
           length-append act.machine.memory.cells values in
@@ -218,4 +219,5 @@ kept_waiting o lock rest ticket run pending_room laws a kept = record {
   cell_room = kept.cell_room;
   pending_fits = kept.pending_fits;
   cells = kept.cells;
+  few_arguments = kept.few_arguments;
 }

@@ -1,4 +1,5 @@
-use Rattle.std.specs.Prelude.{◌≡◌, ◌<◌, ℕ, false, List, [], length, get_or, slice_get, Option, Some, vec_capacity}
+use Rattle.std.specs.Prelude.{◌≡◌, ◌<◌, ◌≤◌, ℕ, zero, suc, List, [], ◌∷◌, length, take, get_or, slice_get, Option, Some, vec_capacity}
+use Rattle.std.proofs.lemmas.List.{length-map}
 use Rattle.std.specs.Option.{option_map_or}
 use Rattle.std.proofs.Common.{refl, sym, ap, ◌∙◌, subst, arith}
 use Rattle.std.proofs.lemmas.Option.{slice_get_within, get_or_from_slice_get}
@@ -7,19 +8,22 @@ use Rattle.core_lang.specs.declared.tree.Section.{Section}
 use Rattle.core_lang.specs.declared.typed.Typed.{Typed}
 use Rattle.core_lang.specs.Serial.{Invocation}
 use Rattle.core_lang.specs.WellFormed.{CanCall}
+use Rattle.core_lang.specs.Typing.{local_types}
 use Rattle.core_lang.specs.Whole.{opening}
 use Rattle.layout.specs.declared.room.Room.{Room}
 use Rattle.lock_manager.specs.Working.Sessions.{SessionOf, TicketOf, fresh}
 use Rattle.lock_manager.specs.Working.Managers.{Managed}
 use Rattle.lock_manager.specs.Working.Calls.{Begins}
-use Rattle.lowering.specs.Plans.{Plan}
+use Rattle.lowering.specs.Plans.{Plan, IsCompiled}
+use Rattle.worlds.specs.Waiting.{first_if}
 use Rattle.lowering.specs.Working.Compiled.{IsRoomAt}
 use Rattle.worlds.specs.Worlds.{locals_at}
 use Rattle.worlds.specs.Working.InOrder.{SectionsStayInOrder}
 use Rattle.runner_machine.specs.Working.Machines.{RunOf}
 use Rattle.runner.specs.Working.Opens.{OpenOf, ReadyOf, IsOpen, Began}
-use Rattle.runner.specs.declared.open.Beginning.{Beginning}
+use Rattle.runner.specs.declared.body.Body.{Body}
 use Rattle.runner.specs.Working.Ties.{open_as, begun_as, cells_together, its_call, IsBeginning, IsKeptOpen}
+use Rattle.runner.proofs.Asks.{have_length}
 
 -- a call that fits has its section
 pub called : (program : Typed) (number : ℕ) (arguments : List Value) → CanCall program number arguments →
@@ -43,38 +47,55 @@ first_locals plan call x can is =
     ap (λ (s : Section). (opening s call.arguments []).locals) same
     ∙ sym (ap (λ (s : Option Section). option_map_or (λ (s : Section). (opening s call.arguments []).locals) s []) section.1)
 
--- the section as it begins
-pub as_begun : (x : Beginning) (ticket : TicketOf) (step : ℕ) → IsBeginning x → ticket.session ≡ fresh ticket.session.begun x.room →
-    open_as x.program.now ticket step (its_call x) x.machine.value x.pending.items false
-    ≡ begun_as x.program.now ticket.thread step x.room ticket.session.begun (its_call x)
-as_begun x ticket step p is =
-    λ i. open_as x.program.now (record { thread = ticket.thread; session = is i }) step (its_call x) (p.run_is i) (p.none_pending i) false
+-- and few arguments
+taken : {A : Type 0} (n : ℕ) (xs : List A) → length (take n xs) ≤ n
+taken zero xs = omega arith
+taken (suc n) [] = omega arith
+taken (suc n) (x ∷ xs) = omega (arith, taken n xs)
 
-pub kept_at_first : (x : Beginning) (ticket : TicketOf) (step : ℕ) → SectionsStayInOrder → IsBeginning x →
-    ticket.session ≡ fresh ticket.session.begun x.room →
-    IsKeptOpen (open_as x.program.now ticket step (its_call x) x.machine.value x.pending.items false) ticket x.machine.value
-    (vec_capacity x.pending)
-kept_at_first x ticket step laws p is =
-    let plan = x.program.now in
-    let call = its_call x in
-    let room = x.room in
+pub few_arguments : (plan : Plan) (number : ℕ) (arguments : List Value) → IsCompiled plan → CanCall plan.program number arguments →
+    length arguments ≤ 8
+unfolding CanCall
+few_arguments plan number arguments compiled can =
+    let section = can.0 in
+    let types = local_types (take section.parameters section.locals.items) in
+    let same : length arguments ≡ length types = have_length plan.program.shape types arguments can.2 in
+    let named : length types ≡ length (take section.parameters section.locals.items) = length-map _ _ in
+    omega (arith, same, named, taken section.parameters section.locals.items, compiled.well_formed.within.parameters number section can.1)
+
+-- the section as it begins
+pub as_begun : (plan : Plan) (b : Body) (ticket : TicketOf) (step : ℕ) → IsBeginning plan b → ticket.session ≡ fresh ticket.session.begun b.room →
+    open_as plan ticket step (its_call b) b.machine b.pending.items b.asked
+    ≡ begun_as plan ticket.thread step b.room ticket.session.begun (its_call b)
+as_begun plan b ticket step p is =
+    λ i. open_as plan (record { thread = ticket.thread; session = is i }) step (its_call b) (p.run_is i) (p.none_pending i) (p.not_asked i)
+
+pub kept_at_first : (plan : Plan) (b : Body) (ticket : TicketOf) (step : ℕ) → SectionsStayInOrder → IsBeginning plan b →
+    ticket.session ≡ fresh ticket.session.begun b.room →
+    IsKeptOpen (open_as plan ticket step (its_call b) b.machine b.pending.items b.asked) ticket b.machine
+    (vec_capacity b.pending)
+kept_at_first plan b ticket step laws p is =
+    let call = its_call b in
+    let room = b.room in
     let o : OpenOf = begun_as plan ticket.thread step room ticket.session.begun call in
     let open_at_first : IsOpen o = record {
       compiled = p.compiled;
       in_order = laws.begins plan ticket.session.begun call p.compiled p.fits;
       room = p.room_is;
     } in
+    let asks_nothing_yet : ticket.session.ask ≡ first_if b.asked b.pending.items =
+    ap (λ (s : SessionOf). s.ask) is ∙ sym (λ i. first_if (p.not_asked i) (p.none_pending i)) in
     let none : ticket.session.held ≡ [] = ap (λ (s : SessionOf). s.held) is in
     let its_room : ticket.session.room ≡ room = ap (λ (s : SessionOf). s.room) is in
     let locks : ticket.session.room.locks ≡ room.locks = ap (λ (r : Room). r.locks) its_room in
     record {
-      is_open = subst IsOpen (sym (as_begun x ticket step p is)) open_at_first;
+      is_open = subst IsOpen (sym (as_begun plan b ticket step p is)) open_at_first;
       ticket_is = λ i. record {
         thread = ticket.thread;
         session = record {
           begun = ticket.session.begun;
           held = ticket.session.held;
-          ask = (is i).ask;
+          ask = asks_nothing_yet i;
           room = ticket.session.room;
         };
       };
@@ -85,6 +106,7 @@ kept_at_first x ticket step laws p is =
       cell_room = ap (λ (r : RunOf). r.cell_room) p.run_is ∙ ap (λ (r : Room). r.cells) (sym its_room);
       pending_fits = omega (arith, locks, p.pending_fits);
       cells = ap (λ (r : RunOf). length r.machine.memory.cells) p.run_is ∙ sym (ap (cells_together plan) none);
+      few_arguments = few_arguments plan b.section b.arguments.items p.compiled p.fits;
     }
 
 -- so the call has begun

@@ -1,12 +1,14 @@
-use Rattle.std.specs.Prelude.{◌≡◌, ℕ, Bool, List, [], ◌∷◌, ◌++◌, length, drop, get_or, unwrap_or, Option, Some}
+use Rattle.std.specs.Prelude.{◌≡◌, ◌<◌, ◌≤◌, ℕ, zero, suc, Bool, true, nat_eq, if◌then◌else◌, List, [], ◌∷◌, ◌++◌, length, drop, get_or, unwrap_or, Option, Some, None}
+use Rattle.std.proofs.lemmas.Option.{none-some}
 use Rattle.std.specs.List.{All}
 use Rattle.std.proofs.Common.{refl, sym, ap, ◌∙◌, subst, arith}
+use Rattle.std.proofs.lemmas.Bool.Decides.{nat_tests}
 use Rattle.core_lang.specs.declared.value.Value.{Value}
 use Rattle.core_lang.specs.declared.value.Outcome.{Outcome}
 use Rattle.locks.specs.declared.lock.Lock.{Lock}
 use Rattle.layout.specs.Layouts.{LayoutOf}
 use Rattle.code.specs.Machine.{Machine}
-use Rattle.code.specs.Memory.{HeldCells}
+use Rattle.code.specs.Memory.{HeldCells, IsConsistent, value_at}
 use Rattle.std.proofs.lemmas.List.Elements.{All-head, All-tail}
 use Rattle.layout.specs.LockCells.{cells_of}
 use Rattle.moved_cells.specs.Working.Grants.{GrantOf, IsWhole, numbered, locks_of}
@@ -18,92 +20,75 @@ use Rattle.lock_manager.specs.Working.Sessions.{TicketOf}
 use Rattle.lowering.specs.Plans.{Plan}
 use Rattle.worlds.specs.Waiting.{first_if}
 use Rattle.worlds.specs.Working.InOrder.{SectionsStayInOrder}
-use Rattle.runner_machine.specs.declared.machine.Left.{Left}
-use Rattle.runner_machine.specs.Working.Machines.{RunOf, IsLeftOf}
-use Rattle.runner.specs.Working.Opens.{OpenOf, IsOpen, CanGiveBack, entry_of, ticket_of, moved}
-use Rattle.runner.specs.Working.Ties.{open_as, call_of, over_by, ended_as, IsKeptOpen, IsKeptEnded}
+use Rattle.core_lang.specs.Serial.{Invocation}
+use Rattle.runner_machine.specs.Working.Machines.{RunOf, IsFinished}
+use Rattle.runner.specs.Working.Opens.{OpenOf, IsOpen, CanGiveBack, entry_of, moved}
+use Rattle.runner.specs.Working.Ties.{open_as, over_by, ended_as, IsKeptOpen, IsKeptEnded}
 use Rattle.runner.proofs.Opened.{RunsInOrder, moved_is_open}
 
--- an entry as the code writes it
-abbrev pub entered : ℕ → ℕ → ℕ → List Value → ℕ → Left → Outcome → Commit
-entered thread step section arguments begun p outcome = record {
-  thread = thread;
-  step = step;
-  section = section;
-  arguments = arguments;
-  begun = begun;
-  reads = p.parts.reads.items;
-  writes = p.parts.writes.items;
-  outcome = outcome;
-  prints = p.prints.items;
-}
+-- what was read and written is of cells that are held, so it is nothing where there are none
+nothing_held : (xs : List (ℕ × Value)) (cell : ℕ) → length xs ≤ 0 → value_at xs cell ≡ None
+nothing_held [] cell e = refl
+nothing_held (x ∷ xs) cell e = absurd (omega (arith, e))
 
-module _ (plan : Plan) (ticket : TicketOf) (step section : ℕ) (arguments : List Value) (run : RunOf) (pending : List Lock)
-    (asked : Bool) (pending_room : ℕ) (outcome : Outcome)
-    (p : Left) (thread begun : ℕ) where
-  -- it ran, and is taken apart
-  pub record IsTakenApart : Type 0 where
-    pub kept : IsKeptOpen (open_as plan ticket step (call_of section arguments) run pending asked) ticket run pending_room
+nothing_there : (xs : List (ℕ × Value)) → ((cell : ℕ) (v : Value) → value_at xs cell ≡ Some v → ⊥) → length xs ≤ 0
+nothing_there [] none = omega arith
+nothing_there (x ∷ xs) none =
+    let itself : nat_eq x.0 x.0 ≡ true = grind (arith, nat_tests) in
+    absurd (none x.0 x.1 (ap (λ (b : Bool). if b then Some x.1 else value_at xs x.0) itself))
+
+few_noted : (held : HeldCells) (room : ℕ) → IsConsistent held → length held.cells ≤ room → (0 < room → length held.reads ≤ room) →
+    (0 < room → length held.writes ≤ room) → (length held.reads ≤ room) × (length held.writes ≤ room)
+few_noted held zero consistent cells reads writes =
+    let none_written = nothing_there held.writes
+    (λ cell v e. none-some v (sym (nothing_held held.cells cell cells) ∙ consistent.written cell v e)) in (
+      nothing_there held.reads (λ cell v e. none-some v
+          (sym (nothing_held held.cells cell cells) ∙ consistent.read cell v (nothing_held held.writes cell none_written) e)),
+      none_written,
+    )
+few_noted held (suc room) consistent cells reads writes = (reads (omega arith), writes (omega arith))
+
+module _ (plan : Plan) (ticket : TicketOf) (step : ℕ) (call : Invocation) (run : RunOf) (pending : List Lock) (asked : Bool)
+    (pending_room : ℕ) (outcome : Outcome) (run' : RunOf) (grants : List GrantOf) where
+  -- it ran, and its grants are out of its machine
+  pub record IsOver : Type 0 where
+    pub kept : IsKeptOpen (open_as plan ticket step call run pending asked) ticket run pending_room
     pub none : pending ≡ []
-    pub leads : moved (open_as plan ticket step (call_of section arguments) run pending asked)
-        ≡ over_by (open_as plan ticket step (call_of section arguments) run pending asked) outcome
-    pub left : IsLeftOf run p
-    pub thread_is : thread ≡ ticket.thread
-    pub begun_is : begun ≡ ticket.session.begun
+    pub leads : moved (open_as plan ticket step call run pending asked) ≡ over_by (open_as plan ticket step call run pending asked) outcome
+    pub finished : IsFinished run grants run'
 
-  pub ended_is : IsTakenApart →
-      ended_as plan ticket step p.place p.operands.stack p.locals.items p.parts.grants.items
-      (entered thread step section arguments begun p outcome) asked
-      ≡ over_by (open_as plan ticket step (call_of section arguments) run pending asked) outcome
+  pub ended_is : IsOver →
+      ended_as plan ticket step call run' grants asked outcome ≡ over_by (open_as plan ticket step call run pending asked) outcome
   ended_is t =
-      let machine : Machine HeldCells = record {
-        place = p.place;
-        stack = p.operands.stack;
-        locals = p.locals.items;
-        memory = record {
-          cells = cells_granted plan.layout.cell_locks p.parts.grants.items;
-          reads = p.parts.reads.items;
-          writes = p.parts.writes.items;
-        };
-        prints = p.prints.items;
-      } in
-      let same : run.machine ≡ machine =
-      t.left.machine
-      ∙ (λ i. record {
-        place = p.place;
-        stack = p.operands.stack;
-        locals = p.locals.items;
-        memory = record {
-          cells = cells_granted (t.kept.layout i).cell_locks p.parts.grants.items;
-          reads = p.parts.reads.items;
-          writes = p.parts.writes.items;
-        };
-        prints = p.prints.items;
-      }) in
-      sym (λ i. record {
+      let cells : cells_granted plan.layout.cell_locks grants ≡ run.machine.memory.cells =
+      ap (λ (l : LayoutOf). cells_granted l.cell_locks grants) (sym t.kept.layout) ∙ t.finished.cells in
+      λ i. record {
         plan = plan;
         thread = ticket.thread;
         step = step;
         room = ticket.session.room;
         activation = record {
-          call = call_of section arguments;
+          call = call;
           begun = ticket.session.begun;
-          machine = same i;
+          machine = record (t.finished.left i).machine { memory = record (t.finished.left i).machine.memory { cells = cells i } };
           held = ticket.session.held;
-          pending = t.none i;
+          pending = sym t.none i;
           asked = asked;
           outcome = Some outcome;
         };
-      })
+      }
 
-  pub kept_ended : SectionsStayInOrder → IsTakenApart →
-      IsKeptEnded
-      (ended_as plan ticket step p.place p.operands.stack p.locals.items p.parts.grants.items
-      (entered thread step section arguments begun p outcome) asked)
-      ticket p.parts.grants.items (entered thread step section arguments begun p outcome)
+  pub kept_ended : SectionsStayInOrder → IsOver →
+      let o = ended_as plan ticket step call run' grants asked outcome in
+      IsKeptEnded o ticket run' grants (entry_of o outcome)
   kept_ended laws t =
-      let o = open_as plan ticket step (call_of section arguments) run pending asked in
+      let o = open_as plan ticket step call run pending asked in
       let r : RunsInOrder o = record { is_open = t.kept.is_open; pending = t.none; outcome = refl } in
+      let machine = ap (λ (r : RunOf). r.machine) t.finished.left in
+      let reads = ap (λ (m : Machine HeldCells). length m.memory.reads) machine in
+      let writes = ap (λ (m : Machine HeldCells). length m.memory.writes) machine in
+      let prints = ap (λ (m : Machine HeldCells). length m.prints) machine in
+      let few = few_noted run.machine.memory run.cell_room t.kept.is_open.in_order.well.consistent t.finished.lent t.finished.reads t.finished.writes in
       record {
         is_open = subst IsOpen (sym (ended_is t)) (subst IsOpen t.leads (moved_is_open o laws r));
         ticket_is = t.kept.ticket_is ∙ (λ i. record {
@@ -116,12 +101,18 @@ module _ (plan : Plan) (ticket : TicketOf) (step section : ℕ) (arguments : Lis
           };
         });
         its = record {
-          locks = t.left.locks ∙ t.kept.locks;
-          whole = subst (λ (l : LayoutOf). All (IsWhole l.cell_locks) p.parts.grants.items) t.kept.layout t.left.whole;
+          locks = t.finished.locks ∙ t.kept.locks;
+          whole = subst (λ (l : LayoutOf). All (IsWhole l.cell_locks) grants) t.kept.layout t.finished.whole;
           cells = refl;
         };
-        entry_is = λ i. entered (t.thread_is i) step section arguments (t.begun_is i) p outcome;
-        few = t.left.few_prints;
+        within = record {
+          arguments = t.kept.few_arguments;
+          reads = omega (arith, reads, few.0, t.kept.cell_room);
+          writes = omega (arith, writes, few.1, t.kept.cell_room);
+          prints = omega (arith, prints, t.finished.prints);
+        };
+        no_locks = ap (λ (r : RunOf). r.locks) t.finished.left;
+        no_room = ap (λ (r : RunOf). r.cell_room) t.finished.left;
       }
 
 -- ---- its grants
@@ -158,21 +149,20 @@ alike cl (g ∷ gs) (h ∷ hs) locks whole others cells =
     λ i. record { lock = lock i; values = apart.0 i } ∷ rest i
 
 -- it may be released where its own grants and entry may be given back
-pub can_end : (m : Managed) (o : OpenOf) (ticket : TicketOf) (grants : List GrantOf) (entry : Commit) →
-    IsKeptEnded o ticket grants entry → o.activation.outcome ≡ Some entry.outcome → CanRelease m ticket grants entry → CanGiveBack m o
-can_end m o ticket grants entry kept over can grants' outcome its over' =
-    let same_grants : grants ≡ grants' =
-    alike o.plan.layout.cell_locks grants grants' (kept.its.locks ∙ sym its.locks) kept.its.whole its.whole
-    (kept.its.cells ∙ sym its.cells) in
-    let same_outcome : Some entry.outcome ≡ Some outcome = sym over ∙ over' in
-    let same_entry : entry ≡ entry_of o outcome =
-    kept.entry_is ∙ ap (entry_of o) (ap (λ (x : Option Outcome). unwrap_or x outcome) same_outcome) in
-    subst (λ (t : TicketOf). CanRelease m t grants' (entry_of o outcome)) kept.ticket_is
-    (subst (λ (gs : List GrantOf). CanRelease m ticket gs (entry_of o outcome)) same_grants
-    (subst (λ (e : Commit). CanRelease m ticket grants e) same_entry can))
+module _ (m : Managed) (o : OpenOf) (ticket : TicketOf) (run : RunOf) (grants : List GrantOf) (outcome : Outcome)
+    (kept : IsKeptEnded o ticket run grants (entry_of o outcome)) (over : o.activation.outcome ≡ Some outcome) where
+  pub can_end : CanRelease m ticket grants (entry_of o outcome) → CanGiveBack m o
+  can_end can grants' other its over' =
+      let same_grants : grants ≡ grants' =
+      alike o.plan.layout.cell_locks grants grants' (kept.its.locks ∙ sym its.locks) kept.its.whole its.whole
+      (kept.its.cells ∙ sym its.cells) in
+      let same_outcome : Some outcome ≡ Some other = sym over ∙ over' in
+      let same_entry : entry_of o outcome ≡ entry_of o other =
+      ap (entry_of o) (ap (λ (x : Option Outcome). unwrap_or x other) same_outcome) in
+      subst (λ (t : TicketOf). CanRelease m t grants' (entry_of o other)) kept.ticket_is
+      (subst (λ (gs : List GrantOf). CanRelease m ticket gs (entry_of o other)) same_grants
+      (subst (λ (e : Commit). CanRelease m ticket grants e) same_entry can))
 
-pub own_release : (m : Managed) (o : OpenOf) (ticket : TicketOf) (grants : List GrantOf) (entry : Commit) →
-    IsKeptEnded o ticket grants entry → o.activation.outcome ≡ Some entry.outcome → CanGiveBack m o → CanRelease m ticket grants entry
-own_release m o ticket grants entry kept over can =
-    subst (λ (t : TicketOf). CanRelease m t grants entry) (sym kept.ticket_is)
-    (subst (λ (e : Commit). CanRelease m (ticket_of o) grants e) (sym kept.entry_is) (can grants entry.outcome kept.its over))
+  pub own_release : CanGiveBack m o → CanRelease m ticket grants (entry_of o outcome)
+  own_release can =
+      subst (λ (t : TicketOf). CanRelease m t grants (entry_of o outcome)) (sym kept.ticket_is) (can grants outcome kept.its over)

@@ -190,6 +190,7 @@ kept_moving o ticket run pending_room m keeps laws r kept is = record {
   lock_room = kept.lock_room;
   cell_room = kept.cell_room;
   pending_fits = kept.pending_fits;
+  few_arguments = kept.few_arguments;
   cells =
       same_length m.memory.cells o.activation.machine.memory.cells
       (keeps o.plan.program.shape (slice_get (code_at o.plan o.activation.call.section) o.activation.machine.place)
@@ -221,4 +222,5 @@ kept_asking o ticket run pending_room more point laws r kept is le = record {
   cell_room = kept.cell_room;
   pending_fits = omega (arith, kept.pending_fits);
   cells = kept.cells;
+  few_arguments = kept.few_arguments;
 }

@@ -9,7 +9,7 @@
 
 mod asker;
 mod asking;
+mod body;
 mod open;
 mod opening;
-mod spare;
 pub mod states;

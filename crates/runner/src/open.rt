@@ -8,17 +8,15 @@ ghost use Rattle.runner.specs.Working.Ties.{effect_on, HasMoved};
 
 use crate::asker::Asker;
 use crate::asking::take_first;
-use crate::spare::Kept;
+use crate::body::{Body, Memory};
+use crate::states::Ready;
 use code::instr::Instr;
-use core_lang::value::{Outcome, Value};
-use layout::room::Room;
+use core_lang::value::Outcome;
 use lock_manager::manager::Manager;
 use lock_manager::response::Response;
 use lock_manager::ticket::Ticket;
 use locks::lock::Lock;
 use lowering::compiled::Program;
-use moved_cells::grant::Grant;
-use runner_machine::machine::Machine;
 use runner_machine::progress::Progress;
 use std::marker::Model;
 
@@ -26,14 +24,7 @@ use std::marker::Model;
 pub(crate) struct Open<'p> {
     pub(crate) program: &'p Program,
     pub(crate) ticket: Ticket,
-    pub(crate) step: usize,
-    pub(crate) section: usize,
-    pub(crate) arguments: Vec<Value>,
-    pub(crate) machine: Box<Machine<'p>>,
-    pub(crate) pending: Vec<Lock>,
-    pub(crate) asked: bool,
-    // For its end.
-    pub(crate) memory: Box<Kept>,
+    pub(crate) body: Box<Body<'p>>,
 }
 
 impl<'p> Model for Open<'p> {
@@ -41,21 +32,19 @@ impl<'p> Model for Open<'p> {
     ghost use Rattle.core_lang.specs.contracts.tree.Expr as expr;
     ghost use Rattle.core_lang.specs.contracts.tree.Condition as condition;
     ghost use Rattle.std.specs.Coded.{codes};
-    ghost use Rattle.std.specs.Prelude.{vec_capacity};
+    ghost use Rattle.std.specs.Prelude.{◌≡◌, [], vec_capacity};
     ghost use Rattle.runner.specs.Working.Opens.{OpenOf};
-    ghost use Rattle.runner.specs.Working.Ties.{open_as, call_of, IsKeptOpen};
+    ghost use Rattle.runner.specs.Working.Ties.{open_in, IsKeptOpen};
 
     ghost Value = { OpenOf };
 
     ghost coded = { Prim.hlevel (codes, action.the_row.coded, expr.the_row.coded, condition.the_row.coded) };
 
-    ghost view = { λ o.
-        open_as o.program.now o.ticket o.step (call_of o.section o.arguments.items) o.machine.value o.pending.items o.asked };
+    ghost view = { λ o. open_in o.program.now o.ticket o.body.value };
 
     ghost invariant = { λ o.
-        IsKeptOpen
-        (open_as o.program.now o.ticket o.step (call_of o.section o.arguments.items) o.machine.value o.pending.items o.asked)
-        o.ticket o.machine.value (vec_capacity o.pending) };
+        IsKeptOpen (open_in o.program.now o.ticket o.body.value) o.ticket o.body.value.machine (vec_capacity o.body.value.pending)
+        × (o.body.value.grants.items ≡ []) };
 }
 
 impl<'p> Open<'p> {
@@ -65,9 +54,10 @@ impl<'p> Open<'p> {
         ensures { next_effect self.now.plan self.now.activation ≡ effect_on self.now result }
     {
         worlds::laws::sections_stay_in_order();
+        let body = &*self.body;
         let code = self.program.code();
-        let instructions = &code.sections[self.section].instructions;
-        instructions[self.machine.place()]
+        let instructions = &code.sections[body.section].instructions;
+        instructions[body.machine.place()]
     }
 
     // Passes on, with the locks before a point pending.
@@ -77,16 +67,17 @@ impl<'p> Open<'p> {
         ensures { self.new ≡ moved self.old }
     {
         worlds::laws::sections_stay_in_order();
+        let body = &mut *self.body;
         let _code = self.program.code();
         let asker = Asker {
             program: self.program,
-            section: self.section,
+            section: body.section,
             held: self.ticket.held(),
-            locals: self.machine.locals(),
+            locals: body.machine.locals(),
         };
-        asker.ask_before(point, &mut self.pending);
-        self.machine.pass();
-        self.asked = false;
+        asker.ask_before(point, &mut body.pending);
+        body.machine.pass();
+        body.asked = false;
     }
 
     // Does its next instruction, or says to which outcome it leads.
@@ -96,9 +87,10 @@ impl<'p> Open<'p> {
     {
         code::laws::steps_go_alike();
         worlds::laws::sections_stay_in_order();
-        let _code = self.program.code();
         let instruction = self.instruction();
-        match self.machine.step(&self.program.typed().shape, instruction) {
+        let body = &mut *self.body;
+        let _code = self.program.code();
+        match body.machine.step(&self.program.typed().shape, instruction) {
             Progress::Moved => None,
             Progress::Asks(point) => {
                 self.pass_on(point);
@@ -126,16 +118,17 @@ impl<'p> Open<'p> {
         moved_cells::laws::heaps_have_values();
         worlds::laws::sections_stay_in_order();
         manager.keeps_its_rules();
-        let lock = self.pending[0];
+        let lock = self.body.pending[0];
         match manager.request(&mut self.ticket, lock) {
             Response::Granted(grant) => {
-                self.machine.grant(grant);
-                take_first(&mut self.pending);
-                self.asked = false;
+                let body = &mut *self.body;
+                body.machine.grant(grant);
+                take_first(&mut body.pending);
+                body.asked = false;
                 None
             }
             Response::Held(holder) => {
-                self.asked = true;
+                self.body.asked = true;
                 Some(holder)
             }
         }
@@ -145,9 +138,8 @@ impl<'p> Open<'p> {
 impl<'p> Open<'p> {
     ghost use Rattle.std.specs.Prelude.{◌≢◌, ◌↔◌, IsTrue};
     ghost use Rattle.std.specs.List.{All};
-    ghost use Rattle.lock_manager.specs.Working.Sessions.{TicketOf};
     ghost use Rattle.lock_manager.specs.Working.Calls.{Knows};
-    ghost use Rattle.runner.specs.Working.Opens.{IsOpen, AreItsGrants, ticket_of, ready_again};
+    ghost use Rattle.runner.specs.Working.Opens.{IsOpen, GivenUp, ticket_of, ready_again};
 
     // Whether the manager knows it.
     pub(crate) fn fits(&self, manager: &Manager<'p>) -> bool
@@ -160,14 +152,14 @@ impl<'p> Open<'p> {
     pub(crate) fn keeps_its_rules(&self)
         ensures { IsOpen self.now }
     {
-        let _step = self.step;
+        let _ticket = &self.ticket;
     }
 
     // Whether its next step is an instruction: no lock is pending.
     pub(crate) fn is_running(&self) -> bool
         ensures { IsTrue result ↔ (self.now.activation.pending ≡ []) }
     {
-        self.pending.is_empty()
+        self.body.pending.is_empty()
     }
 
     // The first of its pending locks.
@@ -175,100 +167,31 @@ impl<'p> Open<'p> {
         requires { self.now.activation.pending ≢ [] }
         ensures { slice_get self.now.activation.pending 0 ≡ Some result }
     {
-        self.pending[0]
+        self.body.pending[0]
     }
 
     // Whether it asked for it.
     pub(crate) fn asked(&self) -> bool
         ensures { result ≡ self.now.activation.asked }
     {
-        self.asked
+        self.body.asked
     }
 
-    // Its ticket, the number of its call and its grants, to give it up.
-    pub(crate) fn into_parts(self) -> (Ticket, usize, Vec<Grant>)
-        ensures ticket { result.0 ≡ ticket_of self.entry }
-        ensures step { result.1 ≡ self.entry.step }
-        ensures grants { AreItsGrants self.entry result.2.items }
+    // Gives it up.
+    pub(crate) fn give_up(self, manager: &mut Manager<'p>) -> Ready<'p>
+        ensures given_up { GivenUp manager.old self.entry manager.new }
+        ensures ready { result ≡ ready_again self.entry }
     {
         let Open {
             program: _,
             ticket,
-            step,
-            section: _,
-            arguments: _,
-            machine,
-            pending: _,
-            asked: _,
-            memory: _,
+            mut body,
         } = self;
-        (ticket, step, Box::into_inner(machine).into_grants())
-    }
-}
-
-// Lets grants go.
-pub(crate) fn let_go(mut grants: Vec<Grant>) {
-    while let Some(grant) = grants.pop() {
-        let (_lock, _cells) = grant.into_parts();
-    }
-    grants.destroy_empty();
-}
-
-// A section that is about to begin, with all the memory that it can need.
-pub(crate) struct Beginning<'p> {
-    pub(crate) program: &'p Program,
-    pub(crate) section: usize,
-    pub(crate) arguments: Vec<Value>,
-    pub(crate) room: Room,
-    pub(crate) machine: Box<Machine<'p>>,
-    pub(crate) pending: Vec<Lock>,
-    pub(crate) memory: Box<Kept>,
-}
-
-impl<'p> Beginning<'p> {
-    ghost use Rattle.lock_manager.specs.Working.Sessions.{fresh};
-    ghost use Rattle.runner.specs.Working.Ties.{IsBeginning, its_call, begun_as};
-
-    // Lets it go: it doesn't begin.
-    pub(crate) fn let_go(self) {
-        let Beginning {
-            program: _,
-            section: _,
-            arguments: _,
-            room: _,
-            machine,
-            pending: _,
-            memory: _,
-        } = self;
-        let_go(Box::into_inner(machine).into_grants());
-    }
-
-    // It begins, as this call of its thread.
-    pub(crate) fn open(self, ticket: Ticket, step: usize) -> Open<'p>
-        requires prepared { IsBeginning self }
-        requires ticket { ticket.session ≡ fresh ticket.session.begun self.room }
-        ensures { result ≡ begun_as self.entry.program.now ticket.thread step self.entry.room ticket.session.begun (its_call self.entry) }
-    {
-        worlds::laws::sections_stay_in_order();
-        let Beginning {
-            program,
-            section,
-            arguments,
-            room: _,
-            machine,
-            pending,
-            memory,
-        } = self;
-        Open {
-            program,
-            ticket,
-            step,
-            section,
-            arguments,
-            machine,
-            pending,
-            asked: false,
-            memory,
-        }
+        let thread = ticket.thread();
+        let block = &mut *body;
+        let step = block.step;
+        block.machine.finish(&mut block.grants);
+        manager.give_up(ticket, &mut block.grants);
+        Ready::after(thread, step, Memory { body })
     }
 }

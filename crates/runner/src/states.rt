@@ -5,36 +5,34 @@ ghost use Rattle.core_lang.specs.Serial.{invocation};
 ghost use Rattle.core_lang.specs.WellFormed.{CanCall};
 ghost use Rattle.lock_manager.specs.Working.Managers.{session_of};
 ghost use Rattle.runner.specs.Working.Opens.{moved, IsOpen};
-ghost use Rattle.runner.specs.Working.Ties.{over_by};
+ghost use Rattle.lock_manager.specs.Working.Sessions.{fresh};
+ghost use Rattle.runner.specs.Working.Ties.{over_by, IsBeginning, its_call, begun_as};
 ghost use Rattle.runner.specs.Working.Answers as answers;
 
-use crate::open::{Beginning, Open};
-use crate::spare::{Kept, prepared_in, with_receipt};
+use crate::body::{Body, Memory};
+use crate::open::Open;
 use core_lang::typed::Call;
 use core_lang::value::{Outcome, Value};
-use history::entry::Entry;
+use history::kept::Kept;
 use lock_manager::manager::Manager;
-use lock_manager::ticket::{Memory, Receipt, Spare, Ticket};
+use lock_manager::ticket::{Receipt, Spare, Ticket};
 use locks::lock::Lock;
 use lowering::compiled::Program;
-use moved_cells::grant::Grant;
-use moved_cells::grant_room::GrantRoom;
-use runner_cells::parts::Parts;
-use runner_machine::machine::Left;
 use std::alloc::Global;
 use std::marker::Model;
+use std::mem;
 
 /// A thread with no section open. As a value it is the thread and the number of its next call. It keeps the memory that
 /// its last section took for the next one.
 #[derive(Drop)]
-pub struct Ready {
+pub struct Ready<'p> {
     thread: u32,
     step: usize,
-    memory: Option<Box<Kept>>,
+    memory: Option<Memory<'p>>,
     ticket: Option<Spare>,
 }
 
-impl Model for Ready {
+impl<'p> Model for Ready<'p> {
     ghost use Rattle.runner.specs.Working.Opens.{ReadyOf};
 
     ghost Value = { ReadyOf };
@@ -90,12 +88,7 @@ impl<'p> Model for Asking<'p> {
 pub struct Ended<'p> {
     program: &'p Program,
     ticket: Ticket,
-    step: usize,
-    place: usize,
-    grants: Vec<Grant>,
-    asked: bool,
-    // Its operands, locals and entry, in what its thread keeps.
-    memory: Box<Kept>,
+    body: Box<Body<'p>>,
 }
 
 impl<'p> Model for Ended<'p> {
@@ -104,19 +97,17 @@ impl<'p> Model for Ended<'p> {
     ghost use Rattle.core_lang.specs.contracts.tree.Condition as condition;
     ghost use Rattle.std.specs.Coded.{codes};
     ghost use Rattle.runner.specs.Working.Opens.{OpenOf};
-    ghost use Rattle.runner.specs.Working.Ties.{ended_as, IsKeptEnded};
+    ghost use Rattle.runner.specs.Working.Ties.{ended_in, entry_in, IsKeptEnded};
 
     ghost Value = { OpenOf };
 
     ghost coded = { Prim.hlevel (codes, action.the_row.coded, expr.the_row.coded, condition.the_row.coded) };
 
-    ghost view = { λ e.
-        ended_as e.program.now e.ticket e.step e.place e.memory.value.operands.stack e.memory.value.locals.items e.grants.items e.memory.value.entry e.asked };
+    ghost view = { λ e. ended_in e.program.now e.ticket e.body.value };
 
     ghost invariant = { λ e.
-        IsKeptEnded
-        (ended_as e.program.now e.ticket e.step e.place e.memory.value.operands.stack e.memory.value.locals.items e.grants.items e.memory.value.entry e.asked)
-        e.ticket e.grants.items e.memory.value.entry };
+        IsKeptEnded (ended_in e.program.now e.ticket e.body.value) e.ticket e.body.value.machine e.body.value.grants.items
+        (entry_in e.ticket e.body.value) };
 }
 
 /// What a section goes on as.
@@ -137,14 +128,31 @@ pub enum Asked<'p> {
     Held(u32, Asking<'p>),
 }
 
-impl Ready {
+impl<'p> Ready<'p> {
     ghost use Rattle.runner.specs.Working.Opens.{Began, Prepares};
 
     /// A thread before its first call.
-    pub fn new(thread: u32) -> Ready
+    pub fn new(thread: u32) -> Ready<'p>
         ensures { result ≡ record { thread = thread; step = 0 } }
     {
-        without_memory(thread, 0)
+        Ready {
+            thread,
+            step: 0,
+            memory: None,
+            ticket: None,
+        }
+    }
+
+    // A thread with this call to come, in the memory of a section that is over.
+    pub(crate) fn after(thread: u32, step: usize, memory: Memory<'p>) -> Ready<'p>
+        ensures { result ≡ record { thread = thread; step = step } }
+    {
+        Ready {
+            thread,
+            step,
+            memory: Some(memory),
+            ticket: None,
+        }
     }
 
     /// The thread.
@@ -168,16 +176,16 @@ impl Ready {
     /// # Errors
     ///
     /// Want of memory.
-    pub fn prepare<'p>(
+    pub fn prepare(
         self,
         alloc: Global,
         program: &'p Program,
         section: usize,
         arguments: &[Value],
-    ) -> Result<Poised<'p>, Ready>
+    ) -> Result<Poised<'p>, Ready<'p>>
         requires { CanCall program.now.program section arguments.now }
-        ensures ok { IfOk result (λ p. Prepares self program.now (record { section = section; arguments = arguments.now }) p) }
-        ensures err { IfErr result (λ ready. ready ≡ self) }
+        ensures ok { IfOk result (λ p. Prepares self.entry program.now (record { section = section; arguments = arguments.now }) p) }
+        ensures err { IfErr result (λ ready. ready ≡ self.entry) }
     {
         let Ready {
             thread,
@@ -185,15 +193,28 @@ impl Ready {
             memory,
             ticket,
         } = self;
-        let ready = Ready {
-            thread,
-            step,
-            memory: None,
-            ticket,
+        let memory = match memory {
+            Some(memory) => Ok(memory),
+            None => Memory::new(alloc, program),
         };
-        match prepared_in(alloc, memory, program, section, arguments) {
-            Ok(prepared) => Ok(Poised { ready, prepared }),
-            Err(_) => Err(ready),
+        let prepared = match memory {
+            Ok(memory) => memory.prepared(program, section, arguments),
+            Err(refused) => Err(refused),
+        };
+        match prepared {
+            Ok(memory) => Ok(Poised {
+                program,
+                thread,
+                step,
+                memory,
+                ticket,
+            }),
+            Err(_) => Err(Ready {
+                thread,
+                step,
+                memory: None,
+                ticket,
+            }),
         }
     }
 
@@ -202,18 +223,18 @@ impl Ready {
     /// # Errors
     ///
     /// Want of memory; all is as it was.
-    pub fn begin<'p>(
+    pub fn begin(
         self,
         alloc: Global,
         manager: &mut Manager<'p>,
         program: &'p Program,
         call: &Call,
-    ) -> Result<Running<'p>, Ready>
+    ) -> Result<Running<'p>, Ready<'p>>
         requires thread { self.thread < 64 }
         requires closed { session_of manager.old self.thread ≡ None }
         requires fits { CanCall program.now.program call.now.section call.now.arguments.items }
-        ensures ok { IfOk result (λ running. Began manager.old self program.now (invocation call.now) running manager.new) }
-        ensures err { IfErr result (λ ready. ready ≡ self) }
+        ensures ok { IfOk result (λ running. Began manager.old self.entry program.now (invocation call.now) running manager.new) }
+        ensures err { IfErr result (λ ready. ready ≡ self.entry) }
         ensures same { OnErr result (manager.new ≡ manager.old) }
     {
         match self.prepare(alloc, program, call.section, &call.arguments) {
@@ -222,15 +243,10 @@ impl Ready {
         }
     }
 
-    /// With the memory of the section that the receipt is of, for the next one.
-    pub fn keep(self, receipt: Receipt) -> Ready
-        ensures { result ≡ self }
+    /// With the memory of the ticket that the receipt is of, for the next one.
+    pub fn keep(self, receipt: Receipt) -> Ready<'p>
+        ensures { result ≡ self.entry }
     {
-        let Memory {
-            ticket,
-            grants,
-            entry,
-        } = receipt.into_memory();
         let Ready {
             thread,
             step,
@@ -240,28 +256,20 @@ impl Ready {
         Ready {
             thread,
             step,
-            memory: with_receipt(memory, grants, entry),
-            ticket: Some(ticket),
+            memory,
+            ticket: Some(receipt.into_spare()),
         }
     }
 }
 
-// A thread that keeps no memory.
-fn without_memory(thread: u32, step: usize) -> Ready
-    ensures { result ≡ record { thread = thread; step = step } }
-{
-    Ready {
-        thread,
-        step,
-        memory: None,
-        ticket: None,
-    }
-}
-
 /// A thread whose next call has all the memory that it can need, but for what the manager keeps.
+#[derive(Drop)]
 pub struct Poised<'p> {
-    ready: Ready,
-    prepared: Beginning<'p>,
+    program: &'p Program,
+    thread: u32,
+    step: usize,
+    memory: Memory<'p>,
+    ticket: Option<Spare>,
 }
 
 impl<'p> Model for Poised<'p> {
@@ -277,14 +285,14 @@ impl<'p> Model for Poised<'p> {
     ghost coded = { Prim.hlevel (codes, action.the_row.coded, expr.the_row.coded, condition.the_row.coded) };
 
     ghost view = { λ p. record {
-      plan = p.prepared.program.now;
-      thread = p.ready.thread;
-      step = p.ready.step;
-      room = p.prepared.room;
-      call = its_call p.prepared;
+      plan = p.program.now;
+      thread = p.thread;
+      step = p.step;
+      room = p.memory.body.value.room;
+      call = its_call p.memory.body.value;
     } };
 
-    ghost invariant = { λ p. IsBeginning p.prepared };
+    ghost invariant = { λ p. IsBeginning p.program.now p.memory.body.value };
 }
 
 impl<'p> Poised<'p> {
@@ -295,7 +303,7 @@ impl<'p> Poised<'p> {
     pub fn thread(&self) -> u32
         ensures { result ≡ self.now.thread }
     {
-        self.ready.thread()
+        self.thread
     }
 
     /// Begins the call.
@@ -303,43 +311,66 @@ impl<'p> Poised<'p> {
     /// # Errors
     ///
     /// Want of memory; all is as it was.
-    pub fn begin(self, alloc: Global, manager: &mut Manager<'p>) -> Result<Running<'p>, Ready>
+    pub fn begin(self, alloc: Global, manager: &mut Manager<'p>) -> Result<Running<'p>, Ready<'p>>
         requires thread { self.thread < 64 }
         requires closed { session_of manager.old self.thread ≡ None }
         ensures ok { IfOk result (λ running. Began manager.old (ready_of self.entry) self.entry.plan self.entry.call running manager.new) }
         ensures err { IfErr result (λ ready. ready ≡ ready_of self.entry) }
         ensures same { OnErr result (manager.new ≡ manager.old) }
     {
-        let Poised { ready, prepared } = self;
-        let Ready {
+        let Poised {
+            program,
             thread,
             step,
-            memory: _,
+            memory,
             ticket,
-        } = ready;
+        } = self;
         let spare = match ticket {
             Some(spare) => spare,
             None => Spare::new(),
         };
-        let room = prepared.room;
-        match manager.begin(alloc, thread, room, spare) {
+        match manager.begin(alloc, thread, memory.body.room, spare) {
             Ok(ticket) => Ok(Running {
-                open: prepared.open(ticket, step),
+                open: begun(program, ticket, step, memory),
             }),
-            Err(_) => {
-                prepared.let_go();
-                Err(without_memory(thread, step))
-            }
+            Err(_) => Err(Ready::after(thread, step, memory)),
         }
     }
 
-    /// Lets the memory go: the call doesn't begin.
-    pub fn let_go(self) -> Ready
+    /// Lets the call go: it doesn't begin.
+    pub fn let_go(self) -> Ready<'p>
         ensures { result ≡ ready_of self.entry }
     {
-        let Poised { ready, prepared } = self;
-        prepared.let_go();
-        ready
+        let Poised {
+            program: _,
+            thread,
+            step,
+            memory,
+            ticket,
+        } = self;
+        Ready {
+            thread,
+            step,
+            memory: Some(memory),
+            ticket,
+        }
+    }
+}
+
+// A section that begins, as this call of its thread.
+fn begun<'p>(program: &'p Program, ticket: Ticket, step: usize, memory: Memory<'p>) -> Open<'p>
+    requires prepared { IsBeginning program.now memory.body.value }
+    requires ticket { ticket.session ≡ fresh ticket.session.begun memory.body.value.room }
+    ensures { let b = memory.entry.body.value in
+        result ≡ begun_as program.now ticket.thread step b.room ticket.session.begun (its_call b) }
+{
+    worlds::laws::sections_stay_in_order();
+    let mut body = memory.into_body();
+    body.step = step;
+    Open {
+        program,
+        ticket,
+        body,
     }
 }
 
@@ -366,60 +397,15 @@ fn end<'p>(opened: Open<'p>, outcome: Outcome) -> Ended<'p>
     let Open {
         program,
         ticket,
-        step,
-        section,
-        arguments,
-        machine,
-        pending,
-        asked,
-        mut memory,
+        mut body,
     } = opened;
-    let thread = ticket.thread();
-    let begun = ticket.begun();
-    let Left {
-        place,
-        operands,
-        locals,
-        parts,
-        prints,
-    } = Box::into_inner(machine).into_parts();
-    let Parts {
-        grants,
-        reads,
-        writes,
-        read_marks,
-        write_marks,
-    } = parts;
-    let alloc = memory.alloc;
-    let kept = Kept {
-        alloc,
-        operands,
-        locals,
-        entry: Entry {
-            thread,
-            step,
-            section,
-            arguments,
-            begun,
-            reads,
-            writes,
-            outcome,
-            prints,
-        },
-        pending,
-        read_marks,
-        write_marks,
-        grants: GrantRoom::new(alloc),
-    };
-    let _nothing = Box::replace(&mut memory, kept);
+    let block = &mut *body;
+    block.machine.finish(&mut block.grants);
+    block.outcome = outcome;
     Ended {
         program,
         ticket,
-        step,
-        place,
-        grants,
-        asked,
-        memory,
+        body,
     }
 }
 
@@ -441,7 +427,7 @@ impl<'p> Running<'p> {
     pub fn section(&self) -> usize
         ensures { result ≡ self.now.activation.call.section }
     {
-        self.open.section
+        self.open.body.section
     }
 
     /// The place of its next instruction in the section's code.
@@ -449,7 +435,7 @@ impl<'p> Running<'p> {
     pub fn place(&self) -> usize
         ensures { result ≡ self.now.activation.machine.place }
     {
-        self.open.machine.place()
+        self.open.body.machine.place()
     }
 
     /// Does its next instruction, which has its case.
@@ -488,15 +474,12 @@ impl<'p> Running<'p> {
     }
 
     /// Gives the section up.
-    pub fn give_up(self, manager: &mut Manager<'p>) -> Ready
+    pub fn give_up(self, manager: &mut Manager<'p>) -> Ready<'p>
         ensures given_up { GivenUp manager.old self.entry manager.new }
         ensures ready { result ≡ ready_again self.entry }
     {
         let Running { open } = self;
-        let (ticket, step, grants) = open.into_parts();
-        let thread = ticket.thread();
-        manager.give_up(ticket, grants);
-        without_memory(thread, step)
+        open.give_up(manager)
     }
 
     /// It keeps the rules, whatever the others do, and its next instruction has its case.
@@ -554,15 +537,12 @@ impl<'p> Asking<'p> {
     }
 
     /// Gives the section up.
-    pub fn give_up(self, manager: &mut Manager<'p>) -> Ready
+    pub fn give_up(self, manager: &mut Manager<'p>) -> Ready<'p>
         ensures given_up { GivenUp manager.old self.entry manager.new }
         ensures ready { result ≡ ready_again self.entry }
     {
         let Asking { open } = self;
-        let (ticket, step, grants) = open.into_parts();
-        let thread = ticket.thread();
-        manager.give_up(ticket, grants);
-        without_memory(thread, step)
+        open.give_up(manager)
     }
 
     /// It keeps the rules, whatever the others do, and the lock that it asks for comes after all that it holds.
@@ -582,62 +562,53 @@ impl<'p> Ended<'p> {
     pub fn fits(&self, manager: &Manager<'p>) -> bool
         ensures { IsTrue result ↔ CanBeReleased manager.now self.now }
     {
-        self.step < usize::MAX && manager.fits(&self.ticket, &self.grants, &self.memory.entry)
+        let body = &*self.body;
+        body.step < usize::MAX && manager.fits(&self.ticket, &body.grants, &self.entry())
     }
 
     /// Ends the section.
-    pub fn release(self, manager: &mut Manager<'p>) -> (Ready, Receipt)
+    pub fn release(self, manager: &mut Manager<'p>) -> (Ready<'p>, Receipt)
         requires { CanBeReleased manager.old self }
         ensures { Released manager.old self.entry result.0 result.1 manager.new }
     {
         let Ended {
             program: _,
             ticket,
-            step,
-            place: _,
-            grants,
-            asked: _,
-            mut memory,
+            mut body,
         } = self;
         let thread = ticket.thread();
-        let entry = memory.take_entry();
-        let receipt = manager.release(ticket, grants, entry);
-        (
-            Ready {
-                thread,
-                step: step + 1,
-                memory: Some(memory),
-                ticket: None,
-            },
-            receipt,
-        )
+        let step = body.step + 1;
+        let mut grants = Vec::new(body.alloc);
+        mem::swap(&mut grants, &mut body.grants);
+        let entry = body.entry(&ticket);
+        let receipt = manager.release(ticket, &mut grants, &entry);
+        mem::swap(&mut grants, &mut body.grants);
+        grants.destroy_empty();
+        (Ready::after(thread, step, Memory { body }), receipt)
     }
 
     /// Gives the section up.
-    pub fn give_up(self, manager: &mut Manager<'p>) -> Ready
+    pub fn give_up(self, manager: &mut Manager<'p>) -> Ready<'p>
         ensures given_up { GivenUp manager.old self.entry manager.new }
         ensures ready { result ≡ ready_again self.entry }
     {
         let Ended {
             program: _,
             ticket,
-            step,
-            place: _,
-            grants,
-            asked: _,
-            memory: _,
+            mut body,
         } = self;
         let thread = ticket.thread();
-        manager.give_up(ticket, grants);
-        without_memory(thread, step)
+        let step = body.step;
+        manager.give_up(ticket, &mut body.grants);
+        Ready::after(thread, step, Memory { body })
     }
 
     /// Its entry.
     #[inline]
-    pub fn entry(&self) -> &Entry
-        ensures { IsItsEntry self.now result.now }
+    pub fn entry(&self) -> Kept<'_>
+        ensures { IsItsEntry self.now result }
     {
-        &self.memory.entry
+        self.body.entry(&self.ticket)
     }
 
     /// It keeps the rules, whatever the others do, and its entry is true.
@@ -646,6 +617,6 @@ impl<'p> Ended<'p> {
         ensures true_entry { HasTrueEntry self.now }
     {
         worlds::laws::sections_stay_in_order();
-        let _step = self.step;
+        let _body = &self.body;
     }
 }

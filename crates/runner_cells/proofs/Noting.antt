@@ -130,26 +130,26 @@ one_place (b ∷ cs) (suc p) zero c d at too = absurd (d.0 (contains_at cs p b (
 one_place (b ∷ cs) (suc p) (suc q) c d at too = ap suc (one_place cs p q c d.1 at too)
 
 module _ (cells : List ℕ) (n : NotesOf) (are : AreNotes cells n) where
-  -- no more is noted than there are cells
-  pub few : length n.list ≤ length cells
-  few = no_more n.list cells are.once (λ c v is.
+  -- where there is room, no more is noted than there are cells
+  pub few : 0 < n.room → length n.list ≤ length cells
+  few live = no_more n.list cells are.once (λ c v is.
       let at = at_contained n.list (c, v) (value_somewhere n.list c v is) in
-      let m = are.marked at.0 (c, v) at.1 in
+      let m = are.marked live at.0 (c, v) at.1 in
       contains_at cells m.place c m.cell_is)
 
   -- with cells more
   pub with_cells : (more : List ℕ) → AreNotes (cells ++ more) n
   with_cells more = record {
-    marked = λ k x at. record {
-      place = (are.marked k x at).place;
-      cell_is = get_left cells more (are.marked k x at).place x.0 (are.marked k x at).cell_is;
-      mark_is = (are.marked k x at).mark_is;
+    marked = λ live k x at. record {
+      place = (are.marked live k x at).place;
+      cell_is = get_left cells more (are.marked live k x at).place x.0 (are.marked live k x at).cell_is;
+      mark_is = (are.marked live k x at).mark_is;
     };
     once = are.once;
     long = are.long;
   }
 
-  module _ (distinct : Distinct cells) (place cell : ℕ) (has_place : slice_get cells place ≡ Some cell) where
+  module _ (distinct : Distinct cells) (place cell : ℕ) (has_place : slice_get cells place ≡ Some cell) (live : 0 < n.room) where
     led_by_some : (k : ℕ) (o : Option ℕ) → led_by n.list cell o ≡ Some k → (v : Value) × (slice_get n.list k ≡ Some (cell, v))
     led_by_some k None e = absurd (none-some k e)
     led_by_some k (Some mark) e =
@@ -167,7 +167,7 @@ module _ (cells : List ℕ) (n : NotesOf) (are : AreNotes cells n) where
     pub not_found : number_of n place cell ≡ None → value_at n.list cell ≡ None
     not_found e = no_value (value_at n.list cell) (λ v is.
         let at = at_contained n.list (cell, v) (value_somewhere n.list cell v is) in
-        let m = are.marked at.0 (cell, v) at.1 in
+        let m = are.marked live at.0 (cell, v) at.1 in
         let mark : slice_get n.marks place ≡ Some at.0 =
         ap (slice_get n.marks) (one_place cells place m.place cell distinct has_place m.cell_is) ∙ m.mark_is in
         none-some at.0 (sym e ∙ ap (led_by n.list cell) mark ∙ ap (if_of cell at.0) at.1 ∙ leads cell at.0 v))
@@ -176,17 +176,17 @@ module _ (cells : List ℕ) (n : NotesOf) (are : AreNotes cells n) where
       again : (k : ℕ) → number_of n place cell ≡ Some k → AreNotes cells (with_note_at n place cell v (Some k))
       again k e =
           let old = found k e in record {
-            marked = λ j x at. elim (eqb_tells j k) [
+            marked = λ live' j x at. elim (eqb_tells j k) [
               | inl h ↦ (
                   let same : (cell, v) ≡ x =
                   same_Some (cell, v) x (sym (set_same n.list k (cell, v) (slice_get_within n.list k (cell, old.0) old.1)) ∙ ap (slice_get (set n.list k (cell, v))) (sym h.1) ∙ at) in
-                  let m = are.marked k (cell, old.0) old.1 in
+                  let m = are.marked live k (cell, old.0) old.1 in
                   record {
                     place = m.place;
                     cell_is = m.cell_is ∙ ap (λ (z : ℕ × Value). Some z.0) same;
                     mark_is = m.mark_is ∙ ap Some (sym h.1);
                   })
-              | inr h ↦ are.marked j x (set_cases n.list k j (cell, v) x at h.1)
+              | inr h ↦ are.marked live j x (set_cases n.list k j (cell, v) x at h.1)
             ];
             once = once_set n.list k cell old.0 v are.once old.1;
             long = are.long;
@@ -195,7 +195,7 @@ module _ (cells : List ℕ) (n : NotesOf) (are : AreNotes cells n) where
       anew : number_of n place cell ≡ None → AreNotes cells (with_note_at n place cell v None)
       anew e =
           let none : value_at n.list cell ≡ None = not_found e in record {
-            marked = λ j x at. elim (eqb_tells j (length n.list)) [
+            marked = λ live' j x at. elim (eqb_tells j (length n.list)) [
               | inl h ↦ (
                   let same : (cell, v) ≡ x = get_last n.list (cell, v) x (ap (slice_get (n.list ++ (cell, v) ∷ [])) (sym h.1) ∙ at) in
                   record {
@@ -207,7 +207,7 @@ module _ (cells : List ℕ) (n : NotesOf) (are : AreNotes cells n) where
                   let within : j < length (n.list ++ (cell, v) ∷ []) = slice_get_within (n.list ++ (cell, v) ∷ []) j x at in
                   let lt : j < length n.list = omega (arith, within, length-append n.list ((cell, v) ∷ []), h.1) in
                   let was : slice_get n.list j ≡ Some x = get_before n.list (cell, v) j x at lt in
-                  let m = are.marked j x was in
+                  let m = are.marked live j x was in
                   let other : m.place ≢ place =
                   λ q. none_nowhere n.list j x (ap (value_at n.list) (same_Some x.0 cell (sym m.cell_is ∙ ap (slice_get cells) q ∙ has_place)) ∙ none) was in
                   record {
@@ -253,7 +253,7 @@ same_room n place cell v = same_room_by n place cell v (number_of n place cell)
 
 -- a cell that isn't noted yet can be
 pub one_more : (cells : List ℕ) (n : NotesOf) (are : AreNotes cells n) → Distinct cells → (place cell : ℕ) → slice_get cells place ≡ Some cell →
-    Value → place < length n.marks → number_of n place cell ≡ None → length n.list < length cells
-one_more cells n are distinct place cell at v fits none =
-    let more : AreNotes cells (with_note_at n place cell v None) = anew cells n are distinct place cell at v fits none in
-    omega (arith, few cells (with_note_at n place cell v None) more, length-append n.list ((cell, v) ∷ []))
+    0 < n.room → Value → place < length n.marks → number_of n place cell ≡ None → length n.list < length cells
+one_more cells n are distinct place cell at live v fits none =
+    let more : AreNotes cells (with_note_at n place cell v None) = anew cells n are distinct place cell at live v fits none in
+    omega (arith, few cells (with_note_at n place cell v None) more live, length-append n.list ((cell, v) ∷ []))

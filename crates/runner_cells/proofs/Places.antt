@@ -1,8 +1,7 @@
 -- The cells of locks, one lock after another.
-use Rattle.std.proofs.Common.{◌≡◌, ◌≢◌, ℕ, zero, suc, ◌+◌, ◌<◌, Bool, true, false, if◌then◌else◌, ◌==◌, ◌&&◌, List, [], ◌∷◌, ◌++◌, length, get_or, Some, ◌⊎◌, inl, inr, refl, sym, ap, ◌∙◌, subst, arith}
+use Rattle.std.proofs.Common.{◌≡◌, ℕ, zero, suc, ◌+◌, ◌<◌, Bool, true, false, if◌then◌else◌, List, [], ◌∷◌, ◌++◌, length, get_or, Some, ◌⊎◌, inl, inr, refl, sym, ap, ◌∙◌, subst, arith}
 use Rattle.std.specs.Prelude.{slice_get}
 use Rattle.std.specs.List.{Contains}
-use Rattle.std.proofs.lemmas.Bool.{cases_Bool, eqb-true, eq-eqb}
 use Rattle.std.proofs.lemmas.List.Elements.{Contains-append_cases}
 use Rattle.std.proofs.lemmas.Option.{none-some, same_Some}
 use Rattle.locks.specs.declared.lock.Lock.{Lock}
@@ -11,7 +10,7 @@ use Rattle.locks.specs.Locks.{same_lock}
 use Rattle.layout.specs.Layouts.{AreDistinct}
 use Rattle.runner_cells.specs.Working.Kept.{cells_under}
 use Rattle.runner_cells.proofs.Lists.{first, Distinct, distinct_append}
-use Rattle.locks.specs.Theory.Order.{same_itself, same_is, other_than, lock_cases}
+use Rattle.locks.specs.Theory.Order.{lock_cases}
 use Rattle.core_lang.specs.Theory.Items.{contains_at, at_contained, in_rest}
 
 -- ---- the same lock

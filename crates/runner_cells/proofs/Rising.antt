@@ -6,7 +6,7 @@ use Rattle.std.proofs.lemmas.Bool.Decides.{eqb_tells}
 use Rattle.std.proofs.lemmas.Option.{none-some, same_Some}
 use Rattle.core_lang.specs.declared.value.Value.{Value}
 use Rattle.code.specs.Memory.{value_at, with_value}
-use Rattle.runner_cells.specs.Working.Noted.{in_order}
+use Rattle.runner_cells.specs.Working.Noted.{in_order, EachOnce}
 use Rattle.runner_cells.proofs.Lists.{same_cell, other_cell, here, past}
 
 -- ---- with a cell's value set
@@ -105,6 +105,19 @@ in_order_values (x ∷ xs) c = elim (eqb_tells x.0 c) [
   | inl h ↦ ap (λ (k : ℕ). value_at (with_value (in_order xs) k x.1) c) h.1 ∙ set_same (in_order xs) c x.1 ∙ sym (here x xs c h.1)
   | inr h ↦ set_other (in_order xs) x.0 c x.1 h.1 ∙ in_order_values xs c ∙ sym (past x xs c h.1)
 ]
+
+-- put in order twice it is as put in order once
+pub in_order_twice : (xs : List (ℕ × Value)) → in_order (in_order xs) ≡ in_order xs
+in_order_twice xs =
+    same_rising 0 (in_order (in_order xs)) (in_order xs) (in_order_rises (in_order xs)) (in_order_rises xs) (in_order_values (in_order xs))
+
+rising_once : (n : ℕ) (xs : List (ℕ × Value)) → Rise n xs → EachOnce xs
+rising_once n [] r = tt
+rising_once n (x ∷ xs) r = (none_below (x.0 + 1) x.0 xs r.1 (omega arith), rising_once (x.0 + 1) xs r.1)
+
+-- and no cell has two values there
+pub in_order_once : (xs : List (ℕ × Value)) → EachOnce (in_order xs)
+in_order_once xs = rising_once 0 (in_order xs) (in_order_rises xs)
 
 -- where one cell's value is another, it is set in order
 pub set_in_order : (xs ys : List (ℕ × Value)) (c : ℕ) (v : Value) → value_at ys c ≡ Some v → ((d : ℕ) → c ≢ d → value_at ys d ≡ value_at xs d) →

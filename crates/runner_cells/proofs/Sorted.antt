@@ -80,7 +80,7 @@ length_once [] once = refl
 length_once (x ∷ xs) once =
     omega (arith, length_new (in_order xs) x.0 x.1 (in_order_values xs x.0 ∙ once.0), length_once xs once.1)
 
-length_in_order : (xs : List (ℕ × Value)) → length (in_order xs) ≤ length xs
+pub length_in_order : (xs : List (ℕ × Value)) → length (in_order xs) ≤ length xs
 length_in_order [] = omega arith
 length_in_order (x ∷ xs) = omega (arith, length_most (in_order xs) x.0 x.1, length_in_order xs)
 

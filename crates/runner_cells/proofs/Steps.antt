@@ -2,20 +2,21 @@
 use Rattle.std.proofs.Common.{◌≡◌, ℕ, ◌+◌, ◌<◌, ◌≤◌, true, false, List, [], ◌∷◌, ◌++◌, length, set, get_or, Option, Some, None, refl, sym, ap, ◌∙◌, subst, arith, length-set, length-append}
 use Rattle.std.specs.Prelude.{slice_get}
 use Rattle.std.specs.List.{Contains}
-use Rattle.std.proofs.lemmas.List.Elements.{All-set, All-push}
-use Rattle.std.proofs.lemmas.Option.{get_or_from_slice_get}
+use Rattle.std.proofs.lemmas.List.Elements.{All-nil, All-set, All-push}
+use Rattle.std.proofs.lemmas.Option.{none-some, get_or_from_slice_get}
 use Rattle.core_lang.specs.declared.value.Value.{Value}
 use Rattle.locks.specs.declared.lock.Lock.{Lock}
 use Rattle.code.specs.Memory.{HeldCells, value_at, with_value, with_changed, noted, read_if_held, write_if_held}
 use Rattle.layout.specs.Layouts.{LayoutOf, AreDistinct}
 use Rattle.moved_cells.specs.Working.Grants.{GrantOf, cells_in, IsWhole, locks_of}
 use Rattle.moved_cells.specs.Working.Laws.{OffsetsFindValues, OffsetsChangeCells}
-use Rattle.runner_cells.specs.Working.Held.{HoldingOf, cells_granted, CanHold, with_grant, IsLoad, IsStore}
+use Rattle.runner_cells.specs.Working.Held.{HoldingOf, cells_granted, CanHold, with_grant, without_grants, IsLoad, IsStore}
 use Rattle.runner_cells.specs.Working.Noted.{NotesOf, number_of, with_note, in_order, EachOnce, AreNotes}
 use Rattle.runner_cells.specs.Working.Kept.{cells_under, values_count, IsSpot, IsElsewhere, IsKept, holding_of}
 use Rattle.runner_cells.proofs.Lists.{Distinct}
-use Rattle.runner_cells.proofs.Rising.{in_order_values}
-use Rattle.runner_cells.proofs.Noting.{found_value, not_found, noted_so, noted_with, with_cells, one_more, same_room}
+use Rattle.runner_cells.proofs.Rising.{in_order_values, in_order_twice, in_order_once}
+use Rattle.runner_cells.proofs.Sorted.{length_in_order}
+use Rattle.runner_cells.proofs.Noting.{few, found_value, not_found, noted_so, noted_with, with_cells, one_more, same_room}
 use Rattle.runner_cells.proofs.Places.{distinct_under, distinct_push, under_append}
 use Rattle.runner_cells.proofs.Granted.{locks_append, count_append, granted_append, append_none, length_locks, granted_count, under_count, elsewhere, granted_value, granted_changed, cell_at, locks_set, count_set, whole_at}
 use Rattle.core_lang.specs.Theory.Items.{get_some}
@@ -35,6 +36,66 @@ module _ (layout : LayoutOf) (gs : List GrantOf) (reads writes : NotesOf) (ls cs
 
   pub cells_long : length (cells_granted layout.cell_locks gs) ≡ values_count gs
   cells_long = granted_count layout.cell_locks gs kept.whole
+
+  -- ---- the end
+
+  few_noted : (n : NotesOf) → AreNotes (cells_under layout.cell_locks (locks_of gs)) n → n.room ≡ cs → 0 < cs → length (in_order n.list) ≤ cs
+  few_noted n are room some =
+      let few_are : length n.list ≤ length (cells_under layout.cell_locks (locks_of gs)) =
+      few (cells_under layout.cell_locks (locks_of gs)) n are (omega (arith, some, room)) in
+      omega (arith, length_in_order n.list, few_are, under_count layout.cell_locks gs kept.whole, kept.cells_fit)
+
+  over : (n m : NotesOf) → m.list ≡ in_order n.list → m.room ≡ 0 → AreNotes [] m
+  over n m list room = record {
+    marked = λ live. absurd (omega (arith, live, room));
+    once = subst EachOnce (sym list) (in_order_once n.list);
+    long = omega (arith, room);
+  }
+
+  module _ (old : HoldingOf) (was : holding_of layout gs reads writes ls cs ≡ old) (hs : List GrantOf) (none : hs ≡ [])
+      (r w : NotesOf) (reads_list : r.list ≡ in_order reads.list) (reads_over : r.room ≡ 0)
+      (writes_list : w.list ≡ in_order writes.list) (writes_over : w.room ≡ 0) where
+    pub kept_over : IsKept layout.cell_locks hs r w 0 0
+    kept_over = subst (λ (x : List GrantOf). IsKept layout.cell_locks x r w 0 0) (sym none) (record {
+      whole = All-nil (IsWhole layout.cell_locks);
+      distinct = λ i j lock at too. absurd (none-some lock at);
+      reads_are = over reads r reads_list reads_over;
+      writes_are = over writes w writes_list writes_over;
+      reads_room = reads_over;
+      writes_room = writes_over;
+      locks_fit = omega arith;
+      cells_fit = omega arith;
+    })
+
+    pub left_over : holding_of layout hs r w 0 0 ≡ without_grants old
+    left_over =
+        (λ i. holding_of layout (none i) r w 0 0)
+        ∙ (λ i. record {
+          layout = layout;
+          locks = [];
+          memory = record {
+            cells = [];
+            reads = (ap in_order reads_list ∙ in_order_twice reads.list) i;
+            writes = (ap in_order writes_list ∙ in_order_twice writes.list) i;
+          };
+          lock_room = 0;
+          cell_room = 0;
+        })
+        ∙ ap without_grants was
+
+    few_over : (n m : NotesOf) → AreNotes (cells_under layout.cell_locks (locks_of gs)) n → n.room ≡ cs → m.list ≡ in_order n.list →
+        0 < old.cell_room → length (in_order m.list) ≤ old.cell_room
+    few_over n m are room list some =
+        let same : cs ≡ old.cell_room = ap (λ (h : HoldingOf). h.cell_room) was in
+        let long : length (in_order m.list) ≡ length (in_order n.list) = ap length (ap in_order list ∙ in_order_twice n.list) in
+        let few_are : length (in_order n.list) ≤ cs = few_noted n are room (omega (arith, some, same)) in
+        omega (arith, same, long, few_are)
+
+    pub few_reads : 0 < old.cell_room → length (in_order r.list) ≤ old.cell_room
+    few_reads = few_over reads r kept.reads_are kept.reads_room reads_list
+
+    pub few_writes : 0 < old.cell_room → length (in_order w.list) ≤ old.cell_room
+    few_writes = few_over writes w kept.writes_are kept.writes_room writes_list
 
   -- ---- a cell that isn't held
 
@@ -63,6 +124,9 @@ module _ (layout : LayoutOf) (gs : List GrantOf) (reads writes : NotesOf) (ls cs
     marked : (n : NotesOf) → AreNotes (cells_under layout.cell_locks (locks_of gs)) n → n.room ≡ cs → place < length n.marks
     marked n are room = omega (arith, spot.place_fits, kept.cells_fit, are.long, room)
 
+    live : (n : NotesOf) → n.room ≡ cs → 0 < n.room
+    live n room = omega (arith, spot.place_fits, kept.cells_fit, room)
+
     -- there is room for a note more
     pub fits_room : (n : NotesOf) → n.room ≡ cs → place < n.room
     fits_room n room = omega (arith, spot.place_fits, kept.cells_fit, room)
@@ -70,7 +134,7 @@ module _ (layout : LayoutOf) (gs : List GrantOf) (reads writes : NotesOf) (ls cs
     one_more_fits : (n : NotesOf) → AreNotes (cells_under layout.cell_locks (locks_of gs)) n → n.room ≡ cs → Value → number_of n place cell ≡ None → length n.list < n.room
     one_more_fits n are room v none =
         let more : length n.list < length (cells_under layout.cell_locks (locks_of gs)) =
-        one_more (cells_under layout.cell_locks (locks_of gs)) n are distinct place cell has_place v (marked n are room) none in
+        one_more (cells_under layout.cell_locks (locks_of gs)) n are distinct place cell has_place (live n room) v (marked n are room) none in
         omega (arith, more, under_count layout.cell_locks gs kept.whole, kept.cells_fit, room)
 
     pub read_fits : Value → number_of reads place cell ≡ None → length reads.list < reads.room
@@ -85,7 +149,7 @@ module _ (layout : LayoutOf) (gs : List GrantOf) (reads writes : NotesOf) (ls cs
         let same : g ≡ spot.grant = item_is gs index spot.grant g spot.is at in
         let value : value_at (cells_granted layout.cell_locks gs) cell ≡ Some v = has_value v (ap (λ (h : GrantOf). slice_get h.values offset) (sym same) ∙ is) in
         let held : HeldCells = (holding_of layout gs reads writes ls cs).memory in
-        let is_noted = found_value (cells_under layout.cell_locks (locks_of gs)) writes kept.writes_are distinct place cell has_place k there in
+        let is_noted = found_value (cells_under layout.cell_locks (locks_of gs)) writes kept.writes_are distinct place cell has_place (live writes kept.writes_room) k there in
         let written : value_at held.writes cell ≡ Some is_noted.0 = in_order_values writes.list cell ∙ is_noted.1 in
         subst (λ (h : HoldingOf). IsLoad h cell (Some v) h) was
         (ap (read_if_held held cell) value ∙ ap (λ (o : Option Value). Some (v, noted held cell v o)) written, refl)
@@ -98,10 +162,10 @@ module _ (layout : LayoutOf) (gs : List GrantOf) (reads writes : NotesOf) (ls cs
         let held : HeldCells = (holding_of layout gs reads writes ls cs).memory in
         let unwritten : value_at held.writes cell ≡ None =
         in_order_values writes.list cell
-        ∙ not_found (cells_under layout.cell_locks (locks_of gs)) writes kept.writes_are distinct place cell has_place there in
+        ∙ not_found (cells_under layout.cell_locks (locks_of gs)) writes kept.writes_are distinct place cell has_place (live writes kept.writes_room) there in
         let noting : in_order more.list ≡ with_value held.reads cell v =
         ap (λ (n : NotesOf). in_order n.list) e
-        ∙ noted_with (cells_under layout.cell_locks (locks_of gs)) reads kept.reads_are distinct place cell has_place v (marked reads kept.reads_are kept.reads_room) in
+        ∙ noted_with (cells_under layout.cell_locks (locks_of gs)) reads kept.reads_are distinct place cell has_place (live reads kept.reads_room) v (marked reads kept.reads_are kept.reads_room) in
         subst (λ (h : HoldingOf). IsLoad h cell (Some v) (holding_of layout gs more writes ls cs)) was (
           ap (read_if_held held cell) value ∙ ap (λ (o : Option Value). Some (v, noted held cell v o)) unwritten
               ∙ ap (λ (rs : List (ℕ × Value)). Some (v, record held { reads = rs })) (sym noting),
@@ -112,7 +176,7 @@ module _ (layout : LayoutOf) (gs : List GrantOf) (reads writes : NotesOf) (ls cs
     kept_noted v more e = subst (λ (n : NotesOf). IsKept layout.cell_locks gs n writes ls cs) (sym e) (record {
       whole = kept.whole;
       distinct = kept.distinct;
-      reads_are = noted_so (cells_under layout.cell_locks (locks_of gs)) reads kept.reads_are distinct place cell has_place v (marked reads kept.reads_are kept.reads_room);
+      reads_are = noted_so (cells_under layout.cell_locks (locks_of gs)) reads kept.reads_are distinct place cell has_place (live reads kept.reads_room) v (marked reads kept.reads_are kept.reads_room);
       writes_are = kept.writes_are;
       reads_room = same_room reads place cell v ∙ kept.reads_room;
       writes_room = kept.writes_room;
@@ -147,7 +211,7 @@ module _ (layout : LayoutOf) (gs : List GrantOf) (reads writes : NotesOf) (ls cs
         distinct = subst AreDistinct (sym same_locks) kept.distinct;
         reads_are = subst (λ (locks : List Lock). AreNotes (cells_under layout.cell_locks locks) reads) (sym same_locks) kept.reads_are;
         writes_are = subst (λ (locks : List Lock). AreNotes (cells_under layout.cell_locks locks) (with_note writes place cell v)) (sym same_locks)
-            (noted_so (cells_under layout.cell_locks (locks_of gs)) writes kept.writes_are distinct place cell has_place v (marked writes kept.writes_are kept.writes_room));
+            (noted_so (cells_under layout.cell_locks (locks_of gs)) writes kept.writes_are distinct place cell has_place (live writes kept.writes_room) v (marked writes kept.writes_are kept.writes_room));
         reads_room = kept.reads_room;
         writes_room = same_room writes place cell v ∙ kept.writes_room;
         locks_fit = omega (arith, length-set gs index h, kept.locks_fit);
@@ -160,7 +224,7 @@ module _ (layout : LayoutOf) (gs : List GrantOf) (reads writes : NotesOf) (ls cs
           let held : HeldCells = (holding_of layout gs reads writes ls cs).memory in
           let noting : in_order more.list ≡ with_value held.writes cell v =
           ap (λ (n : NotesOf). in_order n.list) e
-          ∙ noted_with (cells_under layout.cell_locks (locks_of gs)) writes kept.writes_are distinct place cell has_place v (marked writes kept.writes_are kept.writes_room) in
+          ∙ noted_with (cells_under layout.cell_locks (locks_of gs)) writes kept.writes_are distinct place cell has_place (live writes kept.writes_room) v (marked writes kept.writes_are kept.writes_room) in
           let cells : cells_granted layout.cell_locks (set gs index h) ≡ with_changed held.cells cell v =
           ap (cells_granted layout.cell_locks) set_to
           ∙ granted_changed layout.cell_locks cell offset spot.grant spot.slot read change gs index before.0 v kept.whole kept.distinct spot.is before.1 in

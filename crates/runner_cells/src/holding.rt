@@ -1,25 +1,26 @@
 //! The cells of an open section.
 
-ghost use Rattle.std.specs.Prelude.{◌≡◌, ◌≤◌, [], length, map, IfOk};
+ghost use Rattle.std.specs.Prelude.{◌≡◌, ◌<◌, ◌≤◌, [], length, OnOk};
 ghost use Rattle.std.specs.List.{All};
 ghost use Rattle.layout.specs.Layouts.{AreDistinct};
 ghost use Rattle.moved_cells.specs.Working.Grants.{IsWhole, locks_of};
-ghost use Rattle.runner_cells.specs.Working.Held.{cells_granted, CanHold, no_grants, with_grant, IsLoad, IsStore};
+ghost use Rattle.runner_cells.specs.Working.Held.{cells_granted, CanHold, no_grants, with_grant, without_grants, IsLoad, IsStore};
 
 use crate::finding::spot_of;
 use crate::notes::Notes;
-use crate::parts::Parts;
-use crate::spare::Spare;
 use core_lang::value::Value;
+use history::entry::CellValue;
 use layout::room::Room;
 use layout::table::Layout;
 use moved_cells::grant::Grant;
 use moved_cells::laws::slots_are_cells;
 use source::memory::NoMemory;
+use std::alloc::Global;
 use std::marker::Model;
+use std::mem;
 
 /// The cells of an open section: the grants that it holds, what it read of cells that it hadn't written, and what it
-/// wrote last. It can't be copied, and must be taken apart.
+/// wrote last. It can't be copied. It goes from one section to the next, and ends only where it holds nothing.
 pub struct Holding<'p> {
     layout: &'p Layout,
     grants: Vec<Grant>,
@@ -46,33 +47,46 @@ impl<'p> Model for Holding<'p> {
 }
 
 impl<'p> Holding<'p> {
-    /// Nothing held, and room for so many locks with so many cells together, in memory that is made larger where it is
-    /// too small.
+    /// Nothing held, and no room.
+    pub fn new(alloc: Global, layout: &'p Layout) -> Holding<'p>
+        ensures { result ≡ no_grants layout.now 0 0 }
+    {
+        Holding {
+            layout,
+            grants: Vec::new(alloc),
+            reads: Notes::new(alloc),
+            writes: Notes::new(alloc),
+            lock_room: 0,
+            cell_room: 0,
+        }
+    }
+
+    /// Begins anew: nothing held, and room for so many locks with so many cells together, in memory that is made larger
+    /// where it is too small.
     ///
     /// # Errors
     ///
-    /// Want of memory.
-    pub fn new(layout: &'p Layout, room: Room, spare: Spare) -> Result<Holding<'p>, NoMemory>
-        ensures { IfOk result (λ h. h ≡ no_grants layout.now room.locks room.cells) }
+    /// Want of memory; then there is room for none.
+    pub fn renew(&mut self, layout: &'p Layout, room: Room) -> Result<(), NoMemory>
+        requires none { self.old.locks ≡ [] }
+        ensures ok { OnOk result (self.new ≡ no_grants layout.now room.locks room.cells) }
+        ensures none { self.new.locks ≡ [] }
     {
-        let Spare {
-            read_marks,
-            write_marks,
-            reads,
-            writes,
-            grants,
-        } = spare;
-        let reads = Notes::blank(room.cells, read_marks, reads)?;
-        let writes = Notes::blank(room.cells, write_marks, writes)?;
-        let grants = grants.into_list(room.locks)?;
-        Ok(Holding {
-            layout,
-            grants,
-            reads,
-            writes,
-            lock_room: room.locks,
-            cell_room: room.cells,
-        })
+        self.layout = layout;
+        self.lock_room = 0;
+        self.cell_room = 0;
+        if self.grants.reserve(room.locks).is_err()
+            || self.reads.renew(room.cells).is_err()
+            || self.writes.renew(room.cells).is_err()
+        {
+            // Both have as much room as the holding: none.
+            self.reads.clear();
+            self.writes.clear();
+            return Err(NoMemory);
+        }
+        self.lock_room = room.locks;
+        self.cell_room = room.cells;
+        Ok(())
     }
 
     /// What a cell holds, if it is held. It is noted as read, unless it was written.
@@ -121,38 +135,43 @@ impl<'p> Holding<'p> {
         }
     }
 
-    /// The grants, the oldest first, and what was read and written, in order of the cells' numbers.
-    pub fn into_parts(self) -> Parts
-        ensures locks { locks_of result.grants.items ≡ self.entry.locks }
-        ensures whole { All (IsWhole self.entry.layout.cell_locks) result.grants.items }
-        ensures cells { cells_granted self.entry.layout.cell_locks result.grants.items ≡ self.entry.memory.cells }
-        ensures reads { result.reads.items ≡ self.entry.memory.reads }
-        ensures writes { result.writes.items ≡ self.entry.memory.writes }
+    /// Ends the section: the grants, the oldest first, go into a list that has none, what was read and written is put in
+    /// order of the cells' numbers, and there is no room any more.
+    pub fn finish(&mut self, grants: &mut Vec<Grant>)
+        requires none { grants.old.items ≡ [] }
+        ensures left { self.new ≡ without_grants self.old }
+        ensures locks { locks_of grants.new.items ≡ self.old.locks }
+        ensures whole { All (IsWhole self.old.layout.cell_locks) grants.new.items }
+        ensures cells { cells_granted self.old.layout.cell_locks grants.new.items ≡ self.old.memory.cells }
+        ensures reads { 0 < self.old.cell_room → length self.new.memory.reads ≤ self.old.cell_room }
+        ensures writes { 0 < self.old.cell_room → length self.new.memory.writes ≤ self.old.cell_room }
     {
-        let Holding {
-            layout: _,
-            grants,
-            reads,
-            writes,
-            lock_room: _,
-            cell_room: _,
-        } = self;
-        let (reads, read_marks) = reads.into_list();
-        let (writes, write_marks) = writes.into_list();
-        Parts {
-            grants,
-            reads,
-            writes,
-            read_marks,
-            write_marks,
-        }
+        mem::swap(&mut self.grants, grants);
+        self.reads.finish();
+        self.writes.finish();
+        self.lock_room = 0;
+        self.cell_room = 0;
     }
 
-    /// The grants alone, for a section that is given up.
-    pub fn into_grants(self) -> Vec<Grant>
-        ensures locks { locks_of result.items ≡ self.entry.locks }
-        ensures whole { All (IsWhole self.entry.layout.cell_locks) result.items }
-        ensures cells { cells_granted self.entry.layout.cell_locks result.items ≡ self.entry.memory.cells }
+    /// Each cell that was read before it was written, with the value that was found, in order of the cells' numbers.
+    pub fn reads(&self) -> &[CellValue]
+        requires { self.now.cell_room ≡ 0 }
+        ensures { result.now ≡ self.now.memory.reads }
+    {
+        self.reads.list()
+    }
+
+    /// Each cell that was written, with the value that was written last, in the same order.
+    pub fn writes(&self) -> &[CellValue]
+        requires { self.now.cell_room ≡ 0 }
+        ensures { result.now ≡ self.now.memory.writes }
+    {
+        self.writes.list()
+    }
+
+    /// Gives the memory back, where nothing is held.
+    pub fn let_go(self)
+        requires { self.locks ≡ [] }
     {
         let Holding {
             layout: _,
@@ -162,7 +181,7 @@ impl<'p> Holding<'p> {
             lock_room: _,
             cell_room: _,
         } = self;
-        grants
+        grants.destroy_empty();
     }
 
     /// What holds of every value: each lock is held once, and there is room.

@@ -1,11 +1,12 @@
 //! Values of cells, noted at the cells' places.
 
-ghost use Rattle.std.specs.Prelude.{◌≡◌, ◌<◌, ◌≤◌, [], length, None, IfOk};
+ghost use Rattle.std.specs.Prelude.{◌≡◌, ◌<◌, ◌≤◌, [], length, None, OnOk};
 ghost use Rattle.runner_cells.specs.Working.Noted.{in_order, number_of, with_note, EachOnce};
 
 use core_lang::value::Value;
 use history::entry::CellValue;
 use source::memory::NoMemory;
+use std::alloc::Global;
 use std::marker::Model;
 
 /// Values of cells, noted at the cells' places. As a value it is what is noted, and the marks at the places.
@@ -14,45 +15,65 @@ pub struct Notes {
     // By place: where in the list its cell's note stands. A mark counts only where the note there is of this cell, so
     // what former sections left needs no clearing.
     marks: Vec<usize>,
-    // In the order in which the cells were first noted.
+    // In the order in which the cells were first noted; at the end, in order of the cells' numbers.
     list: Vec<CellValue>,
-    // For how many places there is room.
+    // For how many places there is room. Where there is none nothing can be noted, and the list is in order.
     room: usize,
 }
 
 impl Model for Notes {
-    ghost use Rattle.std.specs.Prelude.{◌≤◌, length, vec_capacity};
-    ghost use Rattle.runner_cells.specs.Working.Noted.{NotesOf};
+    ghost use Rattle.std.specs.Prelude.{◌≡◌, ◌≤◌, length, vec_capacity};
+    ghost use Rattle.runner_cells.specs.Working.Noted.{NotesOf, in_order};
 
     ghost Value = { NotesOf };
 
     ghost view = { λ n. record { marks = n.marks.items; list = n.list.items; room = n.room } };
 
-    ghost invariant = { λ n. (n.room ≤ length n.marks.items) × (n.room ≤ vec_capacity n.list) };
+    ghost invariant = { λ n.
+        (n.room ≤ length n.marks.items)
+        × (n.room ≤ vec_capacity n.list)
+        × (n.room ≡ 0 → in_order n.list.items ≡ n.list.items) };
 }
 
 impl Notes {
-    /// Nothing noted, and room for so many places, in memory that is larger or is made larger. What stands in it doesn't
-    /// matter.
+    /// Nothing noted, and no room.
+    pub fn new(alloc: Global) -> Notes
+        ensures list { result.list ≡ [] }
+        ensures room { result.room ≡ 0 }
+    {
+        Notes {
+            marks: Vec::new(alloc),
+            list: Vec::new(alloc),
+            room: 0,
+        }
+    }
+
+    /// Nothing noted any more, and no room. The memory stays.
+    pub fn clear(&mut self)
+        ensures list { self.new.list ≡ [] }
+        ensures room { self.new.room ≡ 0 }
+    {
+        self.list.clear();
+        self.room = 0;
+    }
+
+    /// Begins anew: nothing noted, and room for so many places, in memory that is made larger where it is too small.
     ///
     /// # Errors
     ///
-    /// Want of memory.
-    pub fn blank(
-        room: usize,
-        mut marks: Vec<usize>,
-        mut list: Vec<CellValue>,
-    ) -> Result<Notes, NoMemory>
-        ensures list { IfOk result (λ notes. notes.list ≡ []) }
-        ensures room { IfOk result (λ notes. notes.room ≡ room) }
-        ensures marks { IfOk result (λ notes. room ≤ length notes.marks) }
+    /// Want of memory; then nothing is noted, and there is no room.
+    pub fn renew(&mut self, room: usize) -> Result<(), NoMemory>
+        ensures list { OnOk result (self.new.list ≡ []) }
+        ensures room { OnOk result (self.new.room ≡ room) }
+        ensures marks { OnOk result (room ≤ length self.new.marks) }
     {
-        if marks.len() < room {
-            marks.resize(room, 0)?;
+        self.clear();
+        if self.marks.len() < room {
+            self.marks.resize(room, 0)?;
         }
-        list.clear();
-        list.reserve(room)?;
-        Ok(Notes { marks, list, room })
+        self.list.reserve(room)?;
+        self.room = room;
+        Ok(())
     }
 
     /// Where the note of the cell that has the place stands, if it is noted.
@@ -84,17 +105,21 @@ impl Notes {
         }
     }
 
-    /// What is noted, in order of the cells' numbers, and the memory of the marks.
-    pub fn into_list(self) -> (Vec<CellValue>, Vec<usize>)
-        requires { EachOnce self.list }
-        ensures { result.0.items ≡ in_order self.list }
+    /// Puts what is noted in order of the cells' numbers. From now on there is no room, for the marks no longer hold.
+    pub fn finish(&mut self)
+        requires { EachOnce self.old.list }
+        ensures list { self.new.list ≡ in_order self.old.list }
+        ensures room { self.new.room ≡ 0 }
     {
-        let Notes {
-            marks,
-            mut list,
-            room: _,
-        } = self;
-        list.sort_unstable_by_key(|noted| noted.0);
-        (list, marks)
+        self.list.sort_unstable_by_key(|noted| noted.0);
+        self.room = 0;
+    }
+
+    /// What is noted, where that is in order.
+    pub fn list(&self) -> &[CellValue]
+        requires { self.now.room ≡ 0 }
+        ensures { result.now ≡ in_order self.now.list }
+    {
+        self.list.as_slice()
     }
 }

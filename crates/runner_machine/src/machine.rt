@@ -17,37 +17,28 @@ use code::instr::Instr;
 use core_lang::shape::Shape;
 use core_lang::tree::{Comparison, Operator};
 use core_lang::value::{Failure, Outcome, Value};
+use history::entry::CellValue;
+use layout::room::Room;
+use layout::table::Layout;
 use meaning_operations::access::{
     cell_of_element, cell_of_field, member, non_null, owned_by, value_at, value_of_final,
 };
 use meaning_operations::operators::{compare, negate, operate};
 use moved_cells::grant::Grant;
 use runner_cells::holding::Holding;
-use runner_cells::parts::Parts;
+use source::memory::NoMemory;
+use std::alloc::Global;
 use std::marker::Model;
+use std::mem;
 
 /// The machine of an open section: where it is in its code, its operands and locals, the cells that it holds, and what it
-/// has printed.
+/// has printed. It goes from one section to the next, and ends only where it holds no cells.
 pub struct Machine<'p> {
     pub(crate) place: usize,
     pub(crate) operands: Operands,
     pub(crate) locals: Vec<Value>,
     pub(crate) held: Holding<'p>,
     pub(crate) prints: Prints,
-}
-
-/// What is left of a machine that is taken apart.
-pub struct Left {
-    /// Where it was in its code.
-    pub place: usize,
-    /// Its operands.
-    pub operands: Operands,
-    /// Its locals, by number.
-    pub locals: Vec<Value>,
-    /// The grants that it held, and what it read first and wrote last.
-    pub parts: Parts,
-    /// The numbers that it printed, the first one first.
-    pub prints: Vec<i64>,
 }
 
 impl<'p> Model for Machine<'p> {
@@ -72,12 +63,58 @@ impl<'p> Model for Machine<'p> {
 }
 
 impl<'p> Machine<'p> {
-    ghost use Rattle.std.specs.Prelude.{◌+◌, ◌^◌, slice_index};
-    ghost use Rattle.std.specs.List.{All};
+    ghost use Rattle.std.specs.Prelude.{◌+◌, ◌≤◌, ◌^◌, [], IfOk, OnOk, slice_index};
     ghost use Rattle.code.specs.Machine.{passed};
-    ghost use Rattle.moved_cells.specs.Working.Grants.{IsWhole, locks_of};
-    ghost use Rattle.runner_cells.specs.Working.Held.{CanHold, cells_granted, with_grant};
-    ghost use Rattle.runner_machine.specs.Working.Machines.{with_machine, with_holding, holding_of, IsLeftOf};
+    ghost use Rattle.runner_cells.specs.Working.Held.{CanHold, with_grant};
+    ghost use Rattle.runner_machine.specs.Working.Machines.{at_first, with_machine, with_holding, holding_of, IsFinished};
+
+    /// One with no cells, in memory that holds what a section may print. What else it needs it takes where a section
+    /// begins.
+    ///
+    /// # Errors
+    ///
+    /// Want of memory.
+    pub fn new(alloc: Global, layout: &'p Layout) -> Result<Machine<'p>, NoMemory>
+        ensures { IfOk result (λ m. m.locks ≡ []) }
+    {
+        let prints = Prints::new(alloc)?;
+        Ok(Machine {
+            place: 0,
+            operands: Operands::new(alloc),
+            locals: Vec::new(alloc),
+            held: Holding::new(alloc, layout),
+            prints,
+        })
+    }
+
+    /// Takes the locals out, for their memory.
+    pub fn take_locals(&mut self, alloc: Global) -> Vec<Value>
+        ensures { self.new.locks ≡ self.old.locks }
+    {
+        mem::replace(&mut self.locals, Vec::new(alloc))
+    }
+
+    /// Begins anew, where a section begins: with these locals, no cells, and all the memory that it can need.
+    ///
+    /// # Errors
+    ///
+    /// Want of memory; then it has no cells.
+    pub fn renew(
+        &mut self,
+        locals: Vec<Value>,
+        layout: &'p Layout,
+        room: Room,
+    ) -> Result<(), NoMemory>
+        requires none { self.old.locks ≡ [] }
+        ensures ok { OnOk result (self.new ≡ at_first locals.items layout.now room) }
+        ensures none { self.new.locks ≡ [] }
+    {
+        self.place = 0;
+        self.locals = locals;
+        self.prints.clear();
+        self.operands.renew(room.operands)?;
+        self.held.renew(layout, room)
+    }
 
     /// Where it is in its code.
     #[inline]
@@ -104,31 +141,52 @@ impl<'p> Machine<'p> {
         self.place += 1;
     }
 
-    /// Takes it apart.
-    pub fn into_parts(self) -> Left
-        ensures { IsLeftOf self.entry result }
+    /// Holds the cells of a lock.
+    pub fn grant(&mut self, grant: Grant)
+        requires { CanHold (holding_of self.old) grant }
+        ensures { self.new ≡ with_holding self.old (with_grant (holding_of self.old) grant) }
     {
-        let Machine {
-            place,
-            operands,
-            locals,
-            held,
-            prints,
-        } = self;
-        Left {
-            place,
-            operands,
-            locals,
-            parts: held.into_parts(),
-            prints: prints.into_numbers(),
-        }
+        self.held.grant(grant);
     }
 
-    /// The grants alone, for a section that is given up.
-    pub fn into_grants(self) -> Vec<Grant>
-        ensures locks { locks_of result.items ≡ self.entry.locks }
-        ensures whole { All (IsWhole self.entry.layout.cell_locks) result.items }
-        ensures cells { cells_granted self.entry.layout.cell_locks result.items ≡ self.entry.machine.memory.cells }
+    /// Ends the section: the grants, the oldest first, go into a list that has none, and what was read and written is put
+    /// in order. All else stays as it is.
+    pub fn finish(&mut self, grants: &mut Vec<Grant>)
+        requires none { grants.old.items ≡ [] }
+        ensures { IsFinished self.old grants.new.items self.new }
+    {
+        self.prints.keeps_its_rules();
+        self.held.keeps_its_rules();
+        self.held.finish(grants);
+    }
+
+    /// Each cell that was read before it was written, with the value that was found, in order of the cells' numbers.
+    pub fn reads(&self) -> &[CellValue]
+        requires { self.now.cell_room ≡ 0 }
+        ensures { result.now ≡ self.now.machine.memory.reads }
+    {
+        self.held.reads()
+    }
+
+    /// Each cell that was written, with the value that was written last, in the same order.
+    pub fn writes(&self) -> &[CellValue]
+        requires { self.now.cell_room ≡ 0 }
+        ensures { result.now ≡ self.now.machine.memory.writes }
+    {
+        self.held.writes()
+    }
+
+    /// The numbers that it printed, the first one first.
+    pub fn prints(&self) -> &[i64]
+        ensures items { result.now ≡ self.now.machine.prints }
+        ensures few { length self.now.machine.prints ≤ 256 }
+    {
+        self.prints.numbers()
+    }
+
+    /// Gives the memory back, where it holds no cells.
+    pub fn let_go(self)
+        requires { self.locks ≡ [] }
     {
         let Machine {
             place: _,
@@ -137,15 +195,7 @@ impl<'p> Machine<'p> {
             held,
             prints: _,
         } = self;
-        held.into_grants()
-    }
-
-    /// Holds the cells of a lock.
-    pub fn grant(&mut self, grant: Grant)
-        requires { CanHold (holding_of self.old) grant }
-        ensures { self.new ≡ with_holding self.old (with_grant (holding_of self.old) grant) }
-    {
-        self.held.grant(grant);
+        held.let_go();
     }
 }
 
@@ -586,7 +636,7 @@ impl<'p> Machine<'p> {
     }
 
     #[inline(always)]
-    fn finish(&mut self) -> Progress
+    fn return_top(&mut self) -> Progress
         ensures { HasEffect (returning self.old.machine) self.old result self.new }
     {
         match self.operands.top() {
@@ -631,7 +681,7 @@ impl<'p> Machine<'p> {
             Instr::JumpIfTrue(over) => self.branch(over, true),
             Instr::PrintTop => self.print_top(),
             Instr::Acquire(point) => Progress::Asks(point),
-            Instr::Return => self.finish(),
+            Instr::Return => self.return_top(),
             Instr::End => Progress::Finished(Outcome::Ends),
         }
     }

@@ -1,10 +1,11 @@
 //! The operand stack.
 
-ghost use Rattle.std.specs.Prelude.{◌≡◌, ◌<◌, ◌+◌, [], ◌∷◌, length, slice_get, IfOk, Some};
+ghost use Rattle.std.specs.Prelude.{◌≡◌, ◌<◌, ◌+◌, [], ◌∷◌, length, slice_get, OnOk, Some};
 ghost use Rattle.runner_machine.specs.Working.Operands.{pushed, popped, with_top};
 
 use core_lang::value::Value;
 use source::memory::NoMemory;
+use std::alloc::Global;
 use std::marker::Model;
 
 /// The operand stack of a section, with room for a number of operands. As a value it is the operands, the top first,
@@ -28,22 +29,27 @@ impl Model for Operands {
 }
 
 impl Operands {
-    /// No operands, and room for so many, in memory that is made larger where it is too small.
+    /// No operands, and no room.
+    pub fn new(alloc: Global) -> Operands
+        ensures { result ≡ record { stack = []; room = 0 } }
+    {
+        Operands {
+            values: Vec::new(alloc),
+            depth: 0,
+        }
+    }
+
+    /// Begins anew: no operands, and room for so many, in memory that is made larger where it is too small.
     ///
     /// # Errors
     ///
-    /// Want of memory.
-    pub fn new(room: usize, mut values: Vec<Value>) -> Result<Operands, NoMemory>
-        ensures { IfOk result (λ operands. operands ≡ record { stack = []; room = room }) }
+    /// Want of memory; then there are no operands.
+    pub fn renew(&mut self, room: usize) -> Result<(), NoMemory>
+        ensures { OnOk result (self.new ≡ record { stack = []; room = room }) }
     {
-        values.resize(room, Value::Int(0))?;
-        Ok(Operands { values, depth: 0 })
-    }
-
-    /// The memory that they took.
-    pub fn into_memory(self) -> Vec<Value> {
-        let Operands { values, depth: _ } = self;
-        values
+        self.depth = 0;
+        self.values.resize(room, Value::Int(0))?;
+        Ok(())
     }
 
     /// Puts one on the top.

@@ -1,10 +1,11 @@
 //! What a section prints.
 
-ghost use Rattle.std.specs.Prelude.{◌≡◌, ◌≤◌, [], IfOk, vec_len};
+ghost use Rattle.std.specs.Prelude.{◌≡◌, ◌≤◌, [], length, IfOk};
 ghost use Rattle.runner_machine.specs.Working.Prints.{IsPrinted};
 
 use core_lang::value::{Failure, Trap, Value};
 use source::memory::NoMemory;
+use std::alloc::Global;
 use std::marker::Model;
 
 // How many numbers one run of a section may print.
@@ -27,17 +28,24 @@ impl Model for Prints {
 }
 
 impl Prints {
-    /// None yet, in memory that is made larger where it is too small.
+    /// None yet, and room for all.
     ///
     /// # Errors
     ///
     /// Want of memory.
-    pub fn new(mut numbers: Vec<i64>) -> Result<Prints, NoMemory>
+    pub fn new(alloc: Global) -> Result<Prints, NoMemory>
         ensures { IfOk result (λ prints. prints ≡ []) }
     {
-        numbers.clear();
+        let mut numbers = Vec::new(alloc);
         numbers.reserve(MOST_PRINTS)?;
         Ok(Prints { numbers })
+    }
+
+    /// None any more.
+    pub fn clear(&mut self)
+        ensures { self.new ≡ [] }
+    {
+        self.numbers.clear();
     }
 
     /// Prints a number, of at most 256.
@@ -60,12 +68,18 @@ impl Prints {
         }
     }
 
-    /// The numbers.
-    pub fn into_numbers(self) -> Vec<i64>
-        ensures items { result.items ≡ self }
-        ensures few { vec_len result ≤ 256 }
+    /// The numbers, the first one first.
+    pub fn numbers(&self) -> &[i64]
+        ensures items { result.now ≡ self.now }
+        ensures few { length result.now ≤ 256 }
     {
-        let Prints { numbers } = self;
-        numbers
+        self.numbers.as_slice()
+    }
+
+    /// What holds of every value: there are no more than may be printed.
+    pub fn keeps_its_rules(&self)
+        ensures { length self.now ≤ 256 }
+    {
+        let _ = &self.numbers;
     }
 }

@@ -1,9 +1,11 @@
 //! A lock manager that is called, and the lines that tell of it.
 
-ghost use Rattle.std.specs.Prelude.{◌<◌, length, IfOk};
+ghost use Rattle.std.specs.Prelude.{◌≡◌, ◌<◌, length, IfOk, IsTrue};
+ghost use Rattle.history.specs.Working.Histories.{IsWithin};
 
 use core_lang::value::{Outcome, Value};
 use history::entry::{CellValue, Entry};
+use history::kept::Kept;
 use layout::room::Room;
 use lock_manager::manager::Manager;
 use lock_manager::response::Response;
@@ -25,6 +27,7 @@ const ROOM: Room = Room {
 struct Session {
     ticket: Ticket,
     grants: Vec<Grant>,
+    ghost cells: { ticket.session.room.cells ≡ 4 },
 }
 
 /// The entry of an open section that read nothing and wrote these.
@@ -44,6 +47,16 @@ fn entry_of(alloc: Global, session: &Session, writes: &[CellValue]) -> Result<En
         outcome: Outcome::Ends,
         prints: Vec::new(alloc),
     })
+}
+
+// Whether the lists of an entry have the lengths for which room was made.
+fn is_within(entry: &Kept<'_>) -> bool
+    ensures { IsTrue result → IsWithin 4 entry.now }
+{
+    entry.arguments.len() <= 8
+        && entry.reads.len() <= ROOM.cells
+        && entry.writes.len() <= ROOM.cells
+        && entry.prints.len() <= 256
 }
 
 /// A manager, the sections that are open, and what was said of the calls so far.
@@ -73,8 +86,9 @@ impl<'p> Calls<'p> {
             mut sessions,
             said,
         } = self;
-        while let Some(Session { ticket, grants }) = sessions.pop() {
-            manager.give_up(ticket, grants);
+        while let Some(Session { ticket, mut grants }) = sessions.pop() {
+            manager.give_up(ticket, &mut grants);
+            grants.destroy_empty();
         }
         sessions.destroy_empty();
         said
@@ -163,8 +177,9 @@ impl<'p> Calls<'p> {
     /// The thread's section gives up.
     pub fn give_up(&mut self, thread: u32) -> Result<(), Fail> {
         let place = self.place(thread)?;
-        let Session { ticket, grants } = self.sessions.swap_remove(place);
-        self.manager.give_up(ticket, grants);
+        let Session { ticket, mut grants } = self.sessions.swap_remove(place);
+        self.manager.give_up(ticket, &mut grants);
+        grants.destroy_empty();
         write!(&mut self.said, "{thread} gives up\n")?;
         Ok(())
     }
@@ -174,12 +189,14 @@ impl<'p> Calls<'p> {
         let place = self.place(thread)?;
         let session = &self.sessions[place];
         let entry = entry_of(self.alloc, session, writes)?;
-        if !self.manager.fits(&session.ticket, &session.grants, &entry) {
+        let lent = entry.lent();
+        if !is_within(&lent) || !self.manager.fits(&session.ticket, &session.grants, &lent) {
             write!(&mut self.said, "{thread} may not end\n")?;
             return Ok(());
         }
-        let Session { ticket, grants } = self.sessions.swap_remove(place);
-        let receipt = self.manager.release(ticket, grants, entry);
+        let Session { ticket, mut grants } = self.sessions.swap_remove(place);
+        let receipt = self.manager.release(ticket, &mut grants, &lent);
+        grants.destroy_empty();
         let position = receipt.position();
         write!(
             &mut self.said,

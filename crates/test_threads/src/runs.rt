@@ -74,7 +74,7 @@ fn said_in_turn<J: Naming, R: Wait>(
 {
     let count = seats_of(scene)?;
     let row = Row::new(alloc)?;
-    let (shared, seats): (Shared<'_, J>, Vec<Seat<'_, J>>) = Shared::open(
+    let (shared, seats): (Shared<'_, J>, Vec<Seat<'_, '_, J>>) = Shared::open(
         &row, alloc, program, count,
     )?;
     let stage = Stage::new(scene);
@@ -93,7 +93,7 @@ fn said_side_by_side<J: Naming + Send + Sync, R: Threads + Wait + Sync>(
 {
     let count = seats_of(scene)?;
     let row = Row::new(alloc)?;
-    let (shared, seats): (Shared<'_, J>, Vec<Seat<'_, J>>) = Shared::open(
+    let (shared, seats): (Shared<'_, J>, Vec<Seat<'_, '_, J>>) = Shared::open(
         &row, alloc, program, count,
     )?;
     let stage = Stage::new(scene);
@@ -114,7 +114,9 @@ fn said_in_agreement<J: Naming, R: Wait>(
     requires { program.now ≡ J.plan }
 {
     let row = Row::new(alloc)?;
-    let (shared, seats): (Shared<'_, J>, Vec<Seat<'_, J>>) = Shared::open(&row, alloc, program, 2)?;
+    let (shared, seats): (Shared<'_, J>, Vec<Seat<'_, '_, J>>) = Shared::open(
+        &row, alloc, program, 2,
+    )?;
     let Some((mut one, mut other)) = two_of(&row, seats) else {
         return Err(Fail::new("there aren't two seats"));
     };
@@ -124,12 +126,12 @@ fn said_in_agreement<J: Naming, R: Wait>(
 }
 
 // What two seats that call one after another are answered, and how they agree before that and after.
-fn agreement<'r, J: Naming, R: Wait>(
+fn agreement<'r, 'p, J: Naming, R: Wait>(
     rt: &R,
     alloc: Global,
-    shared: &Shared<'_, J>,
-    one: &mut Seat<'r, J>,
-    other: &mut Seat<'r, J>,
+    shared: &Shared<'p, J>,
+    one: &mut Seat<'r, 'p, J>,
+    other: &mut Seat<'r, 'p, J>,
     stage: &Stage<'_>,
 ) -> Result<String, Fail>
     requires { one.old.row ≡ other.old.row }
@@ -143,10 +145,10 @@ fn agreement<'r, J: Naming, R: Wait>(
 }
 
 // Two seats of a row.
-fn two_of<'r, J: Naming>(
+fn two_of<'r, 'p, J: Naming>(
     row: &'r Row<J>,
-    seats: Vec<Seat<'r, J>>,
-) -> Option<(Seat<'r, J>, Seat<'r, J>)>
+    seats: Vec<Seat<'r, 'p, J>>,
+) -> Option<(Seat<'r, 'p, J>, Seat<'r, 'p, J>)>
     requires { seats.items ≡ new_seats row.now 2 }
     ensures { IfSome result (λ two. two.0.row ≡ two.1.row) }
 {
@@ -169,11 +171,11 @@ fn seats_of(scene: &Scene<'_>) -> Result<u32, Fail>
 }
 
 // What is said of turns, and of the end where so many of the seats close.
-fn said_of<J: Naming>(
+fn said_of<'p, J: Naming>(
     alloc: Global,
     program: &Program,
-    shared: Shared<'_, J>,
-    turns: Turns<'_, J>,
+    shared: Shared<'p, J>,
+    turns: Turns<'_, 'p, J>,
     closing: usize,
 ) -> Result<String, Fail>
     requires { program.now ≡ J.plan }

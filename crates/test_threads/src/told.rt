@@ -22,10 +22,10 @@ pub fn say_done(
 }
 
 /// Says whether what a seat has seen begins what another of its row has, both ways.
-pub fn say_agreement<'r, J: Naming>(
+pub fn say_agreement<'r, 'p, J: Naming>(
     said: &mut String,
-    one: &Seat<'r, J>,
-    other: &Seat<'r, J>,
+    one: &Seat<'r, 'p, J>,
+    other: &Seat<'r, 'p, J>,
 ) -> Result<(), Fail>
     requires { one.now.row ≡ other.now.row }
 {

@@ -21,19 +21,19 @@ pub type Answered = Result<Done, CallRefusal>;
 
 /// Seats that have called, and what they were answered, in the same order.
 #[derive(Drop)]
-pub struct Turns<'r, J: Naming> {
-    pub seats: Vec<Seat<'r, J>>,
+pub struct Turns<'r, 'p, J: Naming> {
+    pub seats: Vec<Seat<'r, 'p, J>>,
     pub answers: Vec<Answered>,
 }
 
 /// The seats call one after another.
-pub fn one_by_one<'r, J: Naming, R: Wait>(
+pub fn one_by_one<'r, 'p, J: Naming, R: Wait>(
     rt: &R,
     alloc: Global,
-    shared: &Shared<'_, J>,
-    seats: Vec<Seat<'r, J>>,
+    shared: &Shared<'p, J>,
+    seats: Vec<Seat<'r, 'p, J>>,
     stage: &Stage<'_>,
-) -> Result<Turns<'r, J>, NoMemory> {
+) -> Result<Turns<'r, 'p, J>, NoMemory> {
     let mut after = Vec::new(alloc);
     let mut answers = Vec::new(alloc);
     for seat in seats {
@@ -48,13 +48,13 @@ pub fn one_by_one<'r, J: Naming, R: Wait>(
 }
 
 /// The seats call from a thread each.
-pub fn all_at_once<'r, J: Naming + Send + Sync, R: Threads + Wait + Sync>(
+pub fn all_at_once<'r, 'p, J: Naming + Send + Sync, R: Threads + Wait + Sync>(
     rt: &R,
     alloc: Global,
-    shared: &Shared<'_, J>,
-    seats: Vec<Seat<'r, J>>,
+    shared: &Shared<'p, J>,
+    seats: Vec<Seat<'r, 'p, J>>,
     stage: &Stage<'_>,
-) -> Result<Turns<'r, J>, NoMemory> {
+) -> Result<Turns<'r, 'p, J>, NoMemory> {
     lowering::laws::programs_are_shared();
     let mut seats = seats;
     let lent = &mut seats;
@@ -89,10 +89,10 @@ pub fn all_at_once<'r, J: Naming + Send + Sync, R: Threads + Wait + Sync>(
 }
 
 /// A seat calls.
-pub fn take_turn<J: Naming, R: Wait>(
+pub fn take_turn<'p, J: Naming, R: Wait>(
     rt: &R,
-    shared: &Shared<'_, J>,
-    seat: &mut Seat<'_, J>,
+    shared: &Shared<'p, J>,
+    seat: &mut Seat<'_, 'p, J>,
     stage: &Stage<'_>,
 ) -> Answered
     ensures { seat.new.row ≡ seat.old.row }
@@ -108,10 +108,10 @@ pub fn take_turn<J: Naming, R: Wait>(
     answer
 }
 
-fn call<J: Naming, R: Wait>(
+fn call<'p, J: Naming, R: Wait>(
     rt: &R,
-    shared: &Shared<'_, J>,
-    seat: &mut Seat<'_, J>,
+    shared: &Shared<'p, J>,
+    seat: &mut Seat<'_, 'p, J>,
     stage: &Stage<'_>,
 ) -> Answered
     ensures { seat.new.row ≡ seat.old.row }

@@ -6,6 +6,7 @@ ghost use Rattle.workers.specs.Working.Within.{IsNotedOf};
 use crate::seat::Done;
 use history::copies::CopyRoom;
 use history::entry::Entry;
+use history::kept::Kept;
 use source::memory::NoMemory;
 use std::alloc::Global;
 
@@ -37,7 +38,7 @@ impl AnswerRoom {
     }
 
     /// The answer that an entry gives, with the entry's copy, where there is room for them. Its position is still to come.
-    pub fn of(self, entry: &Entry) -> Option<(Done, Entry)>
+    pub fn of(self, entry: &Kept<'_>) -> Option<(Done, Entry)>
         ensures { IfSome result (λ r. IsNotedOf entry.now r.0 r.1) }
     {
         let AnswerRoom { mut told, copy } = self;

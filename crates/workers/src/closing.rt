@@ -13,7 +13,7 @@ use workers_copies::naming::Naming;
 
 /// Whether what each seat has seen begins the entries, none of those behind it is of the seat's thread, and each entry's
 /// thread has a seat.
-pub fn fit<J: Naming>(seats: &[Seat<'_, J>], log: &History) -> bool
+pub fn fit<J: Naming>(seats: &[Seat<'_, '_, J>], log: &History) -> bool
     ensures seen { IsTrue result → All (IsIn log.now.commits) seats.now }
     ensures seated { IsTrue result → All (IsSeated seats.now) log.now.commits }
 {
@@ -21,13 +21,13 @@ pub fn fit<J: Naming>(seats: &[Seat<'_, J>], log: &History) -> bool
 }
 
 // Whether what each seat has seen begins the entries, and none of those behind it is of the seat's thread.
-fn all_in<J: Naming>(seats: &[Seat<'_, J>], log: &History) -> bool
+fn all_in<J: Naming>(seats: &[Seat<'_, '_, J>], log: &History) -> bool
     ensures { IsTrue result → All (IsIn log.now.commits) seats.now }
 {
     seats.iter().all(|s| is_in(s, log))
 }
 
-fn is_in<J: Naming>(seat: &Seat<'_, J>, log: &History) -> bool
+fn is_in<J: Naming>(seat: &Seat<'_, '_, J>, log: &History) -> bool
     ensures { IsTrue result → IsIn log.now.commits seat.now }
 {
     if !seat.seen.begins(log) {
@@ -50,7 +50,7 @@ fn are_of_others(log: &History, from: usize, thread: u32) -> bool
 }
 
 // Whether each entry's thread has a seat.
-fn are_seated<J: Naming>(seats: &[Seat<'_, J>], log: &History) -> bool
+fn are_seated<J: Naming>(seats: &[Seat<'_, '_, J>], log: &History) -> bool
     ensures { IsTrue result → All (IsSeated seats.now) log.now.commits }
 {
     for position in 0..log.len() {
@@ -61,7 +61,7 @@ fn are_seated<J: Naming>(seats: &[Seat<'_, J>], log: &History) -> bool
     true
 }
 
-fn is_seated<J: Naming>(seats: &[Seat<'_, J>], e: &Kept<'_>) -> bool
+fn is_seated<J: Naming>(seats: &[Seat<'_, '_, J>], e: &Kept<'_>) -> bool
     ensures { IsTrue result → IsSeated seats.now e.now }
 {
     for s in seats {

@@ -75,7 +75,7 @@ impl<'p, J: Naming> Guarded<'p, J> {
         alloc: Global,
         poised: Poised<'p>,
         seen: &mut Seen<'_, J>,
-    ) -> Result<Running<'p>, (Ready, CallRefusal)>
+    ) -> Result<Running<'p>, (Ready<'p>, CallRefusal)>
         requires thread { poised.thread < 64 }
         ensures ok { IfOk result (λ running. IsBegun poised.entry running) }
         ensures err { IfErr result (λ e. e.0 ≡ ready_of poised.entry) }
@@ -100,7 +100,7 @@ impl<'p, J: Naming> Guarded<'p, J> {
     /// # Errors
     ///
     /// The manager isn't the one that the section left; the section has ended without an entry.
-    pub fn ask(&mut self, asking: Asking<'p>) -> Result<Asked<'p>, Ready>
+    pub fn ask(&mut self, asking: Asking<'p>) -> Result<Asked<'p>, Ready<'p>>
         requires { asking.plan ≡ J.plan }
         ensures ok { IfOk result (λ asked. GoesOnSame asking.entry asked) }
         ensures err { IfErr result (λ ready. ready ≡ ready_again asking.entry) }
@@ -123,7 +123,7 @@ impl<'p, J: Naming> Guarded<'p, J> {
         ended: Ended<'p>,
         copy: Entry,
         seen: &mut Seen<'_, J>,
-    ) -> Result<(Ready, Receipt), Ready>
+    ) -> Result<(Ready<'p>, Receipt), Ready<'p>>
         requires plan { ended.plan ≡ J.plan }
         requires copy { IsItsEntry ended copy }
         ensures entered { IfOk result (λ r. IsEntered J.plan floor ended.entry r.1.position) }
@@ -154,7 +154,7 @@ impl<'p, J: Naming> Guarded<'p, J> {
     }
 
     /// Ends a section without an entry.
-    pub fn give_up(&mut self, ended: Ended<'p>) -> Ready
+    pub fn give_up(&mut self, ended: Ended<'p>) -> Ready<'p>
         ensures { result ≡ ready_again ended.entry }
     {
         ended.give_up(&mut self.manager)

@@ -48,14 +48,14 @@ impl From<NoMemory> for CallRefusal {
 /// A thread's place at a [`crate::shared::Shared`]. As a value it is the thread, the answers to its calls, in order, and
 /// what it has seen of the row. The answers are those that its own entries give among what it has seen.
 #[derive(Drop)]
-pub struct Seat<'r, J: Naming> {
+pub struct Seat<'r, 'p, J: Naming> {
     // The number of its next call is that of its answers: only a release raises it.
-    pub(crate) ready: Ready,
+    pub(crate) ready: Ready<'p>,
     pub(crate) parking: Parking,
     pub(crate) seen: Seen<'r, J>,
 }
 
-impl<'r, J: Naming> Model for Seat<'r, J> {
+impl<'r, 'p, J: Naming> Model for Seat<'r, 'p, J> {
     ghost use Rattle.workers.specs.Seats.{SeatOf};
     ghost use Rattle.workers.specs.Answers.{replies_of};
     ghost use Rattle.workers.specs.Working.Within.{IsSeat};
@@ -72,11 +72,11 @@ impl<'r, J: Naming> Model for Seat<'r, J> {
     ghost invariant = { λ s. IsSeat s.ready.thread s.ready.step s.seen.log };
 }
 
-impl<'r, J: Naming> Seat<'r, J> {
+impl<'r, 'p, J: Naming> Seat<'r, 'p, J> {
     ghost use Rattle.std.specs.Prelude.{◌≡◌, ◌<◌, []};
 
     // A thread's place before its first call.
-    pub(crate) fn new(thread: u32, parking: Parking, seen: Seen<'r, J>) -> Seat<'r, J>
+    pub(crate) fn new(thread: u32, parking: Parking, seen: Seen<'r, J>) -> Seat<'r, 'p, J>
         requires few { thread < 64 }
         requires none { seen.log ≡ [] }
         ensures { result ≡ new_seat seen.entry.known.row thread }

@@ -18,7 +18,7 @@ pub(crate) struct Seating<'r, 'p, J: Naming> {
     row: &'r Row<J>,
     alloc: Global,
     program: &'p Program,
-    pub(crate) seats: Vec<Seat<'r, J>>,
+    pub(crate) seats: Vec<Seat<'r, 'p, J>>,
     pub(crate) wakings: Vec<Waking>,
     ghost is: { program.now ≡ J.plan },
 }
@@ -62,7 +62,7 @@ impl<'r, 'p, J: Naming> Seating<'r, 'p, J> {
     }
 
     // A seat that waits there.
-    fn seat(&self, thread: u32, parking: Parking) -> Result<Seat<'r, J>, NoMemory>
+    fn seat(&self, thread: u32, parking: Parking) -> Result<Seat<'r, 'p, J>, NoMemory>
         requires { thread < 64 }
         ensures { IfOk result (λ s. s ≡ new_seat self.now.row.now thread) }
     {

@@ -29,6 +29,7 @@ use lowering::compiled::Program;
 use runner::states::{Asked, Ended, Next, Ready, Running};
 use source::memory::NoMemory;
 use std::alloc::Global;
+use std::mem;
 use std::sync::{Mutex, Wait};
 use workers_copies::naming::Naming;
 use workers_copies::row::Row;
@@ -44,6 +45,21 @@ pub struct Shared<'p, J: Naming> {
     wakings: Wakings,
     print_rooms: PrintRooms,
     ghost is: { program.now ≡ J.plan },
+}
+
+// Takes a thread out of its seat. In its place is the thread as it was before its first call.
+fn take_out<'p>(ready: &mut Ready<'p>) -> Ready<'p>
+    ensures { result ≡ ready.old }
+{
+    let thread = ready.thread();
+    mem::replace(ready, Ready::new(thread))
+}
+
+// Puts it back.
+fn put_back<'p>(place: &mut Ready<'p>, ready: Ready<'p>)
+    ensures { place.new ≡ ready.entry }
+{
+    let _first = mem::replace(place, ready);
 }
 
 // A call of a section, and where its thread waits.
@@ -65,7 +81,7 @@ impl<'p, J: Naming> Shared<'p, J> {
         alloc: Global,
         program: &'p Program,
         count: u32,
-    ) -> Result<(Shared<'p, J>, Vec<Seat<'r, J>>), NoMemory>
+    ) -> Result<(Shared<'p, J>, Vec<Seat<'r, 'p, J>>), NoMemory>
         requires named { program.now ≡ J.plan }
         requires few { count ≤ 64 }
         ensures { IfOk result (λ r. r.1.items ≡ new_seats row.entry.now count) }
@@ -109,7 +125,7 @@ impl<'p, J: Naming> Shared<'p, J> {
     pub fn call<R: Wait, G: Gate>(
         &self,
         rt: &R,
-        seat: &mut Seat<'_, J>,
+        seat: &mut Seat<'_, 'p, J>,
         section: usize,
         arguments: &[Value],
         gate: &G,
@@ -124,8 +140,7 @@ impl<'p, J: Naming> Shared<'p, J> {
         ensures row { seat.new.row ≡ seat.old.row }
         ensures err { OnErr result (seat.new ≡ seat.old) }
     {
-        let thread = seat.ready.thread();
-        let ready = std::mem::replace(&mut seat.ready, Ready::new(thread));
+        let ready = take_out(&mut seat.ready);
         let request = Request {
             section,
             arguments,
@@ -133,11 +148,11 @@ impl<'p, J: Naming> Shared<'p, J> {
         };
         match self.run(rt, ready, request, &mut seat.seen, gate) {
             Ok((ready, done)) => {
-                seat.ready = ready;
+                put_back(&mut seat.ready, ready);
                 Ok(done)
             }
             Err((ready, refusal)) => {
-                seat.ready = ready;
+                put_back(&mut seat.ready, ready);
                 Err(refusal)
             }
         }
@@ -147,16 +162,16 @@ impl<'p, J: Naming> Shared<'p, J> {
     fn run<R: Wait, G: Gate>(
         &self,
         rt: &R,
-        ready: Ready,
+        ready: Ready<'p>,
         request: Request<'_>,
         seen: &mut Seen<'_, J>,
         gate: &G,
-    ) -> Result<(Ready, Done), (Ready, CallRefusal)>
+    ) -> Result<(Ready<'p>, Done), (Ready<'p>, CallRefusal)>
         requires thread { ready.thread < 64 }
         requires fits { CanCall J.plan.program request.section request.arguments.now }
         ensures answer { let call = as_call request.entry.section request.entry.arguments.now in
-            IfOk result (λ r. HasAnswer J.plan call ready seen.old r.0 r.1 seen.new) }
-        ensures err { IfErr result (λ r. r.0 ≡ ready) }
+            IfOk result (λ r. HasAnswer J.plan call ready.entry seen.old r.0 r.1 seen.new) }
+        ensures err { IfErr result (λ r. r.0 ≡ ready.entry) }
         ensures same { OnErr result (IsSameSeen seen.old seen.new) }
     {
         let thread = ready.thread();
@@ -166,7 +181,7 @@ impl<'p, J: Naming> Shared<'p, J> {
             Ok(ended) => ended,
             Err(ready) => return Err((ready, CallRefusal::Strange)),
         };
-        let Some((mut done, copy)) = room.of(ended.entry()) else {
+        let Some((mut done, copy)) = room.of(&ended.entry()) else {
             return Err((self.give_up(rt, ended), CallRefusal::Strange));
         };
         match self.finish(rt, ended, copy, seen) {
@@ -182,15 +197,15 @@ impl<'p, J: Naming> Shared<'p, J> {
     fn begin<R: Wait>(
         &self,
         rt: &R,
-        ready: Ready,
+        ready: Ready<'p>,
         request: Request<'_>,
         seen: &mut Seen<'_, J>,
-    ) -> Result<(AnswerRoom, Running<'p>), (Ready, CallRefusal)>
+    ) -> Result<(AnswerRoom, Running<'p>), (Ready<'p>, CallRefusal)>
         requires thread { ready.thread < 64 }
         requires fits { CanCall J.plan.program request.section request.arguments.now }
         ensures ok { let call = as_call request.entry.section request.entry.arguments.now in
-            IfOk result (λ r. HasBegun J.plan call ready r.1) }
-        ensures err { IfErr result (λ r. r.0 ≡ ready) }
+            IfOk result (λ r. HasBegun J.plan call ready.entry r.1) }
+        ensures err { IfErr result (λ r. r.0 ≡ ready.entry) }
         ensures same { IsSameSeen seen.old seen.new }
     {
         let alloc = self.alloc;
@@ -220,7 +235,7 @@ impl<'p, J: Naming> Shared<'p, J> {
         running: Running<'p>,
         parking: &Parking,
         gate: &G,
-    ) -> Result<Ended<'p>, Ready>
+    ) -> Result<Ended<'p>, Ready<'p>>
         requires { running.plan ≡ J.plan }
         ensures ok { IfOk result (λ ended. IsSame running.entry ended) }
         ensures err { IfErr result (λ ready. ready ≡ ready_again running.entry) }
@@ -263,7 +278,7 @@ impl<'p, J: Naming> Shared<'p, J> {
         ended: Ended<'p>,
         copy: Entry,
         seen: &mut Seen<'_, J>,
-    ) -> Result<(Ready, usize), Ready>
+    ) -> Result<(Ready<'p>, usize), Ready<'p>>
         requires plan { ended.plan ≡ J.plan }
         requires copy { IsItsEntry ended copy }
         ensures entered { IfOk result (λ r. IsEntered J.plan (length seen.old.log) ended.entry r.1) }
@@ -293,7 +308,7 @@ impl<'p, J: Naming> Shared<'p, J> {
     }
 
     // Ends a section without an entry.
-    fn give_up<R: Wait>(&self, rt: &R, ended: Ended<'p>) -> Ready
+    fn give_up<R: Wait>(&self, rt: &R, ended: Ended<'p>) -> Ready<'p>
         ensures { result ≡ ready_again ended.entry }
     {
         let ready = self.guarded.lock(rt).give_up(ended);
@@ -312,7 +327,7 @@ impl<'p, J: Naming> Shared<'p, J> {
     }
 
     /// Of what two seats of one row have seen one begins the other: whether the first's begins the second's.
-    pub fn agree<'r>(one: &Seat<'r, J>, other: &Seat<'r, J>) -> bool
+    pub fn agree<'r>(one: &Seat<'r, 'p, J>, other: &Seat<'r, 'p, J>) -> bool
         requires { one.now.row ≡ other.now.row }
         ensures one_begins { MatchBool result (Begins one.now.seen other.now.seen) (Begins other.now.seen one.now.seen) }
         ensures exact { IsTrue result ↔ Begins one.now.seen other.now.seen }
@@ -327,7 +342,7 @@ impl<'p, J: Naming> Shared<'p, J> {
     ///
     /// A section is open, the answers aren't just the entries, or a seat has seen something else.
     #[tactic(auto, using(crate::proofs::Guarding::has_cells))]
-    pub fn close(self, seats: Vec<Seat<'_, J>>) -> Result<Closed<'p>, Strange>
+    pub fn close(self, seats: Vec<Seat<'_, 'p, J>>) -> Result<Closed<'p>, Strange>
         ensures history { IfOk result (λ c. IsHistoryOf J.plan c.history c.values) }
         ensures quiet { IfOk result IsQuiet }
         ensures answers { IfOk result (λ c. All (AnswersAreIn c.history) seats.entry.items) }

@@ -64,7 +64,7 @@ fn run_named<'p, J: Naming + Send + Sync, R: Threads + Wait + Sync, G: Gate>(
         return Err(CallRefusal::Strange);
     }
     let row = Row::new(alloc)?;
-    let (shared, seats): (Shared<'p, J>, Vec<Seat<'_, J>>) = Shared::open(
+    let (shared, seats): (Shared<'p, J>, Vec<Seat<'_, 'p, J>>) = Shared::open(
         &row, alloc, program, count,
     )?;
     let places = places_of(alloc, seats)?;
@@ -80,22 +80,22 @@ fn run_named<'p, J: Naming + Send + Sync, R: Threads + Wait + Sync, G: Gate>(
 
 /// A seat, and whether its thread's script has run: its answers are to just the calls of that, in order.
 #[derive(Drop)]
-pub(crate) struct ScriptSeat<'r, J: Naming> {
-    seat: Seat<'r, J>,
+pub(crate) struct ScriptSeat<'r, 'p, J: Naming> {
+    seat: Seat<'r, 'p, J>,
     ran: bool,
     ghost calls: { ran ≡ true → Some (map call_in seat.answers) ≡ script_at J.plan seat.thread },
 }
 
 // A seat before its thread's script has run.
-fn place_of<'r, J: Naming>(seat: Seat<'r, J>) -> ScriptSeat<'r, J> {
+fn place_of<'r, 'p, J: Naming>(seat: Seat<'r, 'p, J>) -> ScriptSeat<'r, 'p, J> {
     ScriptSeat { seat, ran: false }
 }
 
 // The seats before any script has run.
-fn places_of<'r, J: Naming>(
+fn places_of<'r, 'p, J: Naming>(
     alloc: Global,
-    seats: Vec<Seat<'r, J>>,
-) -> Result<Vec<ScriptSeat<'r, J>>, NoMemory> {
+    seats: Vec<Seat<'r, 'p, J>>,
+) -> Result<Vec<ScriptSeat<'r, 'p, J>>, NoMemory> {
     let mut places = Vec::with_capacity(alloc, seats.len())?;
     for seat in seats {
         places.push(place_of(seat))?;
@@ -104,13 +104,13 @@ fn places_of<'r, J: Naming>(
 }
 
 // Runs the script of each seat's thread in a thread of its own. Errors: the worst refusal.
-fn run_all<'r, J: Naming + Send + Sync, R: Threads + Wait + Sync, G: Gate>(
+fn run_all<'r, 'p, J: Naming + Send + Sync, R: Threads + Wait + Sync, G: Gate>(
     rt: &R,
     alloc: Global,
-    shared: &Shared<'_, J>,
-    places: Vec<ScriptSeat<'r, J>>,
+    shared: &Shared<'p, J>,
+    places: Vec<ScriptSeat<'r, 'p, J>>,
     gate: &G,
-) -> Result<Vec<ScriptSeat<'r, J>>, CallRefusal> {
+) -> Result<Vec<ScriptSeat<'r, 'p, J>>, CallRefusal> {
     lowering::laws::programs_are_shared();
     let mut places = places;
     let lent = &mut places;
@@ -189,10 +189,10 @@ fn calls_of(program: &Program, thread: u32) -> Option<usize>
 }
 
 // Runs the script of a seat's thread.
-fn run_place<J: Naming, R: Wait, G: Gate>(
+fn run_place<'p, J: Naming, R: Wait, G: Gate>(
     rt: &R,
-    shared: &Shared<'_, J>,
-    place: &mut ScriptSeat<'_, J>,
+    shared: &Shared<'p, J>,
+    place: &mut ScriptSeat<'_, 'p, J>,
     gate: &G,
 ) -> Result<(), CallRefusal> {
     place.ran = false;
@@ -202,10 +202,10 @@ fn run_place<J: Naming, R: Wait, G: Gate>(
 }
 
 // Runs the script of a seat's thread.
-fn run_script<J: Naming, R: Wait, G: Gate>(
+fn run_script<'p, J: Naming, R: Wait, G: Gate>(
     rt: &R,
-    shared: &Shared<'_, J>,
-    seat: &mut Seat<'_, J>,
+    shared: &Shared<'p, J>,
+    seat: &mut Seat<'_, 'p, J>,
     gate: &G,
 ) -> Result<(), CallRefusal>
     ensures { OnOk result (Some (map call_in seat.new.answers) ≡ script_at J.plan seat.new.thread) }
@@ -228,11 +228,11 @@ fn run_script<J: Naming, R: Wait, G: Gate>(
 }
 
 // The seats, where all scripts have run and they are those of all threads, in order.
-fn in_order<'r, J: Naming>(
+fn in_order<'r, 'p, J: Naming>(
     alloc: Global,
-    places: Vec<ScriptSeat<'r, J>>,
+    places: Vec<ScriptSeat<'r, 'p, J>>,
     count: u32,
-) -> Result<Option<Vec<Seat<'r, J>>>, NoMemory>
+) -> Result<Option<Vec<Seat<'r, 'p, J>>>, NoMemory>
     ensures { IfOk result (λ r. IfSome r (λ seats. AreInOrder J.plan count seats.items)) }
 {
     let mut seats = Vec::new(alloc);

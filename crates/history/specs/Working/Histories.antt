@@ -1,5 +1,5 @@
 -- A history as a value.
-use Rattle.std.specs.Prelude.{◌<◌, ◌≤◌, ◌+◌, ℕ, suc, List}
+use Rattle.std.specs.Prelude.{◌<◌, ◌≤◌, ◌+◌, ℕ, suc, List, length}
 use Rattle.history.specs.Commits.{Commit}
 
 -- room that was made: for so many commits, with so many reads together, and as many writes
@@ -24,3 +24,10 @@ with_promise p cells = record { entries = suc p.entries; cells = p.cells + cells
 pub record IsPromised (p : PromisedOf) (cells : ℕ) : Type 0 where
   pub entry : 0 < p.entries
   pub within : cells ≤ p.cells
+
+-- such a commit's lists have the lengths for which room is made, where its section may touch so many cells
+pub record IsWithin (cells : ℕ) (c : Commit) : Type 0 where
+  pub arguments : length c.arguments ≤ 8
+  pub reads : length c.reads ≤ cells
+  pub writes : length c.writes ≤ cells
+  pub prints : length c.prints ≤ 256

@@ -1,11 +1,9 @@
 -- How the code keeps the lists of entries. Nobody has to believe this file.
-use Rattle.std.specs.Prelude.{◌≡◌, ◌≤◌, ◌+◌, ℕ, List, ◌++◌, length, map, slice_range, ⊤}
+use Rattle.std.specs.Prelude.{◌≤◌, ◌+◌, ℕ, List, ◌++◌, length, map, slice_range}
 use Rattle.history.specs.Commits.{Commit}
-use Rattle.history.specs.Working.Histories.{PromisedOf, with_promise}
+use Rattle.history.specs.Working.Histories.{PromisedOf}
 use Rattle.history.specs.declared.lists.Part.{Part}
 use Rattle.history.specs.declared.lists.Packed.{Packed}
-use Rattle.history.specs.declared.lists.Stored.{Stored}
-use Rattle.history.specs.declared.lists.Stored.TheVariants.{Within, Aside}
 use Rattle.history.specs.Working.Arrays.{ListsOf}
 
 -- ---- a list in the array of its kind
@@ -70,30 +68,6 @@ with_lists lists c less = record {
   promised = less;
 }
 
--- its lists have the lengths for which room is made: its section may touch so many cells
-pub record IsWithin (cells : ℕ) (c : Commit) : Type 0 where
-  pub arguments : length c.arguments ≤ 8
-  pub reads : length c.reads ≤ cells
-  pub writes : length c.writes ≤ cells
-  pub prints : length c.prints ≤ 256
-
--- ---- entries as they are stored
-
--- by lists in the arrays, or by lists of its own
-abbrev pub commit_in : ListsOf → Stored → Commit
-commit_in lists (Within p) = packed_commit lists p
-commit_in lists (Aside entry) = entry
-
-abbrev pub IsStored : ListsOf → Stored → Type 0
-IsStored lists (Within p) = IsPacked lists p
-IsStored lists (Aside entry) = ⊤
-
-abbrev pub commits_in : ListsOf → List Stored → List Commit
-commits_in lists stored = map (commit_in lists) stored
-
--- an entry was stored into room that was made, and those before it stand where they stood
-pub record Stores (old : ListsOf) (cells : ℕ) (c : Commit) (stored : Stored) (new : ListsOf) : Type 0 where
-  pub promised : old.promised ≡ with_promise new.promised cells
-  pub is : commit_in new stored ≡ c
-  pub there : IsStored new stored
-  pub others : (s : Stored) → IsStored old s → IsStored new s × (commit_in new s ≡ commit_in old s)
+-- what the entries are whose lists stand there
+abbrev pub commits_in : ListsOf → List Packed → List Commit
+commits_in lists packed = map (packed_commit lists) packed

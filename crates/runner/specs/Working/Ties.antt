@@ -1,5 +1,5 @@
 -- How the code keeps an open section. Nobody has to believe this file.
-use Rattle.std.specs.Prelude.{◌≡◌, ◌≤◌, ℕ, Bool, List, [], length, Option, Some, None, vec_capacity}
+use Rattle.std.specs.Prelude.{◌≡◌, ◌≤◌, ℕ, Bool, false, List, [], length, Option, Some, None, vec_capacity}
 use Rattle.std.specs.List.{sum_by}
 use Rattle.core_lang.specs.declared.value.Value.{Value}
 use Rattle.core_lang.specs.declared.value.Outcome.{Outcome}
@@ -19,9 +19,10 @@ use Rattle.runner_machine.specs.Working.Machines.{RunOf, at_first}
 use Rattle.lock_manager.specs.Working.Managers.{Managed}
 use Rattle.moved_cells.specs.Working.Grants.{GrantOf}
 use Rattle.history.specs.Commits.{Commit}
+use Rattle.history.specs.Working.Histories.{IsWithin}
 use Rattle.runner_cells.specs.Working.Held.{cells_granted}
-use Rattle.runner.specs.declared.open.Beginning.{Beginning}
-use Rattle.runner.specs.Working.Opens.{OpenOf, IsOpen, AreItsGrants, entry_of, Gets, Waits, ticket_of, further, moved}
+use Rattle.runner.specs.declared.body.Body.{Body}
+use Rattle.runner.specs.Working.Opens.{OpenOf, IsOpen, AreItsGrants, Gets, Waits, ticket_of, further, moved}
 
 -- a call
 abbrev pub call_of : ℕ → List Value → Invocation
@@ -45,6 +46,14 @@ open_as plan ticket step call run pending asked = record {
   };
 }
 
+-- its call, as a block has it
+abbrev pub its_call : Body → Invocation
+its_call b = call_of b.section b.arguments.items
+
+-- the same of a block
+abbrev pub open_in : Plan → TicketOf → Body → OpenOf
+open_in plan ticket b = open_as plan ticket b.step (its_call b) b.machine b.pending.items b.asked
+
 -- how many cells locks have together
 abbrev pub cells_together : Plan → List Lock → ℕ
 cells_together plan locks = sum_by (λ (lock : Lock). length (cells_of plan.layout.cell_locks lock)) locks
@@ -60,6 +69,7 @@ pub record IsKeptOpen (o : OpenOf) (ticket : TicketOf) (run : RunOf) (pending_ro
   pub cell_room : run.cell_room ≡ o.room.cells
   pub pending_fits : o.room.locks ≤ pending_room
   pub cells : length o.activation.machine.memory.cells ≡ cells_together o.plan o.activation.held
+  pub few_arguments : length o.activation.call.arguments ≤ 8
 
 -- with an outcome
 abbrev pub over_by : OpenOf → Outcome → OpenOf
@@ -76,18 +86,15 @@ HasMoved old (Some outcome) new = (new ≡ old) × (moved old ≡ over_by old ou
 
 -- ---- a section that is about to begin
 
--- its call
-abbrev pub its_call : Beginning → Invocation
-its_call p = call_of p.section p.arguments.items
-
 -- its call fits, and there is all memory that it can need
-pub record IsBeginning (p : Beginning) : Type 0 where
-  pub compiled : IsCompiled p.program.now
-  pub fits : CanCall p.program.now.program p.section p.arguments.items
-  pub room_is : IsRoomAt p.program.now p.section p.room
-  pub run_is : p.machine.value ≡ at_first (locals_at p.program.now (its_call p)) p.program.now.layout p.room
-  pub none_pending : p.pending.items ≡ []
-  pub pending_fits : p.room.locks ≤ vec_capacity p.pending
+pub record IsBeginning (plan : Plan) (b : Body) : Type 0 where
+  pub compiled : IsCompiled plan
+  pub fits : CanCall plan.program b.section b.arguments.items
+  pub room_is : IsRoomAt plan b.section b.room
+  pub run_is : b.machine ≡ at_first (locals_at plan (its_call b)) plan.layout b.room
+  pub none_pending : b.pending.items ≡ []
+  pub not_asked : b.asked ≡ false
+  pub pending_fits : b.room.locks ≤ vec_capacity b.pending
 
 -- it begins where the history is so long
 abbrev pub begun_as : Plan → ℕ → ℕ → Room → ℕ → Invocation → OpenOf
@@ -108,38 +115,49 @@ HasAsked m o (Some holder) o' m' = Waits m o holder o' m'
 
 -- ---- a section that has an outcome
 
--- by its ticket, what is left of its machine, its grants and its entry
-abbrev pub ended_as : Plan → TicketOf → ℕ → ℕ → List Value → List Value → List GrantOf → Commit → Bool → OpenOf
-ended_as plan ticket step place stack locals grants entry asked = record {
+-- by its ticket, its call, what is left of its machine, and its grants
+abbrev pub ended_as : Plan → TicketOf → ℕ → Invocation → RunOf → List GrantOf → Bool → Outcome → OpenOf
+ended_as plan ticket step call run grants asked outcome = record {
   plan = plan;
   thread = ticket.thread;
   step = step;
   room = ticket.session.room;
   activation = record {
-    call = call_of entry.section entry.arguments;
+    call = call;
     begun = ticket.session.begun;
-    machine = record {
-      place = place;
-      stack = stack;
-      locals = locals;
-      memory = record {
-        cells = cells_granted plan.layout.cell_locks grants;
-        reads = entry.reads;
-        writes = entry.writes;
-      };
-      prints = entry.prints;
+    machine = record run.machine {
+      memory = record run.machine.memory { cells = cells_granted plan.layout.cell_locks grants };
     };
     held = ticket.session.held;
     pending = [];
     asked = asked;
-    outcome = Some entry.outcome;
+    outcome = Some outcome;
   };
 }
 
--- its ticket, its grants and its entry are its own
-pub record IsKeptEnded (o : OpenOf) (ticket : TicketOf) (grants : List GrantOf) (entry : Commit) : Type 0 where
+-- the same of a block
+abbrev pub ended_in : Plan → TicketOf → Body → OpenOf
+ended_in plan ticket b = ended_as plan ticket b.step (its_call b) b.machine b.grants.items b.asked b.outcome
+
+-- its entry
+abbrev pub entry_in : TicketOf → Body → Commit
+entry_in ticket b = record {
+  thread = ticket.thread;
+  step = b.step;
+  section = b.section;
+  arguments = b.arguments.items;
+  begun = ticket.session.begun;
+  reads = b.machine.machine.memory.reads;
+  writes = b.machine.machine.memory.writes;
+  outcome = b.outcome;
+  prints = b.machine.machine.prints;
+}
+
+-- its ticket and its grants are its own, no more are with its machine, and its entry fits its room
+pub record IsKeptEnded (o : OpenOf) (ticket : TicketOf) (run : RunOf) (grants : List GrantOf) (entry : Commit) : Type 0 where
   pub is_open : IsOpen o
   pub ticket_is : ticket ≡ ticket_of o
   pub its : AreItsGrants o grants
-  pub entry_is : entry ≡ entry_of o entry.outcome
-  pub few : length entry.prints ≤ 256
+  pub within : IsWithin ticket.session.room.cells entry
+  pub no_locks : run.locks ≡ []
+  pub no_room : run.cell_room ≡ 0

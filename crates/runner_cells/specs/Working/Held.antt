@@ -45,6 +45,16 @@ with_grant h g = record h {
   memory = record h.memory { cells = h.memory.cells ++ cells_in h.layout.cell_locks g };
 }
 
+-- without the grants, and with no room: what was read and written stays
+abbrev pub without_grants : HoldingOf → HoldingOf
+without_grants h = record {
+  layout = h.layout;
+  locks = [];
+  memory = record h.memory { cells = [] };
+  lock_room = 0;
+  cell_room = 0;
+}
+
 -- with other cells, reads and writes
 abbrev pub with_memory : HoldingOf → HeldCells → HoldingOf
 with_memory h memory = record h { memory = memory }

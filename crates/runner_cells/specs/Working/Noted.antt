@@ -1,5 +1,5 @@
 -- Values noted at places. Nobody has to believe these.
-use Rattle.std.specs.Prelude.{◌≡◌, ◌≤◌, ℕ, nat_eq, if◌then◌else◌, List, [], ◌∷◌, ◌++◌, length, slice_get, slice_set, Option, Some, None, ⊤}
+use Rattle.std.specs.Prelude.{◌≡◌, ◌<◌, ◌≤◌, ℕ, nat_eq, if◌then◌else◌, List, [], ◌∷◌, ◌++◌, length, slice_get, slice_set, Option, Some, None, ⊤}
 use Rattle.core_lang.specs.declared.value.Value.{Value}
 use Rattle.code.specs.Memory.{value_at, with_value}
 
@@ -50,9 +50,9 @@ pub record IsMarked (cells marks : List ℕ) (cell number : ℕ) : Type 0 where
   pub cell_is : slice_get cells place ≡ Some cell
   pub mark_is : slice_get marks place ≡ Some number
 
--- where these are the cells by place: what is noted is of them, each once, and found by its mark; and there is a mark
--- for each place
+-- where these are the cells by place: no cell is noted twice; and where there is room, what is noted is of them and
+-- found by its mark, and there is a mark for each place
 pub record AreNotes (cells : List ℕ) (n : NotesOf) : Type 0 where
-  pub marked : (k : ℕ) (x : ℕ × Value) → slice_get n.list k ≡ Some x → IsMarked cells n.marks x.0 k
+  pub marked : 0 < n.room → (k : ℕ) (x : ℕ × Value) → slice_get n.list k ≡ Some x → IsMarked cells n.marks x.0 k
   pub once : EachOnce n.list
   pub long : n.room ≤ length n.marks

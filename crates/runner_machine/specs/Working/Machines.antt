@@ -16,11 +16,11 @@ use Rattle.code.specs.Alone.{starting}
 use Rattle.code.specs.declared.instr.Instr.{Instr}
 use Rattle.code.specs.Machine.{Machine, Effect, Moves, Asks, Finishes, Undefined, act, advances, jumps_if, or_trap, on_top, on_two, if_there, is_true, truth, printed}
 use Rattle.code.specs.Memory.{HeldCells, none_held, value_at, load_held, store_held}
-use Rattle.moved_cells.specs.Working.Grants.{IsWhole, locks_of}
+use Rattle.moved_cells.specs.Working.Grants.{GrantOf, IsWhole, locks_of}
+use Rattle.runner_cells.specs.Working.Held as held
 use Rattle.runner_cells.specs.Working.Held.{HoldingOf, cells_granted}
 use Rattle.runner_machine.specs.declared.progress.Progress.{Progress}
 use Rattle.runner_machine.specs.declared.progress.Progress.TheVariants as answer
-use Rattle.runner_machine.specs.declared.machine.Left.{Left}
 
 -- a machine over the cells that a section holds; for how many operands it has room; and beside its cells what belongs to
 -- them: where cells lie, the locks, the oldest first, and for how many locks and cells there is room
@@ -67,6 +67,22 @@ at_first locals layout room = record {
   lock_room = room.locks;
   cell_room = room.cells;
 }
+
+-- without its grants, and with no room for cells: what it read and wrote stays, and all else
+abbrev pub without_grants : RunOf → RunOf
+without_grants r = with_holding r (held.without_grants (holding_of r))
+
+-- a section's end: the grants that it held are moved out, and what is read, written and printed isn't more than there was
+-- room for
+pub record IsFinished (run : RunOf) (grants : List GrantOf) (run' : RunOf) : Type 0 where
+  pub left : run' ≡ without_grants run
+  pub locks : locks_of grants ≡ run.locks
+  pub whole : All (IsWhole run.layout.cell_locks) grants
+  pub cells : cells_granted run.layout.cell_locks grants ≡ run.machine.memory.cells
+  pub lent : length run.machine.memory.cells ≤ run.cell_room
+  pub reads : 0 < run.cell_room → length run.machine.memory.reads ≤ run.cell_room
+  pub writes : 0 < run.cell_room → length run.machine.memory.writes ≤ run.cell_room
+  pub prints : length run.machine.prints ≤ 256
 
 -- ---- one instruction
 
@@ -182,20 +198,3 @@ back_by back m = Moves (record m { place = m.place - back })
 -- the top is the result
 abbrev pub returning : Machine HeldCells → Effect HeldCells
 returning m = on_top m.stack (λ v rest. Finishes (Returns v))
-
--- what is left of a machine that is taken apart
-pub record IsLeftOf (run : RunOf) (left : Left) : Type 0 where
-  pub machine : run.machine ≡ record {
-    place = left.place;
-    stack = left.operands.stack;
-    locals = left.locals.items;
-    memory = record {
-      cells = cells_granted run.layout.cell_locks left.parts.grants.items;
-      reads = left.parts.reads.items;
-      writes = left.parts.writes.items;
-    };
-    prints = left.prints.items;
-  }
-  pub locks : locks_of left.parts.grants.items ≡ run.locks
-  pub whole : All (IsWhole run.layout.cell_locks) left.parts.grants.items
-  pub few_prints : length left.prints.items ≤ 256

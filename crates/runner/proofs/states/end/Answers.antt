@@ -1,54 +1,51 @@
 use Rattle.std.specs.Prelude.{◌≡◌, vec_capacity}
 use Rattle.std.proofs.Common.{sym, ap, ◌∙◌, subst}
-use Rattle.runner_machine.specs.Working.Machines.{RunOf, IsLeftOf}
-use Rattle.runner.specs.Working.Opens.{OpenOf, moved}
-use Rattle.runner.specs.Working.Ties.{over_by, ended_as, IsKeptEnded}
-use Rattle.runner.specs.declared.spare.Kept.{Kept}
-use Rattle.runner.proofs.Endings.{IsTakenApart, ended_is, kept_ended}
+use Rattle.runner_machine.specs.Working.Machines.{IsFinished}
+use Rattle.runner.specs.declared.body.Body.{Body}
+use Rattle.runner.specs.Working.Opens.{OpenOf, moved, entry_of}
+use Rattle.runner.specs.Working.Ties.{over_by, its_call, ended_as, IsKeptEnded}
+use Rattle.runner.proofs.Endings.{IsOver, ended_is, kept_ended}
 use Rattle.runner.proofs.states.end.Goals as goal
 
 pub invariant_of-result : goal.invariant_of-result
 invariant_of-result c =
     let x = c.opened.inside in
-    let p = c.into_parts-place.result in
-    let apart : IsTakenApart x.program.now x.ticket x.step x.section x.arguments.items x.machine.value x.pending.items x.asked
-    (vec_capacity x.pending) c.args.outcome
-    p c.thread-thread.result c.begun-begun.result =
+    let b = x.body.value in
+    let outcome = c.args.outcome in
+    let run = c.finish.new.self in
+    let grants = c.finish.new.grants.items in
+    let same_body : c.deref_mut-block.result.now ≡ b = c.deref_mut-block.ensures.value in
+    let over : IsOver x.program.now x.ticket b.step (its_call b) b.machine b.pending.items b.asked (vec_capacity b.pending) outcome
+    run grants =
     record {
-      kept = c.opened.invariant;
+      kept = c.opened.invariant.0;
       none = ap (λ (s : OpenOf). s.activation.pending) c.opened.view_is ∙ c.requires.pending;
-      leads = subst (λ (s : OpenOf). moved s ≡ over_by s c.args.outcome) (sym c.opened.view_is) c.requires.leads;
-      left = subst (λ (r : RunOf). IsLeftOf r p) c.into_inner.ensures c.into_parts-place.ensures;
-      thread_is = c.thread-thread.ensures;
-      begun_is = c.begun-begun.ensures;
+      leads = subst (λ (s : OpenOf). moved s ≡ over_by s outcome) (sym c.opened.view_is) c.requires.leads;
+      finished = subst (λ (b : Body). IsFinished b.machine grants run) same_body c.finish.ensures;
     } in
-    subst (λ (k : Kept).
-    IsKeptEnded (ended_as x.program.now x.ticket x.step p.place k.operands.stack k.locals.items p.parts.grants.items k.entry x.asked)
-    x.ticket p.parts.grants.items k.entry) (sym c.replace-nothing.ensures.after)
-    (kept_ended x.program.now x.ticket x.step x.section x.arguments.items x.machine.value x.pending.items x.asked
-    (vec_capacity x.pending) c.args.outcome
-    p c.thread-thread.result c.begun-begun.result
-    c.sections_stay_in_order.ensures apart)
+    subst (λ (b : Body).
+    IsKeptEnded (ended_as x.program.now x.ticket b.step (its_call b) run grants b.asked outcome) x.ticket run grants
+    (entry_of (ended_as x.program.now x.ticket b.step (its_call b) run grants b.asked outcome) outcome)) (sym same_body)
+    (kept_ended x.program.now x.ticket b.step (its_call b) b.machine b.pending.items b.asked (vec_capacity b.pending) outcome
+    run grants c.sections_stay_in_order.ensures over)
 
 pub returns : goal.returns
 returns c =
     let x = c.opened.inside in
-    let p = c.into_parts-place.result in
-    let apart : IsTakenApart x.program.now x.ticket x.step x.section x.arguments.items x.machine.value x.pending.items x.asked
-    (vec_capacity x.pending) c.args.outcome
-    p c.thread-thread.result c.begun-begun.result =
+    let b = x.body.value in
+    let outcome = c.args.outcome in
+    let run = c.finish.new.self in
+    let grants = c.finish.new.grants.items in
+    let same_body : c.deref_mut-block.result.now ≡ b = c.deref_mut-block.ensures.value in
+    let over : IsOver x.program.now x.ticket b.step (its_call b) b.machine b.pending.items b.asked (vec_capacity b.pending) outcome
+    run grants =
     record {
-      kept = c.opened.invariant;
+      kept = c.opened.invariant.0;
       none = ap (λ (s : OpenOf). s.activation.pending) c.opened.view_is ∙ c.requires.pending;
-      leads = subst (λ (s : OpenOf). moved s ≡ over_by s c.args.outcome) (sym c.opened.view_is) c.requires.leads;
-      left = subst (λ (r : RunOf). IsLeftOf r p) c.into_inner.ensures c.into_parts-place.ensures;
-      thread_is = c.thread-thread.ensures;
-      begun_is = c.begun-begun.ensures;
+      leads = subst (λ (s : OpenOf). moved s ≡ over_by s outcome) (sym c.opened.view_is) c.requires.leads;
+      finished = subst (λ (b : Body). IsFinished b.machine grants run) same_body c.finish.ensures;
     } in
-    ap (λ (k : Kept).
-    ended_as x.program.now x.ticket x.step p.place k.operands.stack k.locals.items p.parts.grants.items k.entry x.asked)
-    c.replace-nothing.ensures.after
-    ∙ ended_is x.program.now x.ticket x.step x.section x.arguments.items x.machine.value x.pending.items x.asked
-    (vec_capacity x.pending) c.args.outcome
-    p c.thread-thread.result c.begun-begun.result apart
-    ∙ ap (λ (s : OpenOf). over_by s c.args.outcome) c.opened.view_is
+    ap (λ (b : Body). ended_as x.program.now x.ticket b.step (its_call b) run grants b.asked outcome) same_body
+    ∙ ended_is x.program.now x.ticket b.step (its_call b) b.machine b.pending.items b.asked (vec_capacity b.pending) outcome
+    run grants over
+    ∙ ap (λ (s : OpenOf). over_by s outcome) c.opened.view_is

@@ -13,7 +13,7 @@ restore-requires-clause-listed c =
     let m = managed x.committed x.ranks.now x.places.items x.queue x.sections x.history.commits in
     let its = subst (λ (gs : List GrantOf). AreItsGrants m c.into_thread-thread.result gs) c.deref.ensures.value
     (subst (λ (v : Managed). AreItsGrants v c.into_thread-thread.result c.deref.result.now) (sym c.self.view_is) (c.are_its_grants.ensures.0 c.if-are_its_grants.true)) in
-    listed_grants m its.session.held c.args.grants.items (listed_held m c.into_thread-thread.result its.session c.self.invariant.0 its.is) its.own
+    listed_grants m its.session.held c.args.grants.now.items (listed_held m c.into_thread-thread.result its.session c.self.invariant.0 its.is) its.own
 
 pub close-requires : goal.close-requires
 close-requires c =
@@ -35,8 +35,8 @@ invariant_of-self c =
     let m = managed x.committed x.ranks.now x.places.items x.queue x.sections x.history.commits in
     let its = subst (λ (gs : List GrantOf). AreItsGrants m c.into_thread-thread.result gs) c.deref.ensures.value
     (subst (λ (v : Managed). AreItsGrants v c.into_thread-thread.result c.deref.result.now) (sym c.self.view_is) (c.are_its_grants.ensures.0 c.if-are_its_grants.true)) in
-    (sound_give_up m x.history.promised c.into_thread-thread.result c.args.grants.items c.restore.new.places.items c.leave.new.self c.close.new.self c.forgo.new.self.commits c.forgo.new.self.promised c.cells-cells.result
-    c.self.invariant its c.restore.ensures c.leave.ensures c.close.ensures c.forgo.ensures.commits c.forgo.ensures.promised c.cells-cells.ensures).1
+    (sound_give_up m x.history.promised c.into_thread-thread.result c.args.grants.now.items c.restore.new.places.items c.leave.new.self c.close.new.self c.forgo.new.self.commits c.forgo.new.self.promised c.cells-cells.result
+    c.self.invariant its c.restore.ensures.back c.leave.ensures c.close.ensures c.forgo.ensures.commits c.forgo.ensures.promised c.cells-cells.ensures).1
 
 pub restore-requires-clause-whole : goal.restore-requires-clause-whole
 restore-requires-clause-whole c =
@@ -48,15 +48,15 @@ restore-requires-clause-whole c =
 pub restore-requires-clause-count : goal.restore-requires-clause-count
 restore-requires-clause-count c = c.self.invariant.0.lock_count
 
-pub returns-then-are_its_grants : goal.returns-then-are_its_grants
-returns-then-are_its_grants c =
+pub returns-then-are_its_grants-clause-given_up : goal.returns-then-are_its_grants-clause-given_up
+returns-then-are_its_grants-clause-given_up c =
     let x = c.self.inside in
     let m = managed x.committed x.ranks.now x.places.items x.queue x.sections x.history.commits in
-    let grants = c.args.grants.items in
+    let grants = c.args.grants.now.items in
     let its = subst (λ (u : ℕ). AreItsGrants c.args.self.now u grants) c.into_thread-thread.ensures
     (subst (λ (gs : List GrantOf). AreItsGrants c.args.self.now c.into_thread-thread.result gs) c.deref.ensures.value (c.are_its_grants.ensures.0 c.if-are_its_grants.true)) in
     let same : managed x.committed x.ranks.now c.restore.new.places.items c.leave.new.self c.close.new.self c.forgo.new.self.commits ≡ after_give_up m c.into_thread-thread.result grants =
-    λ i. managed x.committed x.ranks.now (c.restore.ensures i) (c.leave.ensures i) (c.close.ensures i) (c.forgo.ensures.commits i) in
+    λ i. managed x.committed x.ranks.now (c.restore.ensures.back i) (c.leave.ensures i) (c.close.ensures i) (c.forgo.ensures.commits i) in
     let now = same ∙ ap (λ (v : Managed). after_give_up v c.into_thread-thread.result grants) c.self.view_is in
     record {
       own = λ own. now ∙ ap (λ (u : ℕ). after_give_up c.args.self.now u grants) c.into_thread-thread.ensures;
@@ -69,11 +69,11 @@ returns-then-are_its_grants c =
       };
     }
 
-pub returns-else-are_its_grants : goal.returns-else-are_its_grants
-returns-else-are_its_grants c = record {
+pub returns-else-are_its_grants-clause-given_up : goal.returns-else-are_its_grants-clause-given_up
+returns-else-are_its_grants-clause-given_up c = record {
   own = λ own. never_both (c.are_its_grants.ensures.1
       (subst (λ (gs : List GrantOf). AreItsGrants c.args.self.now c.into_thread-thread.result gs) (sym c.deref.ensures.value)
-      (subst (λ (u : ℕ). AreItsGrants c.args.self.now u c.args.grants.items) (sym c.into_thread-thread.ensures) own))) c.if-are_its_grants.false;
+      (subst (λ (u : ℕ). AreItsGrants c.args.self.now u c.args.grants.now.items) (sym c.into_thread-thread.ensures) own))) c.if-are_its_grants.false;
   not_own = λ no. refl;
   entries = record { layout = refl; ranks = refl; history = refl; values = refl };
 }

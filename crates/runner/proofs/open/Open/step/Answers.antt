@@ -6,22 +6,27 @@ use Rattle.code.specs.Memory.{HeldCells, load_held, store_held}
 use Rattle.worlds.specs.Worlds.{next_effect}
 use Rattle.runner_machine.specs.Working.Machines.{RunOf, FitsRoom, HasSmallCells, with_machine}
 use Rattle.runner.specs.Working.Opens.{OpenOf}
-use Rattle.runner.specs.Working.Ties.{open_as, call_of, IsKeptOpen}
+use Rattle.runner.specs.Working.Ties.{open_as, open_in, its_call, IsKeptOpen}
+use Rattle.runner.specs.declared.body.Body.{Body}
 use Rattle.runner.proofs.Opened.{RunsInOrder, next_fits, cells_small, kept_moving}
 use Rattle.runner.proofs.open.Open.step.Goals as goal
 
 pub step-requires-clause-small : goal.step-requires-clause-small
 step-requires-clause-small c =
     let x = c.self.inside in
-    let o = open_as x.program.now x.ticket x.step (call_of x.section x.arguments.items) x.machine.value x.pending.items x.asked in
-    subst (λ (r : RunOf). HasSmallCells r.machine.memory) (sym c.deref_mut.ensures.value) (cells_small o c.self.invariant.is_open)
+    let o = open_in x.program.now x.ticket x.body.value in
+    subst (λ (b : Body). HasSmallCells b.machine.machine.memory) (sym c.deref_mut-body.ensures.value) (cells_small o c.self.invariant.0.is_open)
 
 pub step-requires-clause-fits : goal.step-requires-clause-fits
 step-requires-clause-fits c =
     let x = c.self.inside in
-    let o = open_as x.program.now x.ticket x.step (call_of x.section x.arguments.items) x.machine.value x.pending.items x.asked in
+    let o = open_in x.program.now x.ticket x.body.value in
+    let b = x.body.value in
+    let same_body : c.deref_mut-body.result.now ≡ b = c.deref_mut-body.ensures.value in
+    let typed : c.typed.result.now ≡ x.program.now.program =
+    c.typed.ensures.program in
     let r : RunsInOrder o = record {
-      is_open = c.self.invariant.is_open;
+      is_open = c.self.invariant.0.is_open;
       pending = ap (λ (o : OpenOf). o.activation.pending) c.self.view_is ∙ c.requires;
       outcome = refl;
     } in
@@ -29,20 +34,25 @@ step-requires-clause-fits c =
     let is : next_effect o.plan o.activation ≡ act load_held store_held o.plan.program.shape (Some i) o.activation.machine =
     subst (λ (o : OpenOf). next_effect o.plan o.activation
     ≡ act load_held store_held o.plan.program.shape (Some i) o.activation.machine) (sym c.self.view_is) c.instruction-instruction.ensures in
-    let effect = is ∙ ap (λ (t : Typed). act load_held store_held t.shape (Some i) x.machine.value.machine) (sym c.typed.ensures.program) in
-    subst (λ (run : RunOf). FitsRoom run.operand_room (act load_held store_held c.typed.result.now.shape (Some i) run.machine))
-    (sym c.deref_mut.ensures.value)
-    (subst (λ (room : ℕ). FitsRoom room (act load_held store_held c.typed.result.now.shape (Some i) x.machine.value.machine))
-    (sym c.self.invariant.operands)
+    let effect = is ∙ ap (λ (t : Typed). act load_held store_held t.shape (Some i) b.machine.machine) (sym typed) in
+    let of = c.code-code.ensures in
+    subst (λ (b : Body). FitsRoom b.machine.operand_room (act load_held store_held c.typed.result.now.shape (Some i) b.machine.machine))
+    (sym same_body)
+    (subst (λ (room : ℕ). FitsRoom room (act load_held store_held c.typed.result.now.shape (Some i) b.machine.machine))
+    (sym c.self.invariant.0.operands)
     (subst (λ (e : Effect HeldCells). FitsRoom o.room.operands e) effect
-    (next_fits o c.code-code.result.now c.sections_stay_in_order.ensures c.code-code.ensures r)))
+    (next_fits o c.code-code.result.now c.sections_stay_in_order.ensures of r)))
 
 pub invariant_of-self : goal.invariant_of-self
 invariant_of-self c =
     let x = c.self.inside in
-    let o = open_as x.program.now x.ticket x.step (call_of x.section x.arguments.items) x.machine.value x.pending.items x.asked in
+    let o = open_in x.program.now x.ticket x.body.value in
+    let b = x.body.value in
+    let same_body : c.deref_mut-body.result.now ≡ b = c.deref_mut-body.ensures.value in
+    let typed : c.typed.result.now ≡ x.program.now.program =
+    c.typed.ensures.program in
     let r : RunsInOrder o = record {
-      is_open = c.self.invariant.is_open;
+      is_open = c.self.invariant.0.is_open;
       pending = ap (λ (o : OpenOf). o.activation.pending) c.self.view_is ∙ c.requires;
       outcome = refl;
     } in
@@ -52,11 +62,16 @@ invariant_of-self c =
     ≡ act load_held store_held o.plan.program.shape (Some i) o.activation.machine) (sym c.self.view_is) c.instruction-instruction.ensures in
     let m = c.step.new.self.machine in
     let moves : next_effect o.plan o.activation ≡ Moves m =
-    is ∙ ap (λ (t : Typed). act load_held store_held t.shape (Some i) x.machine.value.machine) (sym c.typed.ensures.program)
-    ∙ ap (λ (run : RunOf). act load_held store_held c.typed.result.now.shape (Some i) run.machine) (sym c.deref_mut.ensures.value)
+    is ∙ ap (λ (t : Typed). act load_held store_held t.shape (Some i) b.machine.machine) (sym typed)
+    ∙ ap (λ (b : Body). act load_held store_held c.typed.result.now.shape (Some i) b.machine.machine) (sym same_body)
     ∙ c.in-Moved.ensures.0 in
-    let kept = kept_moving o x.ticket x.machine.value (vec_capacity x.pending) m
-    c.steps_go_alike.ensures.keeps c.sections_stay_in_order.ensures r c.self.invariant moves in
-    subst (λ (run : RunOf).
-    IsKeptOpen (open_as x.program.now x.ticket x.step (call_of x.section x.arguments.items) run x.pending.items x.asked)
-    x.ticket run (vec_capacity x.pending)) (sym (c.in-Moved.ensures.1 ∙ ap (λ (run : RunOf). with_machine run m) c.deref_mut.ensures.value)) kept
+    let kept = kept_moving o x.ticket x.body.value.machine (vec_capacity x.body.value.pending) m
+    c.steps_go_alike.ensures.keeps c.sections_stay_in_order.ensures r c.self.invariant.0 moves in
+    let at_run = subst (λ (run : RunOf).
+    IsKeptOpen (open_as x.program.now x.ticket b.step (its_call b) run b.pending.items b.asked)
+    x.ticket run (vec_capacity b.pending)) (sym (c.in-Moved.ensures.1 ∙ ap (λ (b : Body). with_machine b.machine m) same_body)) kept in (
+      subst (λ (b : Body).
+          IsKeptOpen (open_as x.program.now x.ticket b.step (its_call b) c.step.new.self b.pending.items b.asked)
+          x.ticket c.step.new.self (vec_capacity b.pending)) (sym same_body) at_run,
+      ap (λ (b : Body). b.grants.items) same_body ∙ c.self.invariant.1,
+    )

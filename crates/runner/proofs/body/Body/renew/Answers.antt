@@ -1,5 +1,5 @@
 use Rattle.std.specs.Prelude.{◌≡◌, [], List, get_or, length}
-use Rattle.std.proofs.Common.{sym, ap, ◌∙◌, subst, arith}
+use Rattle.std.proofs.Common.{refl, sym, ap, ◌∙◌, subst, arith}
 use Rattle.core_lang.specs.declared.value.Value.{Value}
 use Rattle.core_lang.specs.declared.typed.Typed.{Typed}
 use Rattle.core_lang.specs.WellFormed.{CanCall}
@@ -8,28 +8,27 @@ use Rattle.worlds.specs.Worlds.{locals_at}
 use Rattle.runner_machine.specs.Working.Machines.{at_first}
 use Rattle.runner.specs.Working.Ties.{call_of}
 use Rattle.runner.proofs.Begun.{called_within, first_locals}
-use Rattle.runner.proofs.spare.Spare.prepare.Goals as goal
+use Rattle.runner.proofs.body.Body.renew.Goals as goal
 
 pub index-called-requires : goal.index-called-requires
 index-called-requires c =
-    let within = called_within c.args.program.now.program c.args.section c.args.arguments.now c.requires in
+    let within = called_within c.args.program.now.program c.args.section c.args.arguments.now c.requires.fits in
     let same = ap (λ (t : Typed). length t.sections.items) c.typed.ensures.program in
     omega (arith, within, same, c.typed.result.now.sections.ok.0)
 
 pub room-room-requires : goal.room-room-requires
 room-room-requires c =
-    called_within c.args.program.now.program c.args.section c.args.arguments.now c.requires
+    called_within c.args.program.now.program c.args.section c.args.arguments.now c.requires.fits
 
-pub returns-clause-prepared : goal.returns-clause-prepared
-returns-clause-prepared c =
+pub returns-clause-begins : goal.returns-clause-begins
+returns-clause-begins c =
     let plan = c.args.program.now in
     let section = c.args.section in
-    let arguments = c.in_ok-given.given.items in
-    let room = c.room-room.result in
+    let arguments = c.refill.new.list.items in
     let x = c.index-called.result.now in
-    let same : arguments ≡ c.args.arguments.now = c.in_ok-given.ensures in
+    let same : arguments ≡ c.args.arguments.now = c.in_ok-refill.ensures in
     let can : CanCall plan.program section arguments =
-    subst (λ (vs : List Value). CanCall plan.program section vs) (sym same) c.requires in
+    subst (λ (vs : List Value). CanCall plan.program section vs) (sym same) c.requires.fits in
     let read : x ≡ get_or plan.program.sections.items section x =
     subst (λ (t : Typed). x ≡ get_or t.sections.items section x) c.typed.ensures.program c.index-called.ensures in
     let locals : c.in_ok-locals.locals.items ≡ locals_at plan (call_of section arguments) =
@@ -40,7 +39,8 @@ returns-clause-prepared c =
       compiled = c.typed.ensures.compiled;
       fits = can;
       room_is = c.room-room.ensures;
-      run_is = c.in_ok-boxed.ensures ∙ c.in_ok-machine.ensures ∙ (λ i. at_first (locals i) (c.layout.ensures i) room);
-      none_pending = c.in_ok-pending.ensures.none;
-      pending_fits = c.in_ok-pending.ensures.room;
+      run_is = c.in_ok-renew.ensures.ok ∙ (λ i. at_first (locals i) (c.layout.ensures i) c.room-room.result);
+      none_pending = c.in_ok-empty_for.ensures.none;
+      not_asked = refl;
+      pending_fits = c.in_ok-empty_for.ensures.room;
     }
