@@ -16,7 +16,7 @@ fi
 python3 - "$program" "$here" "$rounds" <<'PYTHON'
 import re, subprocess, sys, time
 program, here, rounds = sys.argv[1], sys.argv[2], int(sys.argv[3])
-NAMES = ["arithmetic", "sum", "sort", "walk", "sieve", "divisors", "tree", "ring", "matrix", "scan"]
+NAMES = ["arithmetic", "sum", "sort", "walk", "sieve", "divisors", "tree", "ring", "matrix", "scan", "calls", "gcd", "hash", "queue"]
 WORDS = {
     "serial": lambda name: [program, "serial", "--turns", "1000000000", f"{here}/{name}.al"],
     "lua": lambda name: ["lua5.4", f"{here}/{name}.lua"],
@@ -31,7 +31,7 @@ for _ in range(rounds):
             out = subprocess.run(words(name), capture_output=True, text=True, check=True).stdout
             took = time.perf_counter() - before
             least[name, who] = min(took, least.get((name, who), took))
-            given.add(re.search(r"returns (\S+)", out).group(1) if who == "serial" else out.strip())
+            given.add(re.findall(r"returns (\S+)", out)[-1] if who == "serial" else out.split()[-1])
         if len(given) != 1:
             sys.exit(f"{name}: different answers {given}")
 print(f"{'':12} {'serial':>8} {'lua':>8} {'python':>8} {'of lua':>7} {'of python':>9}")
