@@ -15,15 +15,15 @@ use lowering::compiled::Program;
 use meaning::run::End;
 use meaning_registers::prepared::Prepared;
 use meaning_trees::heap::Heap;
-use report::Record;
+use report::record::{Called, Record};
 use source::memory::NoMemory;
 use std::alloc::Global;
 
-/// How far the calls of a program came.
+/// How far the calls of a program came. What they were called with stands in the program.
 #[derive(Drop)]
-pub struct Ran {
+pub struct Ran<'a> {
     /// The calls that were settled.
-    pub records: Vec<Record>,
+    pub records: Vec<Record<'a>>,
     /// The values of all cells after them.
     pub heap: Heap,
     /// The thread and the number of the first call that was not settled, if there is one.
@@ -31,20 +31,23 @@ pub struct Ran {
 }
 
 /// What a text says of a call that ended like this.
-fn record_of(alloc: Global, call: &ScheduledCall<'_>, end: End) -> Result<Record, NoMemory>
-    ensures { IfOk result (λ made. entry_of made ≡ entry (scheduled_of call.now) (ended_of end)) }
+fn record_of<'a>(made: &ScheduledCall<'a>, end: End) -> Record<'a>
+    ensures { entry_of result ≡ entry (scheduled_of made.entry.now) (ended_of end) }
 {
-    let End { outcome, prints } = end;
-    Ok(Record {
-        thread: call.thread,
-        step: call.step,
+    let call = Called {
+        thread: made.thread,
+        step: made.step,
         // (the first format, in which alone these are told, says nothing of it)
         begun: 0,
-        section: call.call.section,
-        arguments: Vec::from_slice(alloc, &call.call.arguments)?,
+        section: made.call.section,
+        arguments: &made.call.arguments,
+    };
+    let End { outcome, prints } = end;
+    Record {
+        call,
         outcome,
         prints,
-    })
+    }
 }
 
 /// A compiled program, prepared for its calls: those of the program as it was accepted.
@@ -58,16 +61,16 @@ pub fn prepared(alloc: Global, program: &Program) -> Result<Prepared<'_>, NoMemo
 
 /// Runs calls of a program one after another from its opening heap, as far as so many turns of each execution of a loop
 /// settle them.
-pub fn run_calls(
+pub fn run_calls<'a>(
     alloc: Global,
     prepared: &Prepared<'_>,
     turns: u64,
-    calls: &[ScheduledCall<'_>],
-) -> Result<Ran, NoMemory>
+    calls: &[ScheduledCall<'a>],
+) -> Result<Ran<'a>, NoMemory>
     requires checked { IsChecked prepared.now.program.now }
     requires expansion { IsExpansion prepared.now.program.now prepared.now.written.now }
     requires calls { CanMake prepared.now.program.now (map scheduled_of calls.now) }
-    ensures ran { IfOk result (IsRan turns prepared.now.program.now (map scheduled_of calls.now)) }
+    ensures ran { IfOk result (IsRan turns prepared.now.program.now (map scheduled_of calls.entry.now)) }
     ensures cells { IfOk result (λ ran. HasCells prepared.now.program.now ran.heap) }
 {
     let mut heap = Heap::open(alloc, prepared.program())?;
@@ -83,7 +86,7 @@ pub fn run_calls(
                 unsettled,
             });
         };
-        records.push(record_of(alloc, next, end)?)?;
+        records.push(record_of(next, end))?;
     }
     Ok(Ran {
         records,
@@ -94,17 +97,17 @@ pub fn run_calls(
 
 /// Runs all calls of a program one after another, thread 0's whole script first, as far as so many
 /// turns of each execution of a loop settle them.
-pub fn run_scripts(
+pub fn run_scripts<'a>(
     alloc: Global,
-    program: &Typed,
+    program: &'a Typed,
     prepared: &Prepared<'_>,
     turns: u64,
-) -> Result<Ran, NoMemory>
+) -> Result<Ran<'a>, NoMemory>
     requires checked { IsChecked program.now }
     requires same { prepared.now.program.now ≡ program.now }
     requires expansion { IsExpansion program.now prepared.now.written.now }
-    ensures ran { IfOk result (IsRan turns program.now (all_calls program.now)) }
-    ensures cells { IfOk result (λ ran. HasCells program.now ran.heap) }
+    ensures ran { IfOk result (IsRan turns program.entry.now (all_calls program.entry.now)) }
+    ensures cells { IfOk result (λ ran. HasCells program.entry.now ran.heap) }
 {
     let calls = schedule(alloc, program)?;
     run_calls(alloc, prepared, turns, &calls)

@@ -14,8 +14,7 @@ use std::marker::Model;
 #[derive(Drop)]
 pub struct CopyRoom {
     arguments: Vec<Value>,
-    reads: Vec<CellValue>,
-    writes: Vec<CellValue>,
+    cells: Vec<CellValue>,
     prints: Vec<i64>,
 }
 
@@ -27,14 +26,13 @@ impl Model for CopyRoom {
 
     ghost view = { λ r. record {
       arguments = vec_capacity r.arguments;
-      reads = vec_capacity r.reads;
-      writes = vec_capacity r.writes;
+      cells = vec_capacity r.cells;
       prints = vec_capacity r.prints;
     } };
 
     ghost invariant = { λ r.
-        (r.arguments.items ≡ []) × (vec_len r.arguments ≡ 0) × (r.reads.items ≡ []) × (vec_len r.reads ≡ 0)
-        × (r.writes.items ≡ []) × (vec_len r.writes ≡ 0) × (r.prints.items ≡ []) × (vec_len r.prints ≡ 0) };
+        (r.arguments.items ≡ []) × (vec_len r.arguments ≡ 0) × (r.cells.items ≡ []) × (vec_len r.cells ≡ 0)
+        × (r.prints.items ≡ []) × (vec_len r.prints ≡ 0) };
 }
 
 impl CopyRoom {
@@ -51,16 +49,17 @@ impl CopyRoom {
         prints: usize,
     ) -> Result<CopyRoom, NoMemory>
         ensures { IfOk result (λ room.
-            room ≡ record { arguments = arguments; reads = cells; writes = cells; prints = prints }) }
+            room ≡ record { arguments = arguments; cells = cells + cells; prints = prints }) }
     {
+        let Some(both) = cells.checked_add(cells) else {
+            return Err(NoMemory);
+        };
         let arguments = Vec::with_capacity(alloc, arguments)?;
-        let reads = Vec::with_capacity(alloc, cells)?;
-        let writes = Vec::with_capacity(alloc, cells)?;
+        let cells = Vec::with_capacity(alloc, both)?;
         let prints = Vec::with_capacity(alloc, prints)?;
         Ok(CopyRoom {
             arguments,
-            reads,
-            writes,
+            cells,
             prints,
         })
     }
@@ -69,9 +68,10 @@ impl CopyRoom {
     pub fn holds(&self, entry: &Kept<'_>) -> bool
         ensures { IsTrue result ↔ HasRoom self.now entry.now }
     {
+        let cells = self.cells.capacity();
         entry.arguments.len() <= self.arguments.capacity()
-            && entry.reads.len() <= self.reads.capacity()
-            && entry.writes.len() <= self.writes.capacity()
+            && entry.reads.len() <= cells
+            && entry.writes.len() <= cells - entry.reads.len()
             && entry.prints.len() <= self.prints.capacity()
     }
 }
@@ -84,13 +84,11 @@ impl Kept<'_> {
     {
         let CopyRoom {
             mut arguments,
-            mut reads,
-            mut writes,
+            mut cells,
             mut prints,
         } = room;
         fill_values(&mut arguments, self.arguments);
-        fill_cells(&mut reads, self.reads);
-        fill_cells(&mut writes, self.writes);
+        fill_cells(&mut cells, self.reads, self.writes);
         fill_numbers(&mut prints, self.prints);
         Entry {
             thread: self.thread,
@@ -98,8 +96,8 @@ impl Kept<'_> {
             section: self.section,
             arguments,
             begun: self.begun,
-            reads,
-            writes,
+            cells,
+            reads: self.reads.len(),
             outcome: self.outcome,
             prints,
         }
@@ -120,10 +118,10 @@ impl Entry {
         if !same_values(&self.arguments, other.arguments) {
             return false;
         }
-        if !same_cells(&self.reads, other.reads) {
+        if !same_cells(self.reads(), other.reads) {
             return false;
         }
-        if !same_cells(&self.writes, other.writes) {
+        if !same_cells(self.writes(), other.writes) {
             return false;
         }
         same_numbers(&self.prints, other.prints)
@@ -141,14 +139,14 @@ fn fill_values(into: &mut Vec<Value>, from: &[Value])
     }
 }
 
-fn fill_cells(into: &mut Vec<CellValue>, from: &[CellValue])
-    requires { vec_len into.old + length from.now ≤ vec_capacity into.old }
-    ensures { into.new.items ≡ into.old.items ++ from.now }
+// The same with two lists, one behind the other.
+fn fill_cells(into: &mut Vec<CellValue>, first: &[CellValue], second: &[CellValue])
+    requires { vec_len into.old + length first.now + length second.now ≤ vec_capacity into.old }
+    ensures { into.new.items ≡ into.old.items ++ first.now ++ second.now }
 {
-    match into.extend_from_slice(from) {
-        Ok(()) => into.shrink_to_fit(),
-        Err(_) => unreachable!(),
-    }
+    into.extend_from_slice(first).unwrap();
+    into.extend_from_slice(second).unwrap();
+    into.shrink_to_fit();
 }
 
 fn fill_numbers(into: &mut Vec<i64>, from: &[i64])
@@ -167,10 +165,10 @@ fn same_values(a: &Vec<Value>, b: &[Value]) -> bool
     a.as_slice() == b
 }
 
-fn same_cells(a: &Vec<CellValue>, b: &[CellValue]) -> bool
-    ensures { IsTrue result → a.now.items ≡ b.now }
+fn same_cells(a: &[CellValue], b: &[CellValue]) -> bool
+    ensures { IsTrue result → a.now ≡ b.now }
 {
-    a.as_slice() == b
+    a == b
 }
 
 fn same_numbers(a: &Vec<i64>, b: &[i64]) -> bool

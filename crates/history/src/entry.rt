@@ -1,36 +1,29 @@
 //! A finished section with lists of its own.
 
-use crate::kept::Kept;
 use core_lang::value::{Outcome, Value};
 use std::marker::Model;
 
 /// A cell, and a value of it.
 pub type CellValue = (u32, Value);
 
-/// A finished section, with lists of its own.
+/// A finished section, with lists of its own. What it read and wrote lies in one block of memory.
 #[derive(Drop)]
 pub struct Entry {
-    /// The thread that ran it.
-    pub thread: u32,
-    /// Which of the thread's calls it was.
-    pub step: usize,
-    /// The section.
-    pub section: usize,
-    /// What it was called with.
-    pub arguments: Vec<Value>,
-    /// How long the history was when it began.
-    pub begun: usize,
-    /// Each cell that it read before it wrote it, with the value that it found.
-    pub reads: Vec<CellValue>,
-    /// Each cell that it wrote, with the value that it wrote last.
-    pub writes: Vec<CellValue>,
-    /// How it ended.
-    pub outcome: Outcome,
-    /// What it printed.
-    pub prints: Vec<i64>,
+    pub(crate) thread: u32,
+    pub(crate) step: usize,
+    pub(crate) section: usize,
+    pub(crate) arguments: Vec<Value>,
+    pub(crate) begun: usize,
+    // What it read, and behind that what it wrote.
+    pub(crate) cells: Vec<CellValue>,
+    // How many of these it read.
+    pub(crate) reads: usize,
+    pub(crate) outcome: Outcome,
+    pub(crate) prints: Vec<i64>,
 }
 
 impl Model for Entry {
+    ghost use Rattle.std.specs.Prelude.{◌≤◌, take, drop, length};
     ghost use Rattle.history.specs.Commits.{Commit};
 
     ghost Value = { Commit };
@@ -41,11 +34,13 @@ impl Model for Entry {
       section = e.section;
       arguments = e.arguments.items;
       begun = e.begun;
-      reads = e.reads.items;
-      writes = e.writes.items;
+      reads = take e.reads e.cells.items;
+      writes = drop e.reads e.cells.items;
       outcome = e.outcome;
       prints = e.prints.items;
     } };
+
+    ghost invariant = { λ e. e.reads ≤ length e.cells.items };
 }
 
 impl Entry {
@@ -96,7 +91,7 @@ impl Entry {
     pub fn reads(&self) -> &[CellValue]
         ensures { result.now ≡ self.now.reads }
     {
-        self.reads.as_slice()
+        &self.cells[..self.reads]
     }
 
     /// Each cell that it wrote, with the value that it wrote last.
@@ -104,7 +99,7 @@ impl Entry {
     pub fn writes(&self) -> &[CellValue]
         ensures { result.now ≡ self.now.writes }
     {
-        self.writes.as_slice()
+        &self.cells[self.reads..]
     }
 
     /// How it ended.
@@ -121,23 +116,5 @@ impl Entry {
         ensures { result.now ≡ self.now.prints }
     {
         self.prints.as_slice()
-    }
-
-    /// It, as a history lends its entries.
-    #[inline]
-    pub fn lent(&self) -> Kept<'_>
-        ensures { result ≡ self.now }
-    {
-        Kept {
-            thread: self.thread(),
-            step: self.step(),
-            section: self.section(),
-            arguments: self.arguments(),
-            begun: self.begun(),
-            reads: self.reads(),
-            writes: self.writes(),
-            outcome: self.outcome(),
-            prints: self.prints(),
-        }
     }
 }

@@ -10,7 +10,7 @@ ghost use Rattle.lock_manager.specs.declared.places.LockPlace.TheVariants as pla
 ghost use Rattle.lock_manager.specs.Working.Managers.{IsLayout, number_from, given_back};
 ghost use Rattle.lock_manager.specs.Working.Calls.{IsOwnWrite};
 ghost use Rattle.lock_manager.specs.Working.Ties.{all_restored, AreNow};
-ghost use Rattle.lock_manager.specs.Working.Committed.{at_opening, with_writes, lock_values, restored, IsWithin};
+ghost use Rattle.lock_manager.specs.Working.Committed.{at_opening, with_writes, lock_values, restored, AreOfCells};
 
 use crate::fitting::are_whole;
 use crate::opening::{members, opening_values};
@@ -112,7 +112,7 @@ impl<'p> Committed<'p> {
 
     /// Makes an entry's writes.
     pub fn overwrite(&mut self, writes: &[CellValue])
-        requires { IsWithin self.old writes.now }
+        requires { AreOfCells self.old writes.now }
         ensures { self.new ≡ with_writes self.old writes.now }
     {
         write_all(&mut self.values, writes);
@@ -182,6 +182,7 @@ impl<'p> Committed<'p> {
     }
 
     /// Whether each write is of a cell that one of these locks protects.
+    #[inline(always)]
     pub fn are_own(&self, held: &[Lock], writes: &[CellValue]) -> bool
         ensures { IsTrue result ↔ All (IsOwnWrite self.now.layout.cell_locks held.now) writes.now }
     {
@@ -198,6 +199,7 @@ impl<'p> Committed<'p> {
     }
 
     /// Whether the grants are what the entries leave, with these writes made.
+    #[inline(always)]
     pub fn are_now(&self, grants: &[Grant], writes: &[CellValue]) -> bool
         requires listed { All (λ g. Contains self.now.layout.locks g.lock) grants.now }
         requires whole { All (IsWhole self.now.layout.cell_locks) grants.now }

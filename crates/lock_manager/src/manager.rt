@@ -175,6 +175,7 @@ impl<'p> Manager<'p> {
     }
 
     /// Whether the slot of the ticket's thread has what the ticket says.
+    #[inline(always)]
     pub fn knows(&self, ticket: &Ticket) -> bool
         ensures { IsTrue result ↔ Knows self.now ticket.now }
     {

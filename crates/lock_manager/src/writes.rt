@@ -7,7 +7,11 @@ ghost use Rattle.lock_manager.specs.Working.Ties.{Rise};
 use core_lang::value::Value;
 use history::entry::CellValue;
 
-/// The writes of an entry. Where each is of a greater cell than the one before, that of a cell is found by halving.
+/// How many writes are few: they are searched from the first on.
+const FEW: usize = 4;
+
+/// The writes of an entry. Where they are many, and each is of a greater cell than the one before, that of a cell is
+/// found by halving.
 #[derive(Clone, Copy)]
 pub struct Writes<'w> {
     writes: &'w [CellValue],
@@ -22,7 +26,7 @@ impl<'w> Writes<'w> {
     {
         Writes {
             writes,
-            in_order: rise(writes),
+            in_order: writes.len() > FEW && rise(writes),
         }
     }
 

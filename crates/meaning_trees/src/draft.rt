@@ -5,7 +5,7 @@ ghost use Rattle.meaning_trees.specs.Working.Undo.{undone, IsKept};
 
 use crate::heap::Heap;
 use core_lang::value::Value;
-use std::alloc::{AllocError, Global};
+use std::alloc::AllocError;
 use std::marker::Model;
 
 /// A heap, with what the run's first write to each cell overwrote.
@@ -30,13 +30,15 @@ impl Model for Draft {
 impl Draft {
     /// The draft of a heap.
     #[inline]
-    pub fn new(alloc: Global, heap: Heap) -> Draft
+    pub fn new(heap: Heap) -> Draft
         ensures now { result.now ≡ heap }
         ensures before { result.before ≡ heap }
     {
+        let mut overwritten = heap.spare;
+        overwritten.clear();
         Draft {
             cells: heap.cells,
-            overwritten: Vec::new(alloc),
+            overwritten,
             is_written: heap.is_written,
         }
     }
@@ -80,6 +82,7 @@ impl Draft {
                 self.overwritten.as_slice(),
             ),
             cells: self.cells,
+            spare: self.overwritten,
         }
     }
 
@@ -92,9 +95,11 @@ impl Draft {
             self.cells.as_slice(),
             self.overwritten.as_slice(),
         );
+        let mut overwritten = self.overwritten;
         Heap {
-            cells: restored(self.cells, self.overwritten),
+            cells: restored(self.cells, &mut overwritten),
             is_written,
+            spare: overwritten,
         }
     }
 }
@@ -123,12 +128,11 @@ fn clear(marks: &mut Vec<bool>, cell: usize)
 }
 
 // The cells with what was overwritten.
-fn restored(cells: Vec<Value>, overwritten: Vec<(usize, Value)>) -> Vec<Value>
-    ensures value { result.items ≡ undone overwritten.items cells.items }
+fn restored(cells: Vec<Value>, overwritten: &mut Vec<(usize, Value)>) -> Vec<Value>
+    ensures value { result.items ≡ undone overwritten.old.items cells.items }
     ensures len { length result.items ≡ length cells.items }
 {
     let mut cells = cells;
-    let mut overwritten = overwritten;
     while let Some((cell, value)) = overwritten.pop() {
         if let Some(place) = cells.get_mut(cell) {
             *place = value;

@@ -17,6 +17,8 @@ pub struct Heap {
     pub(crate) cells: Vec<Value>,
     // Whether the run under way has written the cell: false wherever there is none.
     pub(crate) is_written: Vec<bool>,
+    // Memory for what the next run overwrites. What stands in it doesn't matter.
+    pub(crate) spare: Vec<(usize, Value)>,
 }
 
 impl Model for Heap {
@@ -45,7 +47,11 @@ impl Heap {
             cells.push(cell.opening)?;
         }
         let is_written = vec![in alloc; false; cells.len()]?;
-        Ok(Heap { cells, is_written })
+        Ok(Heap {
+            cells,
+            is_written,
+            spare: Vec::new(alloc),
+        })
     }
 
     /// What the cells hold, by their numbers.
@@ -71,6 +77,7 @@ impl Heap {
         Heap {
             cells: Vec::new(alloc),
             is_written: Vec::new(alloc),
+            spare: Vec::new(alloc),
         }
     }
 }

@@ -67,7 +67,7 @@ pub(crate) fn set_cells(alloc: Global, heap: &mut Heap, cells: &[Value]) -> Resu
     requires { length heap.old ≡ length cells.now }
     ensures { OnOk result (heap.new ≡ cells.now) }
 {
-    let mut draft = Draft::new(alloc, mem::replace(heap, Heap::new(alloc)));
+    let mut draft = Draft::new(mem::replace(heap, Heap::new(alloc)));
     for (cell, value) in cells.iter().enumerate() {
         if !same_value(draft.cells()[cell], *value) {
             draft.write(cell, *value)?;

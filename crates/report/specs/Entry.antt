@@ -29,14 +29,14 @@ scheduled_in entry = record {
 
 -- what a record says
 abbrev pub entry_of : Record → Entry
-entry_of call = record {
-  thread = call.thread;
-  step = call.step;
-  begun = call.begun;
-  section = call.section;
-  arguments = call.arguments.items;
-  outcome = call.outcome;
-  prints = call.prints.items;
+entry_of made = record {
+  thread = made.call.thread;
+  step = made.call.step;
+  begun = made.call.begun;
+  section = made.call.section;
+  arguments = made.call.arguments.now;
+  outcome = made.outcome;
+  prints = made.prints.items;
 }
 
 -- the call of what is lent

@@ -62,7 +62,7 @@ fn push_records(
     out: &mut String,
     format: Format,
     program: &Typed,
-    calls: &[Record],
+    calls: &[Record<'_>],
 ) -> Result<(), AllocError>
     ensures { OnOk result (AddsText (flat_map (entry_text format program.now) (map entry_of calls.now)) out.old out.new) }
 {
@@ -133,7 +133,7 @@ fn calls_text(
     alloc: Global,
     format: Format,
     program: &Typed,
-    calls: &[Record],
+    calls: &[Record<'_>],
 ) -> Result<String, NoMemory>
     ensures { IfOk result (λ text. string_bytes text ≡ calls_of format program.now (map entry_of calls.now)) }
 {
@@ -148,7 +148,7 @@ pub fn history_text(
     alloc: Global,
     format: Format,
     program: &Typed,
-    calls: &[Record],
+    calls: &[Record<'_>],
     values: &[Value],
 ) -> Result<String, NoMemory>
     requires { vec_len program.now.cells ≡ length values.now }
@@ -183,7 +183,7 @@ pub fn entries_text(
 pub fn unsettled_text(
     alloc: Global,
     program: &Typed,
-    calls: &[Record],
+    calls: &[Record<'_>],
     thread: usize,
     step: usize,
 ) -> Result<String, NoMemory>

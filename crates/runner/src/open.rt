@@ -49,6 +49,7 @@ impl<'p> Model for Open<'p> {
 
 impl<'p> Open<'p> {
     // Its next instruction.
+    #[inline(always)]
     fn instruction(&self) -> Instr
         requires { self.now.activation.pending ≡ [] }
         ensures { next_effect self.now.plan self.now.activation ≡ effect_on self.now result }
@@ -81,6 +82,7 @@ impl<'p> Open<'p> {
     }
 
     // Does its next instruction, or says to which outcome it leads.
+    #[inline(always)]
     pub(crate) fn step(&mut self) -> Option<Outcome>
         requires { self.old.activation.pending ≡ [] }
         ensures { HasMoved self.old result self.new }
@@ -156,6 +158,7 @@ impl<'p> Open<'p> {
     }
 
     // Whether its next step is an instruction: no lock is pending.
+    #[inline(always)]
     pub(crate) fn is_running(&self) -> bool
         ensures { IsTrue result ↔ (self.now.activation.pending ≡ []) }
     {

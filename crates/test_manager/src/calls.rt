@@ -4,7 +4,7 @@ ghost use Rattle.std.specs.Prelude.{◌≡◌, ◌<◌, length, IfOk, IsTrue};
 ghost use Rattle.history.specs.Working.Histories.{IsWithin};
 
 use core_lang::value::{Outcome, Value};
-use history::entry::{CellValue, Entry};
+use history::entry::CellValue;
 use history::kept::Kept;
 use layout::room::Room;
 use lock_manager::manager::Manager;
@@ -31,22 +31,18 @@ struct Session {
 }
 
 /// The entry of an open section that read nothing and wrote these.
-fn entry_of(alloc: Global, session: &Session, writes: &[CellValue]) -> Result<Entry, Fail> {
-    let mut written = Vec::new(alloc);
-    for write in writes {
-        written.push(*write)?;
-    }
-    Ok(Entry {
+fn entry_of<'w>(session: &Session, writes: &'w [CellValue]) -> Kept<'w> {
+    Kept {
         thread: session.ticket.thread(),
         step: 0,
         section: 0,
-        arguments: Vec::new(alloc),
+        arguments: &[],
         begun: session.ticket.begun(),
-        reads: Vec::new(alloc),
-        writes: written,
+        reads: &[],
+        writes,
         outcome: Outcome::Ends,
-        prints: Vec::new(alloc),
-    })
+        prints: &[],
+    }
 }
 
 // Whether the lists of an entry have the lengths for which room was made.
@@ -188,14 +184,13 @@ impl<'p> Calls<'p> {
     pub fn release(&mut self, thread: u32, writes: &[CellValue]) -> Result<(), Fail> {
         let place = self.place(thread)?;
         let session = &self.sessions[place];
-        let entry = entry_of(self.alloc, session, writes)?;
-        let lent = entry.lent();
-        if !is_within(&lent) || !self.manager.fits(&session.ticket, &session.grants, &lent) {
+        let entry = entry_of(session, writes);
+        if !is_within(&entry) || !self.manager.fits(&session.ticket, &session.grants, &entry) {
             write!(&mut self.said, "{thread} may not end\n")?;
             return Ok(());
         }
         let Session { ticket, mut grants } = self.sessions.swap_remove(place);
-        let receipt = self.manager.release(ticket, &mut grants, &lent);
+        let receipt = self.manager.release(ticket, &mut grants, &entry);
         grants.destroy_empty();
         let position = receipt.position();
         write!(

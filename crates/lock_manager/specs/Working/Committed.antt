@@ -28,8 +28,8 @@ abbrev pub restored : CommittedOf → Lock → GrantOf
 restored c lock = record { lock = lock; values = lock_values c lock }
 
 -- each write is of a cell
-abbrev pub IsWithin : CommittedOf → List (ℕ × Value) → Type 0
-IsWithin c writes = All (λ (w : ℕ × Value). w.0 < length c.values) writes
+abbrev pub AreOfCells : CommittedOf → List (ℕ × Value) → Type 0
+AreOfCells c writes = All (λ (w : ℕ × Value). w.0 < length c.values) writes
 
 -- the cells of each lock, by the lock's number
 abbrev pub members_of : LayoutOf → List (List ℕ)

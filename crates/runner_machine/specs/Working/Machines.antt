@@ -69,13 +69,13 @@ at_first locals layout room = record {
 }
 
 -- without its grants, and with no room for cells: what it read and wrote stays, and all else
-abbrev pub without_grants : RunOf → RunOf
-without_grants r = with_holding r (held.without_grants (holding_of r))
+abbrev pub without_cells : RunOf → RunOf
+without_cells r = with_holding r (held.without_grants (holding_of r))
 
 -- a section's end: the grants that it held are moved out, and what is read, written and printed isn't more than there was
 -- room for
 pub record IsFinished (run : RunOf) (grants : List GrantOf) (run' : RunOf) : Type 0 where
-  pub left : run' ≡ without_grants run
+  pub left : run' ≡ without_cells run
   pub locks : locks_of grants ≡ run.locks
   pub whole : All (IsWhole run.layout.cell_locks) grants
   pub cells : cells_granted run.layout.cell_locks grants ≡ run.machine.memory.cells

@@ -26,7 +26,7 @@ loop-next-preserved c =
     let over = rw (c.in-Some.is, c.deref.ensures.value) at c.in_ok-run.ensures.answer in
     let further = goes_further _ _ _ _ _ (scheduled_of c.next-item.result) _ _ (rw next at c.loop-next.invariant.goes) over in
     record {
-      goes = rw (c.in_ok-push.ensures.items, map-append, c.in_ok-record_of.ensures) further;
+      goes = rw (c.in_ok-push.ensures.items, map-append, c.record_of.ensures) further;
       cells = c.in_ok-run.ensures.cells;
       typed = c.in_ok-run.ensures.typed c.requires.checked c.loop-next.invariant.typed;
     }

@@ -1,6 +1,6 @@
 use Rattle.std.proofs.Common.{◌∙◌, length, ap, subst, sym}
 use Rattle.lock_manager.proofs.Heaps.{length-overwritten}
-use Rattle.lock_manager.specs.Working.Committed.{CommittedOf, IsWithin}
+use Rattle.lock_manager.specs.Working.Committed.{CommittedOf, AreOfCells}
 use Rattle.lock_manager.proofs.committed.Committed.overwrite.Goals as goal
 
 pub invariant_of-self : goal.invariant_of-self
@@ -11,4 +11,4 @@ invariant_of-self c = record {
 }
 
 pub write_all-requires : goal.write_all-requires
-write_all-requires c = subst (λ (v : CommittedOf). IsWithin v c.args.writes.now) (sym c.self.view_is) c.requires
+write_all-requires c = subst (λ (v : CommittedOf). AreOfCells v c.args.writes.now) (sym c.self.view_is) c.requires

@@ -2,8 +2,8 @@ use Rattle.std.proofs.Common.{◌<◌, ℕ, None, set, subst, sym, ap, ◌∙◌
 use Rattle.std.specs.List.{All, Contains}
 use Rattle.code.specs.Memory.{overwritten}
 use Rattle.moved_cells.specs.Working.Grants.{GrantOf}
-use Rattle.history.specs.Working.Histories.{IsWithin as IsWithinRoom}
-use Rattle.lock_manager.specs.Working.Committed.{CommittedOf, IsWithin, with_writes}
+use Rattle.history.specs.Working.Histories.{IsWithin}
+use Rattle.lock_manager.specs.Working.Committed.{CommittedOf, AreOfCells, with_writes}
 use Rattle.lock_manager.specs.Working.Managers.{Managed, managed, given_back, threads, session_in}
 use Rattle.lock_manager.specs.Working.Ties.{cells_if_open}
 use Rattle.lock_manager.specs.Working.Calls.{Knows, Fits, after_release, first_waiters}
@@ -16,7 +16,7 @@ overwrite-requires c =
     let x = c.self.inside in
     let m = managed x.committed x.ranks.now x.places.items x.queue x.sections x.history.commits in
     let fits = subst (λ (v : Managed). Fits v c.args.ticket c.args.grants.now.items c.args.entry.now) (sym c.self.view_is) c.requires.fits in
-    subst (IsWithin x.committed) (sym c.writes.ensures) (writes_within m c.args.ticket.session.held c.args.entry.now.writes c.self.invariant.0 c.one_entry_more.ensures.size fits.writes)
+    subst (AreOfCells x.committed) (sym c.writes.ensures) (writes_within m c.args.ticket.session.held c.args.entry.now.writes c.self.invariant.0 c.one_entry_more.ensures.size fits.writes)
 
 pub enter-requires-clause-promised : goal.enter-requires-clause-promised
 enter-requires-clause-promised c =
@@ -30,7 +30,7 @@ enter-requires-clause-within c =
     let x = c.self.inside in
     let known = subst (λ (v : Managed). Knows v c.args.ticket) (sym c.self.view_is) c.requires.known in
     let cells = c.cells-cells.ensures ∙ ap (λ (t : ℕ). cells_if_open (session_in x.sections t)) c.woken-thread.ensures.thread ∙ ap cells_if_open known in
-    subst (λ (n : ℕ). IsWithinRoom n c.args.entry.now) (sym cells) c.requires.within
+    subst (λ (n : ℕ). IsWithin n c.args.entry.now) (sym cells) c.requires.within
 
 pub put_back-requires-clause-listed : goal.put_back-requires-clause-listed
 put_back-requires-clause-listed c =
