@@ -1,5 +1,5 @@
 -- One instruction more.
-use Rattle.std.proofs.Common.{◌≡◌, ℕ, zero, suc, ◌+◌, ◌<◌, ◌≤◌, ap, ◌∙◌, subst, arith}
+use Rattle.std.proofs.Common.{◌≡◌, ℕ, zero, suc, ◌+◌, ◌<◌, ◌≤◌, ap, sym, ◌∙◌, subst, arith}
 use Rattle.runner.specs.Working.Opens.{OpenOf, IsRunning, moved, moved_by, Ran}
 
 below_next : (P : ℕ → Type 0) (n : ℕ) → ((k : ℕ) → k < n → P k) → P n → (k : ℕ) → k < n + 1 → P k
@@ -42,3 +42,9 @@ one_more_runs done o now last is running runs next still =
       below_next (λ (k : ℕ). IsRunning (moved_by k o)) done running (subst IsRunning is runs),
       still,
     )
+
+-- a section that may do one instruction, and whose next step is one, does it
+pub once_ran : (o last : OpenOf) (count : ℕ) → Ran 1 o count last → IsRunning o → last ≡ moved o
+once_ran o last zero ran running = absurd (ran.stops (omega arith) (subst IsRunning (sym ran.is) running))
+once_ran o last (suc zero) ran running = ran.is
+once_ran o last (suc (suc n)) ran running = absurd (omega (arith, ran.within))

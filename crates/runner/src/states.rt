@@ -411,7 +411,7 @@ fn end<'p>(opened: Open<'p>, outcome: Outcome) -> Ended<'p>
 
 impl<'p> Running<'p> {
     ghost use Rattle.worlds.specs.Waiting.{HasNext};
-    ghost use Rattle.runner.specs.Working.Opens.{GivenUp, Ran, IsSame, ready_again};
+    ghost use Rattle.runner.specs.Working.Opens.{GivenUp, IsRunning, Ran, IsSame, ready_again};
     ghost use Rattle.runner.specs.Working.Answers.{open_of, IsNamed};
 
     /// How long the history was when it began.
@@ -446,13 +446,9 @@ impl<'p> Running<'p> {
         ensures same { IsSame self.entry (open_of result) }
         ensures named { IsNamed result }
     {
-        worlds::laws::sections_stay_in_order();
         self.keeps_its_rules();
-        let Running { mut open } = self;
-        match open.step() {
-            None => named(open),
-            Some(outcome) => Next::Ended(end(open, outcome)),
-        }
+        let (_one, next) = self.run(1);
+        next
     }
 
     /// Does its instructions, at most so many, until it is to be granted a lock or has an outcome; and how many it did.
@@ -482,9 +478,10 @@ impl<'p> Running<'p> {
         open.give_up(manager)
     }
 
-    /// It keeps the rules, whatever the others do, and its next instruction has its case.
+    /// It keeps the rules, whatever the others do, and its next step is an instruction, which has its case.
     pub fn keeps_its_rules(&self)
         ensures kept { IsOpen self.now }
+        ensures running { IsRunning self.now }
         ensures next { HasNext self.now.plan self.now.activation }
     {
         worlds::laws::sections_stay_in_order();
